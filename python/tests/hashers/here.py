@@ -9,6 +9,6 @@ HERE = pathlib.Path(__file__).resolve().parent
 PYTHON = HERE.parent.parent
 LIBRARIES = PYTHON.parent / "c/out"
 
-sys.path.insert(0, str(PYTHON))
+sys.path[:0] = str(PYTHON), str(PYTHON.parent)
 _NAMED = os.environ.get("PYTHONPATH")
 os.environ["PYTHONPATH"] = os.pathsep.join(filter(None, (str(PYTHON), _NAMED)))

@@ -1,18 +1,28 @@
-"""What the tests of the hashers share: records of other programs, a hasher that is quick, and the
-calls of the library counted."""
+"""What the tests of the hashers share: records of other programs, hashers that are quick, the calls
+of the library counted, and Python run apart."""
 
-import here  # noqa: F401 (before rigzumal)
+import sys
+
+import here  # before rigzumal
 import rigzumal
 from rigzumal import PasswordHasher
+from tests.helpers import run
 
 # Of the reference library's own tests, and one of passlib.
 ARGON2 = "$argon2id$v=19$m=256,t=2,p=1$c29tZXNhbHQ$nf65EOgLrQMR/uIPnA4rEsF5h7TKyQwu9U1bMCHGi/4"
 OLD = "$argon2i$m=256,t=2,p=1$c29tZXNhbHQ$/U3YPXYsSb3q9XxHvc0MLxur+GP960kN9j7emXX8zwY"
 SMALL = PasswordHasher(time_cost=2, memory_cost=256, parallelism=1)
+LEAST_COSTS = {"time_cost": 1, "memory_cost": 8, "parallelism": 1}
+LEAST = PasswordHasher(**LEAST_COSTS)
+
+
+def python(*words, given="", status=0, at=here.HERE, **env):
+    """What this Python writes on both streams, if it ends with the status."""
+    return run(sys.executable, *words, given=given, status=status, at=at, env=env)
 
 
 class Calls:
-    """The library, with the name and the last argument of each call noted."""
+    """The library, with the name and the arguments of each call noted."""
 
     def __init__(self):
         self.library, self.made = rigzumal._library._library, []
@@ -25,11 +35,11 @@ class Calls:
         rigzumal._library._library = self.library
 
     def names(self):
-        return [name for name, _ in self.made]
+        return [name for name, *_ in self.made]
 
     def __getattr__(self, name):
         def call(*given):
-            self.made.append((name, given[-1]))
+            self.made.append((name, *given))
             return getattr(self.library, name)(*given)
 
         return call

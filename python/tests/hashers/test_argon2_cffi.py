@@ -5,13 +5,13 @@ import array
 import base64
 import dataclasses
 import inspect
+import itertools
 import pickle
 import random
-import subprocess
-import sys
 import unittest
 
-import here  # noqa: F401 (before rigzumal)
+from records import OLD, python
+
 import rigzumal
 from rigzumal import argon2_cffi as ours
 
@@ -20,7 +20,7 @@ try:
 except ModuleNotFoundError:
     raise unittest.SkipTest("Python's module argon2 isn't installed") from None
 
-OLD = "$argon2i$m=256,t=2,p=1$c29tZXNhbHQ$/U3YPXYsSb3q9XxHvc0MLxur+GP960kN9j7emXX8zwY"
+KINDS = ("D", "I", "ID")
 COSTS = {"time_cost": 1, "memory_cost": 64, "parallelism": 2}
 
 
@@ -41,11 +41,17 @@ def outcome(call, *given, **named):
         return names or type(raised).__name__, raised.args
 
 
-class LowLevel(unittest.TestCase):
+class Same(unittest.TestCase):
+    def same(self, call, *what):
+        """What a call of either comes to."""
+        self.assertEqual(outcome(call, ours), outcome(call, theirs), what)
+
+
+class LowLevel(Same):
     def test_hashes_are_theirs(self):
         draw = random.Random(1)
         for turn in range(150):
-            kind = draw.choice("D I ID".split())
+            kind = draw.choice(KINDS)
             named = {
                 "secret": draw.randbytes(draw.choice((0, 1, 64, 300))),
                 "salt": draw.randbytes(draw.choice((0, 7, 8, 16, 48, 49, 64, 65, 66, 400))),
@@ -56,64 +62,50 @@ class LowLevel(unittest.TestCase):
                 "version": draw.choice((16, 19)),
             }
             for name in ("hash_secret", "hash_secret_raw"):
-                answers = [
-                    outcome(getattr(it.low_level, name), type=it.low_level.Type[kind], **named)
-                    for it in (ours, theirs)
-                ]
-                self.assertEqual(*answers, (name, named))
+                self.same(
+                    lambda it: getattr(it.low_level, name)(type=it.Type[kind], **named), named
+                )
 
     def test_verdicts_are_theirs(self):
         hashed = theirs.low_level.hash_secret(b"x", b"somesalt", 1, 8, 1, 32, theirs.Type.ID)
         for given in (hashed, hashed[:-1], hashed + b"$", b"", OLD.encode(), b"$argon2id$v=19$m=7"):
-            for kind in "D I ID".split():
-                for password in (b"x", b"y", b"", b"password"):
-                    answers = [
-                        outcome(it.low_level.verify_secret, given, password, it.Type[kind])
-                        for it in (ours, theirs)
-                    ]
-                    self.assertEqual(*answers, (given, kind, password))
+            for kind, password in itertools.product(KINDS, (b"x", b"y", b"", b"password")):
+                self.same_verdict(given, password, kind)
+
+    def same_verdict(self, hashed, password=b"x", kind="ID"):
+        verify = lambda it: it.low_level.verify_secret(hashed, password, it.Type[kind])
+        self.same(verify, hashed, password, kind)
 
     def test_long_hashes_are_verified(self):
         """With salts and tags that no record has, as they are and damaged."""
         for salt, size in ((b"s" * 49, 32), (b"s" * 64, 16), (b"somesalt", 65), (b"s" * 300, 300)):
-            for version in (16, 19):
-                for it in theirs.Type:
-                    hashed = theirs.low_level.hash_secret(b"x", salt, 1, 16, 2, size, it, version)
-                    kind = ours.Type[it.name]
-                    self.assertIs(ours.low_level.verify_secret(hashed, b"x", kind), True)
-                    with self.assertRaises(ours.exceptions.VerifyMismatchError):
-                        ours.low_level.verify_secret(hashed, b"y", kind)
-        for damage in (
-            lambda it: it[:-1],
-            lambda it: it + b"A",
-            lambda it: it + b"$",
-            lambda it: it.replace(b"m=16", b"m=016"),
-            lambda it: it.replace(b"m=16", b"m=15"),
-            lambda it: it.replace(b"m=16", b"m=99999999999"),
-            lambda it: it.replace(b"t=1", b"t=0"),
-            lambda it: it.replace(b"p=2", b"p=0"),
-            lambda it: it[:-40] + b"!" + it[-39:],
+            for version, kind in itertools.product((16, 19), KINDS):
+                given = (b"x", salt, 1, 16, 2, size, theirs.Type[kind], version)
+                hashed = theirs.low_level.hash_secret(*given)
+                for password in (b"x", b"y"):
+                    self.same_verdict(hashed, password, kind)
+        for damaged in (
+            hashed[:-1],
+            hashed + b"A",
+            hashed + b"$",
+            hashed.replace(b"m=16", b"m=016"),
+            hashed.replace(b"m=16", b"m=15"),
+            hashed.replace(b"m=16", b"m=99999999999"),
+            hashed.replace(b"t=1", b"t=0"),
+            hashed.replace(b"p=2", b"p=0"),
+            hashed[:-40] + b"!" + hashed[-39:],
+            encoded("m=8,t=1,p=1", b"seven..", b"t" * 32).encode(),
+            encoded("m=8,t=1,p=1", b"", b"tag").encode(),
+            encoded("m=8,t=1,p=1", b"s" * 60, b"").encode(),
         ):
-            answers = [
-                outcome(it.low_level.verify_secret, damage(hashed), b"x", it.Type.ID)
-                for it in (ours, theirs)
-            ]
-            self.assertEqual(*answers, damage(hashed))
-        for salt, tag in ((b"seven..", b"t" * 32), (b"", b"tag"), (b"s" * 60, b"")):
-            text = encoded("m=8,t=1,p=1", salt, tag).encode()
-            answers = [
-                outcome(it.low_level.verify_secret, text, b"x", it.Type.ID) for it in (ours, theirs)
-            ]
-            self.assertEqual(*answers, text)
+            self.same_verdict(damaged)
         with self.assertRaisesRegex(ours.exceptions.VerificationError, "Decoding failed"):
             unknown = hashed.replace(b"v=19", b"v=18")
             ours.low_level.verify_secret(unknown, b"x", ours.Type.ID)
 
     def test_messages_are_theirs(self):
         for number in range(-60, 20):
-            self.assertEqual(
-                ours.low_level.error_to_str(number), theirs.low_level.error_to_str(number)
-            )
+            self.same(lambda it: it.low_level.error_to_str(number), number)
 
     def test_salts_of_any_bytes(self):
         for holds in (bytearray, memoryview, lambda it: array.array("B", it)):
@@ -125,15 +117,15 @@ class LowLevel(unittest.TestCase):
 
     def test_types(self):
         for wrong in ("x", 5, None):
-            with self.assertRaises(TypeError):
-                ours.low_level.hash_secret(wrong, b"somesalt", 1, 8, 1, 32, ours.Type.ID)
-            with self.assertRaises(TypeError):
-                ours.low_level.hash_secret(b"x", wrong, 1, 8, 1, 32, ours.Type.ID)
+            for given in ((wrong, b"somesalt"), (b"x", wrong)):
+                with self.assertRaises(TypeError):
+                    ours.low_level.hash_secret(*given, 1, 8, 1, 32, ours.Type.ID)
 
 
-class Hashers(unittest.TestCase):
+class Hashers(Same):
     def test_what_one_makes_the_other_reads(self):
-        for kind in "D I ID".split():
+        mismatches = (ours.exceptions.VerifyMismatchError, theirs.exceptions.VerifyMismatchError)
+        for kind in KINDS:
             mine = ours.PasswordHasher(**COSTS, type=ours.Type[kind])
             other = theirs.PasswordHasher(**COSTS, hash_len=32, type=theirs.Type[kind])
             for maker, reader in ((mine, other), (other, mine), (mine, mine)):
@@ -141,13 +133,10 @@ class Hashers(unittest.TestCase):
                     hashed = maker.hash(password)
                     self.assertIs(reader.verify(hashed, password), True)
                     self.assertIs(reader.check_needs_rehash(hashed), False)
-                    with self.assertRaises(
-                        (ours.exceptions.VerifyMismatchError, theirs.exceptions.VerifyMismatchError)
-                    ):
+                    with self.assertRaises(mismatches):
                         reader.verify(hashed, "another")
 
     def test_answers_are_theirs(self):
-        mine, other = ours.PasswordHasher(**COSTS), theirs.PasswordHasher(**COSTS)
         for given in (
             "",
             "$argon2id$",
@@ -161,30 +150,19 @@ class Hashers(unittest.TestCase):
             f"{OLD}\n",
             OLD.replace("$c29", "$ c29"),
         ):
-            self.assertEqual(
-                outcome(mine.verify, given, "password"),
-                outcome(other.verify, given, "password"),
-                given,
-            )
+            self.same(lambda it: it.PasswordHasher(**COSTS).verify(given, "password"), given)
 
     def test_wrong_types_are_named(self):
         for named in ({"time_cost": "1"}, {"type": "ID"}, {"hash_len": 1.0, "salt_len": None}):
-            answers = [outcome(it.PasswordHasher, **named) for it in (ours, theirs)]
-            self.assertEqual(*answers)
+            self.same(lambda it: it.PasswordHasher(**named), named)
 
     def test_encodings(self):
         for encoding in ("latin1", "utf-16-le", "utf-8"):
-            hasher = ours.PasswordHasher(**COSTS, encoding=encoding)
-            hashed = hasher.hash("p\xe4ss")
-            self.assertTrue(theirs.PasswordHasher().verify(hashed, "p\xe4ss".encode(encoding)))
-            self.assertTrue(hasher.verify(hashed, "p\xe4ss"))
-            made = theirs.PasswordHasher(**COSTS, encoding=encoding).hash("p\xe4ss")
-            self.assertTrue(hasher.verify(made, "p\xe4ss"))
-
-    def test_salts_are_drawn(self):
-        hasher = ours.PasswordHasher(**COSTS)
-        salts = {hasher.hash("x").split("$")[4] for _ in range(20)}
-        self.assertEqual(len(salts), 20)
+            mine, other = (it.PasswordHasher(**COSTS, encoding=encoding) for it in (ours, theirs))
+            for maker, reader in ((mine, other), (other, mine)):
+                hashed = maker.hash("p\xe4ss")
+                self.assertTrue(reader.verify(hashed, "p\xe4ss"))
+                self.assertTrue(reader.verify(hashed, "p\xe4ss".encode(encoding)))
 
     def test_what_is_refused_here_alone(self):
         """Numbers that libargon2 takes, and the proved code doesn't, and a version of neither."""
@@ -212,11 +190,8 @@ class Hashers(unittest.TestCase):
             "    except Exception as refused:\n"
             "        print(type(refused).__name__, refused.number, refused)\n"
         )
-        done = subprocess.run([sys.executable, "-c", script], capture_output=True, text=True)
-        wanted = (
-            "HashingError 8 Memory allocation error\nVerificationError 8 Memory allocation error\n"
-        )
-        self.assertEqual(done.stdout, wanted, done.stderr)
+        said = [f"{it}Error 8 Memory allocation error\n" for it in ("Hashing", "Verification")]
+        self.assertEqual(python("-c", script), "".join(said))
 
     def test_a_salt_may_be_given(self):
         hashed = ours.PasswordHasher(**COSTS).hash("x", salt=b"sixteen of salt.")
@@ -237,15 +212,14 @@ class Hashers(unittest.TestCase):
                     call(text)
                 self.assertIsInstance(raised.exception, ValueError)
 
-    def test_signatures_begin_as_theirs(self):
-        for name in ("__init__", "verify", "check_needs_rehash"):
-            wanted = list(inspect.signature(getattr(theirs.PasswordHasher, name)).parameters)
-            found = list(inspect.signature(getattr(ours.PasswordHasher, name)).parameters)
-            self.assertEqual(found, wanted)
-        for name in ("hash_secret", "hash_secret_raw", "verify_secret"):
-            wanted = list(inspect.signature(getattr(theirs.low_level, name)).parameters)
-            found = list(inspect.signature(getattr(ours.low_level, name)).parameters)
-            self.assertEqual(found, wanted)
+    def test_signatures_are_theirs(self):
+        for place, names in (
+            ("PasswordHasher", ("__init__", "verify", "check_needs_rehash")),
+            ("low_level", ("hash_secret", "hash_secret_raw", "verify_secret")),
+        ):
+            for name in names:
+                signature = lambda it: inspect.signature(getattr(getattr(it, place), name))
+                self.same(lambda it: list(signature(it).parameters), name)
 
 
 class Parameters(unittest.TestCase):
@@ -275,6 +249,12 @@ class Parameters(unittest.TestCase):
         ):
             wanted = ours.Parameters(ours.Type.ID, 19, salt, tag, passes, memory, lanes)
             self.assertEqual(getattr(ours.profiles, name), wanted)
+            for kind in ours.Type:
+                params = dataclasses.replace(wanted, type=kind)
+                hasher = ours.PasswordHasher.from_parameters(params)
+                self.assertEqual(hasher._parameters, params)
+        hashed = hasher.from_parameters(ours.profiles.CHEAPEST).hash("x")
+        self.assertEqual(ours.extract_parameters(hashed), ours.profiles.CHEAPEST)
 
     def test_defaults(self):
         """Those of argon2-cffi since its version 21.2, which say RFC 9106's second recommendation."""
@@ -286,19 +266,6 @@ class Parameters(unittest.TestCase):
         self.assertEqual(found, [3, 65536, 4, 32, 16])
         self.assertEqual(ours.low_level.ARGON2_VERSION, 19)
         self.assertEqual(ours.PasswordHasher().encoding, "utf-8")
-
-    def test_profiles(self):
-        for name in ("RFC_9106_LOW_MEMORY", "RFC_9106_HIGH_MEMORY", "PRE_21_2", "CHEAPEST"):
-            params = getattr(ours.profiles, name)
-            for kind in ours.Type:
-                params = dataclasses.replace(params, type=kind)
-                hasher = ours.PasswordHasher.from_parameters(params)
-                self.assertEqual(hasher._parameters, params)
-        hasher = ours.PasswordHasher.from_parameters(ours.profiles.CHEAPEST)
-        hashed = hasher.hash("x")
-        self.assertEqual(ours.extract_parameters(hashed), ours.profiles.CHEAPEST)
-        self.assertFalse(hasher.check_needs_rehash(hashed))
-        self.assertTrue(ours.PasswordHasher().check_needs_rehash(hashed))
 
 
 class Exceptions(unittest.TestCase):

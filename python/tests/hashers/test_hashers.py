@@ -5,19 +5,12 @@ import array
 import base64
 import hashlib
 import itertools
-import mmap
-import os
-import pathlib
-import shutil
-import subprocess
-import sys
-import tempfile
 import unittest
 
-from records import ARGON2, OLD, SMALL
+from records import ARGON2, LEAST, LEAST_COSTS, OLD, SMALL
 
 import rigzumal
-from rigzumal import PasswordHasher, ScryptHasher, Type, _library
+from rigzumal import PasswordHasher, ScryptHasher, Type, argon2_cffi
 
 # printf password | argon2 somesalt -d -t 2 -k 256 -p 1 -l 32 -e, and the like
 RECORDS = {
@@ -43,8 +36,6 @@ LONG_SALT = b"a salt of forty-eight bytes, which is a long one"
 OF_LONG_SALT = "NCigmxqF1hZnYFLLxO36Jushq3Zzt0JDBDv+69FNaj0"
 # printf 'pass\0word' | argon2 somesalt -id -t 1 -k 64 -p 1 -l 32 -e
 WITH_NUL = "$argon2id$v=19$m=64,t=1,p=1$c29tZXNhbHQ$6oIEETo0BJ7q/vyz7jFW6wFb/GyfaZJ1ejETi5d+Muo"
-
-LEAST = PasswordHasher(1, 8, 1)
 
 
 def sizes_of(record):
@@ -89,15 +80,9 @@ class Kinds(unittest.TestCase):
 
     def test_a_raw_tag_is_rfc_9106s(self):
         """Its section 5.3."""
-        tag = rigzumal.argon2(
-            b"\1" * 32,
-            b"\2" * 16,
-            time_cost=3,
-            memory_cost=32,
-            parallelism=4,
-            secret=b"\3" * 8,
-            associated=b"\4" * 12,
-        )
+        costs = {"time_cost": 3, "memory_cost": 32, "parallelism": 4}
+        others = {"secret": b"\3" * 8, "associated": b"\4" * 12}
+        tag = rigzumal.argon2(b"\1" * 32, b"\2" * 16, **costs, **others)
         wanted = "0d640df58d78766c08c037a34a8b53c9d01ef0452d75b65eb52520e96b01e659"
         self.assertEqual(tag.hex(), wanted)
 
@@ -112,86 +97,58 @@ class Verifying(unittest.TestCase):
                 self.assertEqual((raised.exception.number, raised.exception.word), (10, "mismatch"))
 
     def test_a_secret_is_rfc_9106s(self):
-        hasher = PasswordHasher(2, 256, 1, secret=b"pepper")
+        costs = {"time_cost": 2, "memory_cost": 256, "parallelism": 1}
+        hasher = SMALL.replace(secret=b"pepper")
         record = hasher.hash("password", salt=b"somesalt")
-        tag = rigzumal.argon2(
-            "password", b"somesalt", time_cost=2, memory_cost=256, parallelism=1, secret=b"pepper"
-        )
+        tag = rigzumal.argon2("password", b"somesalt", secret=b"pepper", **costs)
         self.assertEqual(record.rsplit("$", 1)[1], base64.b64encode(tag).decode().rstrip("="))
         self.assertTrue(hasher.verify(record, "password"))
-        for other in (
-            SMALL,
-            PasswordHasher(2, 256, 1, secret=b"Pepper"),
-            PasswordHasher(secret=b""),
+        empty = SMALL.replace(secret=b"")
+        for other, password in (
+            (SMALL, "password"),
+            (SMALL.replace(secret=b"Pepper"), "password"),
+            (empty, "password"),
+            (hasher, "Password"),
         ):
             with self.assertRaises(rigzumal.VerifyMismatchError):
-                other.verify(record, "password")
-        with self.assertRaises(rigzumal.VerifyMismatchError):
-            hasher.verify(record, "Password")
-        self.assertTrue(PasswordHasher(secret=b"").verify(ARGON2, "password"))
-        self.assertFalse(PasswordHasher(2, 256, 1, salt_len=8).check_needs_rehash(record))
-        for one in (hasher, PasswordHasher(secret=b"")):
+                other.verify(record, password)
+        self.assertTrue(empty.verify(ARGON2, "password"))
+        self.assertFalse(SMALL.replace(salt_len=8).check_needs_rehash(record))
+        for one in (hasher, empty):
             with self.assertRaises(rigzumal.InvalidRecordError):
                 one.verify(ScryptHasher(log2_n=4).hash("x"), "x")
         self.assertNotIn("pepper", repr(hasher))
 
 
 class Rehash(unittest.TestCase):
-    """A record of any other number is to be made anew, lower or higher."""
+    """A record of any other number needs a rehash, lower or higher."""
 
-    def other_ways(self, hasher, changes):
-        record = hasher.hash("x")
-        self.assertFalse(hasher.check_needs_rehash(record))
-        for name, numbers in changes.items():
-            for number in numbers:
-                other = hasher.replace(**{name: number})
-                self.assertTrue(other.check_needs_rehash(record), (name, number))
-                self.assertTrue(hasher.check_needs_rehash(other.hash("x")), (name, number))
-
-    def test_of_argon2(self):
-        changes = {
-            "time_cost": (1, 3),
-            "memory_cost": (63, 65),
-            "parallelism": (1, 3),
-            "hash_len": (31, 33),
-            "salt_len": (15, 17),
-            "type": (Type.D, Type.I),
-        }
-        self.other_ways(PasswordHasher(2, 64, 2), changes)
-
-    def test_of_scrypt(self):
-        changes = {
-            "log2_n": (3, 5),
-            "block_size": (1, 3),
-            "parallelism": (1, 3),
-            "hash_len": (31, 33),
-            "salt_len": (15, 17),
-        }
-        self.other_ways(ScryptHasher(4, 2, 2), changes)
+    def test_of_other_numbers(self):
+        argon2 = {"time_cost": 2, "memory_cost": 64, "parallelism": 2}
+        scrypt = {"log2_n": 4, "block_size": 2, "parallelism": 2}
+        sizes = {"hash_len": 32, "salt_len": 16}
+        for maker, numbers, kinds in (
+            (PasswordHasher, {**argon2, **sizes}, (Type.D, Type.I)),
+            (
+                argon2_cffi.PasswordHasher,
+                {**argon2, **sizes},
+                (argon2_cffi.Type.D, argon2_cffi.Type.I),
+            ),
+            (ScryptHasher, {**scrypt, **sizes}, ()),
+        ):
+            hasher = maker(**numbers)
+            record = hasher.hash("x")
+            self.assertFalse(hasher.check_needs_rehash(record))
+            changes = [{name: it + by} for name, it in numbers.items() for by in (-1, 1)]
+            for change in (*changes, *({"type": it} for it in kinds)):
+                other = maker(**{**numbers, **change})
+                self.assertTrue(other.check_needs_rehash(record), change)
+                self.assertTrue(hasher.check_needs_rehash(other.hash("x")), change)
 
     def test_of_another_scheme_and_version(self):
         self.assertTrue(ScryptHasher().check_needs_rehash(ARGON2))
         self.assertTrue(SMALL.check_needs_rehash(ScryptHasher(4).hash("x")))
         self.assertTrue(PasswordHasher(2, 256, 1, salt_len=8, type=Type.I).check_needs_rehash(OLD))
-
-    def test_of_argon2_cffi(self):
-        from rigzumal import argon2_cffi
-
-        names = "time_cost memory_cost parallelism hash_len salt_len".split()
-        numbers = (2, 64, 2, 32, 16)
-        hasher = argon2_cffi.PasswordHasher(*numbers)
-        record = hasher.hash("x")
-        self.assertFalse(hasher.check_needs_rehash(record))
-        for at, name in enumerate(names):
-            for change in (-1, 1):
-                given = {**dict(zip(names, numbers)), name: numbers[at] + change}
-                other = argon2_cffi.PasswordHasher(**given)
-                self.assertTrue(other.check_needs_rehash(record), given)
-                self.assertTrue(hasher.check_needs_rehash(other.hash("x")), given)
-        for kind in (argon2_cffi.Type.D, argon2_cffi.Type.I):
-            other = argon2_cffi.PasswordHasher(*numbers, type=kind)
-            self.assertTrue(other.check_needs_rehash(record))
-            self.assertTrue(hasher.check_needs_rehash(other.hash("x")))
 
 
 class Inputs(unittest.TestCase):
@@ -224,21 +181,21 @@ class Inputs(unittest.TestCase):
             self.assertTrue(LEAST.verify(wanted, holds))
             scrypt = ScryptHasher(1, 1, 1)
             self.assertEqual(scrypt.hash(holds, salt=holds), scrypt.hash(data, salt=data))
-            costs = {"time_cost": 1, "memory_cost": 8, "parallelism": 1}
             tags = {
-                rigzumal.argon2(it, it, secret=it, associated=it, **costs) for it in (holds, data)
+                rigzumal.argon2(it, it, secret=it, associated=it, **LEAST_COSTS)
+                for it in (holds, data)
             }
             self.assertEqual(len(tags), 1)
-            made = PasswordHasher(1, 8, 1, secret=holds).hash("x", salt=data)
-            self.assertTrue(PasswordHasher(1, 8, 1, secret=data).verify(made, "x"))
+            made = LEAST.replace(secret=holds).hash("x", salt=data)
+            self.assertTrue(LEAST.replace(secret=data).verify(made, "x"))
 
     def test_a_hasher_keeps_its_secret_as_it_was_given(self):
         secret = bytearray(b"pepper")
-        hasher = PasswordHasher(1, 8, 1, secret=secret)
+        hasher = LEAST.replace(secret=secret)
         made = hasher.hash("x")
         secret[:] = b"salted"
         self.assertTrue(hasher.verify(made, "x"))
-        self.assertTrue(PasswordHasher(1, 8, 1, secret=b"pepper").verify(made, "x"))
+        self.assertTrue(LEAST.replace(secret=b"pepper").verify(made, "x"))
 
     def test_text_that_has_no_utf_8(self):
         for text in ("\ud800", "\udc80", "pass\udcffword", "\udfff"):
@@ -266,18 +223,21 @@ class Inputs(unittest.TestCase):
         self.assertEqual(record, f"$scrypt$ln=4,r=2,p=3$cw${tag}")
 
     def test_each_part_counts(self):
-        costs = {"time_cost": 1, "memory_cost": 8, "parallelism": 1}
-        for size in (8, 48, 64, 65, 128, 129, 256, 1000):
-            data = bytes(size)
-            tags = {rigzumal.argon2(data, data, secret=data, associated=data, **costs)}
-            for at in range(4):
-                parts = [data] * 4
-                parts[at] = data[:-1] + b"\1"
-                password, salt, secret, associated = parts
-                tags.add(
-                    rigzumal.argon2(password, salt, secret=secret, associated=associated, **costs)
+        """To its last byte."""
+        for size in (8, 48, 64, 65, 128, 129, 256, 1000, 70_000):
+            data, other, tags = bytes(size), bytes(size - 1) + b"\1", set()
+            for at in range(5):
+                password, salt, secret, associated = (
+                    other if at == it else data for it in range(4)
                 )
+                others = {"secret": secret, "associated": associated}
+                tags.add(rigzumal.argon2(password, salt, **others, **LEAST_COSTS))
             self.assertEqual(len(tags), 5)
+            record = LEAST.hash(data)
+            self.assertTrue(LEAST.verify(record, data))
+            for wrong in (other, data[1:], data + b"\0"):
+                with self.assertRaises(rigzumal.VerifyMismatchError):
+                    LEAST.verify(record, wrong)
 
 
 class Parts(unittest.TestCase):
@@ -290,36 +250,6 @@ class Parts(unittest.TestCase):
         self.assertEqual(found, rigzumal.Parts("scrypt", 0, 4, 3, 2, 9, 4))
         for kind, record in RECORDS.items():
             self.assertEqual(rigzumal.parts(record).scheme, f"argon2{kind.name.lower()}")
-
-
-class Library(unittest.TestCase):
-    def loaded(self, **env):
-        """The library that a new process loads, or what it says."""
-        script = "import rigzumal; print(open('/proc/self/maps').read())"
-        command = [sys.executable, "-c", script]
-        env = {**os.environ, **env}
-        done = subprocess.run(command, capture_output=True, text=True, env=env)
-        names = {it.split()[-1] for it in done.stdout.splitlines() if "librigzumal" in it}
-        return names or {done.stderr.splitlines()[-1]}
-
-    def test_the_one_that_is_named_is_loaded(self):
-        with tempfile.TemporaryDirectory() as room:
-            named = pathlib.Path(room) / "librigzumal-of-mine.so"
-            shutil.copy(_library._path(), named)
-            self.assertEqual(self.loaded(RIGZUMAL_LIBRARY=str(named)), {str(named)})
-            (said,) = self.loaded(RIGZUMAL_LIBRARY=str(named) + ".not")
-            self.assertTrue(said.startswith("ImportError: librigzumal.so.1 can't be loaded"), said)
-        self.assertEqual(self.loaded(RIGZUMAL_LIBRARY=""), {str(_library._path())})
-
-    def test_memory_is_given_back(self):
-        area = 16 * mmap.PAGESIZE * 256
-        PasswordHasher(1, 65536, 1).hash("x")
-        self.assertEqual(rigzumal.trim(), 4 * area)
-        self.assertEqual(rigzumal.trim(), 0)
-        LEAST.hash("x")
-        self.assertEqual(rigzumal.trim(), 0)
-        PasswordHasher(1, 1024, 1).hash("x")
-        self.assertEqual(rigzumal.trim(), area)
 
 
 if __name__ == "__main__":

@@ -1,28 +1,19 @@
-"""Tests of where the library is looked for, and of passlib's and argon2-cffi's own tests over it."""
+"""Tests of where the library is looked for, of what it keeps, and of passlib's and argon2-cffi's own
+tests over it."""
 
-import importlib.util
 import os
 import pathlib
 import re
 import shutil
-import subprocess
-import sys
 import tempfile
 import unittest
 
 from here import HERE, LIBRARIES, PYTHON
+from records import LEAST, python
 
-
-def ended(*words, env=None, at=HERE):
-    """How this Python ended, and what it wrote on both streams."""
-    return subprocess.run(
-        [sys.executable, *map(str, words)],
-        stdout=subprocess.PIPE,
-        stderr=subprocess.STDOUT,
-        text=True,
-        env={**os.environ, **(env or {})},
-        cwd=at,
-    )
+import rigzumal
+from rigzumal import PasswordHasher, _library
+from tests.helpers import need_module
 
 
 class Places(unittest.TestCase):
@@ -35,14 +26,14 @@ class Places(unittest.TestCase):
         """A package without its library says how to build it, and so does what packs it."""
         shutil.copytree(PYTHON / "rigzumal", self.room / "rigzumal")
         clean = {"PYTHONPATH": str(self.room), "LD_LIBRARY_PATH": "", "RIGZUMAL_LIBRARY": ""}
-        done = ended("-c", "import rigzumal", env=clean, at=self.room)
-        if done.returncode:  # unless one is installed
-            self.assertIn("make -C c", done.stdout)
+        script = "try:\n    import rigzumal\nexcept ImportError as said:\n    print(said)"
+        said = python("-c", script, at=self.room, **clean)
+        if said:  # unless one is installed
+            self.assertIn("make -C c", said)
         left_out = shutil.ignore_patterns("tests", "out")
         shutil.copytree(PYTHON, self.room / "python", ignore=left_out)
-        done = ended("python/build_backend.py", self.room, at=self.room)
-        self.assertEqual(done.returncode, 1)
-        self.assertIn("make -C c", done.stdout)
+        said = python("python/build_backend.py", self.room, at=self.room, status=1)
+        self.assertIn("make -C c", said)
 
     def test_the_package_comes_first(self):
         """Its own library is taken before that of a make beside it, which is no library here."""
@@ -53,43 +44,64 @@ class Places(unittest.TestCase):
             (room / "c/out/librigzumal.so.1").write_text("none")
             shutil.copy(LIBRARIES / "librigzumal.so.1", room / library)
             env = {"PYTHONPATH": str(room / "python"), "RIGZUMAL_LIBRARY": ""}
-            done = ended("-c", "import rigzumal", env=env, at=self.room)
-            self.assertEqual(done.returncode, 0, done.stdout)
+            python("-c", "import rigzumal", at=self.room, **env)
+
+    def test_the_one_that_is_named_is_loaded(self):
+        def loaded(named):
+            script = "import rigzumal; print(open('/proc/self/maps').read())"
+            said = python("-c", script, RIGZUMAL_LIBRARY=str(named))
+            return {it.split()[-1] for it in said.splitlines() if "librigzumal" in it}
+
+        named = self.room / "librigzumal-of-mine.so"
+        shutil.copy(_library._path(), named)
+        self.assertEqual(loaded(named), {str(named)})
+        self.assertEqual(loaded(""), {str(_library._path())})
+        said = python("-c", "import rigzumal", RIGZUMAL_LIBRARY=f"{named}.not", status=1)
+        self.assertIn("ImportError: librigzumal.so.1 can't be loaded", said)
+
+
+class Kept(unittest.TestCase):
+    def test_memory_is_given_back(self):
+        area = 2**24
+        rigzumal.trim()
+        for hasher, kept in (
+            (PasswordHasher(1, 65536, 1), 4 * area),
+            (LEAST, 0),
+            (PasswordHasher(1, 1024, 1), area),
+        ):
+            hasher.hash("x")
+            self.assertEqual((rigzumal.trim(), rigzumal.trim()), (kept, 0))
+
+    def test_the_bound(self):
+        script = "import rigzumal; print(rigzumal.keep(0), rigzumal.keep(2**21), rigzumal.keep(0))"
+        for bound, wanted in (("", 2**26), (str(2**25), 2**25)):
+            said = python("-c", script, RIGZUMAL_KEEP=bound)
+            self.assertEqual(said, f"{wanted} 0 {2**21}\n")
+        for wrong, kind in ((-1, OverflowError), (2**63, OverflowError), ("0", TypeError)):
+            self.assertRaises(kind, rigzumal.keep, wrong)
 
 
 class OwnTests(unittest.TestCase):
     """Those of other programs."""
 
-    def need(self, *modules):
-        for name in modules:
-            try:
-                found = importlib.util.find_spec(name)
-            except ModuleNotFoundError:
-                found = None
-            if found is None:
-                self.skipTest(f"Python's module {name} isn't installed")
-
     def test_of_argon2_cffi(self):
-        self.need("pytest", "hypothesis")
+        need_module("pytest", "hypothesis")
         source = os.environ.get("ARGON2_CFFI_SOURCE")
         if source is None:
             self.skipTest("ARGON2_CFFI_SOURCE names no folder of argon2-cffi's source")
-        done = ended(HERE / "argon2_cffi_own.py", source)
-        self.assertEqual(done.returncode, 0, done.stdout)
+        python(HERE / "argon2_cffi_own.py", source)
 
     def test_of_passlib_for_scrypt(self):
         """With this library as a backend."""
-        self.need("passlib.tests.test_crypto_scrypt")
+        need_module("passlib.tests.test_crypto_scrypt")
         path = os.pathsep.join((str(PYTHON), str(HERE / "passlib_scrypt")))
-        env = {"PYTHONPATH": path}
         script = "from passlib.crypto import scrypt; scrypt._set_backend('scrypt')"
-        done = ended("-W", "ignore", "-c", f"{script}; print(scrypt.backend)", env=env)
-        self.assertEqual(done.stdout, "scrypt\n")
+        said = python("-W", "ignore", "-c", f"{script}; print(scrypt.backend)", PYTHONPATH=path)
+        self.assertEqual(said, "scrypt\n")
         for module in ("test_crypto_scrypt", "test_handlers_scrypt"):
             words = ("-W", "ignore", "-m", "unittest", f"passlib.tests.{module}")
-            done = ended(*words, env=env)
-            self.assertEqual(done.returncode, 0, done.stdout)
-            self.assertRegex(done.stdout, re.compile(r"^Ran [1-9]\d* test", re.M))
+            said = python(*words, PYTHONPATH=path)
+            self.assertRegex(said, re.compile(r"^Ran [1-9]\d* test", re.M))
 
 
 if __name__ == "__main__":

@@ -4,11 +4,9 @@ import concurrent.futures
 import copy
 import multiprocessing
 import pickle
-import subprocess
-import sys
 import unittest
 
-from records import ARGON2, SMALL
+from records import ARGON2, LEAST_COSTS, SMALL, python
 
 import rigzumal
 from rigzumal import PasswordHasher, ScryptHasher, _library
@@ -20,34 +18,23 @@ def fail(_):
 
 class Exceptions(unittest.TestCase):
     def test_each_number_has_its_exception(self):
-        kinds = {
+        """Which is the same when it is copied or comes from another process."""
+        for kind, numbers in {
             rigzumal.VerifyMismatchError: [10],
             rigzumal.OutOfMemoryError: [8],
             rigzumal.NoRandomError: [26],
             rigzumal.InvalidRecordError: [1, 2, 3, 4, 5, 6, 7, 9],
             rigzumal.InvalidNumbersError: [*range(11, 26), 27, 255],
-        }
-        for kind, numbers in kinds.items():
+        }.items():
             for number in numbers:
                 with self.assertRaises(rigzumal.RigzumalError) as raised:
                     _library.raise_fault(number)
-                self.assertIs(type(raised.exception), kind, number)
-                self.assertEqual(raised.exception.number, number)
+                made = raised.exception
+                self.assertEqual((type(made), made.number), (kind, number))
+                for it in (pickle.loads(pickle.dumps(made)), copy.copy(made), copy.deepcopy(made)):
+                    said = (type(it), it.number, it.word, str(it))
+                    self.assertEqual(said, (kind, number, made.word, str(made)))
         self.assertIsNone(_library.raise_fault(0))
-
-    def test_they_survive_pickle_and_copy(self):
-        for kind, number in (
-            (rigzumal.VerifyMismatchError, 10),
-            (rigzumal.InvalidRecordError, 3),
-            (rigzumal.InvalidNumbersError, 14),
-            (rigzumal.OutOfMemoryError, 8),
-            (rigzumal.NoRandomError, 23),
-        ):
-            made = kind(number)
-            for other in (pickle.loads(pickle.dumps(made)), copy.copy(made), copy.deepcopy(made)):
-                self.assertIs(type(other), kind)
-                found = (other.number, other.word, str(other))
-                self.assertEqual(found, (number, made.word, str(made)))
 
     def test_they_come_out_of_other_processes(self):
         context = multiprocessing.get_context("spawn")
@@ -149,47 +136,40 @@ class Refusals(unittest.TestCase):
 
     def test_numbers(self):
         bad, call = rigzumal.InvalidNumbersError, rigzumal.argon2
-        given = {"time_cost": 1, "memory_cost": 8, "parallelism": 1}
         for change, word in (
             ({"time_cost": 0}, "passes"),
             ({"version": 18}, "noversion"),
             ({"hash_len": 3}, "tagsize"),
         ):
-            self.refused(bad, word, call, "x", b"somesalt", **{**given, **change})
+            self.refused(bad, word, call, "x", b"somesalt", **{**LEAST_COSTS, **change})
         self.refused(bad, "scryptcost", rigzumal.scrypt, "x", b"", log2_n=0, r=8, p=1)
         with self.assertRaises(OverflowError):
             rigzumal.scrypt("x", b"", log2_n=2**32 + 4, r=8, p=1)
 
     def test_types(self):
+        def tag(salt=b"somesalt", **changes):
+            return rigzumal.argon2("x", salt, **{**LEAST_COSTS, **changes})
+
         for wrong in (5, None, ["x"]):
-            with self.assertRaises(TypeError):
-                SMALL.hash(wrong)
+            self.assertRaises(TypeError, SMALL.hash, wrong)
         for wrong in (16, "somesalt", [1] * 16, (b"somesalt",)):
-            with self.assertRaises(TypeError):
-                SMALL.hash("x", salt=wrong)
-            with self.assertRaises(TypeError):
-                ScryptHasher(log2_n=1).hash("x", salt=wrong)
-            with self.assertRaises(TypeError):
-                rigzumal.scrypt("x", wrong, log2_n=1, r=1, p=1)
-            costs = {"time_cost": 1, "memory_cost": 8, "parallelism": 1}
-            with self.assertRaises(TypeError):
-                rigzumal.argon2("x", wrong, **costs)
-            with self.assertRaises(TypeError):
-                rigzumal.argon2("x", b"somesalt", associated=wrong, **costs)
-            with self.assertRaises(TypeError):
-                PasswordHasher(secret=wrong)
-        for name in ("time_cost", "memory_cost", "parallelism", "hash_len", "salt_len"):
-            for wrong in ("3", 3.0, None, True):
-                with self.assertRaises(TypeError, msg=name):
-                    PasswordHasher(**{name: wrong})
-        for name in ("log2_n", "block_size", "parallelism", "hash_len", "salt_len"):
-            with self.assertRaises(TypeError, msg=name):
-                ScryptHasher(**{name: "3"})
-        with self.assertRaises(ValueError):
-            PasswordHasher(type=7)
+            for call in (
+                lambda it: SMALL.hash("x", salt=it),
+                lambda it: ScryptHasher(log2_n=1).hash("x", salt=it),
+                lambda it: rigzumal.scrypt("x", it, log2_n=1, r=1, p=1),
+                tag,
+                lambda it: tag(associated=it),
+                lambda it: PasswordHasher(secret=it),
+            ):
+                self.assertRaises(TypeError, call, wrong)
+        scrypt = ("log2_n", "block_size", "parallelism")
+        for kind, names in ((PasswordHasher, LEAST_COSTS), (ScryptHasher, scrypt)):
+            for name in (*names, "hash_len", "salt_len"):
+                for wrong in ("3", 3.0, None, True):
+                    self.assertRaises(TypeError, kind, **{name: wrong})
         for wrong in ("1", 1.0, True):
-            with self.assertRaises(TypeError):
-                rigzumal.argon2("x", b"somesalt", time_cost=wrong, memory_cost=8, parallelism=1)
+            self.assertRaises(TypeError, tag, time_cost=wrong)
+        self.assertRaises(ValueError, PasswordHasher, type=7)
         with self.assertRaises(ValueError) as raised:
             SMALL.hash("pass\ud800word")
         self.assertNotIn("pass", str(raised.exception))
@@ -203,8 +183,7 @@ class Refusals(unittest.TestCase):
             "except MemoryError as refused:\n    print(refused.number, refused.word)\n"
             "print(rigzumal.PasswordHasher(1, 8, 1).hash('x')[:9])\n"
         )
-        done = subprocess.run([sys.executable, "-c", script], capture_output=True)
-        self.assertEqual(done.stdout, b"8 memory\n$argon2id\n", done.stderr)
+        self.assertEqual(python("-c", script), "8 memory\n$argon2id\n")
 
 
 if __name__ == "__main__":

@@ -1,58 +1,51 @@
-"""Tests of how many threads a record's lanes get, and of one hasher in many threads."""
+"""Tests of what the library is asked for: threads for a record's lanes, salts, and one hasher in
+many threads."""
 
-import threading
+import concurrent.futures
+import ctypes
 import unittest
 
-from records import ARGON2, SMALL, Calls
+from records import ARGON2, LEAST, LEAST_COSTS, SMALL, Calls
 
 import rigzumal
-from rigzumal import PasswordHasher, ScryptHasher
+from rigzumal import PasswordHasher, ScryptHasher, argon2_cffi
+
+COSTS = {"time_cost": 1, "memory_cost": 64, "parallelism": 4}
 
 
 class Threads(unittest.TestCase):
     def test_a_record_is_the_same(self):
         for secret in (None, b"pepper"):
             one = PasswordHasher(1, 8192, 4, secret=secret)
-            four = PasswordHasher(1, 8192, 4, secret=secret, threads=4)
+            four = one.replace(threads=4)
             record = four.hash("password", salt=b"sixteen of salt.")
             self.assertEqual(record, one.hash("password", salt=b"sixteen of salt."))
-            self.assertTrue(one.verify(record, "password"))
-            self.assertTrue(four.verify(record, "password"))
-            with self.assertRaises(rigzumal.VerifyMismatchError):
-                four.verify(record, "Password")
-            self.assertFalse(four.check_needs_rehash(record))
-        costs = {"time_cost": 1, "memory_cost": 8192, "parallelism": 4}
+            for hasher in (one, four):
+                self.assertTrue(hasher.verify(record, "password"))
+                self.assertFalse(hasher.check_needs_rehash(record))
+                with self.assertRaises(rigzumal.VerifyMismatchError):
+                    hasher.verify(record, "Password")
+        costs = {**COSTS, "memory_cost": 8192}
         tags = {rigzumal.argon2("x", b"somesalt", **costs, threads=n) for n in (1, 2, 4, 9)}
         self.assertEqual(len(tags), 1)
 
     def test_those_that_are_asked_for(self):
-        for threads in (1, 3, 200):
+        """One if none are."""
+        names = "record check record_with_secret check_with_secret argon2".split()
+        for given in ({}, {"threads": 1}, {"threads": 3}, {"threads": 200}):
             with Calls() as calls:
-                hasher = PasswordHasher(1, 64, 4, threads=threads)
-                hasher.verify(hasher.hash("x"), "x")
-                hasher = PasswordHasher(1, 64, 4, secret=b"pepper", threads=threads)
-                hasher.verify(hasher.hash("x"), "x")
-                costs = {"time_cost": 1, "memory_cost": 64, "parallelism": 4}
-                rigzumal.argon2("x", b"somesalt", **costs, threads=threads)
-            names = "record check record_with_secret check_with_secret argon2".split()
-            wanted = [(f"rigzumal_{name}_threads", threads) for name in names]
-            self.assertEqual(calls.made, wanted)
-
-    def test_one_if_none_are_asked_for(self):
-        with Calls() as calls:
-            SMALL.verify(SMALL.hash("x"), "x")
-            rigzumal.argon2("x", b"somesalt", time_cost=1, memory_cost=64, parallelism=4)
-            hasher = ScryptHasher(log2_n=1)
-            hasher.verify(hasher.hash("x"), "x")
-        self.assertEqual({threads for _, threads in calls.made}, {1})
+                for secret in (None, b"pepper"):
+                    hasher = PasswordHasher(**COSTS, secret=secret, **given)
+                    hasher.verify(hasher.hash("x"), "x")
+                rigzumal.argon2("x", b"somesalt", **COSTS, **given)
+            wanted = [(f"rigzumal_{name}_threads", given.get("threads", 1)) for name in names]
+            self.assertEqual([(name, words[-1]) for name, *words in calls.made], wanted)
 
     def test_those_of_argon2_cffi_are_its_parallelism(self):
-        from rigzumal import argon2_cffi
-
         hasher = argon2_cffi.PasswordHasher(1, 64, 4)
         with Calls() as calls:
             hasher.verify(hasher.hash("x"), "x")
-        made = dict(calls.made)
+        made = {name: words[-1] for name, *words in calls.made}
         self.assertEqual(made["rigzumal_argon2_threads"], 4)
         self.assertEqual(made["rigzumal_check_threads"], 255)  # as many as there are lanes
 
@@ -64,23 +57,34 @@ class Threads(unittest.TestCase):
             with self.assertRaises(TypeError):
                 PasswordHasher(threads=bad)
         with self.assertRaises(OverflowError):
-            rigzumal.argon2(
-                "x", b"somesalt", time_cost=1, memory_cost=64, parallelism=4, threads=-1
-            )
+            rigzumal.argon2("x", b"somesalt", **LEAST_COSTS, threads=-1)
 
     def test_one_hasher_serves_many(self):
-        found = []
+        """At once: the calls don't hold the interpreter's lock, as those of a PyDLL do."""
+        self.assertNotIsInstance(rigzumal._library._library, ctypes.PyDLL)
+        with concurrent.futures.ThreadPoolExecutor(8) as pool:
+            made = pool.map(lambda _: SMALL.hash("password", salt=b"somesalt"), range(160))
+            self.assertEqual(list(made), [ARGON2] * 160)
 
-        def work():
-            for _ in range(20):
-                found.append(SMALL.hash("password", salt=b"somesalt"))
 
-        threads = [threading.Thread(target=work) for _ in range(8)]
-        for thread in threads:
-            thread.start()
-        for thread in threads:
-            thread.join()
-        self.assertEqual(found, [ARGON2] * 160)
+class Salts(unittest.TestCase):
+    def test_the_library_draws_them(self):
+        for size in (8, 15, 16, 48):
+            for hasher in (LEAST, LEAST.replace(secret=b"x"), ScryptHasher(1, 1, 1)):
+                hasher = hasher.replace(salt_len=size)
+                with Calls() as calls:
+                    made = {hasher.hash("x") for _ in range(2)}
+                self.assertEqual(len(made), 2)
+                for _, text, room, tag_size, costs, *salt in calls.made:
+                    self.assertEqual(salt[:2], [None, size])
+
+    def test_those_of_argon2_cffi_are_drawn(self):
+        for size in (8, 16, 48, 64):
+            hasher = argon2_cffi.PasswordHasher(1, 8, 1, 32, size)
+            made = [hasher.hash("x") for _ in range(2)]
+            self.assertEqual(len({it.split("$")[4] for it in made}), 2)
+            for it in made:
+                self.assertEqual(argon2_cffi.extract_parameters(it).salt_len, size)
 
 
 if __name__ == "__main__":
