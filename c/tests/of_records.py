@@ -109,7 +109,3 @@ class Records(unittest.TestCase):
             found = written_text("record_from", N.TEXT_SIZE, 32, COSTS, given)
             self.assertEqual(found, (N.INPUT_SIZE, ""))
             self.assertEqual(call("check_from", RECORD, given), N.INPUT_SIZE)
-
-
-if __name__ == "__main__":
-    unittest.main()

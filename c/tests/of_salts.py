@@ -51,7 +51,3 @@ class Salts(unittest.TestCase):
             for piece in (-1, 0):
                 made, _ = self.record_of(piece, costs, 16, **others)
                 self.assertEqual(made, (N.NO_RANDOM, ""))
-
-
-if __name__ == "__main__":
-    unittest.main()

@@ -124,7 +124,3 @@ class Steps(unittest.TestCase):
                 operation, copy, pair("password"), pair(None), setting, secret="pepper"
             )
             self.assertEqual(found, wanted, operation)
-
-
-if __name__ == "__main__":
-    unittest.main()

@@ -188,7 +188,3 @@ class Texts(unittest.TestCase):
         for number in (-1, len(names)):
             self.assertEqual(LIBRARY.rigzumal_word(number), b"unknown")
             self.assertEqual(LIBRARY.rigzumal_strerror(number), b"no such fault")
-
-
-if __name__ == "__main__":
-    unittest.main()

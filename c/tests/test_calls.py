@@ -109,7 +109,3 @@ class Calls(unittest.TestCase):
         self.assertEqual((len(added), len(ours - added), added - ours), (2, 22, set()))
         if ORIGINAL.exists():
             self.assertEqual(ours - added, shown(ORIGINAL))
-
-
-if __name__ == "__main__":
-    unittest.main()

@@ -58,7 +58,3 @@ class Libargon2(unittest.TestCase):
             test = ("cryptsetup", "open", "--test-passphrase", "--key-file", "-", image)
             run(*test, given="a secret", env=reader)
             run(*test, given="A secret", env=reader, status=2)
-
-
-if __name__ == "__main__":
-    unittest.main()

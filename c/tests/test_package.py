@@ -177,7 +177,3 @@ class Package(unittest.TestCase):
         folders = (f"-I{room / 'usr/include'}", f"-L{libraries}")
         run(compiler(), "tests/threads.c", "-pthread", *folders, "-lrigzumal", "-o", program)
         run(program, env={"LD_LIBRARY_PATH": str(libraries)})
-
-
-if __name__ == "__main__":
-    unittest.main()

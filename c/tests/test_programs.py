@@ -96,7 +96,3 @@ class Programs(unittest.TestCase):
 
     def test_unloaded_library(self):
         run(sys.executable, "-c", UNLOADED, OUT / "librigzumal.so.1")
-
-
-if __name__ == "__main__":
-    unittest.main()

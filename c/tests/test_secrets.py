@@ -131,7 +131,3 @@ class Secrets(unittest.TestCase):
             self.skipTest("valgrind/memcheck.h is not there")
         for linked in EACH_BUILD:
             check_leaks(built("secrets", [*JOBS, IN_THREADS], linked))
-
-
-if __name__ == "__main__":
-    unittest.main()

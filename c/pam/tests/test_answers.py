@@ -313,7 +313,3 @@ class Answers(Case):
         self.assertEqual(said.codes, [AUTH_ERR])
         said, _ = said_at(b"1 yes\n", Question(service=service.replace("permit", "deny")))
         self.assertEqual(said.codes, [SUCCESS])
-
-
-if __name__ == "__main__":
-    unittest.main()

@@ -198,7 +198,3 @@ class Changes(Case):
             ROOM / "nothing-here",
         )
         self.assertEqual((said.codes, len(said.prompts)), ([SUCCESS], 2), "the server is down")
-
-
-if __name__ == "__main__":
-    unittest.main()

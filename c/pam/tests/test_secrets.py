@@ -238,7 +238,3 @@ class Secrets(Case):
             ]
             done = subprocess.run(command, cwd=TOP, capture_output=True, text=True)
             self.assertEqual(done.returncode, 0, done.stderr)
-
-
-if __name__ == "__main__":
-    unittest.main()

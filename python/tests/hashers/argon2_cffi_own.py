@@ -9,6 +9,7 @@ orig tarball `apt-get source` gets.
 import pathlib
 import sys
 import types
+from unittest import mock
 
 import pytest
 
@@ -28,23 +29,14 @@ EXPECTED = {
 }
 
 
-class Numbers:
-    """The numbers of argon2.h from which hypothesis draws."""
-
-    ARGON2_MIN_PWD_LENGTH = 0
-    ARGON2_MIN_TIME = 1
-    ARGON2_MIN_LANES = 1
-    ARGON2_MIN_OUTLEN = 4
-    ARGON2_MIN_SALT_LENGTH = 8
-
-
-class Missing(types.ModuleType):
-    """A module that isn't there, as the tests import it at their heads."""
-
-    def __getattr__(self, name):
-        if name.startswith("__"):
-            raise AttributeError(name)
-        return None
+# The numbers of argon2.h from which hypothesis draws.
+NUMBERS = types.SimpleNamespace(
+    ARGON2_MIN_PWD_LENGTH=0,
+    ARGON2_MIN_TIME=1,
+    ARGON2_MIN_LANES=1,
+    ARGON2_MIN_OUTLEN=4,
+    ARGON2_MIN_SALT_LENGTH=8,
+)
 
 
 class Outcomes:
@@ -68,11 +60,11 @@ def stand_in():
     for name in ("exceptions", "low_level", "profiles"):
         sys.modules[f"argon2.{name}"] = getattr(argon2_cffi, name)
     for name in ("_utils", "_password_hasher"):
-        sys.modules[f"argon2.{name}"] = Missing(f"argon2.{name}")
+        sys.modules[f"argon2.{name}"] = mock.MagicMock()
     for name in ("hash_password", "hash_password_raw", "verify_password"):
         setattr(argon2_cffi, name, None)
     argon2_cffi.low_level.core = argon2_cffi.low_level.ffi = None
-    argon2_cffi.low_level.lib = Numbers
+    argon2_cffi.low_level.lib = NUMBERS
 
 
 def main():

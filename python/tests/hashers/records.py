@@ -21,6 +21,14 @@ def python(*words, given="", status=0, at=here.HERE, **env):
     return run(sys.executable, *words, given=given, status=status, at=at, env=env)
 
 
+def verdict(hasher, record, password):
+    """Whether the password is the record's."""
+    try:
+        return hasher.verify(record, password)
+    except rigzumal.VerifyMismatchError:
+        return False
+
+
 class Calls:
     """The library, with the name and the arguments of each call noted."""
 

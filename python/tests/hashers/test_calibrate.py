@@ -12,6 +12,9 @@ from rigzumal import PasswordHasher, __main__, _calibrate
 from rigzumal._calibrate import Measured, measured, trials
 
 
+EACH_WORD = "--target-ms 70 --memory 32M --lanes 3 --threads 2 --below"
+
+
 def linear(rate):
     """A machine whose threads share the work: milliseconds a KiB of a pass."""
     return lambda it: it.time_cost * it.memory_cost * rate / it.threads
@@ -38,34 +41,30 @@ def tried(machine, target, memory, lanes, threads=1, below=True):
 
 
 class Trials(unittest.TestCase):
-    def test_passes_are_as_many_as_the_time_allows(self):
-        for target, memory, rate, passes in (
-            (250, 65536, 1 / 1024, 3),
-            (250, 65536, 1 / 264, 1),
-            (255, 65536, 1 / 512, 1),
-            (256, 65536, 1 / 512, 2),
-            (1000, 65536, 1 / 1024, 15),
-            (40, 16, 0.01, 250),
+    def test_the_last(self):
+        """As many passes as the time allows; with one that is too slow, less memory, to the least
+        one at the end, which comes soon where memory costs nothing."""
+        for machine, target, memory, lanes, wanted in (
+            (linear(1 / 1024), 250, 65536, 1, (65536, 3)),
+            (linear(1 / 264), 250, 65536, 1, (65536, 1)),
+            (linear(1 / 512), 255, 65536, 1, (65536, 1)),
+            (linear(1 / 512), 256, 65536, 1, (65536, 2)),
+            (linear(1 / 1024), 1000, 65536, 1, (65536, 15)),
+            (linear(0.01), 40, 16, 1, (16, 250)),
+            (linear(1000), 1, 65536, 1, (8, 1)),
+            (linear(1000), 1, 65536, 2, (16, 1)),
+            (linear(1000), 1, 65536, 255, (2040, 1)),
+            (with_a_slow_start, 59.9, 65536, 1, (8, 1)),
         ):
-            last = tried(linear(rate), target, memory, 1)[-1].hasher
-            self.assertEqual((last.memory_cost, last.time_cost), (memory, passes), (target, rate))
+            last = tried(machine, target, memory, lanes)[-1].hasher
+            self.assertEqual((last.memory_cost, last.time_cost), wanted, (target, lanes))
 
     def test_memory_is_as_much_as_the_time_allows(self):
         for target in (250, 100, 33.3, 7):
-            found = tried(linear(1 / 64), target, 65536, 4)
-            last = found[-1]
+            last = tried(linear(1 / 64), target, 65536, 4)[-1]
             self.assertEqual(last.hasher.time_cost, 1)
             self.assertLessEqual(last.milliseconds, target)
             self.assertGreater(last.milliseconds, 0.9 * target)
-
-    def test_the_least_memory_is_the_end(self):
-        for lanes in (1, 2, 255):
-            last = tried(linear(1000), 1, 65536, lanes)[-1].hasher
-            self.assertEqual((last.memory_cost, last.time_cost), (8 * lanes, 1))
-
-    def test_the_end_comes_soon_where_memory_costs_nothing(self):
-        last = tried(with_a_slow_start, 59.9, 65536, 1)[-1].hasher
-        self.assertEqual((last.memory_cost, last.time_cost), (8, 1))
 
     def test_the_last_is_never_too_slow(self):
         for target in (50, 60, 64, 65, 100, 500, 2000):
@@ -150,13 +149,13 @@ class Timing(unittest.TestCase):
 
 
 class Shell(unittest.TestCase):
-    def asked(self, *words, machine=linear(1 / 1024)):
+    def asked(self, *words):
         """What the shell's command asks for, what it writes, and what it says."""
         calls, out, said = [], io.StringIO(), io.StringIO()
 
         def noted(*given):
             calls.append(given)
-            return iter(tried(machine, *given))
+            return iter(tried(linear(1 / 1024), *given))
 
         argv = ["rigzumal", "calibrate", *words]
         with mock.patch.object(__main__, "trials", noted), mock.patch.object(sys, "argv", argv):
@@ -165,28 +164,25 @@ class Shell(unittest.TestCase):
         return calls, out.getvalue(), said.getvalue()
 
     def test_each_word_counts(self):
-        calls, said, _ = self.asked()
-        self.assertEqual(calls, [(250, 65536, 4, 1, False)])
-        self.assertEqual(said, "$argon2id$v=19$m=65536,t=3,p=4\n")
-        words = "--target-ms 70 --memory 32M --lanes 3 --threads 2 --below".split()
-        calls, said, _ = self.asked(*words)
-        self.assertEqual(calls, [(70, 32768, 3, 2, True)])
-        self.assertEqual(said, "$argon2id$v=19$m=32768,t=4,p=3\n")
-
-    def test_costs_that_take_too_long_are_said(self):
-        _, costs, said = self.asked("--target-ms", "20", machine=linear(1 / 1024))
-        self.assertEqual(costs, "$argon2id$v=19$m=19456,t=2,p=4\n")
-        self.assertIn("the least costs take 38 ms here; --below allows lower ones", said)
-        _, costs, said = self.asked("--target-ms", "20", "--below", machine=linear(1 / 1024))
-        self.assertEqual(costs, "$argon2id$v=19$m=20480,t=1,p=4\n")
-        self.assertNotIn("least costs", said)
+        """Costs that take too long are said."""
+        for words, asked, costs, advice in (
+            ("", (250, 65536, 4, 1, False), "m=65536,t=3,p=4", None),
+            (
+                "--target-ms 20",
+                (20, 65536, 4, 1, False),
+                "m=19456,t=2,p=4",
+                "take 38 ms here; --below",
+            ),
+            ("--target-ms 20 --below", (20, 65536, 4, 1, True), "m=20480,t=1,p=4", None),
+            (EACH_WORD, (70, 32768, 3, 2, True), "m=32768,t=4,p=3", None),
+        ):
+            calls, said, faults = self.asked(*words.split())
+            self.assertEqual((calls, said), ([asked], f"$argon2id$v=19${costs}\n"))
+            self.assertEqual("least costs" in faults, advice is not None)
+            self.assertIn(advice or "", faults)
 
     def test_a_busy_machine_is_said(self):
         with mock.patch.object(__main__, "why_busy", lambda: "the machine is busy"):
             self.assertIn("the machine is busy: ", self.asked()[2])
         with mock.patch.object(__main__, "why_busy", lambda: None):
             self.assertNotIn("busy", self.asked()[2])
-
-
-if __name__ == "__main__":
-    unittest.main()

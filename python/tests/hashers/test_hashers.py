@@ -7,17 +7,17 @@ import hashlib
 import itertools
 import unittest
 
-from records import ARGON2, LEAST, LEAST_COSTS, OLD, SMALL
+from records import ARGON2, LEAST, LEAST_COSTS, OLD, SMALL, verdict
 
 import rigzumal
 from rigzumal import PasswordHasher, ScryptHasher, Type, argon2_cffi
 
-# printf password | argon2 somesalt -d -t 2 -k 256 -p 1 -l 32 -e, and the like
-RECORDS = {
-    Type.D: "$argon2d$v=19$m=256,t=2,p=1$c29tZXNhbHQ$JcTui6RIBUtJ78gE5Hi52CO+H5vS6Z9R1uxAB6OhUB8",
-    Type.I: "$argon2i$v=19$m=256,t=2,p=1$c29tZXNhbHQ$iekCn0Y3spW+sCcFanM2xBT63UP2sghkUoHLIUpWRS8",
-    Type.ID: "$argon2id$v=19$m=256,t=2,p=1$c29tZXNhbHQ$nf65EOgLrQMR/uIPnA4rEsF5h7TKyQwu9U1bMCHGi/4",
-}
+
+def base64_of(data):
+    return base64.b64encode(data).decode().rstrip("=")
+
+
+# printf password | argon2 somesalt -d -v 10 -t 2 -k 256 -p 1 -l 32 -r, and the like
 TAGS = {
     (Type.D, 0x10): "bd404868ff00c52e7543c8332e6a772a5724892d7e328d5cf253bbc8e726b371",
     (Type.D, 0x13): "25c4ee8ba448054b49efc804e478b9d823be1f9bd2e99f51d6ec4007a3a1501f",
@@ -26,14 +26,11 @@ TAGS = {
     (Type.ID, 0x10): "da070e576e50f2f38a3c897cbddc6c7fb4028e870971ff9eae7b4e1879295e6e",
     (Type.ID, 0x13): "9dfeb910e80bad0311fee20f9c0e2b12c17987b4cac90c2ef54d5b3021c68bfe",
 }
-# -t 1 -k 64 -p 3
-SIZES = {
-    4: "yzTAtA",
-    16: "cl8fPiuL4hfAvkXCqgQ7og",
-    64: "RP24Y0CBwZInc8BZxzQ0oZOv5nw6wDCTlJ/8pIGUpYuCQO5ZnQFONhw21N0/+86u3Y6r5YB+/CQB3+l53sBbAA",
+RECORDS = {
+    kind: f"$argon2{kind.name.lower()}$v=19$m=256,t=2,p=1$c29tZXNhbHQ${base64_of(bytes.fromhex(tag))}"
+    for (kind, version), tag in TAGS.items()
+    if version == 0x13
 }
-LONG_SALT = b"a salt of forty-eight bytes, which is a long one"
-OF_LONG_SALT = "NCigmxqF1hZnYFLLxO36Jushq3Zzt0JDBDv+69FNaj0"
 # printf 'pass\0word' | argon2 somesalt -id -t 1 -k 64 -p 1 -l 32 -e
 WITH_NUL = "$argon2id$v=19$m=64,t=1,p=1$c29tZXNhbHQ$6oIEETo0BJ7q/vyz7jFW6wFb/GyfaZJ1ejETi5d+Muo"
 
@@ -64,12 +61,6 @@ class Kinds(unittest.TestCase):
             self.assertEqual(rigzumal.argon2("password", b"somesalt", **given).hex(), wanted)
 
     def test_tags_and_salts_have_their_sizes(self):
-        for size, tag in SIZES.items():
-            hasher = PasswordHasher(1, 64, 3, hash_len=size)
-            record = hasher.hash("password", salt=b"somesalt")
-            self.assertEqual(record, f"$argon2id$v=19$m=64,t=1,p=3$c29tZXNhbHQ${tag}")
-        record = PasswordHasher(2, 64, 2).hash("password", salt=LONG_SALT)
-        self.assertEqual(record.rsplit("$", 1)[1], OF_LONG_SALT)
         for salt, tag in itertools.product((8, 9, 16, 47, 48), (4, 5, 32, 63, 64)):
             for hasher in (
                 PasswordHasher(1, 8, 1, tag, salt),
@@ -77,14 +68,6 @@ class Kinds(unittest.TestCase):
                 ScryptHasher(1, 1, 1, tag, salt),
             ):
                 self.assertEqual(sizes_of(hasher.hash("x")), (salt, tag))
-
-    def test_a_raw_tag_is_rfc_9106s(self):
-        """Its section 5.3."""
-        costs = {"time_cost": 3, "memory_cost": 32, "parallelism": 4}
-        others = {"secret": b"\3" * 8, "associated": b"\4" * 12}
-        tag = rigzumal.argon2(b"\1" * 32, b"\2" * 16, **costs, **others)
-        wanted = "0d640df58d78766c08c037a34a8b53c9d01ef0452d75b65eb52520e96b01e659"
-        self.assertEqual(tag.hex(), wanted)
 
 
 class Verifying(unittest.TestCase):
@@ -101,17 +84,11 @@ class Verifying(unittest.TestCase):
         hasher = SMALL.replace(secret=b"pepper")
         record = hasher.hash("password", salt=b"somesalt")
         tag = rigzumal.argon2("password", b"somesalt", secret=b"pepper", **costs)
-        self.assertEqual(record.rsplit("$", 1)[1], base64.b64encode(tag).decode().rstrip("="))
-        self.assertTrue(hasher.verify(record, "password"))
-        empty = SMALL.replace(secret=b"")
-        for other, password in (
-            (SMALL, "password"),
-            (SMALL.replace(secret=b"Pepper"), "password"),
-            (empty, "password"),
-            (hasher, "Password"),
-        ):
-            with self.assertRaises(rigzumal.VerifyMismatchError):
-                other.verify(record, password)
+        self.assertEqual(record.rsplit("$", 1)[1], base64_of(tag))
+        empty, other = SMALL.replace(secret=b""), SMALL.replace(secret=b"Pepper")
+        for one, password in itertools.product((hasher, SMALL, empty, other), ("password", "x")):
+            is_right = one is hasher and password == "password"
+            self.assertIs(verdict(one, record, password), is_right, (one, password))
         self.assertTrue(empty.verify(ARGON2, "password"))
         self.assertFalse(SMALL.replace(salt_len=8).check_needs_rehash(record))
         for one in (hasher, empty):
@@ -126,16 +103,13 @@ class Rehash(unittest.TestCase):
     def test_of_other_numbers(self):
         argon2 = {"time_cost": 2, "memory_cost": 64, "parallelism": 2}
         scrypt = {"log2_n": 4, "block_size": 2, "parallelism": 2}
-        sizes = {"hash_len": 32, "salt_len": 16}
-        for maker, numbers, kinds in (
-            (PasswordHasher, {**argon2, **sizes}, (Type.D, Type.I)),
-            (
-                argon2_cffi.PasswordHasher,
-                {**argon2, **sizes},
-                (argon2_cffi.Type.D, argon2_cffi.Type.I),
-            ),
-            (ScryptHasher, {**scrypt, **sizes}, ()),
+        for module, maker, numbers in (
+            (rigzumal, "PasswordHasher", argon2),
+            (argon2_cffi, "PasswordHasher", argon2),
+            (rigzumal, "ScryptHasher", scrypt),
         ):
+            maker, numbers = getattr(module, maker), {**numbers, "hash_len": 32, "salt_len": 16}
+            kinds = (module.Type.D, module.Type.I) if "time_cost" in numbers else ()
             hasher = maker(**numbers)
             record = hasher.hash("x")
             self.assertFalse(hasher.check_needs_rehash(record))
@@ -158,12 +132,10 @@ class Inputs(unittest.TestCase):
             self.assertEqual(hasher.hash(password, salt=b"somesalt"), WITH_NUL)
             self.assertTrue(hasher.verify(WITH_NUL, password))
         for wrong in ("pass", "pass\0", "pass\0worD", "\0", ""):
-            with self.assertRaises(rigzumal.VerifyMismatchError):
-                hasher.verify(WITH_NUL, wrong)
-        record = hasher.hash("pass\0word", salt=b"some\0salt")
+            self.assertFalse(verdict(hasher, WITH_NUL, wrong))
+        record = ScryptHasher(4).hash("pass\0word", salt=b"some\0salt")
         self.assertEqual(sizes_of(record)[0], 9)
-        with self.assertRaises(rigzumal.VerifyMismatchError):
-            hasher.verify(ScryptHasher(4).hash("pass\0word"), "pass")
+        self.assertFalse(verdict(hasher, record, "pass"))
 
     def test_what_holds_bytes_is_taken_whole(self):
         words = array.array("I", [1, 2, 3, 0x04050607])
@@ -197,15 +169,12 @@ class Inputs(unittest.TestCase):
         self.assertTrue(hasher.verify(made, "x"))
         self.assertTrue(LEAST.replace(secret=b"pepper").verify(made, "x"))
 
-    def test_text_that_has_no_utf_8(self):
-        for text in ("\ud800", "\udc80", "pass\udcffword", "\udfff"):
-            for call in (LEAST.hash, lambda it: LEAST.verify(WITH_NUL, it)):
-                with self.assertRaises(ValueError):
-                    call(text)
-
     def test_text_is_its_utf_8(self):
         record = LEAST.hash("p\xe4ss\U0001f600")
         self.assertTrue(LEAST.verify(record, "p\xe4ss\U0001f600".encode()))
+        for text in ("\ud800", "\udc80", "pass\udcffword", "\udfff"):
+            self.assertRaises(ValueError, LEAST.hash, text)
+            self.assertRaises(ValueError, LEAST.verify, record, text)
 
     def test_scrypt_is_hashlibs(self):
         """Keys, passwords and salts of every length, and a record."""
@@ -219,25 +188,20 @@ class Inputs(unittest.TestCase):
             self.assertEqual(key, wanted)
         record = ScryptHasher(log2_n=4, block_size=2, parallelism=3).hash("password", salt=b"s")
         wanted = hashlib.scrypt(b"password", salt=b"s", n=16, r=2, p=3, dklen=32)
-        tag = base64.b64encode(wanted).decode().rstrip("=")
-        self.assertEqual(record, f"$scrypt$ln=4,r=2,p=3$cw${tag}")
+        self.assertEqual(record, f"$scrypt$ln=4,r=2,p=3$cw${base64_of(wanted)}")
 
     def test_each_part_counts(self):
         """To its last byte."""
         for size in (8, 48, 64, 65, 128, 129, 256, 1000, 70_000):
             data, other, tags = bytes(size), bytes(size - 1) + b"\1", set()
             for at in range(5):
-                password, salt, secret, associated = (
-                    other if at == it else data for it in range(4)
-                )
-                others = {"secret": secret, "associated": associated}
-                tags.add(rigzumal.argon2(password, salt, **others, **LEAST_COSTS))
+                given = [other if at == it else data for it in range(4)]
+                others = {"secret": given[2], "associated": given[3]}
+                tags.add(rigzumal.argon2(*given[:2], **others, **LEAST_COSTS))
             self.assertEqual(len(tags), 5)
             record = LEAST.hash(data)
-            self.assertTrue(LEAST.verify(record, data))
-            for wrong in (other, data[1:], data + b"\0"):
-                with self.assertRaises(rigzumal.VerifyMismatchError):
-                    LEAST.verify(record, wrong)
+            found = [verdict(LEAST, record, it) for it in (data, other, data[1:], data + b"\0")]
+            self.assertEqual(found, [True, False, False, False])
 
 
 class Parts(unittest.TestCase):
@@ -250,7 +214,3 @@ class Parts(unittest.TestCase):
         self.assertEqual(found, rigzumal.Parts("scrypt", 0, 4, 3, 2, 9, 4))
         for kind, record in RECORDS.items():
             self.assertEqual(rigzumal.parts(record).scheme, f"argon2{kind.name.lower()}")
-
-
-if __name__ == "__main__":
-    unittest.main()

@@ -102,7 +102,3 @@ class OwnTests(unittest.TestCase):
             words = ("-W", "ignore", "-m", "unittest", f"passlib.tests.{module}")
             said = python(*words, PYTHONPATH=path)
             self.assertRegex(said, re.compile(r"^Ran [1-9]\d* test", re.M))
-
-
-if __name__ == "__main__":
-    unittest.main()

@@ -184,7 +184,3 @@ class Refusals(unittest.TestCase):
             "print(rigzumal.PasswordHasher(1, 8, 1).hash('x')[:9])\n"
         )
         self.assertEqual(python("-c", script), "8 memory\n$argon2id\n")
-
-
-if __name__ == "__main__":
-    unittest.main()

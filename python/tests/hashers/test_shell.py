@@ -180,7 +180,3 @@ class Shell(unittest.TestCase):
         with self.assertRaises(rigzumal.RigzumalError) as raised:
             SMALL.verify("hunter2", "hunter2")
         self.assertNotIn("hunter2", repr(raised.exception) + str(raised.exception))
-
-
-if __name__ == "__main__":
-    unittest.main()
