@@ -4,7 +4,11 @@ use rigzumal::{verify, Algorithm, Argon2, Costs, Error, Hasher, Record, Version}
 use std::collections::HashSet;
 use std::process::Command;
 use std::sync::atomic::{AtomicBool, Ordering};
+use std::sync::Barrier;
 use std::{env, fs, thread};
+
+const THREADS: usize = 8;
+const TURNS: u8 = 25;
 
 fn least() -> Hasher {
     Hasher::new(Costs::argon2id(8, 1, 1))
@@ -114,23 +118,6 @@ fn a_secret_counts() {
 }
 
 #[test]
-fn every_byte_of_a_password_counts() {
-    for size in [0, 1, 64, 127, 128, 129, 255, 256, 257, 5000] {
-        let password = vec![b'x'; size];
-        let record = least().hash_password(&password).unwrap();
-        assert_eq!(verify(&password, &record), Ok(()));
-        for at in 0..size.min(300) {
-            let mut other = password.clone();
-            other[size - 1 - at] = b'y';
-            assert_eq!(verify(&other, &record), Err(Error::Mismatch));
-        }
-        let mut longer = password.clone();
-        longer.push(0);
-        assert_eq!(verify(&longer, &record), Err(Error::Mismatch));
-    }
-}
-
-#[test]
 fn nothing_secret_is_shown() {
     let hasher = least().secret(b"pepper");
     let record = hasher.hash_password(b"hunter2").unwrap();
@@ -176,6 +163,52 @@ fn usual_threads_in(work: impl FnOnce() + Send) -> usize {
         }
     });
     (0..times.len()).max_by_key(|count| times[*count]).unwrap()
+}
+
+fn is_for_threads<T: Send + Sync>() {}
+
+#[test]
+fn what_is_shared_may_be() {
+    is_for_threads::<Hasher>();
+    is_for_threads::<Record>();
+    is_for_threads::<Costs>();
+    is_for_threads::<Error>();
+    is_for_threads::<Argon2<'_>>();
+    is_for_threads::<rigzumal::Scrypt>();
+}
+
+#[test]
+fn eight_threads_hash_and_verify_at_once() {
+    let hashers = [
+        Hasher::new(Costs::argon2id(64, 1, 2)),
+        Hasher::new(Costs::argon2id(4096, 1, 2)).threads(2),
+        Hasher::new(Costs::Scrypt { log2_n: 6, r: 4, p: 2 }),
+    ];
+    let salt = b"sixteen of salt.";
+    let password = |turn: u8| [turn; 20];
+    let wanted: Vec<Vec<Record>> = hashers
+        .iter()
+        .map(|it| {
+            (0..TURNS).map(|n| it.hash_password_with_salt(&password(n), salt).unwrap()).collect()
+        })
+        .collect();
+    let start = Barrier::new(THREADS);
+    thread::scope(|scope| {
+        for number in 0..THREADS {
+            let (start, hashers, wanted) = (&start, &hashers, &wanted);
+            scope.spawn(move || {
+                start.wait();
+                for turn in 0..TURNS {
+                    let which = (usize::from(turn) + number) % hashers.len();
+                    let record = &wanted[which][usize::from(turn)];
+                    let made = hashers[which].hash_password_with_salt(&password(turn), salt);
+                    assert_eq!(made.as_ref(), Ok(record));
+                    assert_eq!(verify(&password(turn), record), Ok(()));
+                    assert_eq!(verify(&password(turn + 1), record), Err(Error::Mismatch));
+                }
+            });
+        }
+    });
 }
 
 const CHILD: &str = "RIGZUMAL_TEST_CHILD";

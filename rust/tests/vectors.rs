@@ -8,68 +8,60 @@ fn hex(data: &[u8]) -> String {
     data.iter().fold(String::new(), |text, byte| text + &format!("{byte:02x}"))
 }
 
-#[test]
-fn tags_are_those_of_rfc_9106() {
-    let wanted = [
-        (Algorithm::Argon2d, "512b391b6f1162975371d30919734294f868e3be3984f3c1a13a4db9fabe4acb"),
-        (Algorithm::Argon2i, "c814d9d1dc7f37aa13f0d77f2494bda1c8de6b016dd388d29952a4c4672b6ce8"),
-        (Algorithm::Argon2id, "0d640df58d78766c08c037a34a8b53c9d01ef0452d75b65eb52520e96b01e659"),
-    ];
-    for (algorithm, tag) in wanted {
+/// By threads for each lane too.
+fn check_tags(argon2: Argon2<'_>, password: &[u8], salt: &[u8], wanted: [&str; 3]) {
+    let algorithms = [Algorithm::Argon2d, Algorithm::Argon2i, Algorithm::Argon2id];
+    for (algorithm, tag) in algorithms.into_iter().zip(wanted) {
         for threads in [0, 1, 4] {
-            let argon2 = Argon2 {
-                algorithm,
-                version: Version::V0x13,
-                memory: 32,
-                passes: 3,
-                lanes: 4,
-                secret: &[3; 8],
-                associated: &[4; 12],
-                threads,
-            };
             let mut out = [0; 32];
-            assert_eq!(argon2.hash_password_into(&[1; 32], &[2; 16], &mut out), Ok(()));
+            let argon2 = Argon2 { algorithm, threads, ..argon2 };
+            assert_eq!(argon2.hash_password_into(password, salt, &mut out), Ok(()));
             assert_eq!(hex(&out), tag);
         }
     }
+}
+
+#[test]
+fn tags_are_those_of_rfc_9106() {
+    let wanted = [
+        "512b391b6f1162975371d30919734294f868e3be3984f3c1a13a4db9fabe4acb",
+        "c814d9d1dc7f37aa13f0d77f2494bda1c8de6b016dd388d29952a4c4672b6ce8",
+        "0d640df58d78766c08c037a34a8b53c9d01ef0452d75b65eb52520e96b01e659",
+    ];
+    let (secret, associated) = (&[3; 8], &[4; 12]);
+    let numbers = Argon2 { memory: 32, passes: 3, lanes: 4, ..Argon2::default() };
+    check_tags(Argon2 { secret, associated, ..numbers }, &[1; 32], &[2; 16], wanted);
 }
 
 /// By `argon2 somesalt -v 10 -t 2 -k 256 -p 1 -r`.
 #[test]
 fn old_tags_are_those_of_the_argon2_program() {
     let wanted = [
-        (Algorithm::Argon2d, "bd404868ff00c52e7543c8332e6a772a5724892d7e328d5cf253bbc8e726b371"),
-        (Algorithm::Argon2i, "fd4dd83d762c49bdeaf57c47bdcd0c2f1babf863fdeb490df63ede9975fccf06"),
-        (Algorithm::Argon2id, "da070e576e50f2f38a3c897cbddc6c7fb4028e870971ff9eae7b4e1879295e6e"),
+        "bd404868ff00c52e7543c8332e6a772a5724892d7e328d5cf253bbc8e726b371",
+        "fd4dd83d762c49bdeaf57c47bdcd0c2f1babf863fdeb490df63ede9975fccf06",
+        "da070e576e50f2f38a3c897cbddc6c7fb4028e870971ff9eae7b4e1879295e6e",
     ];
-    for (algorithm, tag) in wanted {
-        let version = Version::V0x10;
-        let argon2 =
-            Argon2 { algorithm, version, memory: 256, passes: 2, lanes: 1, ..Argon2::default() };
-        let mut out = [0; 32];
-        assert_eq!(argon2.hash_password_into(b"password", b"somesalt", &mut out), Ok(()));
-        assert_eq!(hex(&out), tag);
-    }
+    let numbers = Argon2 { memory: 256, passes: 2, lanes: 1, ..Argon2::default() };
+    let version = Version::V0x10;
+    check_tags(Argon2 { version, ..numbers }, b"password", b"somesalt", wanted);
 }
 
-/// RFC 7914, section 12: the first, the second's numbers with fewer passes apart, and the third.
+/// RFC 7914, section 12: the first, the second and the third.
 #[test]
 fn keys_are_those_of_rfc_7914() {
-    let mut key = [0; 64];
-    assert_eq!(Scrypt { log2_n: 4, r: 1, p: 1 }.hash_password_into(b"", b"", &mut key), Ok(()));
-    assert!(
-        hex(&key).starts_with("77d6576238657b203b19ca42c18a0497f16b4844e3074ae8dfdffa3fede21442")
-    );
-    let scrypt = Scrypt { log2_n: 10, r: 8, p: 16 };
-    assert_eq!(scrypt.hash_password_into(b"password", b"NaCl", &mut key), Ok(()));
-    assert!(
-        hex(&key).starts_with("fdbabe1c9d3472007856e7190d01e9fe7c6ad7cbc8237830e77376634b373162")
-    );
-    let scrypt = Scrypt { log2_n: 14, r: 8, p: 1 };
-    assert_eq!(scrypt.hash_password_into(b"pleaseletmein", b"SodiumChloride", &mut key), Ok(()));
-    assert!(
-        hex(&key).starts_with("7023bdcb3afd7348461c06cd81fd38ebfda8fbba904f8e3ea9b543f6545da1f2")
-    );
+    let of = |log2_n, r, p| Scrypt { log2_n, r, p };
+    for (scrypt, password, salt, front) in [
+        (of(4, 1, 1), "", "", "77d6576238657b203b19ca42c18a0497f16b4844e3074ae8dfdffa3fede21442"),
+        (of(10, 8, 16), "password", "NaCl", "fdbabe1c9d3472007856e7190d01e9fe7c6ad7cbc8237830e77"),
+        (of(14, 8, 1), "pleaseletmein", "SodiumChloride", "7023bdcb3afd7348461c06cd81fd38ebfda8f"),
+    ] {
+        let mut key = [0; 64];
+        assert_eq!(
+            scrypt.hash_password_into(password.as_bytes(), salt.as_bytes(), &mut key),
+            Ok(())
+        );
+        assert!(hex(&key).starts_with(front), "{front}");
+    }
 }
 
 /// Of the reference library's own tests; the last is passlib's.
@@ -93,14 +85,33 @@ fn the_right_password_alone_is_verified() {
     }
 }
 
+/// By `argon2 "a salt of 17 byte" -d -t 3 -k 100 -p 5 -l 20 -e`, and so on.
 #[test]
-fn a_new_record_is_the_reference_librarys() {
-    let hasher = Hasher::new(Costs::argon2id(256, 2, 1));
-    let record = hasher.hash_password_with_salt(b"password", b"somesalt").unwrap();
-    assert_eq!(record.as_str(), RECORDS[0]);
-    let costs = Costs::Argon2 { algorithm: Algorithm::Argon2i, memory: 256, passes: 2, lanes: 1 };
-    let record = Hasher::new(costs).hash_password_with_salt(b"password", b"somesalt").unwrap();
-    assert_eq!(record.as_str(), RECORDS[1]);
+fn new_records_are_those_of_the_argon2_program() {
+    let of = |algorithm, memory, passes, lanes| {
+        Hasher::new(Costs::Argon2 { algorithm, memory, passes, lanes })
+    };
+    let (d, i, id) = (Algorithm::Argon2d, Algorithm::Argon2i, Algorithm::Argon2id);
+    let salt: &[u8] = b"a salt of 17 byte";
+    for (hasher, salt, wanted) in [
+        (of(id, 256, 2, 1), &b"somesalt"[..], RECORDS[0]),
+        (of(i, 256, 2, 1), b"somesalt", RECORDS[1]),
+        (
+            of(d, 100, 3, 5).tag_len(20),
+            salt,
+            "$argon2d$v=19$m=100,t=3,p=5$YSBzYWx0IG9mIDE3IGJ5dGU$ZsHrGZ7IIB3epvxaMYwZ6DX4SNk",
+        ),
+        (
+            of(i, 77, 1, 3).tag_len(33).threads(3),
+            salt,
+            "$argon2i$v=19$m=77,t=1,p=3$YSBzYWx0IG9mIDE3IGJ5dGU$\
+             Om4zsbEA+C4i3QNhnmD34mmNJCaA/XHAoxaS0yfxoUlL",
+        ),
+    ] {
+        let record = hasher.hash_password_with_salt(b"password", salt).unwrap();
+        assert_eq!(record.as_str(), wanted);
+        assert_eq!(hasher.verify_password(b"password", &record), Ok(()));
+    }
 }
 
 #[test]
