@@ -4,6 +4,7 @@ from __future__ import annotations
 
 import atexit
 import base64
+import enum
 import os
 import pathlib
 import shutil
@@ -17,6 +18,7 @@ import unittest
 from collections.abc import Callable, Iterator, Sequence
 from contextlib import contextmanager
 from dataclasses import dataclass, field
+from typing import Any
 
 HERE = pathlib.Path(__file__).resolve().parent
 TOP = HERE.parent
@@ -26,17 +28,20 @@ SOURCES = ["pam_rigzumal.c", "../src/base64.c"]
 WARNINGS = os.environ.get("TEST_WARNINGS", "-Wall -Wextra -Wpedantic -Werror").split()
 SANITIZED = "-O1 -fsanitize=address,undefined -fno-sanitize-recover=all".split()
 
-# Results of pam(3), by Linux-PAM's numbers.
-INCOMPLETE = 31
-SUCCESS, SERVICE_ERR, AUTH_ERR, AUTHINFO_UNAVAIL, USER_UNKNOWN, MAXTRIES = 0, 3, 7, 9, 10, 11
-ACCT_EXPIRED, CONV_ERR, AUTHTOK_ERR, AUTHTOK_RECOVERY_ERR, TRY_AGAIN, IGNORE = (
-    13,
-    19,
-    20,
-    21,
-    24,
-    25,
-)
+
+class Pam(enum.IntEnum):
+    """Results of pam(3), by Linux-PAM's numbers."""
+
+    SUCCESS = 0
+    SERVICE_ERR = 3
+    AUTH_ERR = 7
+    AUTHINFO_UNAVAIL = 9
+    USER_UNKNOWN = 10
+    MAXTRIES = 11
+    ACCT_EXPIRED = 13
+    AUTHTOK_ERR = 20
+    TRY_AGAIN = 24
+    INCOMPLETE = 31
 
 
 class Case(unittest.TestCase):
@@ -50,10 +55,14 @@ class Case(unittest.TestCase):
         signal.alarm(300)
         self.addCleanup(signal.alarm, 0)
 
-
-def same(is_: object, ought: object, said: str = "") -> None:
-    if is_ != ought:
-        raise AssertionError(f"{said}: {is_!r} instead of {ought!r}")
+    def check(
+        self, answer: bytes, ought: Pam, *lines: bytes, task: str = "authenticate", **question: Any
+    ) -> Said:
+        """What a task comes to if each line gets the same answer, and the lines that it sends."""
+        said, sent = said_at(answer, Question(tasks=task, **question))
+        what = f"{task} {answer!r:.40} {question!r:.200}"
+        self.assertEqual((said.codes, sent), ([ought], list(lines)), what)
+        return said
 
 
 def compiled(name: str, flags: Sequence[str], *sources: str) -> pathlib.Path:
@@ -80,9 +89,8 @@ class Build:
         return compiled(f"{self.name}.so", [*self.flags, "-fPIC", "-shared"], *SOURCES)
 
     def driver(self) -> pathlib.Path:
-        return compiled(
-            f"driver-{self.name}", [*self.flags, "-pthread", "-rdynamic"], "tests/driver.c"
-        )
+        flags = [*self.flags, "-pthread", "-rdynamic"]
+        return compiled(f"driver-{self.name}", flags, "tests/driver.c")
 
 
 CHECKED = Build("checked", tuple(SANITIZED))
@@ -131,23 +139,18 @@ def asked(question: Question, path: pathlib.Path) -> Said:
     folder = pathlib.Path(tempfile.mkdtemp(dir=ROOM))
     (folder / "other").write_text("auth required pam_deny.so\n")
     (folder / "test").write_text(question.service.format(module=f"{module} {options}") or default)
-    command = [
-        *question.build.runner,
-        str(question.build.driver()),
-        str(folder),
-        "test",
-        question.user,
-    ]
+    command = [*question.build.runner, str(question.build.driver()), str(folder), "test"]
     before = time.monotonic()
     done = subprocess.run(
-        [*command, *question.tasks.split()],
+        [*command, question.user, *question.tasks.split()],
         input="".join(f"{it.hex()}\n" for it in question.answers).encode(),
         capture_output=True,
         env={**os.environ, "ASAN_OPTIONS": "detect_leaks=1", **question.environment},
         timeout=120,
     )
     text = done.stdout.decode(errors="replace")
-    same(done.returncode, 0, f"{text}{done.stderr.decode(errors='replace')}")
+    if done.returncode:
+        raise AssertionError(f"{text}{done.stderr.decode(errors='replace')}")
     said = Said(seconds=time.monotonic() - before)
     for line in text.splitlines():
         word, _, rest = line.partition(" ")
@@ -157,7 +160,8 @@ def asked(question: Question, path: pathlib.Path) -> Said:
             said.numbers[word] = int(rest)
         else:
             said.results.append((word, int(rest)))
-    same(said.numbers["open"], 0, "files that stay open, or that a child's program has")
+    if said.numbers["open"]:
+        raise AssertionError("files stay open, or a child's program has them")
     return said
 
 
@@ -209,6 +213,11 @@ def peer(reply: Callable[[bytes, socket.socket], None]) -> Iterator[Peer]:
 
 def sends(answer: bytes) -> Callable[[bytes, socket.socket], None]:
     return lambda line, client: client.sendall(answer)
+
+
+def answers(**words: bytes) -> Callable[[bytes, socket.socket], None]:
+    """Answers each operation in its way; others with yes."""
+    return lambda line, client: client.sendall(words.get(line.split()[1].decode(), b"1 yes\n"))
 
 
 def said_at(answer: bytes, question: Question) -> tuple[Said, list[bytes]]:

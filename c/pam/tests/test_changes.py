@@ -2,199 +2,119 @@
 
 from __future__ import annotations
 
-import socket
-import unittest
 from collections.abc import Sequence
+from typing import Any
 
-from driven import (
-    AUTHINFO_UNAVAIL,
-    AUTHTOK_ERR,
-    AUTH_ERR,
-    INCOMPLETE,
-    MAXTRIES,
-    ROOM,
-    SERVICE_ERR,
-    SUCCESS,
-    TRY_AGAIN,
-    USER_UNKNOWN,
-    Case,
-    Question,
-    Said,
-    asked,
-    line_of,
-    peer,
-    said_at,
-)
+from driven import ROOM, Case, Pam, Question, Said
+from driven import answers, asked, line_of, peer, said_at
+
+YES = b"1 yes\n"
+VERIFY, KNOWN = line_of("verify", "ada", b"secret"), line_of("known", "ada")
+FRESH = (b"secret", b"fresh", b"fresh")
+LONGEST = (b"x" * 256, b"y" * 256, b"y" * 256)
 
 
 def changed(
-    answers: dict[bytes, bytes], given: Sequence[bytes], options: str = ""
+    given: Sequence[bytes], verify: bytes = b"yes", change: bytes = b"replaced", **question: Any
 ) -> tuple[Said, list[bytes]]:
     """What a change comes to at a peer that answers each operation in its way."""
-
-    def replies(line: bytes, client: socket.socket) -> None:
-        client.sendall(b"1 " + answers.get(line.split()[1], b"yes") + b"\n")
-
-    with peer(replies) as it:
-        said = asked(Question(tasks="change", answers=given, options=options), it.path)
+    with peer(answers(verify=b"1 " + verify + b"\n", change=b"1 " + change + b"\n")) as it:
+        said = asked(Question(tasks="change", answers=given, **question), it.path)
         return said, [line for line in it.lines if not line.startswith(b"1 known ")]
 
 
 class Changes(Case):
     def test_options(self) -> None:
         """A word that isn't an option, or a value out of range, is refused and named."""
-        long = "/" + "x" * 107
-        for words in (
-            "frob",
-            "socket",
-            "timeout=",
-            "timeout=0",
-            "timeout=601",
-            "timeout=5x",
-            "timeout=-1",
-            "nullokk",
-            "socket=",
-            "socket=run/x",
-            f"socket={long}",
-        ):
-            said, lines = said_at(b"1 yes\n", Question(options=words))
-            self.assertEqual((said.codes, lines, said.prompts), ([SERVICE_ERR], [], []), words)
-            assert said.logs == [f"bad option: {words}"], said.logs
-        for words in (
-            "timeout=1",
-            "timeout=600",
-            "debug",
-            "nullok",
-            "mail_names",
-            "try_first_pass",
-            f"socket={long[:107]}",
-        ):
-            said, _ = said_at(b"1 yes\n", Question(options=words))
-            self.assertEqual(
-                said.codes, [AUTHINFO_UNAVAIL if "socket" in words else SUCCESS], words
-            )
+        long = "socket=/" + "x" * 107
+        bad = "frob socket timeout= timeout=0 timeout=601 timeout=5x timeout=-1 nullokk socket="
+        for word in (*bad.split(), "socket=run/x", long):
+            said = self.check(YES, Pam.SERVICE_ERR, options=word)
+            self.assertEqual((said.prompts, said.logs), ([], [f"bad option: {word}"]))
+        for word in "timeout=1 timeout=600 debug nullok mail_names try_first_pass".split():
+            self.check(YES, Pam.SUCCESS, VERIFY, options=word)
+        self.check(YES, Pam.AUTHINFO_UNAVAIL, options=long[:-1])
 
     def test_first_passwords(self) -> None:
         """use_first_pass, try_first_pass and use_authtok, as pam_unix has them."""
         for word in ("use_first_pass", "try_first_pass"):
             service = f"auth required {{module}}\nauth required {{module}} {word}\n"
-            said, lines = said_at(b"1 yes\n", Question(service=service))
-            self.assertEqual(
-                (said.codes, lines, len(said.prompts)),
-                ([SUCCESS], [line_of("verify", "ada", b"secret")] * 2, 1),
-                word,
-            )
-        said, lines = said_at(b"1 yes\n", Question(options="use_first_pass"))
-        assert said.codes[0] not in (SUCCESS, AUTHINFO_UNAVAIL), said.codes
-        self.assertEqual((lines, said.prompts), ([], []))
-        said, lines = said_at(b"1 yes\n", Question(options="try_first_pass"))
-        self.assertEqual((said.codes, len(said.prompts)), ([SUCCESS], 1))
-        said, lines = said_at(
-            b"1 yes\n",
-            Question(
-                tasks="change", options="use_authtok", answers=(b"secret", b"fresh", b"fresh")
-            ),
-        )
-        assert said.codes[0] not in (SUCCESS, AUTHINFO_UNAVAIL), said.codes
-        known = line_of("known", "ada")
-        self.assertEqual(
-            (lines, len(said.prompts)),
-            ([known, line_of("verify", "ada", b"secret"), known], 1),
-            "no new password was there",
-        )
+            said = self.check(YES, Pam.SUCCESS, VERIFY, VERIFY, service=service)
+            self.assertEqual(len(said.prompts), 1, word)
+        said = self.check(YES, Pam.SUCCESS, VERIFY, options="try_first_pass")
+        self.assertEqual(len(said.prompts), 1)
+        for task, options, lines, prompts in (
+            ("authenticate", "use_first_pass", [], 0),
+            ("change", "use_authtok", [KNOWN, VERIFY, KNOWN], 1),  # no new password was there
+        ):
+            said, sent = said_at(YES, Question(tasks=task, options=options, answers=FRESH))
+            self.assertNotIn(said.codes[0], (Pam.SUCCESS, Pam.AUTHINFO_UNAVAIL))
+            self.assertEqual((sent, len(said.prompts)), (lines, prompts), options)
 
     def test_conversations(self) -> None:
         """A conversation that fails, or isn't over, sends nothing."""
         for task in ("authenticate", "change"):
-            said, lines = said_at(b"1 yes\n", Question(tasks=task, answers=()))
-            assert said.codes[0] not in (SUCCESS, AUTHINFO_UNAVAIL, TRY_AGAIN), said.codes
+            said, lines = said_at(YES, Question(tasks=task, answers=()))
+            self.assertNotIn(said.codes[0], (Pam.SUCCESS, Pam.AUTHINFO_UNAVAIL, Pam.TRY_AGAIN))
             self.assertEqual([it for it in lines if b"known" not in it], [], task)
         # pam_get_authtok(3) makes a fault of a conversation that isn't over; pam_get_user(3) doesn't.
-        for user, code, prompts in (
-            ("-", INCOMPLETE, ["login:"]),
-            ("ada", AUTHTOK_ERR, ["Password: "]),
+        for user, code, prompt in (
+            ("-", Pam.INCOMPLETE, "login:"),
+            ("ada", Pam.AUTHTOK_ERR, "Password: "),
         ):
-            said, lines = said_at(
-                b"1 yes\n", Question(user=user, answers=(), environment={"AGAIN": "1"})
-            )
-            self.assertEqual(
-                (said.codes, lines, said.prompts), ([code], [], prompts), f"user {user}"
-            )
+            said = self.check(YES, code, user=user, answers=(), environment={"AGAIN": "1"})
+            self.assertEqual(said.prompts, [prompt])
 
     def test_changes(self) -> None:
         """The old password is verified first, then old and new are sent together."""
-        given = (b"secret", b"fresh", b"fresh")
-        first, both = line_of("verify", "ada", b"secret"), line_of(
-            "change", "ada", b"secret", b"fresh"
-        )
+        first, both = [VERIFY], [VERIFY, line_of("change", "ada", b"secret", b"fresh")]
         for verify, change, ought, lines in (
-            (b"yes", b"replaced", SUCCESS, [first, both]),
-            (b"yes", b"wrong", AUTHTOK_ERR, [first, both]),
-            (b"yes", b"noaccount", USER_UNKNOWN, [first, both]),
-            (b"yes", b"absent", AUTHTOK_ERR, [first, both]),
-            (b"yes", b"unavailable", AUTHINFO_UNAVAIL, [first, both]),
-            (b"yes", b"later", MAXTRIES, [first, both]),
-            (b"no", b"replaced", AUTH_ERR, [first]),
-            (b"noaccount", b"replaced", USER_UNKNOWN, [first]),
-            (b"later", b"replaced", MAXTRIES, [first]),
-            (b"unavailable", b"replaced", TRY_AGAIN, [first]),
+            (b"yes", b"replaced", Pam.SUCCESS, both),
+            (b"yes", b"wrong", Pam.AUTHTOK_ERR, both),
+            (b"yes", b"noaccount", Pam.USER_UNKNOWN, both),
+            (b"yes", b"absent", Pam.AUTHTOK_ERR, both),
+            (b"yes", b"unavailable", Pam.AUTHINFO_UNAVAIL, both),
+            (b"yes", b"later", Pam.MAXTRIES, both),
+            (b"no", b"replaced", Pam.AUTH_ERR, first),
+            (b"noaccount", b"replaced", Pam.USER_UNKNOWN, first),
+            (b"later", b"replaced", Pam.MAXTRIES, first),
+            (b"unavailable", b"replaced", Pam.TRY_AGAIN, first),
         ):
-            said, sent = changed({b"verify": verify, b"change": change}, given)
+            said, sent = changed(FRESH, verify, change)
             self.assertEqual((said.codes, sent), ([ought], lines), f"{verify!r}, {change!r}")
             self.assertEqual(said.prompts[:1], ["Current password: "])
-        ready = {b"verify": b"yes", b"change": b"replaced"}
-        for fresh in (b"", b"x" * 257):
-            said, sent = changed(ready, (b"secret", fresh, fresh))
-            assert said.codes[0] != SUCCESS, fresh
-            self.assertEqual(sent, [first], f"{len(fresh)} bytes")
-        said, sent = changed(ready, (b"secret", b"x" * 256, b"x" * 256))
-        self.assertEqual(
-            (said.codes, sent[1:]), ([SUCCESS], [line_of("change", "ada", b"secret", b"x" * 256)])
-        )
-        said, sent = changed(ready, (b"x" * 256, b"y" * 256, b"y" * 256))
-        self.assertEqual(
-            (said.codes, sent[1:]), ([SUCCESS], [line_of("change", "ada", b"x" * 256, b"y" * 256)])
-        )
-        said, sent = changed(ready, (b"secret", b"fresh", b"other"))
-        assert said.codes[0] != SUCCESS
-        self.assertEqual(sent, [first], "two that differ")
-        said, sent = said_at(
-            b"1 yes\n",
-            Question(
-                tasks="expired",
-                service="password [ignore=done default=die] {module}\npassword required pam_deny.so\n",
-            ),
-        )
-        self.assertEqual((sent, said.prompts), ([], []), "expired passwords")
 
-    def test_longest_lines(self) -> None:
-        """The longest name and passwords fit."""
-        name = "x" * 240 + "@" + "y" * 13
-        with peer(
-            lambda line, client: client.sendall(
-                b"1 replaced\n" if b"change" in line else b"1 yes\n"
-            )
-        ) as it:
-            question = Question(
-                user=name,
-                tasks="change",
-                answers=[b"x" * 256, b"y" * 256, b"y" * 256],
-                options="mail_names",
-            )
-            self.assertEqual(asked(question, it.path).codes, [SUCCESS])
-            self.assertEqual(it.lines[-1], line_of("change", name, b"x" * 256, b"y" * 256))
+    def test_new_passwords(self) -> None:
+        """One that is empty, too long, or typed in two ways is not sent; the longest ones fit."""
+        for fresh in ((b"", b""), (b"x" * 257, b"x" * 257), (b"fresh", b"other")):
+            said, sent = changed((b"secret", *fresh))
+            self.assertNotEqual(said.codes[0], Pam.SUCCESS)
+            self.assertEqual(sent, [VERIFY], fresh)
+        mail = {"user": "x" * 240 + "@" + "y" * 13, "options": "mail_names"}
+        for given, question in (
+            (FRESH, {}),
+            ((b"secret", *LONGEST[1:]), {}),
+            (LONGEST, {}),
+            (LONGEST, mail),
+        ):
+            said, sent = changed(given, **question)
+            line = line_of("change", question.get("user", "ada"), *given[:2])
+            self.assertEqual((said.codes, sent[1:]), ([Pam.SUCCESS], [line]))
+
+    def test_expired_passwords(self) -> None:
+        service = "password [ignore=done default=die] {module}\npassword required pam_deny.so\n"
+        said, lines = said_at(YES, Question(tasks="expired", service=service))
+        self.assertEqual((lines, said.prompts), ([], []))
 
     def test_names_of_another_module(self) -> None:
-        """At a name that the book lacks no old password is asked for; the new one is, for a module behind with use_authtok."""
-        service = "password [success=done user_unknown=ignore try_again=ignore default=die] {module}\npassword required pam_permit.so\n"
-        said, lines = said_at(
-            b"1 noaccount\n",
-            Question(tasks="change", service=service, answers=(b"fresh", b"fresh")),
+        """At a name that the book lacks no old password is asked for; the new one is, for a module
+        behind with use_authtok."""
+        service = (
+            "password [success=done user_unknown=ignore try_again=ignore default=die] {module}\n"
         )
-        self.assertEqual((said.codes, lines), ([SUCCESS], [line_of("known", "ada")] * 2))
+        service += "password required pam_permit.so\n"
+        question = {"service": service, "answers": (b"fresh", b"fresh")}
+        said = self.check(b"1 noaccount\n", Pam.SUCCESS, KNOWN, KNOWN, task="change", **question)
         self.assertEqual(said.prompts, ["New password: ", "Retype new password: "])
-        said = asked(
-            Question(tasks="change", service=service, answers=(b"fresh", b"fresh")),
-            ROOM / "nothing-here",
-        )
-        self.assertEqual((said.codes, len(said.prompts)), ([SUCCESS], 2), "the server is down")
+        said = asked(Question(tasks="change", **question), ROOM / "nothing-here")  # it is down
+        self.assertEqual((said.codes, len(said.prompts)), ([Pam.SUCCESS], 2))

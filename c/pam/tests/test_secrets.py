@@ -11,27 +11,11 @@ import subprocess
 import time
 import unittest
 
-from driven import (
-    AUTHINFO_UNAVAIL,
-    AUTH_ERR,
-    PLAIN,
-    ROOM,
-    SOURCES,
-    SUCCESS,
-    TOP,
-    USER_UNKNOWN,
-    VALGRIND,
-    Case,
-    Question,
-    Said,
-    asked,
-    compiled,
-    line_of,
-    peer,
-    said_at,
-    same,
-    sends,
-)
+from driven import PLAIN, ROOM, SOURCES, TOP, VALGRIND, Case, Pam, Question
+from driven import answers, asked, compiled, line_of, peer, said_at, sends
+
+PASSWORD = b"correct horse battery staple!"
+ENCODED = base64.b64encode(PASSWORD).rstrip(b"=")
 
 
 def turned(needle: bytes) -> str:
@@ -39,106 +23,70 @@ def turned(needle: bytes) -> str:
     return bytes(byte ^ 1 for byte in needle).hex()
 
 
-def clean(said: Said, looks: int) -> None:
-    """Nothing was found, and inside of calls it was looked for so often."""
-    same(said.numbers.get("found", 0), 0, "found after the call")
-    if "inside" in said.numbers:
-        same(said.numbers["inside"], 1000 * looks, "found as a call ended")
-
-
 class Secrets(Case):
     def test_cleared(self) -> None:
-        """As a call ends the line that it sent is cleared; after it no password is in memory, plain or encoded."""
-        password = b"correct horse battery staple!"
-        encoded = base64.b64encode(password).rstrip(b"=")
-        looks = [
-            {"LOOK": turned(needle)} for needle in (password, encoded, encoded[:24], encoded[-24:])
-        ]
-        looks += [
-            {"LOOK_INSIDE": turned(needle)} for needle in (encoded, encoded[:24], encoded[-24:])
-        ]
+        """As a call ends the line that it sent is cleared; after it no password is in memory, plain
+        or encoded."""
+        parts = (ENCODED, ENCODED[:24], ENCODED[-24:])
+        looks = [("LOOK", it) for it in (PASSWORD, *parts)]
+        looks += [("LOOK_INSIDE", it) for it in parts]
+        single, triple = [PASSWORD], [b"secret", PASSWORD, PASSWORD]
+        for variable, needle in looks:
 
-        def numbers(answer: bytes, tasks: str, given: list[bytes], look: dict[str, str]) -> Said:
-            def replies(line: bytes, client: socket.socket) -> None:
-                client.sendall(
-                    b"1 yes\n" if tasks == "change" and b"change" not in line else answer
-                )
+            def check(answer: bytes | None, tasks: str, given: list[bytes], calls: int) -> None:
+                look = {variable: turned(needle)}
+                question = Question(tasks=tasks, answers=given, environment=look, build=PLAIN)
+                if answer is None:
+                    said = asked(question, ROOM / "nothing-here")
+                else:
+                    replies = answers(change=answer) if tasks == "change" else sends(answer)
+                    with peer(replies) as it:
+                        said = asked(question, it.path)
+                wanted = {"found": 0} if variable == "LOOK" else {"inside": 1000 * calls}
+                self.assertEqual(said.numbers, {"open": 0, **wanted}, f"{tasks} {answer!r}")
 
-            with peer(replies) as it:
-                return asked(
-                    Question(tasks=tasks, answers=given, environment=look, build=PLAIN), it.path
-                )
-
-        for look in looks:
-            for tasks, given in (
-                ("authenticate", [password]),
-                ("change", [b"secret", password, password]),
-            ):
-                for answer in (b"1 yes\n", b"1 no\n", b"2 yes\n", b""):
-                    clean(numbers(answer, tasks, given, look), 1 if len(given) == 1 else 4)
-            clean(
-                asked(
-                    Question(answers=[password], environment=look, build=PLAIN),
-                    ROOM / "nothing-here",
-                ),
-                1,
-            )
+            for answer in (b"1 yes\n", b"1 no\n", b"2 yes\n", b""):
+                check(answer, "authenticate", single, 1)
+                check(answer, "change", triple, 4)
+            check(None, "authenticate", single, 1)
 
     def test_looking_finds(self) -> None:
         """The search above finds bytes that are there: the socket's path."""
         with peer(sends(b"1 yes\n")) as it:
             path = turned(str(it.path).encode())
-            said = asked(
-                Question(environment={"LOOK": path, "LOOK_INSIDE": path}, build=PLAIN), it.path
-            )
-            assert said.numbers["found"] > 0 and said.numbers["inside"] > 1000, said.numbers
+            looks = {"LOOK": path, "LOOK_INSIDE": path}
+            numbers = asked(Question(environment=looks, build=PLAIN), it.path).numbers
+            self.assertTrue(numbers["found"] > 0 and numbers["inside"] > 1000, numbers)
 
     def test_logs(self) -> None:
-        """Failed tries are logged in pam_unix's form: with the name only if the book has it, and no password ever."""
-        password = b"correct horse battery staple!"
+        """Failed tries are logged in pam_unix's form: with the name only if the book has it, and no
+        password ever."""
+        uid = os.getuid()
         failure = (
-            "authentication failure; logname= uid={0} euid={0} tty= ruser= rhost=192.0.2.1 ".format(
-                os.getuid()
-            )
+            f"authentication failure; logname= uid={uid} euid={uid} tty= ruser= rhost=192.0.2.1 "
         )
-        cases: list[tuple[bytes, list[str]]] = [
-            (b"yes", []),
-            (b"no", [failure + " user=ada"]),
-            (b"absent", [failure + " user=ada"]),
-            (b"noaccount", [failure]),
-            (b"bad 3 name", [failure]),
-            (b"later", [failure]),
-        ]
-        for answer, ought in cases:
-            said, _ = said_at(b"1 " + answer + b"\n", Question(answers=[password]))
-            self.assertEqual(said.logs, ought, f"{answer!r}")
-            for options in ("debug", "quiet_unknown"):
-                said, _ = said_at(
-                    b"1 " + answer + b"\n", Question(answers=[password], options=options)
-                )
-                quiet = options == "quiet_unknown" and answer in (b"noaccount", b"bad 3 name")
-                self.assertEqual(
-                    said.logs[: len(ought)], [] if quiet else ought, f"{answer!r} {options}"
-                )
-                self.assertEqual(
-                    len(said.logs), len(ought) * (not quiet) + (options == "debug"), f"{said.logs}"
-                )
-                for secret in (
-                    password.decode(),
-                    base64.b64encode(password).decode().rstrip("="),
-                    password.decode()[:12],
-                ):
-                    self.assertNotIn(secret, "\n".join(said.logs))
+        secrets = [it.decode() for it in (PASSWORD, ENCODED, PASSWORD[:12])]
+        for answer, ought, is_unknown in (
+            (b"yes", [], False),
+            (b"no", [failure + " user=ada"], False),
+            (b"absent", [failure + " user=ada"], False),
+            (b"noaccount", [failure], True),
+            (b"bad 3 name", [failure], True),
+            (b"later", [failure], False),
+        ):
+            for options in ("", "debug", "quiet_unknown"):
+                question = Question(answers=[PASSWORD], options=options)
+                said, _ = said_at(b"1 " + answer + b"\n", question)
+                wanted = [] if is_unknown and options == "quiet_unknown" else ought
+                self.assertEqual(said.logs[: len(wanted)], wanted, f"{answer!r} {options}")
+                self.assertEqual(len(said.logs), len(wanted) + (options == "debug"), said.logs)
+                self.assertFalse(any(it in "\n".join(said.logs) for it in secrets), said.logs)
         for answer in (b"unavailable", b"bad 13 password", b"denied"):
-            said, _ = said_at(b"1 " + answer + b"\n", Question(answers=[password]))
+            said, _ = said_at(b"1 " + answer + b"\n", Question(answers=[PASSWORD]))
             self.assertEqual([it.partition(": ")[2] for it in said.logs], ["no answer to verify"])
-        for task in ("account", "change"):
-            said, _ = said_at(b"1 noaccount\n", Question(tasks=task, answers=[password] * 3))
-            self.assertEqual(
-                (said.codes, said.logs),
-                ([USER_UNKNOWN], []),
-                "another module's user does nothing wrong",
-            )
+        for task in ("account", "change"):  # another module's user does nothing wrong
+            said, _ = said_at(b"1 noaccount\n", Question(tasks=task, answers=[PASSWORD] * 3))
+            self.assertEqual((said.codes, said.logs), ([Pam.USER_UNKNOWN], []))
 
     def test_fail2ban(self) -> None:
         """fail2ban's stock filter finds the host in each line of a failed try."""
@@ -160,81 +108,52 @@ class Secrets(Case):
             right = base64.b64decode(password + b"=" * (-len(password) % 4)) == name
             client.sendall(b"1 yes\n" if right and not name.endswith(b"3") else b"1 no\n")
 
+        in_threads = {"THREADS": "16", "PIECES": "1"}
+        question = Question(tasks="authenticate " * 5, environment=in_threads, options="timeout=60")
+        names = [f"ada{i}" for i in range(16)] * 5
         with peer(replies) as it:
-            question = Question(
-                tasks="authenticate " * 5,
-                environment={"THREADS": "16", "PIECES": "1"},
-                options="timeout=60",
-            )
-            said = asked(question, it.path)
-            self.assertEqual(sorted(said.codes), [SUCCESS] * 70 + [AUTH_ERR] * 10)
-            self.assertEqual(
-                sorted(it.lines),
-                sorted(
-                    line_of("verify", f"ada{i}", f"ada{i}".encode())
-                    for i in range(16)
-                    for _ in range(5)
-                ),
-            )
+            codes = sorted(asked(question, it.path).codes)
+            self.assertEqual(codes, [Pam.SUCCESS] * 70 + [Pam.AUTH_ERR] * 10)
+            lines = [line_of("verify", name, name.encode()) for name in names]
+            self.assertEqual(sorted(it.lines), sorted(lines))
 
     def test_under_valgrind(self) -> None:
         """A login, a wrong one, an account and a change, with all memory watched."""
         if shutil.which("valgrind") is None:
             raise unittest.SkipTest("valgrind is not there")
-        with peer(
-            lambda line, client: client.sendall(
-                b"1 replaced\n" if b"change" in line else b"1 yes\n"
-            )
-        ) as it:
+        watched = {"build": VALGRIND, "options": "timeout=60 debug"}
+        given = [b"secret", b"secret", b"fresh", b"fresh"]
+        with peer(answers(change=b"1 replaced\n")) as it:
             question = Question(
-                tasks="authenticate setcred account change",
-                build=VALGRIND,
-                options="timeout=60 debug",
+                tasks="authenticate setcred account change", answers=given, **watched
             )
-            question.answers = [b"secret", b"secret", b"fresh", b"fresh"]
-            self.assertEqual(asked(question, it.path).codes, [SUCCESS] * 4)
-        said, _ = said_at(b"1 no\nxyz", Question(build=VALGRIND, options="timeout=60"))
-        self.assertEqual(said.codes, [AUTHINFO_UNAVAIL])
+            self.assertEqual(asked(question, it.path).codes, [Pam.SUCCESS] * 4)
+        said, _ = said_at(b"1 no\nxyz", Question(**watched))
+        self.assertEqual(said.codes, [Pam.AUTHINFO_UNAVAIL])
+
+    def ran(self, *command: object) -> str:
+        """What a command writes, if it ends well."""
+        done = subprocess.run([*map(str, command)], cwd=TOP, capture_output=True, text=True)
+        self.assertEqual(done.returncode, 0, done.stderr)
+        return done.stdout
 
     def test_builds(self) -> None:
-        """Both compilers take it without a warning; four symbols are seen; the layout is clang-format's."""
-        every = "-O2 -Wall -Wextra -Wpedantic -Wshadow -Wconversion -Wno-sign-conversion -Wstrict-prototypes -Werror -fPIC -shared".split()
+        """Both compilers take it without a warning; four symbols are seen; the layout is
+        clang-format's."""
+        every = "-std=c11 -O2 -Wall -Wextra -Wpedantic -Wshadow -Wconversion -Wno-sign-conversion"
+        every += " -Wstrict-prototypes -Werror -fPIC -shared -I../src -o /dev/null"
         for compiler in ("gcc", "clang"):
             if shutil.which(compiler):
-                command = [
-                    compiler,
-                    "-std=c11",
-                    "-I../src",
-                    *every,
-                    *SOURCES,
-                    "-o",
-                    "/dev/null",
-                    "-lpam",
-                ]
-                done = subprocess.run(command, cwd=TOP, capture_output=True, text=True)
-                self.assertEqual(done.returncode, 0, done.stderr)
-        subprocess.run(["make", "-s"], cwd=TOP, check=True)
-        seen = subprocess.run(
-            ["nm", "-D", "--defined-only", "out/pam_rigzumal.so"],
-            cwd=TOP,
-            capture_output=True,
-            text=True,
-        )
+                self.ran(compiler, *every.split(), *SOURCES, "-lpam")
+        self.ran("make", "-s")
+        seen = self.ran("nm", "-D", "--defined-only", "out/pam_rigzumal.so").split()[2::3]
         ought = ["pam_sm_acct_mgmt", "pam_sm_authenticate", "pam_sm_chauthtok", "pam_sm_setcred"]
-        self.assertEqual(sorted(line.split()[2] for line in seen.stdout.splitlines()), ought)
-        data = compiled("module.o", ["-O2", "-fPIC", "-c"], "pam_rigzumal.c")
-        sections = subprocess.run(["size", "-A", data], capture_output=True, text=True).stdout
-        self.assertEqual(
-            re.findall(r"^\.(?:data|bss|tbss|tdata)\s+[1-9].*", sections, re.M), [], "static state"
-        )
+        self.assertEqual(sorted(seen), ought)
+        sections = self.ran("size", "-A", compiled("module.o", ["-O2", "-fPIC", "-c"], SOURCES[0]))
+        static_state = re.findall(r"^\.(?:data|bss|tbss|tdata)\s+[1-9].*", sections, re.M)
+        self.assertEqual(static_state, [])
         if shutil.which("clang-format"):
-            command = [
-                "clang-format",
-                "--style=file:../.clang-format",
-                "--dry-run",
-                "-Werror",
-                "pam_rigzumal.c",
-                "tests/driver.c",
-            ]
-            done = subprocess.run(command, cwd=TOP, capture_output=True, text=True)
-            self.assertEqual(done.returncode, 0, done.stderr)
+            files = ("pam_rigzumal.c", "tests/driver.c")
+            self.ran(
+                "clang-format", "--style=file:../.clang-format", "--dry-run", "-Werror", *files
+            )
