@@ -220,6 +220,17 @@ FAULTS = (
 )
 
 
+def compare_kept_memory(ours):
+    """An area is kept and given back once, or none is kept: Debian's has no such calls."""
+    keep, trim, found = ours.rigzumal_libargon2_keep, ours.rigzumal_libargon2_trim, []
+    for most in (0, 2**26):
+        found += [keep(most), trim()]
+        by_hash(ours, Inputs.plain(memory=1024), None, True)
+        found += [trim(), trim()]
+    if found != [2**26, 0, 0, 0, 0, 0, 2**24, 0]:
+        sys.exit(f"kept: {found}")
+
+
 def compare_pairs_of_faults(comparison):
     """Of two faults the original's first one is answered."""
     for one, other in itertools.combinations(FAULTS, 2):
@@ -314,6 +325,7 @@ def main():
     compare_memory_beyond_ours(ours)
     compare_refused_contexts(ours)
     compare_memory_askew(ours)
+    compare_kept_memory(ours)
     compare_pairs_of_faults(comparison)
     compare_large_numbers(comparison)
     compare_long_password(ours, theirs)

@@ -6,6 +6,7 @@
 
 #include <pthread.h>
 #include <sched.h>
+#include <stdbool.h>
 
 enum { PROCESSORS = 8, LANES = 4, TEXT = RIGZUMAL_TEXT_SIZE };
 

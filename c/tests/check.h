@@ -33,8 +33,8 @@
 /* How many elements an array has. */
 #define COUNT(array) (sizeof(array) / sizeof(array)[0])
 
-/* Begins the definition of a function that the linker puts before one of the C library: harness.py
- * names them for each test. */
+/* Begins the definition of a function that the linker puts before one of the C library, or of this
+ * one. */
 #define WRAP(result, name, ...)                                                                    \
     result __real_##name(__VA_ARGS__);                                                             \
     result __wrap_##name(__VA_ARGS__);                                                             \

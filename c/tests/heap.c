@@ -2,7 +2,6 @@
  * what was written in them and nobody else's, and afterwards no more than the kept areas is mapped.
  * What can't be had is refused, and harms nothing. */
 #define _GNU_SOURCE
-#include "blocks.h"
 #include "watched_memory.h"
 
 #include <pthread.h>

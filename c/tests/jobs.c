@@ -283,18 +283,6 @@ int answer_of(const struct job *job, struct vault *vault) {
     return answer;
 }
 
-bool is_refused(const struct job *job, const struct vault *given, const struct vault *wanted) {
-    bool is_of_argon2_h = strncmp(job->name, "argon2", 6) == 0;
-    static struct vault left;
-    left = *given;
-    int answer = answer_of(job, &left);
-    bool is_right = answer == job->answer;
-    CHECK(memcmp(&left, is_right ? wanted : given, sizeof left) == 0);
-    if (!is_right)
-        CHECK_NUMBER(answer, is_of_argon2_h ? ARGON2_MEMORY_ALLOCATION_ERROR : RIGZUMAL_MEMORY);
-    return !is_right;
-}
-
 void fill_vault(struct vault *vault) {
     memset(vault, 0, sizeof *vault);
     for (size_t i = 0; i < sizeof vault->password; i++)

@@ -4,7 +4,6 @@
 
 #include "rigzumal.h"
 
-#include <stdbool.h>
 #include <stddef.h>
 
 enum { TAG = 40, KEY = 48, ENCODED = 200, LONG_TAG = 80 };
@@ -48,9 +47,5 @@ void fill_vault(struct vault *vault);
 
 /* What a job's call answers. */
 int answer_of(const struct job *job, struct vault *vault);
-
-/* Whether there is too little memory for a job's call, which writes nothing then, and otherwise
- * what is wanted. */
-bool is_refused(const struct job *job, const struct vault *given, const struct vault *wanted);
 
 #endif

@@ -11,12 +11,15 @@ static void give_memory(void) {
         now.taken[i] = now.callers + i * now.slice;
 }
 
+static void set_numbers(uint32_t lanes, uint32_t passes, size_t segment) {
+    now.numbers = (struct tag_numbers){2, 0x13, 8 * lanes, passes, lanes, 32};
+    now.segment = segment;
+    now.slice = segment * lanes;
+}
+
 static void begin_turn(void) {
     memset((void *)&now, 0, sizeof now);
-    uint32_t lanes = 1 + random_below(9);
-    now.numbers = (struct tag_numbers){2, 0x13, 8 * lanes, 1 + random_below(3), lanes, 32};
-    now.segment = 2 + random_below(6);
-    now.slice = now.segment * lanes;
+    set_numbers(1 + random_below(9), 1 + random_below(3), 2 + random_below(6));
     now.caller = pthread_self();
     now.refused_slice = -1;
     now.bad_segment = now.last_segment = UINT64_MAX;
@@ -70,10 +73,7 @@ static void test_large_numbers(void) {
     for (size_t i = 0; i < COUNT(large); i++) {
         begin_turn();
         refusals = 0;
-        now.numbers.lanes = large[i].lanes;
-        now.numbers.passes = large[i].passes;
-        now.segment = 2;
-        now.slice = now.segment * now.numbers.lanes;
+        set_numbers(large[i].lanes, large[i].passes, 2);
         try_threads(now.numbers.lanes, RIGZUMAL_OK);
         CHECK(now.ends == 1 && now.starts == (int)now.numbers.lanes - 1);
         CHECK((uint32_t)now.segments_over == SLICES * large[i].passes * large[i].lanes);
@@ -85,10 +85,7 @@ static void test_many_segments(void) {
     pid_t child = fork();
     if (child == 0) {
         begin_turn();
-        now.numbers.lanes = 4;
-        now.numbers.passes = 1u << 28;
-        now.segment = 2;
-        now.slice = now.segment * now.numbers.lanes;
+        set_numbers(4, 1u << 28, 2);
         now.last_segment = 100;
         struct task task = {now.numbers, begin, end, &now, NULL};
         pthread_sigmask(SIG_SETMASK, NULL, &now.signals);

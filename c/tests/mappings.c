@@ -1,6 +1,5 @@
 /* The areas of the memory by itself: what is mapped, advised, kept between calls and given back. */
 #define _GNU_SOURCE
-#include "blocks.h"
 #include "flags.h"
 #include "watched_memory.h"
 

@@ -5,6 +5,7 @@
 #define _GNU_SOURCE
 #include "check.h"
 #include "jobs.h"
+#include "libargon2.h"
 
 #include <errno.h>
 #include <limits.h>
@@ -41,15 +42,21 @@ WRAP(void *, mmap, void *at, size_t size, int protection, int flags, int file, o
 /* What each call is given, and what it leaves if nothing is refused. */
 static struct vault given, wanted;
 
-/* The call with all requests granted but the one after so many, and those after it if that is so.
- * Answers whether one was refused. */
+/* The call with all requests granted but the one after so many, and those after it if that is so:
+ * it is right, or writes nothing. Answers whether one was refused. */
 static bool try_refusal(const struct job *job, long before) {
+    static struct vault left;
+    left = given;
     rigzumal_trim(); /* each area is asked for anew */
     refused = 0;
     granted = before;
-    bool is = is_refused(job, &given, &wanted);
+    int answer = answer_of(job, &left);
     granted = LONG_MAX;
-    CHECK(!is || refused);
+    bool is_right = answer == job->answer, is_of_argon2_h = strncmp(job->name, "argon2", 6) == 0;
+    CHECK(memcmp(&left, is_right ? &wanted : &given, sizeof left) == 0);
+    CHECK(is_right || refused);
+    if (!is_right)
+        CHECK_NUMBER(answer, is_of_argon2_h ? ARGON2_MEMORY_ALLOCATION_ERROR : RIGZUMAL_MEMORY);
     return refused;
 }
 

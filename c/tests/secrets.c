@@ -4,6 +4,7 @@
 #include "check.h"
 #include "jobs.h"
 
+#include <stdbool.h>
 #include <stdint.h>
 #include <valgrind/memcheck.h>
 

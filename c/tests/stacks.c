@@ -13,13 +13,14 @@
 #include <sys/mman.h>
 #include <ucontext.h>
 
-enum { PAGE = 4096, OF_A_THREAD = 32 * 1024, PAINTED = 256 * 1024, PAINT = 0xa5 };
+enum { PAGE = 4096, PAINT = 0xa5 };
 
 static struct vault vault;
 static const struct job *job;
 static ucontext_t here, there;
 static int answer;
 static bool is_painted;
+static unsigned char *frame; /* below which a thread's call stands */
 
 WRAP(void, clear_traces, void) {
     if (!is_painted)
@@ -42,64 +43,57 @@ static void call(void) {
     answer = answer_of(job, &vault);
 }
 
-static void call_on_stack(void) {
-    unsigned char *stack = map_stack(RIGZUMAL_STACK_SIZE);
+static void call_on_stack(unsigned char *stack, size_t size) {
     CHECK(getcontext(&there) == 0);
     there.uc_stack.ss_sp = stack;
-    there.uc_stack.ss_size = RIGZUMAL_STACK_SIZE;
+    there.uc_stack.ss_size = size;
     there.uc_link = &here;
     makecontext(&there, call, 0);
     CHECK(swapcontext(&here, &there) == 0);
-    unmap_stack(stack, RIGZUMAL_STACK_SIZE);
 }
 
-static void *call_in_thread(void *frame) {
-    *(void **)frame = __builtin_frame_address(0);
+static void *call_in_thread(void *unused) {
+    frame = __builtin_frame_address(0);
     call();
-    return NULL;
+    return unused;
 }
 
-/* Where the frame below which the call stood was. */
-static unsigned char *call_in_thread_on(unsigned char *stack, size_t size) {
+static void call_on_thread(unsigned char *stack, size_t size) {
     pthread_attr_t attributes;
     pthread_t thread;
-    void *frame;
     CHECK(pthread_attr_init(&attributes) == 0);
     CHECK(pthread_attr_setstack(&attributes, stack, size) == 0);
-    CHECK(pthread_create(&thread, &attributes, call_in_thread, &frame) == 0);
+    CHECK(pthread_create(&thread, &attributes, call_in_thread, NULL) == 0);
     CHECK(pthread_join(thread, NULL) == 0);
     pthread_attr_destroy(&attributes);
-    return frame;
 }
 
-static void call_on_thread(void) {
-    unsigned char *stack = map_stack(OF_A_THREAD);
-    call_in_thread_on(stack, OF_A_THREAD);
-    unmap_stack(stack, OF_A_THREAD);
-}
-
-static void call_on_paint(void) {
-    unsigned char *stack = map_stack(PAINTED), *lowest = stack;
-    memset(stack, PAINT, PAINTED);
+static void call_on_paint(unsigned char *stack, size_t size) {
+    memset(stack, PAINT, size);
     is_painted = true;
-    unsigned char *frame = call_in_thread_on(stack, PAINTED);
+    call_on_thread(stack, size);
     is_painted = false;
-    while (*lowest == PAINT)
-        lowest++;
-    CHECK(5 * (frame - lowest) <= 4 * CLEARED_STACK);
-    unmap_stack(stack, PAINTED);
+    while (*stack == PAINT)
+        stack++;
+    CHECK(5 * (frame - stack) <= 4 * CLEARED_STACK);
 }
 
 int main(void) {
-    static void (*const ways[])(void) = {call_on_stack, call_on_thread, call_on_paint};
+    static const struct {
+        void (*call)(unsigned char *stack, size_t size);
+        size_t size;
+    } ways[] = {{call_on_stack, RIGZUMAL_STACK_SIZE},
+                {call_on_thread, 32 * 1024},
+                {call_on_paint, 256 * 1024}};
     fill_vault(&vault);
-    for (int i = 0; i < job_count; i++) {
-        job = &jobs[i];
-        for (size_t way = 0; way < COUNT(ways); way++) {
-            answer = -1;
-            ways[way]();
-            CHECK_NUMBER(answer, job->answer);
-        }
+    for (size_t at = 0; at < (size_t)job_count * COUNT(ways); at++) {
+        size_t size = ways[at % COUNT(ways)].size;
+        job = &jobs[at / COUNT(ways)];
+        answer = -1;
+        unsigned char *stack = map_stack(size);
+        ways[at % COUNT(ways)].call(stack, size);
+        unmap_stack(stack, size);
+        CHECK_NUMBER(answer, job->answer);
     }
     return 0;
 }

@@ -3,12 +3,10 @@
 import re
 import unittest
 
-import harness
-from harness import IN_THREADS, ARCHIVE, LIBARGON2, ORIGINAL, OUT, ROOM, SANITIZED, SOURCES
-from harness import TOP, built, need, run, sources_for
+from harness import ALL_WARNINGS, JOBS, LIBARGON2, ORIGINAL, OUT, ROOM, SANITIZED, SOURCES, TOP
+from harness import built, need, run, sources_for
 
 
-JOBS = [IN_THREADS, "tests/jobs.c"]
 BUILDS = {"v1", "v2", "v3"}
 
 
@@ -22,18 +20,11 @@ def with_one_build(build):
     return ["tests/other_builds.c", f"-DONE={one}", f"-DOTHER={other}", *others, *weak]
 
 
-# What the processors of each level are called by qemu, and the build that each is to run.
+# The build that processors are to run, as qemu calls them.
 PROCESSORS = {
-    "qemu64": "v1",
-    "core2duo": "v1",
-    "Penryn": "v1",
-    "Nehalem": "v2",
-    "Westmere": "v2",
-    "SandyBridge": "v2",
-    "IvyBridge": "v2",
-    "Haswell": "v3",
-    "Skylake-Client": "v3",
-    "EPYC": "v3",
+    "v1": "qemu64 core2duo Penryn",
+    "v2": "Nehalem Westmere SandyBridge IvyBridge",
+    "v3": "Haswell Skylake-Client EPYC",
 }
 LEVEL_2 = "sse3 ssse3 sse4.1 sse4.2 cx16 popcnt lahf-lm".split()
 LEVEL_3 = "avx avx2 bmi1 bmi2 f16c fma abm movbe xsave".split()
@@ -57,7 +48,7 @@ class Calls(unittest.TestCase):
         """Each build is chosen where every feature of its level is there."""
         need("qemu-x86_64")
         program = built("processor", ["-O2", "-static"], ["src/processor.c"])
-        wanted = dict(PROCESSORS)
+        wanted = {name: build for build, names in PROCESSORS.items() for name in names.split()}
         wanted.update({f"Haswell,-{feature}": "v1" for feature in LEVEL_2})
         wanted.update({f"Haswell,-{feature}": "v2" for feature in LEVEL_3})
         for name, build in wanted.items():
@@ -88,7 +79,7 @@ class Calls(unittest.TestCase):
         source, program = ROOM / "header.cc", ROOM / "header"
         main = "int main() { return rigzumal_strerror(0) == nullptr; }"
         source.write_text(f'#include "rigzumal.h"\n{main}\n')
-        run("c++", *harness.ALL_WARNINGS.split(), "-Iinclude", source, *ARCHIVE, "-o", program)
+        run("c++", *ALL_WARNINGS.split(), "-Iinclude", source, "out/librigzumal.a", "-o", program)
         run(program)
 
     def test_symbols(self):

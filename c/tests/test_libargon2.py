@@ -1,11 +1,12 @@
 """Tests of libargon2.so.1 beside Debian's, by itself and under its users."""
 
+import re
 import shutil
 import sys
 import unittest
 
 from harness import HERE, ORIGINAL, OURS, OUT, ROOM
-from harness import need, need_module, need_original, passlibs, run, run_sanitized
+from harness import need, need_module, need_original, run, run_sanitized
 
 
 class Libargon2(unittest.TestCase):
@@ -23,7 +24,10 @@ class Libargon2(unittest.TestCase):
         """passlib's own tests for Argon2 run as with the original."""
         need_original()
         need_module("argon2", "passlib.tests.test_handlers_argon2")
-        self.assertEqual(*(passlibs("test_handlers_argon2", env) for env in (OURS, None)))
+        words = (sys.executable, "-W", "ignore", "-m", "unittest")
+        said = [run(*words, "passlib.tests.test_handlers_argon2", env=env) for env in (OURS, {})]
+        ran = [re.findall(r"Ran (\d+) tests?|\(skipped=(\d+)\)", it) for it in said]
+        self.assertEqual(*ran)
 
     def test_php(self):
         """password_hash under each library, password_verify under the other."""

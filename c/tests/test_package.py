@@ -61,18 +61,6 @@ endif()
 """
 
 
-def check_deb(deb, name):
-    """A package holds its files and no others, and its scripts say what they have to."""
-    room = ROOM / f"deb-{name}"
-    run("dpkg-deb", "-R", deb, room)
-    held = {it for it in files_below(room) if not it.startswith(("DEBIAN/", "usr/share/doc/"))}
-    if held != PACKED[name]:
-        raise AssertionError(f"{deb.name}: {held ^ PACKED[name]}")
-    for script, line in SCRIPTS.items() if name == "librigzumal1" else ():
-        if line not in (room / "DEBIAN" / script).read_text():
-            raise AssertionError(f"{deb.name}: {script} lacks {line}")
-
-
 class Package(unittest.TestCase):
     def test_installed(self):
         """A program built by pkg-config over what `make install` put there."""
@@ -167,10 +155,15 @@ class Package(unittest.TestCase):
             "librigzumal1": "libc6 (>= ",
         }
         room = ROOM / "debs"
+        room.mkdir()
         for name, deb in debs.items():
             self.assertIn(needs[name], run("dpkg-deb", "-f", deb, "Depends"))
-            check_deb(deb, name)
+            run("dpkg-deb", "-R", deb, room / name)
+            held = {it for it in files_below(room / name) if "/doc/" not in it}
+            self.assertEqual({it for it in held if it[:7] != "DEBIAN/"}, PACKED[name])
             run("dpkg-deb", "-x", deb, room)
+        for script, line in SCRIPTS.items():
+            self.assertIn(line, (room / "librigzumal1/DEBIAN" / script).read_text())
         libraries = room / LIBRARIES
         check_pkg_config({"PKG_CONFIG_PATH": str(libraries / "pkgconfig")})
         program = ROOM / "of-debs"

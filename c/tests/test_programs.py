@@ -4,26 +4,22 @@ runs."""
 import sys
 import unittest
 
-from harness import IN_THREADS, LIBARGON2, OUT, SANITIZED, SOURCES, VALGRIND
+from harness import IN_THREADS, JOBS, LIBARGON2, OUT, SANITIZED, SOURCES, VALGRIND
 from harness import built, need, run, run_sanitized
 
 
 FAST, RACES = ["-O2"], ["-O1", "-fsanitize=thread"]
-INSTALLED = ["out/librigzumal.so", "out/libargon2.so.1", f"-Wl,-rpath,{OUT}"]
 # Over stand-ins for what is proved, in whose build nothing differs.
 LANES = ["-DGIVEN=BUILD_V1", "tests/given_build.c"]
 LANES += ["src/lanes.c", "src/secrets.c", "src/registers.c"]
-HEAP = ["tests/watched_memory.c", "src/heap.c"]
-JOBS = [IN_THREADS, "tests/jobs.c"]
 ALL = LIBARGON2 + SOURCES
 
 # A program, its flags, what is linked to it, and its words.
 PROGRAMS = (
-    ("heap", SANITIZED, HEAP),
-    ("mappings", SANITIZED, HEAP),
+    ("heap", SANITIZED, ["src/heap.c"]),
+    ("mappings", SANITIZED, ["src/heap.c"]),
     ("areas", ["-O1"], []),
     ("refused", [*SANITIZED, *JOBS], ALL),
-    ("limited", [*FAST, "tests/jobs.c"], INSTALLED),
     ("lanes", FAST, LANES, "150", "marks"),
     ("lanes", SANITIZED, LANES, "60"),
     ("lanes", RACES, LANES, "60"),

@@ -3,25 +3,92 @@
 #ifndef WATCHED_MEMORY_H
 #define WATCHED_MEMORY_H
 
-#include <stdbool.h>
-#include <stddef.h>
+#include "blocks.h"
+
+#include <errno.h>
+#include <stdint.h>
+#include <sys/mman.h>
 
 enum { KIB = 1024, MIB = 1024 * KIB };
 enum { HUGE_PAGE = 2 * MIB, AREA = 16 * MIB, KEPT = 4 * AREA };
 
-extern size_t mapped;      /* how many bytes are */
-extern size_t most_mapped; /* more is refused */
-extern size_t moved;       /* by mremap, of all calls */
-extern int held, freed;    /* blocks of the C library */
+static size_t mapped;                 /* how many bytes are */
+static size_t most_mapped = SIZE_MAX; /* more is refused */
+static size_t moved;                  /* by mremap, of all calls */
+static int held, freed;               /* blocks of the C library */
 
 /* What is refused: blocks of the C library, the table of blocks, moves. */
-extern bool is_refusing, is_refusing_tables, is_refusing_moves;
+static bool is_refusing, is_refusing_tables, is_refusing_moves;
 
 /* What was last advised of each kind, and how often. */
-extern struct advised {
+static struct advised {
     unsigned char *start;
     size_t size;
     int times;
 } advised[128];
+
+enum { MOST_PIECES = 256, PAGE = 4096 };
+static struct piece {
+    void *start;
+    size_t size;
+} pieces[MOST_PIECES];
+
+WRAP(int, posix_memalign, void **start, size_t align, size_t size) {
+    int answer = is_refusing ? ENOMEM : __real_posix_memalign(start, align, size);
+    if (answer == 0) {
+        CHECK(held < MOST_PIECES);
+        pieces[held++] = (struct piece){*start, size};
+        memset(*start, 0xa5, size);
+    }
+    return answer;
+}
+
+WRAP(void, free, void *start) {
+    for (int i = 0; i < held; i++)
+        if (pieces[i].start == start) {
+            CHECK(is_all(start, 0, pieces[i].size));
+            pieces[i] = pieces[--held];
+            freed++;
+            break;
+        }
+    __real_free(start);
+}
+
+WRAP(void *, realloc, void *start, size_t size) {
+    return is_refusing_tables ? NULL : __real_realloc(start, size);
+}
+
+WRAP(int, munmap, void *start, size_t size) {
+    mapped -= size;
+    CHECK(is_all(start, 0, size < 4096 ? size : 4096));
+    return __real_munmap(start, size);
+}
+
+WRAP(void *, mmap, void *at, size_t size, int protection, int flags, int file, off_t offset) {
+    if (mapped + size > most_mapped)
+        return MAP_FAILED;
+    mapped += size;
+    /* where no huge page begins: systems differ in that */
+    unsigned char *start = __real_mmap(at, size + PAGE, protection, flags, file, offset);
+    CHECK(start != MAP_FAILED);
+    bool is_aligned = (uintptr_t)start % HUGE_PAGE == 0;
+    CHECK(__real_munmap(is_aligned ? start : start + size, PAGE) == 0);
+    return is_aligned ? start + PAGE : start;
+}
+
+WRAP(void *, mremap, void *old, size_t size, size_t new_size, int flags, void *to) {
+    CHECK(new_size == size && is_all(old, 0, 4096));
+    if (is_refusing_moves)
+        return MAP_FAILED;
+    mapped -= size; /* they take the place of as many */
+    moved += size;
+    return __real_mremap(old, size, new_size, flags, to);
+}
+
+WRAP(int, madvise, void *start, size_t size, int advice) {
+    CHECK(advice >= 0 && advice < 128);
+    advised[advice] = (struct advised){start, size, advised[advice].times + 1};
+    return __real_madvise(start, size, advice);
+}
 
 #endif
