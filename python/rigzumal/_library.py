@@ -138,36 +138,29 @@ def text_bytes(text: Secret) -> bytes:
     return found
 
 
+def _numbers(*names: str) -> list[tuple[str, type[ctypes.c_uint32]]]:
+    """The fields of a structure of numbers."""
+    return [(name, ctypes.c_uint32) for name in names]
+
+
 class Argon2Numbers(ctypes.Structure):
     """struct rigzumal_argon2."""
 
-    _fields_ = [
-        (name, ctypes.c_uint32)
-        for name in ("kind", "version", "memory", "passes", "lanes")
-    ]
+    _fields_ = _numbers("kind", "version", "memory", "passes", "lanes")
 
 
 class ScryptNumbers(ctypes.Structure):
     """struct rigzumal_scrypt."""
 
-    _fields_ = [(name, ctypes.c_uint32) for name in ("ln", "r", "p")]
+    _fields_ = _numbers("ln", "r", "p")
 
 
 class Parts(ctypes.Structure):
     """struct rigzumal_parts."""
 
-    _fields_ = [
-        (name, ctypes.c_uint32)
-        for name in (
-            "scheme",
-            "version",
-            "memory",
-            "passes",
-            "lanes",
-            "salt_size",
-            "tag_size",
-        )
-    ]
+    _fields_ = _numbers(
+        *("scheme", "version", "memory", "passes", "lanes", "salt_size", "tag_size")
+    )
 
 
 NAME: Final = "librigzumal.so.1"
@@ -340,27 +333,19 @@ def raw_argon2(
 ) -> bytes:
     """rigzumal_argon2_threads."""
     tag = ctypes.create_string_buffer(checked(tag_size))
-    given: list[object] = []
-    for data in (password, salt, secret, associated):
-        given += [data, len(data)]
-    costs = Argon2Numbers(*map(checked, numbers))
-    raise_fault(
-        _library.rigzumal_argon2_threads(
-            tag, tag_size, ctypes.byref(costs), *given, checked(threads)
-        )
-    )
+    costs = ctypes.byref(Argon2Numbers(*map(checked, numbers)))
+    inputs = (*pair(password), *pair(salt), *pair(secret), *pair(associated))
+    given = (tag, tag_size, costs, *inputs, checked(threads))
+    raise_fault(_library.rigzumal_argon2_threads(*given))
     return tag.raw
 
 
 def written_argon2(numbers: tuple[int, ...], salt: bytes, tag: bytes) -> str:
     """rigzumal_argon2_write."""
     text = ctypes.create_string_buffer(TEXT_SIZE)
-    costs = Argon2Numbers(*map(checked, numbers))
-    raise_fault(
-        _library.rigzumal_argon2_write(
-            text, TEXT_SIZE, ctypes.byref(costs), *pair(salt), *pair(tag)
-        )
-    )
+    costs = ctypes.byref(Argon2Numbers(*map(checked, numbers)))
+    given = (text, TEXT_SIZE, costs, *pair(salt), *pair(tag))
+    raise_fault(_library.rigzumal_argon2_write(*given))
     return text.value.decode()
 
 
@@ -369,16 +354,7 @@ def raw_scrypt(
 ) -> bytes:
     """rigzumal_scrypt."""
     key = ctypes.create_string_buffer(checked(key_size))
-    costs = ScryptNumbers(*map(checked, numbers))
-    raise_fault(
-        _library.rigzumal_scrypt(
-            key,
-            key_size,
-            ctypes.byref(costs),
-            password,
-            len(password),
-            salt,
-            len(salt),
-        )
-    )
+    costs = ctypes.byref(ScryptNumbers(*map(checked, numbers)))
+    given = (key, key_size, costs, *pair(password), *pair(salt))
+    raise_fault(_library.rigzumal_scrypt(*given))
     return key.raw

@@ -6,12 +6,15 @@ from dataclasses import dataclass
 from typing import Union
 
 from rigzumal import _library
-from rigzumal.argon2_cffi._encoded import LONG, RANGE, Encoded, Type
+from rigzumal.argon2_cffi._encoded import Encoded, Type
 from rigzumal.argon2_cffi.exceptions import InvalidHashError
 
-_SCRYPT = 3
+_VERSIONS = (0x10, 0x13)
 _NO_VERSION = 18
 """What argon2-cffi calls the version of a hash that names none; it is 0x10."""
+
+_SCHEME = 2
+"""The fault of a record of scrypt."""
 
 
 @dataclass
@@ -44,31 +47,12 @@ def extract_parameters(hash: Union[str, bytes]) -> Parameters:
         InvalidHashError: it is no hash of Argon2.
     """
     try:
-        text = _library.text_bytes(hash)
-        parts = _library.parts(text)
-    except _library.InvalidRecordError as fault:
-        return _other_parameters(hash, fault.number)
+        text = _library.bytes_of(hash)
     except ValueError:  # it has no form in UTF-8
         raise InvalidHashError from None
-    if parts.scheme == _SCRYPT:
-        raise InvalidHashError(number=2)
-    return Parameters(
-        type=Type(parts.scheme),
-        version=parts.version if b"$v=" in text else _NO_VERSION,
-        salt_len=parts.salt_size,
-        hash_len=parts.tag_size,
-        time_cost=parts.passes,
-        memory_cost=parts.memory,
-        parallelism=parts.lanes,
-    )
-
-
-def _other_parameters(hash: Union[str, bytes], fault: int) -> Parameters:
-    """Those of a hash whose numbers or sizes the library doesn't read, which has this fault."""
-    text = _library.bytes_of(hash)
-    read = Encoded.read(text) if fault in (RANGE, *LONG) else None
-    if read is None:
-        raise InvalidHashError(number=fault)
+    read = Encoded.read(text)
+    if read is None or read.numbers.version not in _VERSIONS:
+        raise InvalidHashError(number=_fault_of(text))
     it = read.numbers
     return Parameters(
         type=it.type,
@@ -79,3 +63,12 @@ def _other_parameters(hash: Union[str, bytes], fault: int) -> Parameters:
         memory_cost=it.memory_cost,
         parallelism=it.parallelism,
     )
+
+
+def _fault_of(text: bytes) -> int:
+    """The fault of a record that is no hash here."""
+    try:
+        _library.parts(text)
+    except _library.InvalidRecordError as fault:
+        return fault.number
+    return _SCHEME
