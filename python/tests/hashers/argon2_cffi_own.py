@@ -74,10 +74,9 @@ def main():
     pytest.main([folder, "-q", "-p", "no:cacheprovider", *sys.argv[2:]], plugins=[outcomes])
     unexplained = [it for it in outcomes.failed if not it.startswith(tuple(EXPECTED))]
     met = [it for it in EXPECTED if any(name.startswith(it) for name in outcomes.failed)]
-    for name in EXPECTED:
-        print(f"fails: {name}: {EXPECTED[name]}" if name in met else f"passes now: {name}")
-    for name in unexplained:
-        print(f"NOT EXPLAINED: {name}")
+    for name, why in EXPECTED.items():
+        print(f"{'fails' if name in met else 'passes now'}: {name}: {why}")
+    print(*(f"NOT EXPLAINED: {name}\n" for name in unexplained), sep="", end="")
     print(f"{len(outcomes.passed)} passed, {len(outcomes.failed)} failed")
     return bool(unexplained) or len(met) < len(EXPECTED) or not outcomes.passed
 

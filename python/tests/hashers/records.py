@@ -1,9 +1,18 @@
-"""What the tests of the hashers share: records of other programs, hashers that are quick, the calls
-of the library counted, and Python run apart."""
+"""What the tests of the hashers share: where the package is, records of other programs, hashers that
+are quick, the calls of the library counted, and Python run apart. Each test reads it first, so that
+the package is found by it and by the processes that it starts."""
 
+import os
+import pathlib
 import sys
 
-import here  # before rigzumal
+HERE = pathlib.Path(__file__).resolve().parent
+PYTHON = HERE.parent.parent
+LIBRARIES = PYTHON.parent / "c/out"
+sys.path[:0] = str(PYTHON), str(PYTHON.parent)
+NAMED = os.environ.get("PYTHONPATH")
+os.environ["PYTHONPATH"] = os.pathsep.join(filter(None, (str(PYTHON), NAMED)))
+
 import rigzumal
 from rigzumal import PasswordHasher
 from tests.helpers import run
@@ -16,7 +25,7 @@ LEAST_COSTS = {"time_cost": 1, "memory_cost": 8, "parallelism": 1}
 LEAST = PasswordHasher(**LEAST_COSTS)
 
 
-def python(*words, given="", status=0, at=here.HERE, **env):
+def python(*words, given="", status=0, at=HERE, **env):
     """What this Python writes on both streams, if it ends with the status."""
     return run(sys.executable, *words, given=given, status=status, at=at, env=env)
 

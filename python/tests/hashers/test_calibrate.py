@@ -7,7 +7,7 @@ import sys
 import unittest
 from unittest import mock
 
-import here  # noqa: F401 (before rigzumal)
+import records  # noqa: F401 (before rigzumal)
 from rigzumal import PasswordHasher, __main__, _calibrate
 from rigzumal._calibrate import Measured, measured, trials
 
@@ -63,8 +63,7 @@ class Trials(unittest.TestCase):
         for target in (250, 100, 33.3, 7):
             last = tried(linear(1 / 64), target, 65536, 4)[-1]
             self.assertEqual(last.hasher.time_cost, 1)
-            self.assertLessEqual(last.milliseconds, target)
-            self.assertGreater(last.milliseconds, 0.9 * target)
+            self.assertTrue(0.9 * target < last.milliseconds <= target)
 
     def test_the_last_is_never_too_slow(self):
         for target in (50, 60, 64, 65, 100, 500, 2000):
@@ -75,8 +74,7 @@ class Trials(unittest.TestCase):
 
     def test_passes_are_raised_until_the_time_is_used(self):
         found = tried(with_a_slow_start, 250, 65536, 1)
-        self.assertGreaterEqual(found[-1].milliseconds, 240)
-        self.assertLessEqual(found[-1].milliseconds, 250)
+        self.assertTrue(240 <= found[-1].milliseconds <= 250)
 
     def test_lanes_and_threads_are_those_given(self):
         for lanes, threads in ((1, 1), (4, 1), (4, 4), (7, 3)):
@@ -112,11 +110,8 @@ class Safety(unittest.TestCase):
 
     def test_a_fast_machine_is_as_before(self):
         for target in (100, 250, 1000):
-            found, wanted = (
-                tried(linear(1 / 1024), target, 65536, 4, below=below)[-1]
-                for below in (False, True)
-            )
-            self.assertEqual(found, wanted)
+            machine = (linear(1 / 1024), target, 65536, 4)
+            self.assertEqual(*(tried(*machine, below=it)[-1] for it in (False, True)))
 
 
 class Busy(unittest.TestCase):

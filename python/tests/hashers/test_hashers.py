@@ -44,15 +44,12 @@ class Kinds(unittest.TestCase):
     def test_a_hasher_has_its_own(self):
         for kind, record in RECORDS.items():
             for given in (kind, int(kind)):
-                hasher = PasswordHasher(2, 256, 1, type=given)
+                hasher = PasswordHasher(2, 256, 1, salt_len=8, type=given)
                 self.assertEqual(hasher.hash("password", salt=b"somesalt"), record)
                 self.assertEqual(hasher.costs, record.rsplit("$", 2)[0])
-                self.assertTrue(hasher.hash("x").startswith(hasher.costs + "$"))
-                self.assertFalse(hasher.replace(salt_len=8).check_needs_rehash(record))
-            for other in RECORDS.values():
-                hasher = PasswordHasher(2, 256, 1, salt_len=8, type=kind)
-                self.assertEqual(hasher.check_needs_rehash(other), other != record)
-                self.assertTrue(hasher.verify(other, "password"))
+                for other in RECORDS.values():
+                    self.assertEqual(hasher.check_needs_rehash(other), other != record)
+                    self.assertTrue(hasher.verify(other, "password"))
 
     def test_a_raw_tag_has_its_kind_and_version(self):
         costs = {"time_cost": 2, "memory_cost": 256, "parallelism": 1}
@@ -73,11 +70,9 @@ class Kinds(unittest.TestCase):
 class Verifying(unittest.TestCase):
     def test_the_right_password_alone_is_verified(self):
         for record in (ARGON2, ARGON2.encode(), OLD):
-            self.assertIs(SMALL.verify(record, "password"), True)
-            for wrong in ("Password", "", "password\0", b"\xff"):
-                with self.assertRaises(rigzumal.VerifyMismatchError) as raised:
-                    SMALL.verify(record, wrong)
-                self.assertEqual((raised.exception.number, raised.exception.word), (10, "mismatch"))
+            tried = ("password", "Password", "", "password\0", b"\xff")
+            found = [verdict(SMALL, record, it) for it in tried]
+            self.assertEqual(found, [True, False, False, False, False])
 
     def test_a_secret_is_rfc_9106s(self):
         costs = {"time_cost": 2, "memory_cost": 256, "parallelism": 1}

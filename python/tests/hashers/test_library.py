@@ -8,8 +8,7 @@ import shutil
 import tempfile
 import unittest
 
-from here import HERE, LIBRARIES, PYTHON
-from records import LEAST, python
+from records import HERE, LEAST, LIBRARIES, PYTHON, python
 
 import rigzumal
 from rigzumal import PasswordHasher, _library

@@ -1,8 +1,6 @@
 """Tests of what is refused, and of the exceptions that say so."""
 
-import concurrent.futures
 import copy
-import multiprocessing
 import pickle
 import unittest
 
@@ -10,10 +8,6 @@ from records import ARGON2, LEAST_COSTS, SMALL, python
 
 import rigzumal
 from rigzumal import PasswordHasher, ScryptHasher, _library
-
-
-def fail(_):
-    SMALL.verify(ARGON2, "another")
 
 
 class Exceptions(unittest.TestCase):
@@ -36,19 +30,14 @@ class Exceptions(unittest.TestCase):
                     self.assertEqual(said, (kind, number, made.word, str(made)))
         self.assertIsNone(_library.raise_fault(0))
 
-    def test_they_come_out_of_other_processes(self):
-        context = multiprocessing.get_context("spawn")
-        with concurrent.futures.ProcessPoolExecutor(1, mp_context=context) as pool:
-            with self.assertRaises(rigzumal.VerifyMismatchError) as raised:
-                list(pool.map(fail, [0]))
-        self.assertEqual(str(raised.exception), "the record is of another password")
-
 
 class Refusals(unittest.TestCase):
-    def refused(self, kind, word, call, *given, **named):
+    def refused(self, kind, word, call, *given, said=None, **named):
+        """By an exception that is the same when it is copied."""
         with self.assertRaises(kind) as raised:
             call(*given, **named)
-        self.assertEqual(raised.exception.word, word)
+        for fault in (raised.exception, pickle.loads(pickle.dumps(raised.exception))):
+            self.assertEqual((fault.word, str(fault)), (word, said or str(raised.exception)))
 
     def test_texts(self):
         for text, word in (
@@ -67,12 +56,9 @@ class Refusals(unittest.TestCase):
     def test_a_number_out_of_its_range_is_named(self):
         """With the range, also by a copy of the exception; nothing else of the text is shown."""
         text = "$argon2id$v=19$m=7,t=1,p=1$c29tZXNhbHQ$AAAAAA"
-        for call in (rigzumal.parts, lambda it: SMALL.verify(it, "password")):
-            with self.assertRaises(rigzumal.InvalidRecordError) as raised:
-                call(text)
-            for fault in (raised.exception, pickle.loads(pickle.dumps(raised.exception))):
-                self.assertEqual((fault.number, fault.word), (5, "range"))
-                self.assertEqual(str(fault), "m=7 is under 8 p (8 KiB)")
+        said = "m=7 is under 8 p (8 KiB)"
+        self.refused(rigzumal.InvalidRecordError, "range", rigzumal.parts, text, said=said)
+        self.refused(rigzumal.InvalidRecordError, "range", SMALL.verify, text, "x", said=said)
 
     def test_numbers_of_a_hasher(self):
         """Each is refused as the hasher is made, by its name, its range and its fault."""
@@ -97,12 +83,9 @@ class Refusals(unittest.TestCase):
             for number in (least, most):
                 self.assertEqual(getattr(kind(**{**given, name: number}), name), number)
             for number in (least - 1, most + 1, -1):
-                with self.assertRaises(rigzumal.InvalidNumbersError) as raised:
-                    kind(**{**given, name: number})
                 said = f"{name} is to be {least} to {most}, and not {number}"
-                self.assertEqual((str(raised.exception), raised.exception.word), (said, word))
-                other = pickle.loads(pickle.dumps(raised.exception))
-                self.assertEqual((str(other), other.number), (said, raised.exception.number))
+                changed = {**given, name: number}
+                self.refused(rigzumal.InvalidNumbersError, word, kind, **changed, said=said)
 
     def test_what_a_hasher_takes_the_library_takes(self):
         """At the ends of each range that a test has the memory and the time for."""
@@ -129,10 +112,9 @@ class Refusals(unittest.TestCase):
             (ScryptHasher(log2_n=1), (0, 49), "1 to 48"),
         ):
             for size in sizes:
-                with self.assertRaises(rigzumal.InvalidNumbersError) as raised:
-                    hasher.hash("x", salt=bytes(size))
-                said = f"the salt's length is to be {range_}, and not {size}"
-                self.assertEqual((str(raised.exception), raised.exception.word), (said, "salt"))
+                said, salt = f"the salt's length is to be {range_}, and not {size}", bytes(size)
+                bad = rigzumal.InvalidNumbersError
+                self.refused(bad, "salt", hasher.hash, "x", salt=salt, said=said)
 
     def test_numbers(self):
         bad, call = rigzumal.InvalidNumbersError, rigzumal.argon2
@@ -145,6 +127,8 @@ class Refusals(unittest.TestCase):
         self.refused(bad, "scryptcost", rigzumal.scrypt, "x", b"", log2_n=0, r=8, p=1)
         with self.assertRaises(OverflowError):
             rigzumal.scrypt("x", b"", log2_n=2**32 + 4, r=8, p=1)
+        with self.assertRaises(OverflowError):
+            rigzumal.argon2("x", b"somesalt", **LEAST_COSTS, threads=-1)
 
     def test_types(self):
         def tag(salt=b"somesalt", **changes):
@@ -163,7 +147,7 @@ class Refusals(unittest.TestCase):
             ):
                 self.assertRaises(TypeError, call, wrong)
         scrypt = ("log2_n", "block_size", "parallelism")
-        for kind, names in ((PasswordHasher, LEAST_COSTS), (ScryptHasher, scrypt)):
+        for kind, names in ((PasswordHasher, (*LEAST_COSTS, "threads")), (ScryptHasher, scrypt)):
             for name in (*names, "hash_len", "salt_len"):
                 for wrong in ("3", 3.0, None, True):
                     self.assertRaises(TypeError, kind, **{name: wrong})
@@ -177,10 +161,19 @@ class Refusals(unittest.TestCase):
 
     def test_want_of_memory(self):
         script = (
-            "import resource, rigzumal\n"
+            "import resource\n"
+            "from rigzumal import PasswordHasher, argon2_cffi\n"
             "resource.setrlimit(resource.RLIMIT_AS, (2**29, 2**29))\n"
-            "try:\n    rigzumal.PasswordHasher(1, 2**20, 1).hash('x')\n"
-            "except MemoryError as refused:\n    print(refused.number, refused.word)\n"
-            "print(rigzumal.PasswordHasher(1, 8, 1).hash('x')[:9])\n"
+            "record = '$argon2id$v=19$m=1048576,t=1,p=1$c29tZXNhbHQ$' + 'A' * 43\n"
+            "for call in (lambda: PasswordHasher(1, 2**20, 1).hash('x'),\n"
+            "             lambda: argon2_cffi.PasswordHasher(1, 2**20, 1).hash('x'),\n"
+            "             lambda: argon2_cffi.PasswordHasher().verify(record, 'x')):\n"
+            "    try:\n        call()\n"
+            "    except Exception as refused:\n"
+            "        print(type(refused).__name__, refused.number, refused)\n"
+            "print(PasswordHasher(1, 8, 1).hash('x')[:9])\n"
         )
-        self.assertEqual(python("-c", script), "8 memory\n$argon2id\n")
+        said = python("-c", script).splitlines()
+        wanted = [f"{it}Error 8 Memory allocation error" for it in ("Hashing", "Verification")]
+        self.assertEqual(said, ["OutOfMemoryError 8 out of memory", *wanted, "$argon2id"])
+        self.assertTrue(issubclass(rigzumal.OutOfMemoryError, MemoryError))

@@ -5,8 +5,7 @@ import copy
 import pickle
 import unittest
 
-import here
-from records import ARGON2, LEAST_COSTS, SMALL, Calls, python, verdict
+from records import ARGON2, LEAST_COSTS, PYTHON, SMALL, Calls, python, verdict
 
 import rigzumal
 from rigzumal import PasswordHasher, ScryptHasher, Type
@@ -39,7 +38,9 @@ class Defaults(unittest.TestCase):
 
     def test_modules_that_take_long_are_not_imported(self):
         """Beside ctypes and enum all are small: twice argon2-cffi's time at most."""
-        script = f"import sys; sys.path[:0] = [{str(here.PYTHON)!r}]; import rigzumal; print(*sys.modules)"
+        script = (
+            f"import sys; sys.path[:0] = [{str(PYTHON)!r}]; import rigzumal; print(*sys.modules)"
+        )
         found = set(python("-I", "-S", "-c", script).split())
         self.assertIn("rigzumal._hashers", found)
         slow = {"argparse", "ast", "dataclasses", "getpass", "inspect", "pathlib", "re", "typing"}
