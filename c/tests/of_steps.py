@@ -43,23 +43,24 @@ class Steps(unittest.TestCase):
             given = inputs(password=password, secret=secret)
             return written_text("record_from", N.TEXT_SIZE, 32, costs, given)[1]
 
-        old, new, cheap = made("right", COSTS), made("new", COSTS), made("right", CHEAP)
+        old, new, cheap = made("password", COSTS), made("new", COSTS), made("password", CHEAP)
+        self.assertEqual(old == RECORD, not secret)
         for operation, copy, password, setting, reply, after in (
-            (N.ENROL, None, "right", COSTS, N.REPLY_ENROLLED, old),
-            (N.ENROL, old, "right", COSTS, N.REPLY_EXISTS, ""),
-            (N.VERIFY, old, "right", None, N.REPLY_YES, ""),
-            (N.VERIFY, old, "wrong", None, N.REPLY_NO, ""),
-            (N.VERIFY, None, "right", None, N.REPLY_ABSENT, ""),
-            (N.CHANGE, old, "right", COSTS, N.REPLY_REPLACED, new),
-            (N.CHANGE, old, "wrong", COSTS, N.REPLY_WRONG, ""),
-            (N.CHANGE, None, "right", COSTS, N.REPLY_ABSENT, ""),
-            (N.UPGRADE, old, "right", CHEAP, N.REPLY_UPGRADED, cheap),
-            (N.UPGRADE, old, "right", COSTS, N.REPLY_KEPT, ""),
-            (N.UPGRADE, old, "wrong", COSTS, N.REPLY_WRONG, ""),
-            (N.UPGRADE, None, "right", COSTS, N.REPLY_ABSENT, ""),
-            (N.REMOVE, old, "right", None, N.REPLY_REMOVED, ""),
-            (N.REMOVE, old, "wrong", None, N.REPLY_WRONG, ""),
-            (N.REMOVE, None, "right", None, N.REPLY_ABSENT, ""),
+            (N.ENROL, None, "password", COSTS, N.REPLY_ENROLLED, old),
+            (N.ENROL, old, "password", COSTS, N.REPLY_EXISTS, ""),
+            (N.VERIFY, old, "password", None, N.REPLY_YES, ""),
+            (N.VERIFY, old, "Password", None, N.REPLY_NO, ""),
+            (N.VERIFY, None, "password", None, N.REPLY_ABSENT, ""),
+            (N.CHANGE, old, "password", COSTS, N.REPLY_REPLACED, new),
+            (N.CHANGE, old, "Password", COSTS, N.REPLY_WRONG, ""),
+            (N.CHANGE, None, "password", COSTS, N.REPLY_ABSENT, ""),
+            (N.UPGRADE, old, "password", CHEAP, N.REPLY_UPGRADED, cheap),
+            (N.UPGRADE, old, "password", COSTS, N.REPLY_KEPT, ""),
+            (N.UPGRADE, old, "Password", COSTS, N.REPLY_WRONG, ""),
+            (N.UPGRADE, None, "password", COSTS, N.REPLY_ABSENT, ""),
+            (N.REMOVE, old, "password", None, N.REPLY_REMOVED, ""),
+            (N.REMOVE, old, "Password", None, N.REPLY_WRONG, ""),
+            (N.REMOVE, None, "password", None, N.REPLY_ABSENT, ""),
         ):
             given = (operation, copy, pair(password), pair("new"), setting)
             for room in (N.TEXT_SIZE,) if after else (N.TEXT_SIZE, 0):
@@ -72,7 +73,7 @@ class Steps(unittest.TestCase):
 
     def test_faults(self):
         """Of the proved step, in their order."""
-        long, right = bytes(257), b"right"
+        long, right = bytes(257), b"password"
         for operation, copy, password, new, setting, room, fault in (
             (0, "$", long, long, "", 513, N.NO_OPERATION),
             (6, "$", long, long, "", 513, N.NO_OPERATION),

@@ -22,8 +22,7 @@ EXPECTED = {
     "test_low_level.py::test_core": "there is no `core` and no `ffi`",
     "test_packaging.py::": "what was deprecated, as `__uri__`, isn't there",
     "test_password_hasher.py::TestEnsureBytes::": "a private function of argon2-cffi",
-    "test_password_hasher.py::TestPasswordHasher::test_params_on_wasm": "nothing here runs as"
-    " WebAssembly",
+    "test_password_hasher.py::TestPasswordHasher::test_params_on_wasm": "nothing is WebAssembly",
     "test_utils.py::TestCheckTypes::": "a private function of argon2-cffi",
     "test_utils.py::test_decoded_str_len": "a private function of argon2-cffi",
 }

@@ -51,9 +51,6 @@ class Calls:
     def __exit__(self, *_):
         rigzumal._library._library = self.library
 
-    def names(self):
-        return [name for name, *_ in self.made]
-
     def __getattr__(self, name):
         def call(*given):
             self.made.append((name, *given))

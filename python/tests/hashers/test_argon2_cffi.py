@@ -255,8 +255,7 @@ class Exceptions(unittest.TestCase):
         ):
             with self.assertRaises(kind) as raised:
                 call()
-            other = pickle.loads(pickle.dumps(raised.exception))
-            self.assertIs(type(other), type(raised.exception))
-            self.assertEqual(
-                (other.args, other.number), (raised.exception.args, raised.exception.number)
-            )
+            made = raised.exception
+            other = pickle.loads(pickle.dumps(made))
+            self.assertEqual((type(other), other.args), (type(made), made.args))
+            self.assertEqual(other.number, made.number)

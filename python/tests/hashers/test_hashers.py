@@ -35,11 +35,6 @@ RECORDS = {
 WITH_NUL = "$argon2id$v=19$m=64,t=1,p=1$c29tZXNhbHQ$6oIEETo0BJ7q/vyz7jFW6wFb/GyfaZJ1ejETi5d+Muo"
 
 
-def sizes_of(record):
-    """How many bytes the salt and the tag of a record have."""
-    return tuple(len(base64.b64decode(it + "==")) for it in record.split("$")[-2:])
-
-
 class Kinds(unittest.TestCase):
     def test_a_hasher_has_its_own(self):
         for kind, record in RECORDS.items():
@@ -64,7 +59,8 @@ class Kinds(unittest.TestCase):
                 PasswordHasher(1, 8, 1, tag, salt, secret=b"pepper"),
                 ScryptHasher(1, 1, 1, tag, salt),
             ):
-                self.assertEqual(sizes_of(hasher.hash("x")), (salt, tag))
+                made = rigzumal.parts(hasher.hash("x"))
+                self.assertEqual((made.salt_size, made.tag_size), (salt, tag))
 
 
 class Verifying(unittest.TestCase):
@@ -129,7 +125,7 @@ class Inputs(unittest.TestCase):
         for wrong in ("pass", "pass\0", "pass\0worD", "\0", ""):
             self.assertFalse(verdict(hasher, WITH_NUL, wrong))
         record = ScryptHasher(4).hash("pass\0word", salt=b"some\0salt")
-        self.assertEqual(sizes_of(record)[0], 9)
+        self.assertEqual(rigzumal.parts(record).salt_size, 9)
         self.assertFalse(verdict(hasher, record, "pass"))
 
     def test_what_holds_bytes_is_taken_whole(self):
@@ -201,11 +197,11 @@ class Inputs(unittest.TestCase):
 
 class Parts(unittest.TestCase):
     def test_each_number_is_in_its_place(self):
-        record = "$argon2d$v=16$m=2048,t=7,p=5$c29tZXNhbHQ$nf65EA"
-        found = rigzumal.parts(record)
-        self.assertEqual(found, rigzumal.Parts("argon2d", 16, 2048, 7, 5, 8, 4))
-        self.assertEqual(found.costs, ("argon2d", 16, 2048, 7, 5))
-        found = rigzumal.parts("$scrypt$ln=4,r=3,p=2$YmVucyBzYWx0$nf65EA")
-        self.assertEqual(found, rigzumal.Parts("scrypt", 0, 4, 3, 2, 9, 4))
+        for record, wanted in (
+            ("$argon2d$v=16$m=2048,t=7,p=5$c29tZXNhbHQ$nf65EA", ("argon2d", 16, 2048, 7, 5, 8, 4)),
+            ("$scrypt$ln=4,r=3,p=2$YmVucyBzYWx0$nf65EA", ("scrypt", 0, 4, 3, 2, 9, 4)),
+        ):
+            found = rigzumal.parts(record)
+            self.assertEqual((found, found.costs), (rigzumal.Parts(*wanted), wanted[:5]))
         for kind, record in RECORDS.items():
             self.assertEqual(rigzumal.parts(record).scheme, f"argon2{kind.name.lower()}")

@@ -80,9 +80,7 @@ class Kept(unittest.TestCase):
             self.assertRaises(kind, rigzumal.keep, wrong)
 
 
-class OwnTests(unittest.TestCase):
-    """Those of other programs."""
-
+class OfOthers(unittest.TestCase):
     def test_of_argon2_cffi(self):
         need_module("pytest", "hypothesis")
         source = os.environ.get("ARGON2_CFFI_SOURCE")

@@ -49,9 +49,12 @@ class Refusals(unittest.TestCase):
             (ARGON2.replace("m=256", "m=7"), "range"),
             (ARGON2 * 9, "toolong"),
         ):
-            self.refused(rigzumal.InvalidRecordError, word, SMALL.verify, text, "password")
-            self.refused(rigzumal.InvalidRecordError, word, SMALL.check_needs_rehash, text)
-            self.refused(rigzumal.InvalidRecordError, word, rigzumal.parts, text)
+            for call in (
+                lambda it: SMALL.verify(it, "x"),
+                SMALL.check_needs_rehash,
+                rigzumal.parts,
+            ):
+                self.refused(rigzumal.InvalidRecordError, word, call, text)
 
     def test_a_number_out_of_its_range_is_named(self):
         """With the range, also by a copy of the exception; nothing else of the text is shown."""
