@@ -10,8 +10,7 @@ HERE = pathlib.Path(__file__).resolve().parent
 PYTHON = HERE.parent.parent
 LIBRARIES = PYTHON.parent / "c/out"
 sys.path[:0] = str(PYTHON), str(PYTHON.parent)
-NAMED = os.environ.get("PYTHONPATH")
-os.environ["PYTHONPATH"] = os.pathsep.join(filter(None, (str(PYTHON), NAMED)))
+os.environ["PYTHONPATH"] = f"{PYTHON}:{os.environ.get('PYTHONPATH', '')}".rstrip(":")
 
 import rigzumal
 from rigzumal import PasswordHasher
