@@ -16,6 +16,7 @@ from collections.abc import Awaitable
 from typing import Any, Optional
 
 from django.contrib.auth import hashers, password_validation
+from django.db import DatabaseError
 
 from rigzumal.django import records, users
 from rigzumal.django.records import TRIES, Copy, hidden
@@ -119,17 +120,19 @@ def _copy_of(user: Any, database: str) -> Copy:
 @hidden
 def _set_by_methods(user: Any, new_password: Any) -> None:
     """Sets the password and saves the user, as Django's own forms do."""
-    if records.Row(user).look() is None:
+    row, before = records.Row(user), user.password
+    if row.look() is None:
         raise RecordChanged
-    before = user.password
     if new_password is None:
         user.set_unusable_password()
     else:
         user.set_password(new_password)
     try:
         user.save(force_update=True)
-    except BaseException:
+    except BaseException as fault:
         user.password, user._password = before, None
+        if isinstance(fault, DatabaseError) and row.look() is None:
+            raise RecordChanged from None  # deleted meanwhile
         raise
 
 

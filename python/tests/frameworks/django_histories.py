@@ -17,7 +17,6 @@ import sys
 import threading
 import time
 from concurrent.futures import ThreadPoolExecutor
-from unittest import mock
 
 os.environ.setdefault("DJANGO_SETTINGS_MODULE", "settings")
 import django

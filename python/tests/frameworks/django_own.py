@@ -95,7 +95,7 @@ settings.configure(
     SITE_ID=1,
     PASSWORD_HASHERS=["django.contrib.auth.hashers.MD5PasswordHasher"]
     if DJANGOS
-    else ["cheap.Argon2", "django.contrib.auth.hashers.MD5PasswordHasher"],
+    else ["meanwhile.Argon2", "django.contrib.auth.hashers.MD5PasswordHasher"],
     MIGRATION_MODULES={"auth": None, "contenttypes": None, "sessions": None},
     SILENCED_SYSTEM_CHECKS=["fields.W342", "fields.W903", "models.W042"],
     SECRET_KEY="django_tests_secret_key",

@@ -1,13 +1,62 @@
-"""What another process does at the wrong moment."""
+"""Records that cost little, and what another process does at the wrong moment."""
 
 import contextlib
 from unittest import mock
 
-from cheap import Argon2
+from asgiref.sync import async_to_sync
 from django.contrib.auth import hashers
-from django.db import connections
+from django.contrib.auth.models import User
+from django.db import connections, transaction
 
+from rigzumal.django import users
 from rigzumal.django.hashers import Argon2PasswordHasher
+
+
+class Argon2(Argon2PasswordHasher):
+    memory_cost = 64
+    time_cost = 1
+    parallelism = 1
+
+
+def cheap(memory=64):
+    """The costs of new records, for a `with`."""
+    return mock.patch.multiple(Argon2PasswordHasher, memory_cost=memory, time_cost=1, parallelism=1)
+
+
+class Cheap:
+    """A case whose new records are cheap, and which asks what is so of its user, `ann`."""
+
+    around = contextlib.nullcontext
+
+    def setUp(self):
+        super().setUp()
+        self.enterContext(type(self).around())
+        self.enterContext(cheap())
+
+    def right(self, password):
+        """Whether the password is one of the record that stands."""
+        return is_right(self.ann, password)
+
+    def reset(self, password):
+        reset_elsewhere(self.ann, password)
+
+    def lost(self, turns=1, password="old"):
+        """Another process puts a record of this password before so many UPDATEs, for a `with`."""
+        return before_update(lambda: self.reset(password), turns)
+
+
+def awaited(call, *given, **named):
+    """The answer of a call, as an asynchronous view awaits it."""
+
+    async def view():
+        return await call(*given, **named)
+
+    return async_to_sync(view)()
+
+
+def comparing():
+    """The time in which a stock User compares, for a `with`."""
+    return users.comparing(User)
 
 
 def meanwhile(act):
@@ -24,7 +73,7 @@ def meanwhile(act):
 
 
 @contextlib.contextmanager
-def before_update(act, turns=1, using="default"):
+def before_update(act, turns=1):
     """Does `act` before each of the next UPDATEs of a user, for a `with`."""
     left = [act] * turns
 
@@ -33,28 +82,59 @@ def before_update(act, turns=1, using="default"):
             left.pop()()
         return execute(sql, params, many, context)
 
-    with connections[using].execute_wrapper(run):
+    with connections["default"].execute_wrapper(run):
         yield
     assert not left, "no UPDATE came"
 
 
+def rows(user):
+    """The row of a user, by a query of its own."""
+    return user.__class__._base_manager.filter(pk=user.pk)
+
+
+def unseen():
+    """What isn't one of the UPDATEs that are waited for, for a `with`."""
+    return mock.patch.object(connections["default"], "execute_wrappers", [])
+
+
 def reset_elsewhere(user, password):
     """Another process sets the password, at the old costs."""
-    record = Argon2().encode(password, Argon2().salt())
-    with contextlib.ExitStack() as alone:
-        # Its UPDATE is none of those that are waited for.
-        wrappers = connections["default"].execute_wrappers
-        kept = wrappers[:]
-        wrappers.clear()
-        alone.callback(wrappers.extend, kept)
-        user.__class__._base_manager.filter(pk=user.pk).update(password=record)
+    record = Argon2().encode(getattr(user, "pepper", "") + password, Argon2().salt())
+    with unseen():
+        rows(user).update(password=record)
+
+
+def delete_elsewhere(user):
+    with unseen():
+        rows(user).delete()
 
 
 def stands(user):
     """The record that stands."""
-    return user.__class__._base_manager.values_list("password", flat=True).get(pk=user.pk)
+    return rows(user).values_list("password", flat=True).get()
 
 
 def is_right(user, password):
     """Whether the password is one of the record that stands."""
-    return hashers.check_password(password, stands(user))
+    return hashers.check_password(getattr(user, "pepper", "") + password, stands(user))
+
+
+@contextlib.contextmanager
+def undone():
+    """A transaction that is rolled back, for a `with`."""
+    with contextlib.suppress(KeyError), transaction.atomic():
+        yield
+        raise KeyError
+
+
+class Router:
+    """Reads and writes these databases, and looks at its model, as Django's page shows."""
+
+    def __init__(self, read, write):
+        self.read, self.write = read, write
+
+    def db_for_read(self, model, **hints):
+        return self.read if model._meta.label else None
+
+    def db_for_write(self, model, **hints):
+        return self.write if model._meta.label else None

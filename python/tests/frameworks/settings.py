@@ -1,4 +1,5 @@
-"""Settings of the tests. FRAMEWORKS_POSTGRES=PORT takes PostgreSQL in place of SQLite."""
+"""Settings of the tests. FRAMEWORKS_POSTGRES=PORT takes PostgreSQL in place of SQLite, and with
+FRAMEWORKS_COMPARES a stock User compares."""
 
 import os
 import tempfile
@@ -32,6 +33,7 @@ PASSWORD_HASHERS = [
     "django.contrib.auth.hashers.MD5PasswordHasher",
 ]
 AUTHENTICATION_BACKENDS = ["rigzumal.django.backends.CompareAndSetBackend"]
+RIGZUMAL_USER_COMPARES = "FRAMEWORKS_COMPARES" in os.environ
 MIDDLEWARE = [
     "django.contrib.sessions.middleware.SessionMiddleware",
     "django.contrib.auth.middleware.AuthenticationMiddleware",

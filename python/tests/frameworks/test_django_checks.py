@@ -9,183 +9,135 @@ import unittest
 from unittest import mock
 
 import project  # noqa: F401: Django, set up
-from cheap import Cheap
 from django.contrib import admin
 from django.contrib.auth import admin as djangos_admin
-from django.contrib.auth import get_user_model, hashers
+from django.contrib.auth import hashers
 from django.contrib.auth import views as djangos_views
 from django.contrib.auth.backends import ModelBackend
 from django.contrib.auth.models import User
 from django.core.checks import run_checks
 from django.test import TestCase, override_settings
 from django.urls import get_resolver, include, path
+from meanwhile import Cheap, comparing
 
 from rigzumal.django import admin as our_admin
-from rigzumal.django import checks, forms, users
+from rigzumal.django import checks, forms
 
 try:
     import psycopg
 except ImportError:
     psycopg = None
 
-OURS = "rigzumal.django.backends.CompareAndSetBackend"
-THEIRS = "django.contrib.auth.backends.ModelBackend"
+THEIRS, OURS = "django.contrib.auth.backends.", "rigzumal.django.backends.CompareAndSetBackend"
+# Backends, and what is said of them: of a stock User, and if it compares.
+BACKENDS = [
+    ([OURS], [], []),
+    ([THEIRS + "ModelBackend"], ["W001", "W002"], []),
+    ([OURS, THEIRS + "ModelBackend"], ["W002"], []),
+    ([OURS, f"{__name__}.EmailBackend"], ["W002"], []),
+    ([OURS, THEIRS + "AllowAllUsersModelBackend"], ["W002"], []),
+    ([OURS, THEIRS + "RemoteUserBackend"], [], []),
+    ([THEIRS + "RemoteUserBackend"], ["W001"], []),
+    ([OURS, "nowhere.Backend"], ["E012"], ["E012"]),
+]
+OUR_ARGON2, OUR_SCRYPT = (
+    f"rigzumal.django.hashers.{it}PasswordHasher" for it in ("Argon2", "Scrypt")
+)
+ARGON2, PBKDF2 = (f"django.contrib.auth.hashers.{it}PasswordHasher" for it in ("Argon2", "PBKDF2"))
+# Hashers: of two of one name Django asks the later, so its own would judge our records.
+HASHERS = [
+    ([PBKDF2], ["W004"]),
+    ([OUR_SCRYPT], []),
+    (["meanwhile.Argon2"], []),
+    ([OUR_ARGON2, PBKDF2], []),
+    ([OUR_ARGON2, ARGON2], ["E013"]),
+    ([ARGON2, OUR_ARGON2], ["W004"]),
+    ([OUR_ARGON2, ARGON2, "meanwhile.Argon2"], []),
+    ([OUR_SCRYPT, f"{__name__}.ScryptLike"], ["E013"]),
+    (["meanwhile.Argon2", ARGON2], ["E013"]),
+]
+# Levels of isolation in the options of a database, and whether they are of snapshots.
+POSTGRES = [
+    ({}, False),
+    ({"isolation_level": "repeatable read"}, True),
+    ({"isolation_level": "READ COMMITTED"}, False),
+    *(({"isolation_level": it}, it in (2, 3)) for it in (1, 2, 3, None)),  # psycopg2's
+    ({"options": "-c default_transaction_isolation=serializable"}, True),
+    ({"options": "-c default_transaction_isolation=repeatable\\ read"}, True),
+    ({"options": "-c lock_timeout=5 --default-transaction-isolation=SERIALIZABLE"}, True),
+    ({"options": "-c default_transaction_isolation=read\\ committed"}, False),
+    ({"options": "-c search_path=serializable"}, False),
+]
+if psycopg:  # whose numbers aren't psycopg2's
+    snapshots = (psycopg.IsolationLevel.REPEATABLE_READ, psycopg.IsolationLevel.SERIALIZABLE)
+    POSTGRES += [({"isolation_level": it}, it in snapshots) for it in psycopg.IsolationLevel]
+MYSQL = [
+    ({}, False),  # Django's own level is READ COMMITTED
+    ({"isolation_level": None}, True),  # the server's
+    ({"init_command": "SET SESSION TRANSACTION ISOLATION LEVEL REPEATABLE READ"}, True),
+    ({"init_command": "SET SESSION TRANSACTION ISOLATION LEVEL READ COMMITTED"}, False),
+    ({"init_command": "SET transaction_isolation='SERIALIZABLE'"}, True),
+    ({"init_command": "SET sql_mode='STRICT_TRANS_TABLES'"}, False),
+]
 
 
 class Checks(unittest.TestCase):
     """With a stock User: of its own it is warned by W007, which is left out here."""
 
-    def found(self, *tags):
-        found = run_checks(tags=tags or ["security"])
-        names = sorted(it.id for it in found if it.id.startswith("rigzumal"))
-        return [it for it in names if it != "rigzumal.W007"]
+    def found(self):
+        found = [it for it in run_checks(tags=["security"]) if it.id.startswith("rigzumal.")]
+        for it in found:
+            self.assertIs(it.is_serious(), it.id.startswith("rigzumal.E"))
+        return [it for it in found if it.id != "rigzumal.W007"]
+
+    def ids(self, **settings):
+        with override_settings(**settings):
+            return sorted(it.id.rpartition(".")[2] for it in self.found())
 
     def test_all_is_well(self):
-        self.assertEqual(self.found(), [])
-        with users.comparing(User):
+        self.assertEqual(self.ids(), [])
+        with comparing():
             self.assertEqual([it for it in run_checks() if it.id.startswith("rigzumal")], [])
+        self.assertEqual(self.ids(AUTH_USER_MODEL="users_app.NoPassword"), [])
 
-    def test_the_setting(self):
-        """`manage.py check` of a project with RIGZUMAL_USER_COMPARES: the model compares."""
-        text = (
-            "import django; django.setup()\n"
-            "from django.contrib import admin\n"
-            "from django.contrib.auth.models import User\n"
-            "from django.core.management import call_command\n"
-            "from rigzumal.django.users import CompareAndSetMixin\n"
-            "print(type(admin.site._registry[User]).__module__)\n"
-            "call_command('check')\n"
-            "print(issubclass(User, CompareAndSetMixin), User.__mro__[1].__name__)"
-        )
-        for settings, said in (
-            (
-                "settings_comparing",
-                ["rigzumal.django.admin", "True CompareAndSetMixin", "no issues"],
-            ),
-            ("settings", ["django.contrib.auth.admin", "False AbstractUser", "W007"]),
-        ):
-            done = subprocess.run(
-                [sys.executable, "-c", text],
-                capture_output=True,
-                text=True,
-                env={**os.environ, "DJANGO_SETTINGS_MODULE": settings},
-            )
-            for it in said:
-                self.assertIn(it, done.stdout + done.stderr)
+    def test_backends(self):
+        for listed, of_stock, of_comparing in BACKENDS:
+            self.assertEqual(self.ids(AUTHENTICATION_BACKENDS=listed), of_stock, listed)
+            with comparing():
+                self.assertEqual(self.ids(AUTHENTICATION_BACKENDS=listed), of_comparing, listed)
+            with override_settings(AUTHENTICATION_BACKENDS=listed):
+                for it in self.found():
+                    self.assertIn(
+                        "a CompareAndSetBackend" if "W001" in it.id else listed[-1], it.msg
+                    )
 
-    def test_the_setting_leaves_a_projects_own(self):
-        """An admin of users that isn't Django's very own stays registered."""
-        get_resolver().url_patterns  # urls.py registers ours
-        registered = admin.site._registry[User]
-        with override_settings(RIGZUMAL_USER_COMPARES=True):
-            runpy.run_path(our_admin.__file__)
-        self.assertIs(admin.site._registry[User], registered)
+    def test_hashers(self):
+        for listed, said in HASHERS:
+            self.assertEqual(self.ids(PASSWORD_HASHERS=listed), said, listed)
+            if said == ["E013"]:
+                with override_settings(PASSWORD_HASHERS=listed):
+                    self.assertIn(listed[-1], self.found()[0].msg)
+
+    def test_levels_of_isolation(self):
+        sqlite = {"ENGINE": "django.db.backends.sqlite3"}
+        for engine, levels in (("postgresql", POSTGRES), ("mysql", MYSQL)):
+            for options, is_warned in levels:
+                other = {"ENGINE": f"django.db.backends.{engine}", "OPTIONS": options}
+                with mock.patch.object(
+                    checks.settings, "DATABASES", {"default": sqlite, "other": other}
+                ):
+                    self.assertEqual(self.ids(), ["W005"] * is_warned, options)
+
+    def test_a_short_column(self):
+        field = User._meta.get_field("password")
+        for width, said in ((127, ["E003"]), (128, []), (None, [])):
+            with mock.patch.object(field, "max_length", width):
+                self.assertEqual(self.ids(), said)
 
     def test_a_model_that_does_not_compare(self):
         (warning,) = checks.user_model()
         self.assertEqual(warning.id, "rigzumal.W007")
         self.assertIn("RIGZUMAL_USER_COMPARES", warning.hint)
-        with users.comparing(User):
-            self.assertEqual(checks.user_model(), [])
-
-    def test_backends(self):
-        with override_settings(AUTHENTICATION_BACKENDS=[THEIRS]):
-            self.assertEqual(self.found(), ["rigzumal.W001", "rigzumal.W002"])
-            with users.comparing(User):
-                self.assertEqual(self.found(), [])
-        own = f"{__name__}.EmailBackend"
-        for other in (THEIRS, own, "django.contrib.auth.backends.AllowAllUsersModelBackend"):
-            with override_settings(AUTHENTICATION_BACKENDS=[OURS, other]):
-                self.assertEqual(self.found(), ["rigzumal.W002"])
-                self.assertIn(other.rpartition(".")[2], checks.backends()[0].msg)
-        remote = "django.contrib.auth.backends.RemoteUserBackend"
-        with override_settings(AUTHENTICATION_BACKENDS=[OURS, remote]):
-            self.assertEqual(self.found(), [])
-        with override_settings(AUTHENTICATION_BACKENDS=[remote]):
-            self.assertEqual(self.found(), ["rigzumal.W001"])
-
-    def test_a_short_column(self):
-        field = get_user_model()._meta.get_field("password")
-        with mock.patch.object(field, "max_length", 127):
-            self.assertEqual(self.found(), ["rigzumal.E003"])
-        with mock.patch.object(field, "max_length", None):
-            self.assertEqual(self.found(), [])
-
-    def test_a_model_without_a_password(self):
-        with override_settings(AUTH_USER_MODEL="users_app.NoPassword"):
-            self.assertEqual(self.found(), [])
-            self.assertEqual(checks.unlisted_hashers(databases=["default"]), [])
-
-    def test_hashers(self):
-        for first, warned in (
-            ("django.contrib.auth.hashers.PBKDF2PasswordHasher", ["rigzumal.W004"]),
-            ("rigzumal.django.hashers.ScryptPasswordHasher", []),
-            ("cheap.Argon2", []),
-        ):
-            with override_settings(PASSWORD_HASHERS=[first]):
-                self.assertEqual(self.found(), warned)
-
-    def test_another_hasher_of_our_name(self):
-        """Django asks the later of two, so its own would judge our records."""
-        ours = "rigzumal.django.hashers."
-        theirs = "django.contrib.auth.hashers."
-        argon2 = "Argon2PasswordHasher"
-        own = f"{__name__}.ScryptLike"
-        for listed, found in (
-            ([ours + argon2, theirs + "PBKDF2PasswordHasher"], []),
-            ([ours + argon2, theirs + argon2], ["rigzumal.E013"]),
-            ([theirs + argon2, ours + argon2], ["rigzumal.W004"]),
-            ([ours + argon2, theirs + argon2, "cheap.Argon2"], []),
-            ([ours + "ScryptPasswordHasher", own], ["rigzumal.E013"]),
-            (["cheap.Argon2", theirs + argon2], ["rigzumal.E013"]),
-        ):
-            with override_settings(PASSWORD_HASHERS=listed):
-                self.assertEqual(self.found(), found, listed)
-        with override_settings(PASSWORD_HASHERS=[ours + argon2, theirs + argon2]):
-            (error,) = checks.shadowed_hashers()
-            self.assertTrue(error.is_serious())
-            self.assertIn(theirs + argon2, error.msg)
-
-    def test_a_backend_that_cannot_be_imported(self):
-        for comparing in (False, True):
-            with users.comparing(User) if comparing else contextlib.nullcontext():
-                with override_settings(AUTHENTICATION_BACKENDS=[OURS, "nowhere.Backend"]):
-                    (error,) = checks.backends()
-                    self.assertEqual(error.id, "rigzumal.E012")
-                    self.assertIn("'nowhere.Backend'", error.msg)
-
-    def test_a_project_without_the_app(self):
-        """Hashers, backends and the admin's app refuse it: its settings would be idle."""
-        code = (
-            "from django.conf import settings\n"
-            "settings.configure(INSTALLED_APPS={apps}, SECRET_KEY='x', USE_TZ=True,\n"
-            "    PASSWORD_HASHERS=['rigzumal.django.hashers.Argon2PasswordHasher'])\n"
-            "import django; django.setup()\n"
-            "{act}\nprint('went on')"
-        )
-        theirs = ["django.contrib.auth", "django.contrib.contenttypes"]
-        admins = [*theirs, "django.contrib.sessions", "django.contrib.messages"]
-        hashes = "from django.contrib.auth import hashers; hashers.get_hasher()"
-        logs_in = f"from django.contrib.auth import load_backend; load_backend({OURS!r})"
-        for apps, act, is_refused in (
-            (theirs, hashes, True),
-            (theirs, logs_in, True),
-            (["rigzumal.django.apps.AdminConfig", *admins], "", True),
-            (["rigzumal.django", *theirs], f"{hashes}; {logs_in}", False),
-            (["rigzumal.django", "rigzumal.django.apps.AdminConfig", *admins], hashes, False),
-            ([], hashes, False),  # a script that has no users
-        ):
-            done = subprocess.run(
-                [sys.executable, "-c", code.format(apps=apps, act=act)],
-                capture_output=True,
-                text=True,
-                env={it: value for it, value in os.environ.items() if it[:6] != "DJANGO"},
-            )
-            with self.subTest(apps=apps, act=act):
-                if is_refused:
-                    self.assertIn("ImproperlyConfigured: put 'rigzumal.django'", done.stderr)
-                else:
-                    self.assertEqual((done.stdout, done.stderr), ("went on\n", ""))
 
     def test_methods_that_would_be_passed_over(self):
         for model, names in (
@@ -195,84 +147,32 @@ class Checks(unittest.TestCase):
             ("Person", []),
         ):
             with override_settings(AUTH_USER_MODEL=f"users_app.{model}"):
-                found = checks.own_methods()
+                found = [it for it in self.found() if it.id == "rigzumal.E006"]
             self.assertEqual([it.msg.partition(" ")[0] for it in found], names)
-            self.assertTrue(all(it.is_serious() for it in found))
 
     def test_the_admin(self):
-        self.assertEqual(checks.admin_sites(), [])
+        get_resolver().url_patterns  # urls.py registers ours
         site = admin.AdminSite(name="theirs")
         site.register(User, djangos_admin.UserAdmin)
-        for comparing, text in ((False, "may undo"), (True, "error page")):
-            with users.comparing(User) if comparing else contextlib.nullcontext():
-                found = checks.admin_sites()
+        for compares, text in ((contextlib.nullcontext, "may undo"), (comparing, "error page")):
+            with compares():
+                found = self.found()
             self.assertEqual([it.id for it in found], ["rigzumal.W008"] * 2)
             self.assertTrue(all("'theirs'" in it.msg and text in it.msg for it in found))
         site.unregister(User)
-        self.assertEqual(checks.admin_sites(), [])  # a site of nothing has no pages
+        self.assertEqual(self.ids(), [])  # a site of nothing has no pages
 
     def test_urls(self):
-        self.assertEqual(checks.url_views(), [])
-        with override_settings(ROOT_URLCONF=f"{__name__}"):
-            found = [it.msg for it in checks.url_views()]
-        self.assertEqual(len(found), 3)
-        self.assertTrue("'theirs/password_change/'" in found[0], found)
-        self.assertTrue("'theirs/reset/<uidb64>/<token>/'" in found[1], found)
-        self.assertTrue("'alone/'" in found[2], found)
+        with override_settings(ROOT_URLCONF=__name__):
+            found = self.found()
+        self.assertEqual({it.id for it in found}, {"rigzumal.W009"})
+        routes = ("'theirs/password_change/'", "'theirs/reset/<uidb64>/<token>/'", "'alone/'")
+        self.assertEqual([it.msg.split()[2] for it in found], list(routes))
 
     def test_the_command(self):
-        self.assertEqual(checks.command(), [])
-        theirs = {"changepassword": "django.contrib.auth"}
-        with mock.patch.object(checks, "get_commands", lambda: theirs):
-            self.assertEqual(self.found(), ["rigzumal.W010"])
-        with mock.patch.object(checks, "get_commands", lambda: {"changepassword": "own"}):
-            self.assertEqual(checks.command(), [])
-
-    def warned(self, engine, **options):
-        well = {"ENGINE": "django.db.backends.sqlite3"}
-        database = {"ENGINE": f"django.db.backends.{engine}", "OPTIONS": options}
-        given = {"default": well, "other": database}
-        with mock.patch.object(checks.settings, "DATABASES", given):
-            return bool(checks.isolation())
-
-    def test_isolation(self):
-        for level, warned in (
-            ("repeatable read", True),
-            ("READ COMMITTED", False),
-            (2, True),
-            (3, True),
-            (1, False),
-            (None, False),
-        ):
-            self.assertEqual(self.warned("postgresql", isolation_level=level), warned, level)
-        self.assertFalse(self.warned("postgresql"))
-        # Django's own level of MySQL is READ COMMITTED; None is the server's.
-        self.assertFalse(self.warned("mysql"))
-        self.assertTrue(self.warned("mysql", isolation_level=None))
-
-    def test_isolation_by_other_options(self):
-        for options, warned in (
-            ("-c default_transaction_isolation=serializable", True),
-            ("-c default_transaction_isolation=repeatable\\ read", True),
-            ("-c statement_timeout=5 --default-transaction-isolation=SERIALIZABLE", True),
-            ("-c default_transaction_isolation=read\\ committed", False),
-            ("-c search_path=serializable", False),
-        ):
-            self.assertEqual(self.warned("postgresql", options=options), warned, options)
-        for command, warned in (
-            ("SET SESSION TRANSACTION ISOLATION LEVEL REPEATABLE READ", True),
-            ("SET SESSION TRANSACTION ISOLATION LEVEL READ COMMITTED", False),
-            ("SET transaction_isolation='SERIALIZABLE'", True),
-            ("SET sql_mode='STRICT_TRANS_TABLES'", False),
-        ):
-            self.assertEqual(self.warned("mysql", init_command=command), warned, command)
-
-    @unittest.skipIf(psycopg is None, "psycopg 3 is not there")
-    def test_isolation_of_psycopg_3(self):
-        """Its numbers aren't those of psycopg2."""
-        for level in psycopg.IsolationLevel:
-            warned = level.name in ("REPEATABLE_READ", "SERIALIZABLE")
-            self.assertEqual(self.warned("postgresql", isolation_level=level), warned, level)
+        for owner, said in (("django.contrib.auth", ["W010"]), ("own", [])):
+            with mock.patch.object(checks, "get_commands", lambda: {"changepassword": owner}):
+                self.assertEqual(self.ids(), said)
 
 
 class ScryptLike(hashers.MD5PasswordHasher):
@@ -296,6 +196,69 @@ urlpatterns = [
 ]
 
 
+class Projects(unittest.TestCase):
+    """Each in a process of its own."""
+
+    def run_python(self, text, **env):
+        given = {it: value for it, value in os.environ.items() if it != "DJANGO_SETTINGS_MODULE"}
+        words = [sys.executable, "-c", text]
+        return subprocess.run(words, capture_output=True, text=True, env={**given, **env})
+
+    def test_the_setting(self):
+        """`manage.py check` of a project with RIGZUMAL_USER_COMPARES: the model compares."""
+        text = (
+            "import django; django.setup()\n"
+            "from django.contrib import admin\n"
+            "from django.contrib.auth.models import User\n"
+            "from django.core.management import call_command\n"
+            "print(type(admin.site._registry[User]).__module__, User.__mro__[1].__name__)\n"
+            "call_command('check')"
+        )
+        for env, said, checked in (
+            ({"FRAMEWORKS_COMPARES": "1"}, "rigzumal.django.admin CompareAndSetMixin", "no issues"),
+            ({}, "django.contrib.auth.admin AbstractUser", "W007"),
+        ):
+            done = self.run_python(text, DJANGO_SETTINGS_MODULE="settings", **env)
+            self.assertIn(said, done.stdout)
+            self.assertIn(checked, done.stdout + done.stderr)
+
+    def test_the_setting_leaves_a_projects_own(self):
+        """An admin of users that isn't Django's very own stays registered."""
+        get_resolver().url_patterns  # urls.py registers ours
+        registered = admin.site._registry[User]
+        with override_settings(RIGZUMAL_USER_COMPARES=True):
+            runpy.run_path(our_admin.__file__)
+        self.assertIs(admin.site._registry[User], registered)
+
+    def test_without_the_app(self):
+        """Hashers, backends and the admin's app refuse it: its settings would be idle."""
+        code = (
+            "from django.conf import settings\n"
+            "settings.configure(INSTALLED_APPS={apps}, SECRET_KEY='x', USE_TZ=True,\n"
+            "    PASSWORD_HASHERS=['rigzumal.django.hashers.Argon2PasswordHasher'])\n"
+            "import django; django.setup()\n"
+            "{act}\nprint('went on')"
+        )
+        theirs = ["django.contrib.auth", "django.contrib.contenttypes"]
+        admins = [*theirs, "django.contrib.sessions", "django.contrib.messages"]
+        hashes = "from django.contrib.auth import hashers; hashers.get_hasher()"
+        logs_in = f"from django.contrib.auth import load_backend; load_backend({OURS!r})"
+        for apps, act, is_refused in (
+            (theirs, hashes, True),
+            (theirs, logs_in, True),
+            (["rigzumal.django.apps.AdminConfig", *admins], "", True),
+            (["rigzumal.django", *theirs], f"{hashes}; {logs_in}", False),
+            (["rigzumal.django", "rigzumal.django.apps.AdminConfig", *admins], hashes, False),
+            ([], hashes, False),  # a script that has no users
+        ):
+            done = self.run_python(code.format(apps=apps, act=act))
+            with self.subTest(apps=apps, act=act):
+                if is_refused:
+                    self.assertIn("ImproperlyConfigured: put 'rigzumal.django'", done.stderr)
+                else:
+                    self.assertEqual((done.stdout, done.stderr), ("went on\n", ""))
+
+
 class Records(Cheap, TestCase):
     """`manage.py check --database default` looks at the records."""
 
@@ -311,10 +274,10 @@ class Records(Cheap, TestCase):
             ann.password = hashers.make_password("secret", hasher=algorithm)
             ann.save()
             self.assertEqual(self.found(), [])
-            with override_settings(PASSWORD_HASHERS=["cheap.Argon2"]):
+            with override_settings(PASSWORD_HASHERS=["meanwhile.Argon2"]):
                 (said,) = self.found()
                 self.assertIn(f"'{algorithm}'", said)
-        self.assertEqual([it.id for it in run_checks()], ["rigzumal.W007"])  # asks none
+                self.assertEqual([it.id for it in run_checks()], ["rigzumal.W007"])  # asks none
 
     def test_what_is_no_record_is_not_shown(self):
         User.objects.create(username="ann", password="topsecret$1")
@@ -327,9 +290,13 @@ class Records(Cheap, TestCase):
         self.assertEqual(len(self.found()), 1)
         unsalted = "django.contrib.auth.hashers.UnsaltedMD5PasswordHasher"
         if hasattr(hashers, "UnsaltedMD5PasswordHasher"):
-            with override_settings(PASSWORD_HASHERS=["cheap.Argon2", unsalted]):
+            with override_settings(PASSWORD_HASHERS=["meanwhile.Argon2", unsalted]):
                 self.assertEqual(self.found(), [])
 
-    def test_before_the_tables_are_made(self):
+    def test_no_table_and_no_column(self):
+        """Before the tables are made, and of a model without a password."""
+        User.objects.create(username="ann", password="topsecret$1")
         with mock.patch.object(User._meta, "db_table", "not_made_yet"):
+            self.assertEqual(self.found(), [])
+        with override_settings(AUTH_USER_MODEL="users_app.NoPassword"):
             self.assertEqual(self.found(), [])

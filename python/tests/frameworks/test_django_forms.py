@@ -4,10 +4,11 @@ import io
 from unittest import mock
 
 import project  # noqa: F401: Django, set up
-from cheap import Cheap, cheap
-from django.contrib.admin import site
-from django.contrib.auth import authenticate, hashers
+from django.conf import settings
+from django.contrib import admin
+from django.contrib.auth import authenticate
 from django.contrib.auth import forms as djangos_forms
+from django.contrib.auth import urls as djangos_urls
 from django.contrib.auth.management.commands import changepassword
 from django.contrib.auth.models import User
 from django.contrib.auth.tokens import default_token_generator
@@ -18,22 +19,16 @@ from django.test import TestCase, TransactionTestCase, override_settings
 from django.urls import path
 from django.utils.encoding import force_bytes
 from django.utils.http import urlsafe_base64_encode
-from meanwhile import before_update, is_right, meanwhile, reset_elsewhere, stands
+from meanwhile import Cheap, Router, cheap, comparing, is_right, meanwhile, stands
 
 import rigzumal
-from rigzumal.django import forms, passwords, users
+from rigzumal.django import forms, passwords, urls, users
 from rigzumal.django.site import AdminSite
 
 NEW = "Nq7-xx!zz"
 GIVEN = {"old_password": "old", "new_password1": NEW, "new_password2": NEW}
 BY_ADMIN = {"password1": NEW, "password2": NEW}
 CHANGED = "password was changed meanwhile"
-MIDDLEWARE = [
-    "django.contrib.sessions.middleware.SessionMiddleware",
-    "django.contrib.auth.middleware.AuthenticationMiddleware",
-    "django.contrib.messages.middleware.MessageMiddleware",
-    "urls.last_seen",
-]
 
 
 class Forms(Cheap, TestCase):
@@ -41,89 +36,92 @@ class Forms(Cheap, TestCase):
         super().setUp()
         self.ann = User.objects.create_user("ann", password="old")
 
-    def right(self, password):
-        return is_right(self.ann, password)
+    def valid(self, form, given=GIVEN):
+        """The form, with the user as she stands, whose password is "old"."""
+        self.reset("old")
+        found = form(User.objects.get(), given)
+        self.assertTrue(found.is_valid(), found.errors)
+        return found
 
-    def each(self):
-        """Each form, valid, with the user as she stands."""
-        for form, given in (
-            (forms.PasswordChangeForm, GIVEN),
-            (forms.AdminOwnPasswordChangeForm, GIVEN),
-            (forms.SetPasswordForm, GIVEN),
-            (forms.AdminPasswordChangeForm, BY_ADMIN),
+    def lose(self, form, code):
+        before = stands(self.ann)
+        with self.assertRaises(ValidationError) as caught:
+            form.save()
+        self.assertEqual(caught.exception.code, code)
+        self.assertEqual(stands(self.ann), before)
+
+    def test_each(self):
+        """It sets the password, but over no other's, of which it was validated too early."""
+        for form, given, code in (
+            (forms.PasswordChangeForm, GIVEN, "password_incorrect"),
+            (forms.AdminOwnPasswordChangeForm, GIVEN, "password_incorrect"),
+            (forms.SetPasswordForm, GIVEN, "password_changed"),
+            (forms.AdminPasswordChangeForm, BY_ADMIN, "password_changed"),
         ):
-            reset_elsewhere(self.ann, "old")
-            found = form(User.objects.get(), given)
-            self.assertTrue(found.is_valid(), found.errors)
-            yield found
+            found = self.valid(form, given)
+            with self.assertRaises(ValueError):
+                found.save(commit=False)
+            self.assertTrue(self.right("old"))
+            self.assertEqual(found.save(), self.ann)
+            self.assertTrue(self.right(NEW))
+            found = self.valid(form, given)
+            self.reset("reset")
+            self.lose(found, code)
+
+    def test_djangos_own_compare_if_the_model_does(self):
+        """Whoever left one in place gets an exception, and undoes nothing."""
+        self.enterContext(comparing())
+        for form, given in (
+            (djangos_forms.PasswordChangeForm, GIVEN),
+            (djangos_forms.SetPasswordForm, GIVEN),
+            (djangos_forms.AdminPasswordChangeForm, BY_ADMIN),
+        ):
+            found = self.valid(form, given)
+            self.reset("reset")
+            with self.assertRaises(passwords.RecordChanged):
+                found.save()
+            self.assertTrue(self.right("reset"))
 
     def test_a_change_costs_two_hashes(self):
         """As Django's: the old password is judged once, where its record still stands."""
         for is_reset, hashes in ((False, 2), (True, 4)):
-            reset_elsewhere(self.ann, "old")
+            self.reset("old")
             with mock.patch.object(rigzumal, "argon2", side_effect=rigzumal.argon2) as hashed:
                 form = forms.PasswordChangeForm(User.objects.get(), GIVEN)
                 self.assertTrue(form.is_valid())
                 if is_reset:  # to the same password, by another record
                     made = hashed.call_count
-                    reset_elsewhere(self.ann, "old")
+                    self.reset("old")
                     hashes += hashed.call_count - made
                 form.save()
             self.assertEqual(hashed.call_count, hashes)
             self.assertTrue(self.right(NEW))
 
-    def test_each_sets_the_password(self):
-        for form in self.each():
-            with self.assertRaises(ValueError):
-                form.save(commit=False)
-            self.assertTrue(self.right("old"))
-            self.assertEqual(form.save(), self.ann)
-            self.assertTrue(self.right(NEW))
-
-    def test_a_reset_after_the_form_was_validated(self):
-        for form in self.each():
-            reset_elsewhere(self.ann, "reset")
-            with self.assertRaises(ValidationError) as caught:
-                form.save()
-            owns = isinstance(form, forms.PasswordChangeForm)
-            code = "password_incorrect" if owns else "password_changed"
-            self.assertEqual(caught.exception.code, code)
-            self.assertTrue(self.right("reset"))
-
     def test_eight_changes_are_an_error(self):
-        form = forms.PasswordChangeForm(self.ann, GIVEN)
-        self.assertTrue(form.is_valid())
-        with before_update(lambda: reset_elsewhere(self.ann, "old"), 8):
-            with self.assertRaises(ValidationError) as caught:
-                form.save()
+        form = self.valid(forms.PasswordChangeForm)
+        with self.lost(8), self.assertRaises(ValidationError) as caught:
+            form.save()
         self.assertEqual(caught.exception.code, "password_changed")
         self.assertTrue(self.right("old"))
 
-    def test_a_wrong_old_password(self):
-        form = forms.PasswordChangeForm(self.ann, {**GIVEN, "old_password": "x"})
-        self.assertFalse(form.is_valid())
-        self.assertEqual(form.errors.as_data()["old_password"][0].code, "password_incorrect")
-
-    def test_the_old_password_is_judged_without_an_upgrade(self):
+    def test_the_old_password_is_judged_at_what_stands(self):
+        """The user may come from a replica that lags. Nothing is upgraded."""
+        lagging = User.objects.get()
+        self.reset("new")
         before = stands(self.ann)
         with cheap(memory=128):
-            self.assertTrue(forms.PasswordChangeForm(self.ann, GIVEN).is_valid())
+            wrong = forms.PasswordChangeForm(lagging, GIVEN)
+            self.assertFalse(wrong.is_valid())
+            form = forms.PasswordChangeForm(lagging, {**GIVEN, "old_password": "new"})
+            self.assertTrue(form.is_valid())
+        self.assertEqual(wrong.errors.as_data()["old_password"][0].code, "password_incorrect")
         self.assertEqual(stands(self.ann), before)
-
-    def test_the_old_password_is_judged_at_what_stands(self):
-        """The user may come from a replica that lags."""
-        lagging = User.objects.get()
-        reset_elsewhere(self.ann, "new")
-        form = forms.PasswordChangeForm(lagging, {**GIVEN, "old_password": "new"})
-        self.assertTrue(form.is_valid())
         form.save()
         self.assertTrue(self.right(NEW))
-        self.assertFalse(forms.PasswordChangeForm(lagging, GIVEN).is_valid())
 
     def test_the_admins_button_that_takes_a_password_away(self):
         """Django 5.1 and later have it, and clean it to this."""
-        form = forms.AdminPasswordChangeForm(self.ann, BY_ADMIN)
-        self.assertTrue(form.is_valid())
+        form = self.valid(forms.AdminPasswordChangeForm, BY_ADMIN)
         form.cleaned_data["set_usable_password"] = False
         form.save()
         self.assertFalse(User.objects.get().has_usable_password())
@@ -132,69 +130,50 @@ class Forms(Cheap, TestCase):
 class Views(Cheap, TestCase):
     """By Django's client: a fault of the server would be raised."""
 
-    change = "/accounts/password_change/"
-
     def setUp(self):
         super().setUp()
         self.ann = User.objects.create_user("ann", password="old", is_staff=True)
         self.client.force_login(self.ann)
 
-    def right(self, password):
-        return is_right(self.ann, password)
-
     def test_the_names_are_djangos(self):
-        from django.contrib.auth import urls as theirs
+        def names(module):
+            return [(it.name, str(it.pattern)) for it in module.urlpatterns]
 
-        from rigzumal.django import urls as ours
-
-        self.assertEqual(
-            [(it.name, str(it.pattern)) for it in ours.urlpatterns],
-            [(it.name, str(it.pattern)) for it in theirs.urlpatterns],
-        )
+        self.assertEqual(names(urls), names(djangos_urls))
 
     def test_a_change(self):
+        """A form that fails undoes no reset either: Django's own upgrades as it judges."""
+        bad = {**GIVEN, "new_password2": "another"}
         for change in ("/accounts/password_change/", "/admin/password_change/"):
-            reset_elsewhere(self.ann, "old")
-            self.client.force_login(User.objects.get())
-            self.assertEqual(self.client.get(change).status_code, 200)
-            with meanwhile(lambda: reset_elsewhere(self.ann, "reset")):
-                page = self.client.post(change, GIVEN)
-            self.assertContains(page, "old password was entered incorrectly")
-            self.assertTrue(self.right("reset"))
+            for given, text in ((GIVEN, "old password was entered incorrectly"), (bad, "")):
+                self.reset("old")
+                self.client.force_login(User.objects.get())
+                self.assertEqual(self.client.get(change).status_code, 200)
+                with cheap(memory=128), meanwhile(lambda: self.reset("reset")):
+                    page = self.client.post(change, given)
+                self.assertContains(page, text)
+                self.assertTrue(self.right("reset"))
             self.client.force_login(User.objects.get())
             page = self.client.post(change, {**GIVEN, "old_password": "reset"})
             self.assertRedirects(page, change + "done/", fetch_redirect_response=False)
             self.assertTrue(self.right(NEW))
             self.assertEqual(self.client.get(change).status_code, 200)  # logged in yet
-
-    def test_a_form_that_fails_undoes_no_reset(self):
-        """Django's own upgrades while it judges the old password."""
-        for change in ("/accounts/password_change/", "/admin/password_change/"):
-            reset_elsewhere(self.ann, "old")
+            self.reset("old")
             self.client.force_login(User.objects.get())
-            bad = {**GIVEN, "new_password2": "another"}
-            with cheap(memory=128), meanwhile(lambda: reset_elsewhere(self.ann, "reset")):
-                self.assertEqual(self.client.post(change, bad).status_code, 200)
-            self.assertTrue(self.right("reset"))
-
-    def test_a_change_that_is_always_lost(self):
-        with before_update(lambda: reset_elsewhere(self.ann, "old"), 8):
-            page = self.client.post(self.change, GIVEN)
-        self.assertContains(page, CHANGED)
+            with self.lost(8):
+                self.assertContains(self.client.post(change, GIVEN), CHANGED)
 
     def link(self):
-        token = default_token_generator.make_token(self.ann)
-        return f"/accounts/reset/{urlsafe_base64_encode(force_bytes(self.ann.pk))}/{token}/"
+        """Where a link for a reset leads to."""
+        token = default_token_generator.make_token(User.objects.get())
+        link = f"/accounts/reset/{urlsafe_base64_encode(force_bytes(self.ann.pk))}/{token}/"
+        return self.client.get(link, follow=True).redirect_chain[-1][0]
 
     def test_a_reset(self):
-        where = self.client.get(self.link(), follow=True).redirect_chain[-1][0]
-        with before_update(lambda: reset_elsewhere(self.ann, "old")):
-            page = self.client.post(where, GIVEN)
-        self.assertContains(page, CHANGED)
-        self.ann.refresh_from_db()
-        where = self.client.get(self.link(), follow=True).redirect_chain[-1][0]
-        page = self.client.post(where, GIVEN)
-        self.assertRedirects(page, "/accounts/reset/done/")
+        link = self.link()
+        with self.lost():
+            self.assertContains(self.client.post(link, GIVEN), CHANGED)
+        self.assertRedirects(self.client.post(self.link(), GIVEN), "/accounts/reset/done/")
         self.assertTrue(self.right(NEW))
 
     def test_sessions_end_with_the_password(self):
@@ -202,41 +181,22 @@ class Views(Cheap, TestCase):
         passwords.change_password(User.objects.get(), "old", "new")
         self.assertEqual(self.client.get("/who/").content, b"nobody")
 
-    def test_a_view_that_goes_on_with_the_user(self):
-        page = self.client.post("/later/", {"old": "old", "new": "new"})
+    def test_a_view_and_a_middleware_that_go_on_with_the_user(self):
+        """They save her after the change."""
+        with override_settings(MIDDLEWARE=[*settings.MIDDLEWARE, "urls.last_seen"]):
+            self.client.post("/accounts/password_change/", GIVEN)
+            self.assertTrue(self.right(NEW))
+            self.assertEqual(User.objects.get().last_name, "seen")
+            page = self.client.post("/later/", {"old": NEW, "new": "new"})
         self.assertEqual(page.content, b"True")
-        self.assertEqual(User.objects.get().first_name, "later")
+        self.assertEqual(User.objects.get().get_full_name(), "later seen")
         self.assertTrue(self.right("new"))
-
-    def test_a_middleware_that_saves_the_user(self):
-        with override_settings(MIDDLEWARE=MIDDLEWARE):
-            page = self.client.post(self.change, GIVEN)
-        self.assertEqual(page.status_code, 302)
-        self.assertTrue(self.right(NEW))
-        self.assertEqual(User.objects.get().last_name, "seen")
 
 
 class ComparingViews(Views):
     """The same with a stock User that compares: by the setting, RIGZUMAL_USER_COMPARES."""
 
-    def setUp(self):
-        self.enterContext(users.comparing(User))
-        super().setUp()
-
-    def test_djangos_own_forms_compare(self):
-        """Whoever left one in place gets an exception, and undoes nothing."""
-        for form, given in (
-            (djangos_forms.PasswordChangeForm, GIVEN),
-            (djangos_forms.SetPasswordForm, GIVEN),
-            (djangos_forms.AdminPasswordChangeForm, BY_ADMIN),
-        ):
-            reset_elsewhere(self.ann, "old")
-            found = form(User.objects.get(), given)
-            self.assertTrue(found.is_valid())
-            reset_elsewhere(self.ann, "reset")
-            with self.assertRaises(passwords.RecordChanged):
-                found.save()
-            self.assertTrue(self.right("reset"))
+    around = comparing
 
 
 class RoutedViews(Views):
@@ -244,25 +204,15 @@ class RoutedViews(Views):
 
     databases = {"default", "other"}
 
-    def setUp(self):
-        class Router:
-            def db_for_read(self, model, **hints):
-                return "default" if model._meta.app_label == "auth" else None
-
-            db_for_write = db_for_read
-
-        self.enterContext(override_settings(DATABASE_ROUTERS=[Router()]))
-        super().setUp()
+    def around():
+        return override_settings(DATABASE_ROUTERS=[Router("default", "default")])
 
 
 class AtomicViews(Views):
     """The same within a transaction for each request."""
 
-    def setUp(self):
-        self.enterContext(
-            mock.patch.dict(connections["default"].settings_dict, ATOMIC_REQUESTS=True)
-        )
-        super().setUp()
+    def around():
+        return mock.patch.dict(connections["default"].settings_dict, ATOMIC_REQUESTS=True)
 
 
 class Second(AdminSite):
@@ -275,11 +225,11 @@ class Second(AdminSite):
 
 
 class SecondSite(Cheap, TestCase):
-    urlpatterns = [path("admin/", site.urls), path("second/", Second("second").urls)]
+    urlpatterns = [path("admin/", admin.site.urls), path("second/", Second("second").urls)]
 
     def test_a_projects_own_site(self):
-        User.objects.create_superuser("root", password="old")
-        self.client.force_login(User.objects.get())
+        self.ann = User.objects.create_superuser("root", password="old")
+        self.client.force_login(self.ann)
         change = "/second/password_change/"
         with override_settings(ROOT_URLCONF=SecondSite):
             page = self.client.get(change)
@@ -287,7 +237,7 @@ class SecondSite(Cheap, TestCase):
             self.assertEqual(page.context["of_the_project"], 1)
             page = self.client.post(change, GIVEN)
         self.assertRedirects(page, change + "done/", fetch_redirect_response=False)
-        self.assertTrue(is_right(User.objects.get(), NEW))
+        self.assertTrue(self.right(NEW))
 
 
 class Admin(Cheap, TestCase):
@@ -295,17 +245,17 @@ class Admin(Cheap, TestCase):
 
     def setUp(self):
         super().setUp()
-        User.objects.create_superuser("root", password="root")
         self.ann = User.objects.create_user("ann", password="old")
-        self.client.force_login(User.objects.get(username="root"))
+        self.client.force_login(User.objects.create_superuser("root", password="root"))
         self.page = f"/admin/auth/user/{self.ann.pk}/"
 
-    def right(self, password):
-        return is_right(self.ann, password)
-
-    def test_an_edit_of_another_field_leaves_the_password(self):
+    def edit(self, **how):
+        """Posts the form of a user's other fields."""
         form = {"username": "ann", "email": "a@new.org", "is_active": "on"}
         form.update({"date_joined_0": "2026-01-01", "date_joined_1": "00:00:00"})
+        return self.client.post(f"{self.page}change/", form, **how)
+
+    def test_an_edit_of_another_field_leaves_the_password(self):
         save = User.save
 
         def later(user, *given, **named):
@@ -315,24 +265,19 @@ class Admin(Cheap, TestCase):
 
         patch = mock.patch.object(User, "save", later)
         patch.start()
-        self.assertEqual(self.client.post(f"{self.page}change/", form).status_code, 302)
+        self.assertEqual(self.edit().status_code, 302)
         self.assertTrue(self.right("new"))
         self.assertEqual(User.objects.get(pk=self.ann.pk).email, "a@new.org")
 
     def test_it_sets_a_password(self):
-        self.assertEqual(self.client.get(f"{self.page}password/").status_code, 200)
-        page = self.client.post(f"{self.page}password/", BY_ADMIN)
-        self.assertEqual(page.status_code, 302)
-        self.assertTrue(self.right(NEW))
-
-    def test_a_password_that_was_changed_meanwhile_is_an_error(self):
-        with before_update(lambda: reset_elsewhere(self.ann, "reset")):
-            page = self.client.post(f"{self.page}password/", BY_ADMIN)
-        self.assertEqual(page.status_code, 200)
+        """And shows an error if it was changed meanwhile; then no error stays."""
+        change = f"{self.page}password/"
+        self.assertEqual(self.client.get(change).status_code, 200)
+        with self.lost(password="reset"):
+            page = self.client.post(change, BY_ADMIN)
         self.assertContains(page, CHANGED)
         self.assertNotContains(page, NEW)
-        page = self.client.post(f"{self.page}password/", BY_ADMIN)  # no error stays
-        self.assertEqual(page.status_code, 302)
+        self.assertEqual(self.client.post(change, BY_ADMIN).status_code, 302)
         self.assertTrue(self.right(NEW))
 
     def test_users_are_added(self):
@@ -341,21 +286,15 @@ class Admin(Cheap, TestCase):
 
     def test_a_form_of_a_projects_own_sets_the_password(self):
         """Its field is the password's, and it says so by `changed_data`."""
-        from django.contrib import admin
-
         form = mock.Mock(changed_data=["password"])
         self.ann.set_password("by a form")
         admin.site._registry[User].save_model(None, self.ann, form, True)
         self.assertTrue(self.right("by a form"))
 
     def test_a_lost_save_of_a_projects_own_is_a_message(self):
-        from django.contrib import admin
-
-        form = {"username": "ann", "is_active": "on"}
-        form.update({"date_joined_0": "2026-01-01", "date_joined_1": "00:00:00"})
-        site = type(admin.site._registry[User])
-        with mock.patch.object(site, "save_model", side_effect=passwords.RecordChanged):
-            page = self.client.post(f"{self.page}change/", form, follow=True)
+        ours = type(admin.site._registry[User])
+        with mock.patch.object(ours, "save_model", side_effect=passwords.RecordChanged):
+            page = self.edit(follow=True)
         self.assertEqual(page.redirect_chain, [(f"{self.page}change/", 302)])
         self.assertContains(page, CHANGED)
         self.assertEqual([it.level_tag for it in page.context["messages"]], ["error"])
@@ -364,9 +303,7 @@ class Admin(Cheap, TestCase):
 class ComparingAdmin(Admin):
     """The same with a stock User that compares."""
 
-    def setUp(self):
-        self.enterContext(users.comparing(User))
-        super().setUp()
+    around = comparing
 
 
 class Command(Cheap, TransactionTestCase):
@@ -374,7 +311,7 @@ class Command(Cheap, TransactionTestCase):
 
     def setUp(self):
         super().setUp()
-        self.ann = User.objects.create_user("ann", password="old", email="a@old.org")
+        self.ann = User.objects.create_user("ann", password="old")
 
     def call(self, *typed, name="ann", act=lambda: None):
         typed, out = iter(typed), io.StringIO()
@@ -392,7 +329,7 @@ class Command(Cheap, TransactionTestCase):
         said = self.call("one", "another", NEW, NEW)
         self.assertIn("do not match", said)
         self.assertIn("Password changed successfully", said)
-        self.assertTrue(is_right(self.ann, NEW))
+        self.assertTrue(self.right(NEW))
 
     def test_a_login_that_comes_between_is_an_error(self):
         def login():
@@ -402,12 +339,11 @@ class Command(Cheap, TransactionTestCase):
         with self.assertRaisesMessage(CommandError, "changed meanwhile") as caught:
             self.call(NEW, NEW, act=login)
         self.assertNotIn(NEW, str(caught.exception))
-        self.assertTrue(is_right(self.ann, "old"))
+        self.assertTrue(self.right("old"))
         self.assertFalse(issubclass(User, users.CompareAndSetMixin))  # as it was before
 
-    def test_another_field_stays_as_it_is_there(self):
-        with self.assertRaises(CommandError):
-            self.call(NEW, NEW, name="nobody")
-        with self.assertRaises(CommandError):
-            self.call(*["one", "another"] * 3)
-        self.assertTrue(is_right(self.ann, "old"))
+    def test_what_djangos_own_refuses(self):
+        for typed, name in (((NEW, NEW), "nobody"), (("one", "another") * 3, "ann")):
+            with self.assertRaises(CommandError):
+                self.call(*typed, name=name)
+        self.assertTrue(self.right("old"))

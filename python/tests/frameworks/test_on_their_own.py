@@ -1,5 +1,5 @@
-"""What wants a process or a server of its own: the tests of Django on PostgreSQL, random
-histories, Django's own tests and passlib's own, and the login page on PostgreSQL."""
+"""What wants a process or a server of its own: the tests of Django and of the login page on
+PostgreSQL, random histories, and Django's own tests."""
 
 import functools
 import os
@@ -58,42 +58,42 @@ class Runs(unittest.TestCase):
         self.assertEqual(done.returncode, 0, done.stdout[-5000:])
         return done.stdout
 
+    def discover(self, pattern, **env):
+        self.run_python("-m", "unittest", "discover", "-p", pattern, **env)
+
     def test_django_on_postgres(self):
         need("django", "psycopg2")
-        words = ("-m", "unittest", "discover", "-p", "test_django*.py")
-        self.run_python(*words, FRAMEWORKS_POSTGRES=postgres())
+        self.discover("test_django*.py", FRAMEWORKS_POSTGRES=postgres())
+
+    def test_the_login_page_on_postgres(self):
+        need("psycopg", "flask", "waitress", "django")
+        url = f"postgresql://store@127.0.0.1:{postgres()}/one"
+        self.discover("test_login_page*.py", DATABASE=url)
+
+    def histories(self, *words, **env):
+        for mixin in ((), ("--mixin",)):
+            yield self.run_python("django_histories.py", *words, *mixin, **env)
 
     def test_histories(self):
         """1,000 random interleavings in threads have one legal order each."""
         need("django")
-        for words in ((), ("--mixin",)):
-            self.assertIn("legal rounds on sqlite", self.run_python("django_histories.py", *words))
+        for said in self.histories():
+            self.assertIn("legal rounds on sqlite", said)
 
     def test_histories_on_postgres(self):
         need("django", "psycopg2")
-        port = postgres()
-        for words in ((), ("--mixin",)):
-            said = self.run_python("django_histories.py", *words, FRAMEWORKS_POSTGRES=port)
+        for said in self.histories(FRAMEWORKS_POSTGRES=postgres()):
             self.assertIn("legal rounds on postgresql", said)
 
     def test_histories_without_comparison_are_refused(self):
         need("django")
-        for words in ((), ("--mixin",)):
-            self.assertIn("refused", self.run_python("django_histories.py", "--broken", *words))
+        for said in self.histories("--broken"):
+            self.assertIn("refused", said)
 
     def test_djangos_own(self):
         """Those of auth, over this backend and these hashers."""
         need("django")
         self.run_python("django_own.py", djangos_source())
-
-    def test_passlibs_own(self):
-        need("passlib")
-        self.run_python("passlib_own.py", PASSLIB_TEST_MODE="full")
-
-    def test_the_login_page_on_postgres(self):
-        need("psycopg", "flask", "waitress", "django")
-        url = f"postgresql://store@127.0.0.1:{postgres()}/one"
-        self.run_python("test_login_page.py", DATABASE=url)
 
 
 def djangos_source():
@@ -115,15 +115,13 @@ def djangos_source():
 
 def fetch_source(folder, version):
     """Debian's source package of this Django, by an apt of its own; a skipped test without it."""
-    release = dict(
-        line.split("=", 1) for line in pathlib.Path("/etc/os-release").read_text().splitlines()
-    )
+    system = pathlib.Path("/etc/os-release").read_text().splitlines()
+    suite = dict(line.split("=", 1) for line in system).get("VERSION_CODENAME", "stable")
     with tempfile.TemporaryDirectory(prefix="rigzumal-apt-") as name:
         room = pathlib.Path(name)
         for part in ("state/lists/partial", "cache/archives/partial"):
             (room / part).mkdir(parents=True)
         (room / "status").touch()
-        suite = release.get("VERSION_CODENAME", "stable")
         (room / "list").write_text(f"deb-src http://deb.debian.org/debian {suite} main\n")
         options = {
             "Dir::Etc::sourcelist": room / "list",

@@ -47,12 +47,14 @@ class Pupil(CompareAndSetMixin, Plain):
 class Methods:
     """A model's methods of its own: no locked user is let in, and a change is noted."""
 
+    pepper = "pepper "
+
     def check_password(self, raw_password):
         self.checks = getattr(self, "checks", 0) + 1
-        return not self.locked and super().check_password(f"pepper {raw_password}")
+        return not self.locked and super().check_password(self.pepper + raw_password)
 
     def set_password(self, raw_password):
-        super().set_password(f"pepper {raw_password}")
+        super().set_password(self.pepper + raw_password)
         self.changes += 1
 
 
