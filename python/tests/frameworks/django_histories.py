@@ -10,6 +10,7 @@ the comparison is left out, and the checker has to find that.
 """
 
 import argparse
+import collections
 import itertools
 import os
 import random
@@ -64,108 +65,91 @@ def slowed(made):
 class Round:
     """An account, and what is done to it."""
 
-    model = User
-
-    def __init__(self):
-        self.name = f"ann{next(NUMBERS)}"
-        self.passwords = ["old", "new", "newer"]
+    def __init__(self, model):
+        self.model, self.name, self.operations = model, f"ann{next(NUMBERS)}", []
         Argon2PasswordHasher.memory_cost = OLD
         record = hashers.make_password("old")
         Argon2PasswordHasher.memory_cost = NEW
-        self.user = self.model.objects.create(username=self.name, password=record)
-        self.seed, self.operations = Operation.seed(record, "old", OLD), []
+        model.objects.create(username=self.name, password=record)
+        self.seed = Operation.seed(record, "old", OLD)
+
+    def read(self):
+        return self.model.objects.get(username=self.name)
 
     def operate(self, barrier):
         """One operation, in a thread of its own."""
-        act = random.choice(self.acts())
-        old, new = random.choice(self.passwords), f"p{next(NUMBERS)}"
-        if act != self.login:
-            new = random.choice((new, *self.passwords))
+        acts = [self.upgrade, self.change, self.reset]
+        act = random.choice([*acts, self.login if self.model is User else self.edit])
+        known = ("old", "new", "newer")
+        old, new = random.choice(known), random.choice((f"p{next(NUMBERS)}", *known))
         stale = self.read() if random.random() < 0.5 else None
         barrier.wait()
         time.sleep(random.choice((0, 0.001, 0.004, 0.008)))
         operation = Operation(f"{self.name}.{next(NUMBERS)}", "", old, 0, costs=NEW)
-        operation.called = time.monotonic()
-        act(operation, stale or self.read(), old, new)
+        operation.called, judged.last = time.monotonic(), None
+        try:
+            act(operation, stale or self.read(), old, new)
+        except passwords.RecordChanged:
+            operation.reply = "changed"
         operation.answered = time.monotonic()
         if operation.kind:
             self.operations.append(operation)
 
-    def acts(self):
-        return self.login, self.change, self.reset, self.upgrade
+    def login(self, operation, user, old, new):
+        operation.kind = "upgrade"
+        found = backends.CompareAndSetBackend().authenticate(None, self.name, old)
+        if judged.last is None:
+            raise passwords.RecordChanged  # which is no user, to the backend
+        self.note_upgrade(operation, found is not None)
 
-    def read(self):
-        return self.model.objects.get(pk=self.user.pk)
-
-    def login(self, operation, stale, old, new):
-        judged.last = None
-        user = backends.CompareAndSetBackend().authenticate(None, self.name, old)
-        self.note_upgrade(operation, user is not None)
-
-    def upgrade(self, operation, stale, old, new):
-        judged.last = None
-        try:
-            self.note_upgrade(operation, self.check_password(stale, old))
-        except passwords.RecordChanged:
-            operation.kind, operation.reply = "upgrade", "changed"
+    def upgrade(self, operation, user, old, new):
+        operation.kind = "upgrade"
+        is_its_own = self.model is Person
+        right = user.check_password(old) if is_its_own else passwords.check_password(user, old)
+        self.note_upgrade(operation, right)
 
     def note_upgrade(self, operation, right):
-        last, operation.kind = judged.last, "upgrade"
-        if last is None:
-            operation.reply = "changed"  # eight times
-            return
+        last = judged.last
         assert last.right == right
         operation.before, operation.after = last.before, last.after
         made = "upgraded" if last.before != last.after else "kept"
         operation.reply = made if right else "wrong"
 
-    def change(self, operation, stale, old, new):
+    def change(self, operation, user, old, new):
         operation.kind, operation.new_password = "change", new
-        try:
-            right = passwords.change_password(stale, old, new)
-        except passwords.RecordChanged:
-            operation.reply = "changed"
-            return
+        right = passwords.change_password(user, old, new)
         operation.before, operation.after = judged.last.before, judged.last.after
         operation.reply = "replaced" if right else "wrong"
 
-    def reset(self, operation, stale, old, new):
+    def reset(self, operation, user, old, new):
         operation.kind, operation.new_password = "reset", new
-        operation.before = stale.password
-        try:
-            self.set_password(stale, new)
-            operation.reply, operation.after = "replaced", stale.password
-        except passwords.RecordChanged:
-            operation.reply = "changed"
+        operation.before = user.password
+        if self.model is Person:
+            user.set_password(new)
+            user.save()
+        else:
+            passwords.set_password(user, new)
+        operation.reply, operation.after = "replaced", user.password
+
+    def edit(self, operation, user, old, new):
+        """A save of another field, which is none of the account's operations."""
+        user.first_name = new
+        user.save()
 
     def check(self):
         end = Operation.end(self.read().password, time.monotonic())
         check(Account(self.seed, end, self.operations))
 
-    check_password, set_password = map(
-        staticmethod, (passwords.check_password, passwords.set_password)
-    )
 
+def leave_comparison_out():
+    def put(row, rows, copy, record):
+        row._rows.update(password=record)
+        row.found(record)
+        return True
 
-class MixinRound(Round):
-    """The same by the methods of a model with the mixin."""
-
-    model = Person
-
-    def acts(self):
-        return self.upgrade, self.change, self.reset, self.edit
-
-    def check_password(self, user, password):
-        return user.check_password(password)
-
-    def set_password(self, user, password):
-        user.set_password(password)
-        user.save()
-
-    def edit(self, operation, stale, old, new):
-        """A save of another field, which is none of the account's operations."""
-        stale.first_name = new
-        stale.save()
+    records.Row._put = put
+    update = Model._do_update  # which a save compares with nothing by
+    CompareAndSetMixin._do_update = lambda user, *rest: update(user, *rest)
 
 
 def main():
@@ -179,35 +163,24 @@ def main():
     records.judge_change = noted(records.judge_change)
     Argon2PasswordHasher._made = slowed(Argon2PasswordHasher._made)
     if given.broken:
-
-        def put(row, rows, copy, record):
-            row._rows.update(password=record)
-            row.found(record)
-            return True
-
-        records.Row._put = put
-        update = Model._do_update  # which a save compares with nothing by
-        CompareAndSetMixin._do_update = lambda user, *rest: update(user, *rest)
-    replies, kind = {}, MixinRound if given.mixin else Round
+        leave_comparison_out()
+    replies = collections.Counter()
     with ThreadPoolExecutor(THREADS) as pool:
         for number in range(given.rounds):
-            round_, barrier = kind(), threading.Barrier(THREADS)
-            done = [pool.submit(round_.operate, barrier) for _ in range(THREADS)]
-            for it in done:
+            one, barrier = Round(Person if given.mixin else User), threading.Barrier(THREADS)
+            for it in [pool.submit(one.operate, barrier) for _ in range(THREADS)]:
                 it.result()
             try:
-                round_.check()
+                one.check()
             except Illegal as fault:
-                if given.broken:
-                    print(f"refused in round {number}: {fault.reason}")
-                    return 0
-                raise
-            for it in round_.operations:
-                name = f"{it.kind} {it.reply}"
-                replies[name] = replies.get(name, 0) + 1
+                if not given.broken:
+                    raise
+                print(f"refused in round {number}: {fault.reason}")
+                return 0
+            replies.update(f"{it.kind} {it.reply}" for it in one.operations)
         for _ in range(THREADS):
             pool.submit(connections.close_all)
-    print(f"{given.rounds} legal rounds on {connections['default'].vendor}:", replies)
+    print(f"{given.rounds} legal rounds on {connections['default'].vendor}:", dict(replies))
     return 1 if given.broken else 0
 
 

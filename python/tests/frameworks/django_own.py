@@ -9,7 +9,6 @@ Rigzumal, to see what fails then.
 import os
 import pathlib
 import sys
-import tempfile
 import warnings
 
 FOLDER = pathlib.Path(sys.argv[1]) / "tests"
@@ -19,6 +18,7 @@ import django
 from django.conf import global_settings, settings
 from django.test.runner import DiscoverRunner
 from django.utils.deprecation import RemovedInNextVersionWarning
+from settings import ROOM, TEMPLATES
 
 OURS = "rigzumal.django.hashers."
 BACKEND = "rigzumal.django.backends.CompareAndSetBackend"
@@ -46,7 +46,6 @@ if not DJANGOS:
 warnings.simplefilter("error", RemovedInNextVersionWarning)
 
 # The settings of Django's own runner (tests/runtests.py).
-ROOM = tempfile.mkdtemp(prefix="rigzumal-")
 settings.configure(
     DATABASES={
         name: {
@@ -73,21 +72,7 @@ settings.configure(
         "django.contrib.auth.middleware.AuthenticationMiddleware",
         "django.contrib.messages.middleware.MessageMiddleware",
     ],
-    TEMPLATES=[
-        {
-            "BACKEND": "django.template.backends.django.DjangoTemplates",
-            "DIRS": [str(FOLDER / "templates")],
-            "APP_DIRS": True,
-            "OPTIONS": {
-                "context_processors": [
-                    "django.template.context_processors.debug",
-                    "django.template.context_processors.request",
-                    "django.contrib.auth.context_processors.auth",
-                    "django.contrib.messages.context_processors.messages",
-                ],
-            },
-        }
-    ],
+    TEMPLATES=[{**TEMPLATES[0], "DIRS": [str(FOLDER / "templates")]}],
     ROOT_URLCONF="urls",
     STATIC_URL="static/",
     STATIC_ROOT=os.path.join(ROOM, "static"),

@@ -1,0 +1,148 @@
+"""examples/login_page in a real browser, without JavaScript.
+
+PICTURES may name a folder that gets a picture of each page.
+"""
+
+import os
+import shutil
+import tempfile
+import unittest
+from unittest import mock
+
+import login_clients  # noqa: F401 (before the page)
+import login_page
+import store
+from login_clients import NEW, OLD, ROOM, Case
+
+try:
+    from selenium import webdriver
+except ImportError:
+    raise unittest.SkipTest("python3-selenium is not there") from None
+if not shutil.which("chromedriver"):
+    raise unittest.SkipTest("chromium-driver is not there")
+
+from selenium.common.exceptions import WebDriverException
+from selenium.webdriver.chrome.service import Service
+from selenium.webdriver.support.ui import WebDriverWait
+
+PICTURES = os.environ.get("PICTURES")
+CSS = "css selector"
+FIELDS = "input:not([type=hidden],[hidden])"
+
+
+class Browser(webdriver.Chrome):
+    """Chromium, with JavaScript off."""
+
+    def __init__(self):
+        options = webdriver.ChromeOptions()
+        for word in ("--headless=new", "--no-sandbox", "--disable-gpu"):
+            options.add_argument(word)
+        options.add_argument(f"--user-data-dir={tempfile.mkdtemp(dir=ROOM)}")
+        forbidden = {"profile.managed_default_content_settings.javascript": 2}
+        options.add_experimental_option("prefs", forbidden)
+        super().__init__(service=Service("/usr/bin/chromedriver"), options=options)
+
+    def text(self, selector):
+        return self.find_element(CSS, selector).text
+
+    def ids(self, selector):
+        return [it.get_attribute("id") for it in self.find_elements(CSS, selector)]
+
+    def leave(self, element):
+        """Clicks on a link or a button, and waits until its page has been left."""
+
+        def is_gone(_):
+            try:
+                return not element.is_enabled()
+            except WebDriverException:
+                return True
+
+        element.click()
+        WebDriverWait(self, 300).until(is_gone)
+
+    def follow(self, link):
+        self.leave(self.find_element("link text", link))
+
+    def fill(self, **given):
+        for name, text in given.items():
+            field = self.find_element("name", name)
+            field.clear()
+            field.send_keys(text)
+        self.leave(self.find_element("tag name", "button"))
+
+
+class Walk(Case):
+    def setUp(self):
+        super().setUp()
+        self.browser = Browser()
+        self.addCleanup(self.browser.quit)
+
+    def picture(self, name):
+        """At two widths, if PICTURES asks for it; and nothing is wider than the page."""
+        for width in (640, 1280):
+            self.browser.set_window_size(width, 900)
+            html = self.browser.find_element(CSS, "html[lang=en]")
+            self.assertLessEqual(html.get_property("scrollWidth"), width)
+            if PICTURES:
+                self.browser.save_screenshot(f"{PICTURES}/login-page-{name}-{width}.png")
+
+    def form(self, name, *errors):
+        """Each field has its label, and what describes it is there. The errors stand at these
+        fields; the first of them, or else the form's first field, has the focus."""
+        browser = self.browser
+        fields = browser.ids(FIELDS)
+        self.assertTrue(fields)
+        for field in browser.find_elements(CSS, FIELDS):
+            self.assertTrue(browser.text(f"label[for={field.get_attribute('id')}]"))
+            self.assertTrue(field.accessible_name)
+            for about in field.get_attribute("aria-describedby").split():
+                browser.find_element("id", about)
+        shown = [it for it in browser.find_elements(CSS, ".error") if it.text]
+        self.assertEqual([it.get_attribute("id") for it in shown], [f"{it}-error" for it in errors])
+        self.assertEqual(browser.ids("[aria-invalid=true]"), list(errors))
+        focused = browser.switch_to.active_element.get_attribute("id")
+        self.assertEqual(focused, [*errors, *fields][0])
+        self.assertTrue(all(it.is_displayed() for it in shown))
+        heading = browser.text("h1")
+        self.assertEqual(browser.title, f"Error: {heading}" if errors else heading)
+        self.picture(name)
+        return " ".join(it.text for it in shown)
+
+    def test_a_walk(self):
+        browser, name = self.browser, f"w{self.name}"
+        browser.get(f"http://127.0.0.1:{self.port}/")
+        self.assertEqual(browser.text("h1"), "Log in")
+        self.form("login")
+        browser.follow("Create an account")
+        self.form("signup")
+        browser.fill(name="Not a name", new="password", again="password")
+        self.assertIn("1 to 32", self.form("signup-wrong", "name", "new"))
+        browser.fill(name=name.upper(), new=OLD, again=NEW)
+        self.assertIn("not the same", self.form("signup-again", "again"))
+        browser.fill(name=name.upper(), new=OLD, again=OLD)
+        self.assertEqual(browser.text("h1"), f"Hello, {name}")
+        self.picture("home")
+        browser.follow("Change the password")
+        self.form("change")
+        browser.fill(old=NEW, new=NEW, again=NEW)
+        self.assertIn("The old password is wrong.", self.form("change-wrong", "old"))
+        browser.fill(old=OLD, new=NEW, again=NEW)
+        self.assertIn("has been changed", browser.text(".done"))
+        self.picture("changed")
+        browser.fill()
+        self.assertEqual(browser.text("h1"), "Log in")
+        browser.fill(name=name, password=OLD)
+        self.assertIn(login_page.NO, self.form("login-wrong", "password"))
+        browser.fill(name=name, password=NEW)
+        self.assertEqual(browser.text("h1"), f"Hello, {name}")
+        self.assertIsNone(browser.execute_script("return document.cookie") or None)
+        browser.fill()
+        with mock.patch.dict(store.TRIES, {"account": 1}):
+            for _ in range(2):
+                browser.fill(name=name, password=OLD)
+            self.assertEqual(browser.text("h1"), "Sorry")
+            self.picture("too-many")
+
+
+if __name__ == "__main__":
+    unittest.main()
