@@ -18,11 +18,10 @@ import unittest
 import urllib.parse
 from unittest import mock
 
-TOP = pathlib.Path(__file__).resolve().parents[3]
-EXAMPLE = TOP / "examples" / "login_page"
-sys.path[:0] = [str(EXAMPLE), str(TOP / "python")]
-_PATHS = (str(TOP / "python"), os.environ.get("PYTHONPATH"))
-os.environ["PYTHONPATH"] = os.pathsep.join(filter(None, _PATHS))
+import here
+
+EXAMPLE = here.TOP / "examples" / "login_page"
+sys.path.insert(0, str(EXAMPLE))
 
 try:
     import login_page

@@ -1,20 +1,14 @@
 """The tests' project of Django, with its databases: read first by each test of Django.
 
-FRAMEWORKS_POSTGRES=PORT takes PostgreSQL in the place of SQLite. The library and the package are
-those of this repository.
+FRAMEWORKS_POSTGRES=PORT takes PostgreSQL in the place of SQLite.
 """
 
 import atexit
 import os
-import pathlib
-import sys
 import unittest
 
-HERE = pathlib.Path(__file__).resolve().parent
-PACKAGE = HERE.parent.parent
-sys.path[:0] = [str(PACKAGE), str(HERE)]
-_NAMED = os.environ.get("PYTHONPATH")
-os.environ["PYTHONPATH"] = os.pathsep.join(filter(None, (str(PACKAGE), str(HERE), _NAMED)))
+import here  # noqa: F401 (before rigzumal)
+
 os.environ.setdefault("DJANGO_SETTINGS_MODULE", "settings")
 
 try:

@@ -12,7 +12,7 @@ from django.test.utils import CaptureQueriesContext
 from django.utils.functional import SimpleLazyObject
 from django.views.debug import ExceptionReporter
 from meanwhile import Cheap, Router, awaited, cheap, reset_elsewhere, stands, undone
-from users_app.models import ByMail, Member, Person
+from users_app.models import ByMail, Person
 
 import rigzumal
 from rigzumal.django import backends, forms, passwords
@@ -272,19 +272,6 @@ class Costs(Cheap, TestCase):
 
 class Databases(Cheap, TestCase):
     databases = {"default", "other"}
-
-    def test_an_update_compares_in_the_database(self):
-        """The comparison and the writing are one statement."""
-        for user in (
-            Member.objects.create_user("ann", password="old"),
-            Person.objects.create_user("ben", password="old"),
-            ByMail.objects.create(mail="c@d.org", password="old"),
-        ):
-            with CaptureQueriesContext(connections["default"]) as queries:
-                passwords.set_password(user, "new")
-            (statement,) = [it["sql"] for it in queries]
-            self.assertTrue(statement.startswith("UPDATE"), statement)
-            self.assertRegex(statement.partition("WHERE")[2], '"password" (=|IN) ')
 
     def there(self):
         return User.objects.using("other").get()

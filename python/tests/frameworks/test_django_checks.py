@@ -1,9 +1,7 @@
 """What `manage.py check` says."""
 
 import contextlib
-import os
 import runpy
-import subprocess
 import sys
 import unittest
 from unittest import mock
@@ -22,6 +20,7 @@ from meanwhile import Cheap, comparing
 
 from rigzumal.django import admin as our_admin
 from rigzumal.django import checks, forms
+from tests.helpers import run
 
 try:
     import psycopg
@@ -199,11 +198,6 @@ urlpatterns = [
 class Projects(unittest.TestCase):
     """Each in a process of its own."""
 
-    def run_python(self, text, **env):
-        given = {it: value for it, value in os.environ.items() if it != "DJANGO_SETTINGS_MODULE"}
-        words = [sys.executable, "-c", text]
-        return subprocess.run(words, capture_output=True, text=True, env={**given, **env})
-
     def test_the_setting(self):
         """`manage.py check` of a project with RIGZUMAL_USER_COMPARES: the model compares."""
         text = (
@@ -218,9 +212,9 @@ class Projects(unittest.TestCase):
             ({"FRAMEWORKS_COMPARES": "1"}, "rigzumal.django.admin CompareAndSetMixin", "no issues"),
             ({}, "django.contrib.auth.admin AbstractUser", "W007"),
         ):
-            done = self.run_python(text, DJANGO_SETTINGS_MODULE="settings", **env)
-            self.assertIn(said, done.stdout)
-            self.assertIn(checked, done.stdout + done.stderr)
+            written = run(sys.executable, "-c", text, env=env)
+            self.assertIn(said, written)
+            self.assertIn(checked, written)
 
     def test_the_setting_leaves_a_projects_own(self):
         """An admin of users that isn't Django's very own stays registered."""
@@ -251,12 +245,11 @@ class Projects(unittest.TestCase):
             (["rigzumal.django", "rigzumal.django.apps.AdminConfig", *admins], hashes, False),
             ([], hashes, False),  # a script that has no users
         ):
-            done = self.run_python(code.format(apps=apps, act=act))
             with self.subTest(apps=apps, act=act):
-                if is_refused:
-                    self.assertIn("ImproperlyConfigured: put 'rigzumal.django'", done.stderr)
-                else:
-                    self.assertEqual((done.stdout, done.stderr), ("went on\n", ""))
+                words = (sys.executable, "-c", code.format(apps=apps, act=act))
+                said = run(*words, env={"DJANGO_SETTINGS_MODULE": ""}, status=int(is_refused))
+                wanted = "ImproperlyConfigured: put 'rigzumal.django'" if is_refused else "went on"
+                self.assertIn(wanted, said if is_refused else [said.strip()])
 
 
 class Records(Cheap, TestCase):

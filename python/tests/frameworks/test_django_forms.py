@@ -176,11 +176,6 @@ class Views(Cheap, TestCase):
         self.assertRedirects(self.client.post(self.link(), GIVEN), "/accounts/reset/done/")
         self.assertTrue(self.right(NEW))
 
-    def test_sessions_end_with_the_password(self):
-        self.assertEqual(self.client.get("/who/").content, b"ann")
-        passwords.change_password(User.objects.get(), "old", "new")
-        self.assertEqual(self.client.get("/who/").content, b"nobody")
-
     def test_a_view_and_a_middleware_that_go_on_with_the_user(self):
         """They save her after the change."""
         with override_settings(MIDDLEWARE=[*settings.MIDDLEWARE, "urls.last_seen"]):

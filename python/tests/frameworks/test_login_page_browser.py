@@ -9,10 +9,7 @@ import tempfile
 import unittest
 from unittest import mock
 
-import login_clients  # noqa: F401 (before the page)
-import login_page
-import store
-from login_clients import NEW, OLD, ROOM, Case
+from login_clients import NEW, OLD, ROOM, Case, login_page, store
 
 try:
     from selenium import webdriver
@@ -142,7 +139,3 @@ class Walk(Case):
                 browser.fill(name=name, password=OLD)
             self.assertEqual(browser.text("h1"), "Sorry")
             self.picture("too-many")
-
-
-if __name__ == "__main__":
-    unittest.main()

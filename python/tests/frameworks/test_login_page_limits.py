@@ -6,9 +6,7 @@ import time
 import unittest
 from unittest import mock
 
-import login_clients  # noqa: F401 (before the page)
-import store
-from login_clients import CHEAP, DATABASE, NEW, NUMBERS, OLD, Case, Client, Direct, serving
+from login_clients import CHEAP, DATABASE, NEW, NUMBERS, OLD, Case, Client, Direct, serving, store
 from werkzeug.exceptions import TooManyRequests
 
 from rigzumal.accounts._judgement import Judge
@@ -165,7 +163,3 @@ class Store(unittest.TestCase):
         self.assertIsNone(self.store.log_in("ann", "evil password", "old"))
         token = self.store.sign_up("ben", "a password", "old")
         self.assertEqual(self.store.who(token), "ben")
-
-
-if __name__ == "__main__":
-    unittest.main()

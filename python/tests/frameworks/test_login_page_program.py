@@ -13,9 +13,7 @@ import tempfile
 import threading
 import unittest
 
-import login_clients  # noqa: F401 (before the page)
-import store
-from login_clients import EXAMPLE, NEW, OLD, ROOM, Client
+from login_clients import EXAMPLE, NEW, OLD, ROOM, Client, store
 
 # A shell's & has SIGINT ignored in what it starts.
 IN_BACKGROUND = 'trap "" INT; exec "$0" "$@"'
@@ -95,7 +93,3 @@ class Program(unittest.TestCase):
             self.ends(process, signal.SIGTERM)
             thread.join()
             self.assertEqual(said, [303])
-
-
-if __name__ == "__main__":
-    unittest.main()

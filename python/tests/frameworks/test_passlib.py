@@ -1,16 +1,12 @@
 """rigzumal.passlib by passlib's own tests, in full, and beside its own handlers."""
 
 import os
-import pathlib
-import subprocess
 import sys
 import unittest
 from unittest import mock
 
-PACKAGE = str(pathlib.Path(__file__).resolve().parents[2])
-sys.path.insert(0, PACKAGE)
-_NAMED = os.environ.get("PYTHONPATH")
-os.environ["PYTHONPATH"] = os.pathsep.join(filter(None, (PACKAGE, _NAMED)))
+import here  # noqa: F401 (before rigzumal)
+
 os.environ["PASSLIB_TEST_MODE"] = "full"
 
 try:
@@ -23,6 +19,7 @@ from passlib.tests import test_handlers_argon2 as argon2_tests
 from passlib.tests import test_handlers_scrypt as scrypt_tests
 
 import rigzumal.passlib
+from tests.helpers import run
 
 ours, our_scrypt = rigzumal.passlib.argon2, rigzumal.passlib.scrypt
 PASSWORDS = ("", "lètmein", b"\xff\xfe", "x" * 1000)
@@ -134,9 +131,8 @@ class Ours(unittest.TestCase):
     def test_they_are_registered_by_one_call(self):
         """Also after passlib's own were loaded."""
         for front in ("", "import passlib.hash; passlib.hash.argon2; passlib.hash.scrypt"):
-            words = [sys.executable, "-W", "ignore", "-c", front + REGISTERED]
-            done = subprocess.run(words, capture_output=True, text=True)
-            self.assertEqual(done.stdout.split(), ["rigzumal"] * 4, done.stderr)
+            said = run(sys.executable, "-W", "ignore", "-c", front + REGISTERED)
+            self.assertEqual(said.split()[-4:], ["rigzumal"] * 4)  # after passlib's own warning
 
     def test_contexts(self):
         context = CryptContext([ours, our_scrypt], argon2__memory_cost=64, argon2__rounds=1)
@@ -165,6 +161,3 @@ for name in ("argon2", "scrypt"):
     print(context.handler(name).get_backend())
     print(getattr(passlib.hash, name).get_backend())
 """
-
-if __name__ == "__main__":
-    unittest.main()

@@ -1,5 +1,4 @@
 from django.contrib import admin
-from django.contrib.auth import get_user_model
 from django.contrib.auth.models import User
 from django.http import HttpResponse
 from django.urls import include, path
@@ -9,10 +8,6 @@ from rigzumal.django.admin import UserAdmin
 
 admin.site.unregister(User)
 admin.site.register(User, UserAdmin)
-
-
-def who(request):
-    return HttpResponse(request.user.get_username() or "nobody")
 
 
 def later(request):
@@ -40,5 +35,4 @@ urlpatterns = [
     path("accounts/", include("rigzumal.django.urls")),
     path("admin/", admin.site.urls),
     path("later/", later),
-    path("who/", who),
 ]

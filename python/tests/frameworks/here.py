@@ -1,0 +1,14 @@
+"""Where the package and the tests are: read first by each test, so that they are found by it and by
+the processes that it starts."""
+
+import os
+import pathlib
+import sys
+
+HERE = pathlib.Path(__file__).resolve().parent
+PACKAGE = HERE.parent.parent
+TOP = PACKAGE.parent
+
+sys.path[:0] = [str(PACKAGE), str(HERE), str(TOP)]
+_NAMED = os.environ.get("PYTHONPATH")
+os.environ["PYTHONPATH"] = os.pathsep.join(filter(None, (str(PACKAGE), str(HERE), _NAMED)))
