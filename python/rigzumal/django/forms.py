@@ -36,21 +36,27 @@ def show(form: Any, error: ValidationError) -> None:
     form.add_error(next(iter(form.fields)), error)
 
 
-def _only_whole(commit: bool) -> None:
-    if not commit:
-        raise ValueError("a record is compared as it is put: there is no commit=False")
-
-
-class _Hidden:
-    """A form whose cleaning no report of an error shows: its frames have passwords."""
+class _Comparing:
+    """A form whose frames no report of an error shows: they have passwords."""
 
     @hidden
     def full_clean(self) -> None:
         """Cleans the fields, as Form's."""
         super().full_clean()  # type: ignore[misc]
 
+    @hidden
+    def save(self: Any, commit: bool = True) -> Any:
+        """Writes the new password, if nothing came between."""
+        if not commit:
+            raise ValueError(
+                "a record is compared as it is put: there is no commit=False"
+            )
+        with lost_as_error():
+            self._write()
+        return self.user
 
-class PasswordChangeForm(_Hidden, forms.PasswordChangeForm):
+
+class PasswordChangeForm(_Comparing, forms.PasswordChangeForm):
     """Changes the password of a user who types the old one."""
 
     _judged: Optional[str] = None
@@ -64,46 +70,31 @@ class PasswordChangeForm(_Hidden, forms.PasswordChangeForm):
         self._judged = self.user.password
         return old_password
 
-    @hidden
-    def save(self, commit: bool = True) -> Any:
-        """Writes the new password, if the old one is still right."""
-        _only_whole(commit)
+    def _write(self) -> None:
         old, new = self.cleaned_data["old_password"], self.cleaned_data["new_password1"]
-        with lost_as_error():
-            if not passwords.change_judged(self.user, old, new, self._judged):
-                raise self._incorrect()
-        return self.user
+        if not passwords.change_judged(self.user, old, new, self._judged):
+            raise self._incorrect()
 
     def _incorrect(self) -> ValidationError:
         code = "password_incorrect"
         return ValidationError(self.error_messages[code], code=code)
 
 
-class SetPasswordForm(_Hidden, forms.SetPasswordForm):
+class SetPasswordForm(_Comparing, forms.SetPasswordForm):
     """Sets the password of a user who came by a link; the link dies with its record."""
 
-    @hidden
-    def save(self, commit: bool = True) -> Any:
-        """Writes the new password over the record that the link was made for."""
-        _only_whole(commit)
-        with lost_as_error():
-            passwords.set_password(self.user, self.cleaned_data["new_password1"])
-        return self.user
+    def _write(self) -> None:
+        passwords.set_password(self.user, self.cleaned_data["new_password1"])
 
 
-class AdminPasswordChangeForm(_Hidden, forms.AdminPasswordChangeForm):
+class AdminPasswordChangeForm(_Comparing, forms.AdminPasswordChangeForm):
     """Sets the password of a user in the admin."""
 
-    @hidden
-    def save(self, commit: bool = True) -> Any:
-        """Writes the new password over the record that the user was read with."""
-        _only_whole(commit)
+    def _write(self) -> None:
         given = self.cleaned_data
         # From Django 5.1 on a button removes the password.
         is_usable = given.get("set_usable_password", True)
-        with lost_as_error():
-            passwords.set_password(self.user, given["password1"] if is_usable else None)
-        return self.user
+        passwords.set_password(self.user, given["password1"] if is_usable else None)
 
 
 class AdminOwnPasswordChangeForm(PasswordChangeForm):

@@ -35,17 +35,7 @@ _TAG_OF_CFFI = 16
 """Bytes of a tag of argon2-cffi before 21.2. Such a record stays: a server with ours and
 one with Django's own hasher would rehash each other's records by turns."""
 
-_ARGON2 = re.compile(
-    r"(argon2(?:id|i|d))\$(?:v=(16|19)\$)?"
-    r"m=([1-9]\d{0,9}),t=([1-9]\d{0,9}),p=([1-9]\d{0,9})"
-    r"\$([A-Za-z0-9+/]+)\$([A-Za-z0-9+/]+)",
-    re.ASCII,
-)
-_SCRYPT = re.compile(
-    r"([1-9]\d{0,9})\$([^$]+)\$([1-9]\d{0,9})\$([1-9]\d{0,9})"
-    r"\$([A-Za-z0-9+/]+={0,2})",
-    re.ASCII,
-)
+_NUMBER = r"[1-9]\d{0,9}"
 
 
 def _unbase64(text: str) -> bytes:
@@ -61,15 +51,26 @@ def _unbase64(text: str) -> bytes:
 
 
 class _RecordHasher(BasePasswordHasher):
-    """The part that both hashers share: comparing, showing and aging of strings."""
+    """The part that both hashers share: reading, comparing, showing and aging of strings."""
+
+    _scheme: str
+    _form: re.Pattern[str]  # of a record behind its algorithm
+    _numbers: tuple[str, ...]  # that a record and its hasher have
 
     def __init__(self) -> None:
         require_app()
 
-    def _behind_name(self, encoded: str) -> str:
-        """The text after this hasher's own name; "" of another's record."""
+    def decode(self, encoded: str) -> dict[str, Any]:
+        """The parts of a record; ValueError for another text, which it doesn't show."""
         name, _, rest = encoded.partition("$")
-        return rest if name == self.algorithm else ""
+        found = self._form.fullmatch(rest)
+        if name != self.algorithm or not found:
+            raise ValueError(f"the text is not a record of {self._scheme}")
+        parts: dict[str, Any] = {"algorithm": name, **found.groupdict()}
+        for number in self._numbers:
+            parts[number] = int(parts[number])
+        _unbase64(parts["hash"])
+        return parts
 
     def _made(self, password: Password, parts: dict[str, Any]) -> bytes:
         """The tag of the password under a record's own numbers and salt."""
@@ -97,8 +98,9 @@ class _RecordHasher(BasePasswordHasher):
             parts = self.decode(encoded)
         except ValueError as fault:
             return {"algorithm": self.algorithm, "broken record": str(fault)}
-        for secret in ("salt", "hash"):
-            parts[secret] = parts[secret][:6] + "*" * len(parts[secret][6:])
+        for secret in ("salt", "hash"):  # at the end, as Django shows them
+            text = parts.pop(secret)
+            parts[secret] = text[:6] + "*" * len(text[6:])
         return {name.replace("_", " "): value for name, value in parts.items()}
 
     def must_update(self, encoded: str) -> bool:
@@ -109,7 +111,7 @@ class _RecordHasher(BasePasswordHasher):
             return True
 
     def _is_old(self, parts: dict[str, Any]) -> bool:
-        raise NotImplementedError
+        return any(parts[it] != getattr(self, it) for it in self._numbers)
 
     def harden_runtime(self, password: Password, encoded: str) -> None:
         """Does nothing, as Django's own do."""
@@ -135,6 +137,14 @@ class Argon2PasswordHasher(_RecordHasher):
     memory_cost = 102400
     parallelism = 8
     hash_len = 32
+    _scheme = "Argon2"
+    _numbers = ("memory_cost", "time_cost", "parallelism")
+    _form = re.compile(
+        r"(?P<variety>argon2(?:id|i|d))\$(?:v=(?P<version>16|19)\$)?"
+        rf"m=(?P<memory_cost>{_NUMBER}),t=(?P<time_cost>{_NUMBER}),p=(?P<parallelism>{_NUMBER})"
+        r"\$(?P<salt>[A-Za-z0-9+/]+)\$(?P<hash>[A-Za-z0-9+/]+)",
+        re.ASCII,
+    )
 
     @hidden
     def encode(self, password: Password, salt: str) -> str:
@@ -155,21 +165,10 @@ class Argon2PasswordHasher(_RecordHasher):
 
     def decode(self, encoded: str) -> dict[str, Any]:
         """The parts of a record; ValueError for another text, which it doesn't show."""
-        found = _ARGON2.fullmatch(self._behind_name(encoded))
-        if not found:
-            raise ValueError("the text is not a record of Argon2")
-        variety, version, memory, passes, lanes, salt, tag = found.groups()
-        _unbase64(tag)
-        return {
-            "algorithm": self.algorithm,
-            "variety": variety,
-            "version": int(version or 16),
-            "memory_cost": int(memory),
-            "time_cost": int(passes),
-            "parallelism": int(lanes),
-            "salt": _unbase64(salt).decode("latin1"),
-            "hash": tag,
-        }
+        parts = super().decode(encoded)
+        parts["version"] = int(parts["version"] or 16)
+        parts["salt"] = _unbase64(parts["salt"]).decode("latin1")
+        return parts
 
     def _made(self, password: Password, parts: dict[str, Any]) -> bytes:
         is_new = (parts["variety"], parts["version"]) == ("argon2id", 19)
@@ -193,11 +192,10 @@ class Argon2PasswordHasher(_RecordHasher):
         )
 
     def _is_old(self, parts: dict[str, Any]) -> bool:
-        numbers = ("memory_cost", "time_cost", "parallelism")
         bits = len(parts["salt"]) * math.log2(_SALT_LETTERS)
         return (
-            (parts["variety"], parts["version"]) != ("argon2id", 19)
-            or any(parts[it] != getattr(self, it) for it in numbers)
+            super()._is_old(parts)
+            or (parts["variety"], parts["version"]) != ("argon2id", 19)
             or len(_unbase64(parts["hash"])) < min(self.hash_len, _TAG_OF_CFFI)
             or bits < self.salt_entropy
         )
@@ -217,6 +215,14 @@ class ScryptPasswordHasher(_RecordHasher):
     work_factor = 2**14
     block_size = 8
     parallelism: int = getattr(_DJANGOS_SCRYPT, "parallelism", 5)
+    _scheme = "scrypt"
+    _numbers = ("work_factor", "block_size", "parallelism")
+    _form = re.compile(
+        rf"(?P<work_factor>{_NUMBER})\$(?P<salt>[^$]+)"
+        rf"\$(?P<block_size>{_NUMBER})\$(?P<parallelism>{_NUMBER})"
+        r"\$(?P<hash>[A-Za-z0-9+/]+={0,2})",
+        re.ASCII,
+    )
 
     @hidden
     def encode(
@@ -233,22 +239,6 @@ class ScryptPasswordHasher(_RecordHasher):
         parts = {"work_factor": n, "block_size": r, "parallelism": p, "salt": salt}
         key = base64.b64encode(self._key(password, parts, _KEY_SIZE)).decode()
         return f"{self.algorithm}${n}${salt}${r}${p}${key}"
-
-    def decode(self, encoded: str) -> dict[str, Any]:
-        """The parts of a record; ValueError for another text, which it doesn't show."""
-        found = _SCRYPT.fullmatch(self._behind_name(encoded))
-        if not found:
-            raise ValueError("the text is not a record of scrypt")
-        work_factor, salt, block_size, parallelism, key = found.groups()
-        _unbase64(key)
-        return {
-            "algorithm": self.algorithm,
-            "work_factor": int(work_factor),
-            "block_size": int(block_size),
-            "parallelism": int(parallelism),
-            "salt": salt,
-            "hash": key,
-        }
 
     def _made(self, password: Password, parts: dict[str, Any]) -> bytes:
         length = len(_unbase64(parts["hash"]))
@@ -271,7 +261,3 @@ class ScryptPasswordHasher(_RecordHasher):
             p=parts["parallelism"],
             length=length,
         )
-
-    def _is_old(self, parts: dict[str, Any]) -> bool:
-        numbers = ("work_factor", "block_size", "parallelism")
-        return any(parts[it] != getattr(self, it) for it in numbers)

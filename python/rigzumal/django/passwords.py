@@ -85,7 +85,7 @@ def set_password(user: Any, new_password: Any) -> None:
         return
     row = records.Row(user)
     record = hashers.make_password(new_password)
-    if not row.put_over(_copy_of(user, row.database), record):
+    if not row.put(_copy_of(user, row.database).records, record):
         raise RecordChanged
     if new_password is not None:
         password_validation.password_changed(new_password, user)
@@ -117,7 +117,6 @@ def _copy_of(user: Any, database: str) -> Copy:
     return copy
 
 
-@hidden
 def _set_by_methods(user: Any, new_password: Any) -> None:
     """Sets the password and saves the user, as Django's own forms do."""
     row, before = records.Row(user), user.password
@@ -136,7 +135,6 @@ def _set_by_methods(user: Any, new_password: Any) -> None:
         raise
 
 
-@hidden
 def _change_by_methods(user: Any, old_password: Any, new_password: Any) -> bool:
     for _ in range(TRIES):
         if not user.check_password(old_password):

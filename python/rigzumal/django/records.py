@@ -13,7 +13,7 @@ process writes before it does.
 
 from __future__ import annotations
 
-from collections.abc import Awaitable, Callable
+from collections.abc import Awaitable, Callable, Sequence
 from dataclasses import dataclass, field
 from typing import Any, Optional, TypeVar, cast
 
@@ -137,20 +137,13 @@ class Row:
         found: Optional[str] = self._rows.values_list("password", flat=True).first()
         return found
 
-    def put(self, copy: str, record: str) -> bool:
-        """Writes the record if the row has the copy; the user then has it."""
-        known = known_copy(self.user, self.database)
-        if known is None or known.newest != copy:
-            known = Copy(copy)
-        return self._put(self._rows.filter(password=copy), known, record)
-
-    def put_over(self, copy: Copy, record: str) -> bool:
-        """Writes the record if the row has one of the copy's; the user then has it."""
-        return self._put(self._rows.filter(password__in=copy.records), copy, record)
-
-    def _put(self, rows: Any, copy: Copy, record: str) -> bool:
-        if rows.update(password=record) == 0:
+    def put(self, over: Sequence[str], record: str) -> bool:
+        """Writes the record if the row has one of these; the user then has it."""
+        if self._rows.filter(password__in=over).update(password=record) == 0:
             return False
+        copy = known_copy(self.user, self.database)
+        if copy is None or copy.newest != over[-1]:
+            copy = Copy(*over)
         self.user.password = record
         note_put(self.user, self.database, copy.followed_by(record, self.database))
         return True
@@ -163,21 +156,19 @@ class Row:
             note_read(self.user, self.database, record)
 
 
-@hidden
-def _at_what_stands(user: Any, judge: Callable[[str], Judged]) -> Judged:
-    """Judges the copy and writes the record after it; begins again if the row has another."""
+def _at_what_stands(user: Any, judge: Callable[[str], tuple[bool, str]]) -> Judged:
+    """Judges the copy, and writes the record after it; begins again if the row has another."""
     row, copy = Row(user), user.password
     for _ in range(TRIES):
-        judged = judge(copy)
-        changes = judged.after != copy
-        if changes and row.put(copy, judged.after):
-            return judged
+        right, after = judge(copy)
+        if after != copy and row.put([copy], after):
+            return Judged(right, copy, after)
         stands = row.look()
         if stands is None:
             return Judged(False, "", "")
-        if stands == copy and not changes:
+        if stands == copy == after:
             row.found(copy)
-            return judged
+            return Judged(right, copy, copy)
         copy = stands
     raise RecordChanged
 
@@ -186,8 +177,8 @@ def _at_what_stands(user: Any, judge: Callable[[str], Judged]) -> Judged:
 def judge_alone(user: Any, password: Any) -> Judged:
     """A check of the password that doesn't rehash."""
 
-    def judge(copy: str) -> Judged:
-        return Judged(hashers.check_password(password, copy), copy, copy)
+    def judge(copy: str) -> tuple[bool, str]:
+        return hashers.check_password(password, copy), copy
 
     return _at_what_stands(user, judge)
 
@@ -196,14 +187,14 @@ def judge_alone(user: Any, password: Any) -> Judged:
 def judge_login(user: Any, password: Any) -> Judged:
     """A check of the password, which rehashes a record of old costs."""
 
-    def judge(copy: str) -> Judged:
+    def judge(copy: str) -> tuple[bool, str]:
         after = [copy]
 
         def upgrade(raw_password: Any) -> None:
             after.append(hashers.make_password(raw_password))
 
         right = hashers.check_password(password, copy, upgrade)
-        return Judged(right, copy, after[-1])
+        return right, after[-1]
 
     return _at_what_stands(user, judge)
 
@@ -214,10 +205,9 @@ def judge_change(
 ) -> Judged:
     """A change of the password, if the old one is right; at the record `judged` it is."""
 
-    def judge(copy: str) -> Judged:
+    def judge(copy: str) -> tuple[bool, str]:
         right = copy == judged or hashers.check_password(old_password, copy)
-        record = hashers.make_password(new_password) if right else copy
-        return Judged(right, copy, record)
+        return right, hashers.make_password(new_password) if right else copy
 
     return _at_what_stands(user, judge)
 

@@ -142,12 +142,12 @@ class Round:
 
 
 def leave_comparison_out():
-    def put(row, rows, copy, record):
+    def put(row, over, record):
         row._rows.update(password=record)
         row.found(record)
         return True
 
-    records.Row._put = put
+    records.Row.put = put
     update = Model._do_update  # which a save compares with nothing by
     CompareAndSetMixin._do_update = lambda user, *rest: update(user, *rest)
 
