@@ -1,5 +1,6 @@
 <?php
 // Runs docs/PHP.md's plain code: php php_accounts.php CODE, with a change between check and UPDATE.
+require __DIR__ . '/php_check.php';
 require $argv[1];
 
 /** Does something once before the next UPDATE, or after the next rows were read. */
@@ -41,24 +42,15 @@ class Rows extends PDOStatement
     }
 }
 
-function check(bool $right, string $what): void
-{
-    if (!$right) {
-        echo "FAILED: $what\n";
-        exit(1);
-    }
-}
-
 function fresh(string $password, array $costs): Between
 {
     $db = new Between('sqlite::memory:', null, null, [PDO::ATTR_STATEMENT_CLASS => ['Rows']]);
     $db->exec('CREATE TABLE users (id INTEGER PRIMARY KEY, name TEXT UNIQUE, record TEXT)');
     $insert = $db->prepare('INSERT INTO users (name, record) VALUES (?, ?)');
-    foreach (['ann' => password_hash($password, PASSWORD_ARGON2ID, $costs), 'none' => null] as $name => $record) {
+    $record = password_hash($password, PASSWORD_ARGON2ID, $costs);
+    foreach (['ann' => $record, 'none' => null, 'empty' => '', 'star' => '*'] as $name => $record) {
         $insert->execute([$name, $record]);
     }
-    $insert->execute(['empty', '']);
-    $insert->execute(['star', '*']);
     return $db;
 }
 
@@ -73,7 +65,6 @@ function is_in(PDO $db, ?array $user): bool
 }
 
 $old = ['memory_cost' => 64, 'time_cost' => 1, 'threads' => 1];
-check(str_contains(file_get_contents('/proc/self/maps'), 'c/out/libargon2.so.1'), 'our library');
 check(COSTS === ['memory_cost' => 65536, 'time_cost' => 3, 'threads' => 4], 'the costs');
 
 $db = fresh('secret', $old);

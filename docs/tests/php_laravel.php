@@ -4,6 +4,7 @@ error_reporting(E_ALL & ~E_DEPRECATED);
 foreach (['Database', 'Auth', 'Hashing', 'Session', 'Http', 'Cookie'] as $part) {
     require_once "/usr/share/php/Illuminate/$part/autoload.php";
 }
+require __DIR__ . '/php_check.php';
 require $argv[1];
 
 use App\Auth\CompareAndSetUserProvider;
@@ -114,15 +115,6 @@ class OneGuard implements Factory
     }
 }
 
-function check(bool $right, string $what): void
-{
-    if (!$right) {
-        echo "FAILED: $what\n";
-        exit(1);
-    }
-}
-
-check(str_contains(file_get_contents('/proc/self/maps'), 'c/out/libargon2.so.1'), 'our library');
 $capsule = new Manager();
 $capsule->addConnection(['driver' => 'sqlite', 'database' => ':memory:']);
 $capsule->bootEloquent();
@@ -133,10 +125,10 @@ $hasher = new Between(['memory' => 128, 'time' => 1, 'threads' => 1]);
 $cheap = new Argon2IdHasher(['memory' => 64, 'time' => 1, 'threads' => 1]);
 $provider = new CompareAndSetUserProvider($hasher, User::class);
 $handler = new ArraySessionHandler(10);
-$guard = function () use ($provider, $handler): SessionGuard {
-    $guard = new SessionGuard('web', $provider, new Store('s', $handler), null, new Box());
-    $jar = new Illuminate\Cookie\CookieJar();
-    $guard->setCookieJar($jar);
+$guard = function (?Store $session = null) use ($provider, $handler): SessionGuard {
+    $session ??= new Store('s', $handler);
+    $guard = new SessionGuard('web', $provider, $session, new Request(), new Box());
+    $guard->setCookieJar(new Illuminate\Cookie\CookieJar());
     return $guard;
 };
 $login = fn (string $password, string $name = 'ann'): bool =>
@@ -202,29 +194,24 @@ $set('another');
 check(!$provider->put($user, $user->getAuthPassword(), 'late') && $login('another'), 'a reset compares');
 
 $set('old', $hasher); // a session of the old password ends with it, also where it began amid the change
-$web = $guard();
 $session = new Store('s', $handler);
-$ask = function (SessionGuard $guard, Closure $act) use ($session): bool {
+$ask = function (SessionGuard $guard) use ($session): bool {
     $request = new Request();
     $request->setLaravelSession($session);
     $request->setUserResolver(fn () => $guard->user());
     try {
-        (new AuthenticateSession(new OneGuard($guard)))->handle($request, $act);
+        (new AuthenticateSession(new OneGuard($guard)))->handle($request, fn () => null);
         return $guard->check();
     } catch (AuthenticationException) {
         return false;
     }
 };
-$begin = fn () => new SessionGuard('web', $provider, $session, new Request(), new Box());
-$web = $begin();
-$web->setCookieJar(new Illuminate\Cookie\CookieJar());
+$web = $guard($session);
 check($web->attempt(['name' => 'ann', 'password' => 'old']), 'the login that begins a session');
-$ask($web, fn () => null);
-$ask($again = $begin(), fn () => null) || check(false, 'a session goes on');
+$ask($web);
+check($ask($guard($session)), 'a session goes on');
 $set('new');
-$late = $begin();
-$late->setCookieJar(new Illuminate\Cookie\CookieJar());
-check(!$ask($late, fn () => null), 'a session ends with its record');
+check(!$ask($guard($session)), 'a session ends with its record');
 
 $set('stolen');
 $user = User::first();

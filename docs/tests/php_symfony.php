@@ -4,6 +4,7 @@ error_reporting(E_ALL & ~E_DEPRECATED);
 foreach (['Security/Core', 'Security/Http', 'PasswordHasher', 'EventDispatcher', 'HttpFoundation'] as $part) {
     require_once "/usr/share/php/Symfony/Component/$part/autoload.php";
 }
+require __DIR__ . '/php_check.php';
 require $argv[1];
 
 use App\Security\CompareAndSetUpgrader;
@@ -70,20 +71,11 @@ class User implements UserInterface, PasswordAuthenticatedUserInterface
     }
 }
 
-function check(bool $right, string $what): void
-{
-    if (!$right) {
-        echo "FAILED: $what\n";
-        exit(1);
-    }
-}
-
 function record(string $password, int $memory): string
 {
     return password_hash($password, PASSWORD_ARGON2ID, ['memory_cost' => $memory, 'time_cost' => 3, 'threads' => 1]);
 }
 
-check(str_contains(file_get_contents('/proc/self/maps'), 'c/out/libargon2.so.1'), 'our library');
 $db = new PDO('sqlite::memory:');
 $db->exec('CREATE TABLE users (id INTEGER PRIMARY KEY, password TEXT)');
 $db->exec('INSERT INTO users (id, password) VALUES (1, \'\'), (2, \'another\')');

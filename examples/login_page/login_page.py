@@ -109,10 +109,8 @@ def sign_up() -> Any:
         return form(errors)
     g.store.count(signup=request.remote_addr)
     ticket = g.store.count(address=request.remote_addr)
-    if not entered(g.store.sign_up(name, password_of(request.form, "new"), g.token)):
-        return form({"name": "This name is taken."})
-    g.store.forgive(ticket)
-    return redirect("/", 303)
+    session = g.store.sign_up(name, password_of(request.form, "new"), g.token)
+    return entered(session, ticket, None, {"name": "This name is taken."})
 
 
 @pages.post("/login")
@@ -121,11 +119,8 @@ def login() -> Any:
     # What is no name has its tries, and is looked up and hashed for, like any other.
     account = name or request.form.get("name", "")
     ticket = g.store.count(account=account, address=request.remote_addr)
-    password = password_of(request.form, "password")
-    if not entered(g.store.log_in(name or NOBODY, password, g.token)):
-        return form({"password": NO})
-    g.store.forgive(ticket, account=account)
-    return redirect("/", 303)
+    session = g.store.log_in(name or NOBODY, password_of(request.form, "password"), g.token)
+    return entered(session, ticket, account, {"password": NO})
 
 
 @pages.post("/change")
@@ -136,10 +131,8 @@ def change() -> Any:
     # Of this session alone: whoever guesses elsewhere doesn't shut its owner out.
     ticket = g.store.count(session=g.token)
     old, new = password_of(request.form, "old"), password_of(request.form, "new")
-    if not entered(g.store.change(g.name, old, new, g.token)):
-        return form({"old": "The old password is wrong."})
-    g.store.forgive(ticket, account=g.name)
-    return redirect("/", 303)
+    session = g.store.change(g.name, old, new, g.token)
+    return entered(session, ticket, g.name, {"old": "The old password is wrong."})
 
 
 @pages.route("/logout", methods=["GET", "POST"])
@@ -150,10 +143,15 @@ def log_out() -> Any:
     return redirect("/", 303)
 
 
-def entered(session: Optional[str]) -> bool:
-    """Whether there is a new session, which the browser has then."""
-    g.token = session or g.token
-    return session is not None
+def entered(
+    session: Optional[str], ticket: str, account: Optional[str], errors: dict[str, str]
+) -> Any:
+    """The way home with the new session, whose try is forgiven; without one the form again."""
+    if session is None:
+        return form(errors)
+    g.token = session
+    g.store.forgive(ticket, account)
+    return redirect("/", 303)
 
 
 def server(store: Store, port: int) -> Any:

@@ -9,7 +9,8 @@ import pathlib
 import secrets
 import sqlite3
 import time
-from collections.abc import Iterator
+from collections.abc import Callable, Iterator
+from functools import partial
 from typing import Any, Optional
 
 from rigzumal import PasswordHasher
@@ -62,26 +63,23 @@ class Store:
 
     def log_in(self, name: str, password: str, old: str) -> Optional[str]:
         """Begins a session, if the password is right."""
-        token = secrets.token_urlsafe()
-
-        def also(conn: Any, reply: Reply) -> None:
-            if reply is Reply.YES:
-                self._begin_session(conn, name, token, old)
-
-        reply = self._accounts.login(name, password, also=also)
-        return token if reply is Reply.YES else None
+        return self._enter(partial(self._accounts.login, name, password), name, old)
 
     def change(self, name: str, password: str, new: str, old: str) -> Optional[str]:
         """Puts a new password and ends all sessions of the old one, if that is right."""
+        return self._enter(partial(self._accounts.change, name, password, new), name, old)
+
+    def _enter(self, act: Callable[..., Reply], name: str, old: str) -> Optional[str]:
         token = secrets.token_urlsafe()
 
         def also(conn: Any, reply: Reply) -> None:
             if reply is Reply.REPLACED:
                 self._in(conn, "DELETE FROM session WHERE name = ?", name)
                 self._begin_session(conn, name, token, old, has_note=True)
+            elif reply is Reply.YES:
+                self._begin_session(conn, name, token, old)
 
-        reply = self._accounts.change(name, password, new, also=also)
-        return token if reply is Reply.REPLACED else None
+        return token if act(also=also) in (Reply.YES, Reply.REPLACED) else None
 
     def _begin_session(
         self, conn: Any, name: str, token: str, old: str, has_note: bool = False

@@ -67,8 +67,8 @@ GONE = "deleted"
 NUMBERS = itertools.count()
 THEIRS = "django.contrib.auth.backends.ModelBackend"
 # The models; whether a stock User compares; whether the user is a lazy one, as `request.user` is.
-SHAPES = [(model, False, False) for model in (Member, Staff, Hidden, ByMail, Person, Pupil, Locked)]
-SHAPES += [(User, False, False), (User, True, False), (User, False, True), (Person, False, True)]
+SHAPES = [(model, False, False) for model in (User, Person, Locked, Member, Staff, Hidden, ByMail)]
+SHAPES += [(Pupil, False, False), (User, True, False), (User, False, True), (Person, False, True)]
 
 
 def cases(model, is_raised):
@@ -129,7 +129,8 @@ class Races(Cheap, TransactionTestCase):
             self.assertEqual("m=128," in user.password, is_raised and rehashes)
 
     def test_each(self):
-        for (model, compares, is_lazy), memory in itertools.product(SHAPES, (64, 128)):
+        all_ = [(it, 128) for it in SHAPES] + [(it, 64) for it in SHAPES[:3]]  # no upgrade
+        for (model, compares, is_lazy), memory in all_:
             label = override_settings(AUTH_USER_MODEL=model._meta.label)
             with label, comparing() if compares else contextlib.nullcontext():
                 for act, moment, other in cases(model, memory == 128):
