@@ -6,12 +6,13 @@ from unittest import mock
 import project  # noqa: F401: Django, set up
 from django.contrib.auth import authenticate, hashers
 from django.contrib.auth.models import User
-from django.db import OperationalError, connections, transaction
+from django.db import OperationalError, connections
 from django.test import RequestFactory, TestCase, TransactionTestCase, override_settings
 from django.test.utils import CaptureQueriesContext
 from django.utils.functional import SimpleLazyObject
 from django.views.debug import ExceptionReporter
-from meanwhile import Cheap, Router, awaited, cheap, reset_elsewhere, stands, undone
+from meanwhile import Cheap, Router, cheap, reset_elsewhere, stands, undone
+from operations import ACTS, BACKEND, NEW, OF_MIXIN, OLD, SETS
 from users_app.models import ByMail, Person
 
 import rigzumal
@@ -52,43 +53,12 @@ class Operations(Cheap, TestCase):
         self.assertEqual(authenticate(username="ann", password="old"), self.ann)
         self.assertTrue(stands(self.ann).startswith("argon2$"))
 
-    def test_a_transaction_that_is_tried_again(self):
-        """A deadlock in the first turns, as databases' manuals ask to try again."""
-        for acts in (
-            [lambda: passwords.set_password(self.ann, "new")],
-            [lambda: self.assertTrue(passwords.change_password(self.ann, "new", "newer"))],
-            [
-                lambda: passwords.set_password(self.ann, "new"),
-                lambda: self.assertTrue(passwords.change_password(self.ann, "new", "newer")),
-            ],
-            [lambda: passwords.set_password(self.ann, None)],
-        ):
-            before = stands(self.ann)
-            for _ in range(2):
-                with undone():
-                    for act in acts:
-                        act()
-                self.assertEqual(stands(self.ann), before)
-                self.assertNotEqual(self.ann.password, before)
-            with transaction.atomic():
-                for act in acts:
-                    act()
-            self.assertEqual(stands(self.ann), self.ann.password)
-
-    def test_after_a_rollback(self):
-        """What was rolled back is no old password, whatever the user's copy says, and a reset
-        compares with what stands."""
+    def test_what_was_rolled_back_is_no_old_password(self):
+        """Whatever the user's copy says."""
         with undone():
             passwords.set_password(self.ann, "new")
         self.assertFalse(passwords.change_password(self.ann, "new", "newer"))
         self.assertTrue(self.right("old"))
-        with undone():
-            passwords.set_password(self.ann, "new")
-            passwords.change_password(self.ann, "new", "newer")
-        self.reset("reset")
-        with self.assertRaises(passwords.RecordChanged):
-            passwords.set_password(self.ann, "mine")
-        self.assertTrue(self.right("reset"))
 
     def test_a_user_who_was_read_anew(self):
         """What was put before is no copy any more."""
@@ -112,8 +82,8 @@ class Reports(Cheap, TransactionTestCase):
             return record
 
         self.enterContext(mock.patch.object(Argon2PasswordHasher, "encode", noted))
-        self.ann = User.objects.create_user("ann", password="topsecret")
-        self.ben = Person.objects.create_user("ben", password="topsecret")
+        self.ann = User.objects.create_user("ann", password=OLD)
+        self.ben = Person.objects.create_user("ben", password=OLD)
 
     def check(self, act, fault):
         """No frame shows a secret; those of the tests themselves are none of ours."""
@@ -132,53 +102,37 @@ class Reports(Cheap, TransactionTestCase):
                 self.assertNotIn(secret, str(frame["vars"]), frame["filename"])
         self.assertNotIn("topsecret", "".join(map(str, found[:2])))
 
-    def operations(self):
-        """Those that write at raised costs."""
-        ann, ben, backend = self.ann, self.ben, backends.CompareAndSetBackend()
-        old, new = "topsecret", "topsecret2"
-        yield lambda: backend.authenticate(None, "ann", old)
-        yield lambda: passwords.check_password(ann, old)
-        yield lambda: passwords.change_password(ann, old, new)
-        yield lambda: passwords.set_password(ann, new)
-        yield lambda: ben.check_password(old)
-        yield lambda: awaited(backend.aauthenticate, None, "ann", old)
-        yield lambda: awaited(backend.aauthenticate, None, username="ann", password=old)
-        yield lambda: awaited(passwords.acheck_password, ann, old)
-        yield lambda: awaited(passwords.achange_password, ann, old, new)
-        yield lambda: awaited(passwords.aset_password, ann, new)
-        yield lambda: awaited(ben.acheck_password, old)
+    def each(self, fault, *left_out, before=lambda user: None):
+        """Checks each operation: of a stock User, and of a model with the mixin."""
+        for user, label in ((self.ann, "auth.User"), (self.ben, "users_app.Person")):
+            for act in (
+                ACTS.keys() - set(left_out) - (set() if user is self.ben else OF_MIXIN.keys())
+            ):
+                user.refresh_from_db()
+                before(user)
+                with override_settings(AUTH_USER_MODEL=label), self.subTest(act, user=user):
+                    self.check(lambda: ACTS[act](user), fault)
 
     def test_too_little_memory(self):
-        ann, given = self.ann, {f"new_password{it}": "topsecret2" for it in (1, 2)}
-        by_admin = {f"password{it}": "topsecret2" for it in (1, 2)}
-        change = {"old_password": "topsecret", **given}
+        ann, given = self.ann, {f"new_password{it}": NEW for it in (1, 2)}
+        change = {"old_password": OLD, **given}
         valid = [
             forms.PasswordChangeForm(ann, change),
             forms.SetPasswordForm(ann, given),
-            forms.AdminPasswordChangeForm(ann, by_admin),
+            forms.AdminPasswordChangeForm(ann, {"password1": NEW, "password2": NEW}),
         ]
         self.assertTrue(all(it.is_valid() for it in valid))
-        backend, hasher, record = (
-            backends.CompareAndSetBackend(),
-            Argon2PasswordHasher(),
-            ann.password,
-        )
+        hasher, record = Argon2PasswordHasher(), ann.password
         with mock.patch.object(rigzumal, "argon2", side_effect=rigzumal.OutOfMemoryError(8)):
+            self.each(MemoryError)
             for act in (
-                *self.operations(),
                 *(it.save for it in valid),
-                lambda: backend.authenticate(None, "nobody", "topsecret"),
-                lambda: passwords.verify_password(ann, "topsecret"),
+                lambda: BACKEND.authenticate(None, "nobody", OLD),
                 lambda: forms.PasswordChangeForm(ann, change).is_valid(),
-                lambda: self.ben.set_password("topsecret2"),
-                lambda: hasher.encode("topsecret", "somesaltsomesalt"),
-                lambda: hasher.verify("topsecret", record),
+                lambda: hasher.encode(OLD, "somesaltsomesalt"),
+                lambda: hasher.verify(OLD, record),
             ):
                 self.check(act, MemoryError)
-
-    def save(self):
-        self.ben.set_password("topsecret2")
-        self.ben.save()
 
     def test_a_broken_connection_at_the_update(self):
         def broken(execute, sql, *given):
@@ -187,17 +141,14 @@ class Reports(Cheap, TransactionTestCase):
             return execute(sql, *given)
 
         with connections["default"].execute_wrapper(broken), cheap(memory=128):
-            for act in (*self.operations(), self.save):
-                self.check(act, OperationalError)
+            self.each(OperationalError, "verify")
 
     def test_a_record_that_was_changed(self):
-        for user, act in (
-            (self.ben, self.save),
-            (self.ann, lambda: passwords.set_password(self.ann, "topsecret2")),
-        ):
-            reset_elsewhere(user, "topsecret")
+        def reset(user):
+            reset_elsewhere(user, OLD)
             self.secrets.append(stands(user)[-20:])
-            self.check(act, passwords.RecordChanged)
+
+        self.each(passwords.RecordChanged, *ACTS.keys() - SETS, before=reset)
 
 
 class Costs(Cheap, TestCase):

@@ -18,8 +18,36 @@ from rigzumal.django import passwords
 from rigzumal.django.passwords import RecordChanged
 
 
-class Compared(Cheap):
-    """What each model with the mixin has to do; `model` says which."""
+def save(user, new):
+    user.set_password(new)
+    return user.save
+
+
+def save_one_field(user, new):
+    user.set_password(new)
+    return lambda: user.save(update_fields=["password"])
+
+
+def set_(user, new):
+    return lambda: passwords.set_password(user, new)
+
+
+def set_twice(user, new):
+    def act():
+        passwords.set_password(user, "another")
+        passwords.set_password(user, new)
+
+    return act
+
+
+def change(user, new):
+    return lambda: passwords.change_password(user, "old", new)
+
+
+class Written(Cheap):
+    """What holds of each way to write a password; `model` says whose, and `writes` which ways."""
+
+    writes = [set_, set_twice]
 
     def setUp(self):
         super().setUp()
@@ -30,6 +58,55 @@ class Compared(Cheap):
 
     def again(self, **given):
         return self.model.objects.get(username="ann", **given)
+
+    def test_a_transaction_that_is_tried_again(self):
+        """A deadlock in the first turns, as databases' manuals ask to try again."""
+        for write in (*self.writes, change):
+            self.reset("old")
+            self.ann.refresh_from_db()
+            again = write(self.ann, "new")
+            for _ in range(2):
+                with undone():
+                    again()
+                self.assertTrue(self.right("old"))
+            with transaction.atomic():
+                again()
+            self.assertTrue(self.right("new"))
+
+    def test_after_a_rollback_it_compares_with_what_stands(self):
+        for write in self.writes:
+            self.ann.refresh_from_db()
+            again = write(self.ann, "new")
+            with undone():
+                again()
+            self.reset("reset")
+            with self.assertRaises(RecordChanged):
+                again()
+            self.assertTrue(self.right("reset"))
+
+    def test_a_part_that_was_rolled_back(self):
+        """The first of two changes in a transaction stands, the second doesn't."""
+        for write in self.writes:
+            with transaction.atomic():
+                write(self.ann, "first")()
+                again = write(self.ann, "second")
+                with undone():
+                    again()
+                self.assertTrue(self.right("first"))
+                again()
+                self.assertTrue(self.right("second"))
+                write(self.ann, "third")()
+            self.assertTrue(self.right("third"))
+
+
+class OfStock(Written, TestCase):
+    model = User
+
+
+class Compared(Written):
+    """What each model with the mixin has to do beside."""
+
+    writes = [*Written.writes, save, save_one_field]
 
     def lose(self, user, **how):
         """A save that is lost: nothing is written."""
@@ -154,40 +231,6 @@ class Compared(Cheap):
             self.lose(self.ann)
             self.model.objects.update(last_name="after")
         self.assertEqual(self.again().get_full_name(), "before after")
-
-    def test_a_save_that_was_rolled_back_is_done_again(self):
-        """A deadlock in the first turns, as databases' manuals ask to try again."""
-        for save in ({}, {"update_fields": ["password"]}):
-            self.ann.set_password(f"new {save}")
-            for _ in range(2):
-                with undone():
-                    self.ann.save(**save)
-                self.assertFalse(self.right(f"new {save}"))
-            with transaction.atomic():
-                self.ann.save(**save)
-            self.assertTrue(self.right(f"new {save}"))
-
-    def test_after_a_rollback_it_compares_with_what_stands(self):
-        self.ann.set_password("new")
-        with undone():
-            self.ann.save()
-        self.reset("reset")
-        self.lose(self.ann)
-
-    def test_a_part_that_was_rolled_back(self):
-        """The first of two changes in a transaction stands, the second doesn't."""
-        with transaction.atomic():
-            self.ann.set_password("first")
-            self.ann.save()
-            self.ann.set_password("second")
-            with undone():
-                self.ann.save()
-            self.assertTrue(self.right("first"))
-            self.ann.save()
-            self.assertTrue(self.right("second"))
-            self.ann.set_password("third")
-            self.ann.save()
-        self.assertTrue(self.right("third"))
 
     def connect(self, signal, handler):
         signal.connect(handler, sender=self.model)

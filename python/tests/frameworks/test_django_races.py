@@ -5,64 +5,20 @@ import contextlib
 import itertools
 
 import project  # noqa: F401: Django, set up
-from django.contrib.auth import authenticate
 from django.contrib.auth.models import User
 from django.test import TransactionTestCase, override_settings
 from django.utils.functional import SimpleLazyObject
-from meanwhile import Cheap, awaited, before_update, cheap, comparing, delete_elsewhere
+from meanwhile import Cheap, before_update, cheap, comparing, delete_elsewhere
 from meanwhile import is_right, meanwhile, reset_elsewhere, rows, stands
+from operations import ACTS, CHANGES, LOGINS, NEW, OF_MIXIN, OLD, SETS
 from users_app.models import ByMail, Hidden, Locked, Member, Person, Pupil, Staff
 
-from rigzumal.django import backends, passwords
 from rigzumal.django.hashers import Argon2PasswordHasher
 from rigzumal.django.passwords import RecordChanged
 from rigzumal.django.records import TRIES
 from rigzumal.django.users import CompareAndSetMixin
 
 
-def log_in(by):
-    """The backend's answer; the user gets the record at which the session is to end."""
-
-    def act(user):
-        found = by(None, password="old", **{user.USERNAME_FIELD: user.get_username()})
-        user.password = found.password if found else user.password
-        return found is not None
-
-    return act
-
-
-def save(user):
-    user.set_password("new")
-    user.save()
-
-
-BACKEND = backends.CompareAndSetBackend()
-LOGINS = {
-    "authenticate": log_in(authenticate),
-    "aauthenticate": log_in(
-        lambda *given, **named: awaited(BACKEND.aauthenticate, *given, **named)
-    ),
-}
-CHECKS = {
-    "check": lambda user: passwords.check_password(user, "old"),
-    "acheck": lambda user: awaited(passwords.acheck_password, user, "old"),
-    "verify": lambda user: passwords.verify_password(user, "old"),
-}
-CHANGES = {
-    "change": lambda user: passwords.change_password(user, "old", "new"),
-    "achange": lambda user: awaited(passwords.achange_password, user, "old", "new"),
-}
-SETS = {
-    "set": lambda user: passwords.set_password(user, "new"),
-    "aset": lambda user: awaited(passwords.aset_password, user, "new"),
-    "save": save,
-}
-OF_MIXIN = {
-    "its check": lambda user: user.check_password("old"),
-    "its acheck": lambda user: awaited(user.acheck_password, "old"),
-    "save": save,
-}
-ACTS = {**LOGINS, **CHECKS, **CHANGES, **SETS, **OF_MIXIN}
 GONE = "deleted"
 NUMBERS = itertools.count()
 THEIRS = "django.contrib.auth.backends.ModelBackend"
@@ -78,7 +34,7 @@ def cases(model, is_raised):
     for act in ACTS if has_mixin else ACTS.keys() - OF_MIXIN:
         yield act, None, None
         # A save of who is gone inserts, as Django's.
-        others = ["reset", "old", GONE] if act != "save" else ["reset", "old"]
+        others = ["reset", OLD, GONE] if act != "save" else ["reset", OLD]
         at = ["before"] if act in SETS else ["before", meanwhile]
         writes = act in {**CHANGES, **SETS} or is_raised and act != "verify"
         # A child's save is a transaction, which would undo the other process's UPDATE.
@@ -89,18 +45,18 @@ def cases(model, is_raised):
 
 def expected(act, other):
     """The answer, and the password that is right then."""
-    left = None if other == GONE else other or "old"
+    left = None if other == GONE else other or OLD
     if act in SETS:
-        return (RecordChanged, left) if other else (None, "new")
-    is_right = other in (None, "old")
-    return is_right, "new" if act in CHANGES and is_right else left
+        return (RecordChanged, left) if other else (None, NEW)
+    is_right = other in (None, OLD)
+    return is_right, NEW if act in CHANGES and is_right else left
 
 
 class Races(Cheap, TransactionTestCase):
     def signed_up(self, model):
         """A user as a view has her: read from the database."""
         ann = model(**{model.USERNAME_FIELD: f"ann{next(NUMBERS)}@example.org"})
-        ann.set_password("old")
+        ann.set_password(OLD)
         ann.save()
         return model._base_manager.get(pk=ann.pk)
 
@@ -120,7 +76,7 @@ class Races(Cheap, TransactionTestCase):
         with moment(elsewhere) if callable(moment) else contextlib.nullcontext():
             answer, left = self.answer(act, user), None
         if rows(read).exists():
-            (left,) = [it for it in ("old", "new", "reset") if is_right(read, it)]
+            (left,) = [it for it in (OLD, NEW, "reset") if is_right(read, it)]
         self.assertEqual((answer, left), expected(act, other))
         if answer in (True, None):
             self.assertEqual(user.password, stands(read))
@@ -147,14 +103,14 @@ class Races(Cheap, TransactionTestCase):
         ):
             for turns in (TRIES - 1, TRIES):
                 user = self.signed_up(model)
-                again = before_update(lambda: reset_elsewhere(user, "old"), turns)
+                again = before_update(lambda: reset_elsewhere(user, OLD), turns)
                 label = override_settings(AUTH_USER_MODEL=model._meta.label)
                 # The methods of a model upgrade before a change.
                 memory = 64 if act in CHANGES else 128
                 with self.subTest(model, act=act, turns=turns), cheap(memory), label, again:
                     lost = False if act in LOGINS else RecordChanged
                     self.assertEqual(self.answer(act, user), True if turns < TRIES else lost)
-                new = "new" if act in CHANGES and turns < TRIES else "old"
+                new = NEW if act in CHANGES and turns < TRIES else OLD
                 self.assertTrue(is_right(user, new))
 
     def test_djangos_own_undoes_the_change(self):
@@ -163,4 +119,4 @@ class Races(Cheap, TransactionTestCase):
         with override_settings(AUTHENTICATION_BACKENDS=[THEIRS]), cheap(memory=128):
             with meanwhile(lambda: reset_elsewhere(ann, "reset")):
                 self.assertTrue(ACTS["authenticate"](ann))
-        self.assertTrue(is_right(ann, "old"))
+        self.assertTrue(is_right(ann, OLD))
