@@ -27,6 +27,7 @@ HEADERS = {
     "Cache-Control": "no-store",
 }
 READ, POSTED = "GET HEAD OPTIONS", "GET HEAD OPTIONS POST"
+PASSWORDS = ("new password new-password", "again password new-password")
 EMOJI, UMLAUT = "\N{GRINNING FACE}", "ä"
 
 
@@ -72,24 +73,31 @@ class Answers(Case):
             self.assertEqual(client.ask("POST", "/login", body), status, body)
         self.assertIn("out of date", self.ann.text)
 
+    def inputs(self, text):
+        """The attributes of each field that is seen, which has its label and its descriptions."""
+        found = []
+        for tag in re.findall("<input id=([^>]*)>", text):
+            given = dict(re.findall('([a-z-]+)="([^"]*)"', f"id={tag}"))
+            self.assertRegex(text, f'<label for="{given["id"]}">[^<]')
+            for about in given["aria-describedby"].split():
+                self.assertIn(f' id="{about}"', text)
+            self.assertIn(f"{given['id']}-error", given["aria-describedby"])
+            found.append({**given, "autofocus": " autofocus" in tag})
+        return found
+
     def test_fields(self):
         """What a keeper of passwords, and a reader of screens, goes by."""
-        for path, field, kind, complete in (
-            ("/login", "name", "text", "username"),
-            ("/login", "password", "password", "current-password"),
-            ("/signup", "name", "text", "username"),
-            ("/signup", "new", "password", "new-password"),
-            ("/signup", "again", "password", "new-password"),
-            ("/change", "old", "password", "current-password"),
-            ("/change", "new", "password", "new-password"),
-            ("/change", "again", "password", "new-password"),
+        for path, *wanted in (
+            ("/login", "name text username", "password password current-password"),
+            ("/signup", "name text username", *PASSWORDS),
+            ("/change", "old password current-password", *PASSWORDS),
         ):
             self.ann.ask("GET", path)
-            tag = re.search(f'<input id="{field}" [^>]*>', self.ann.text)[0]
-            found = dict(re.findall('([a-z-]+)="([^"]*)"', tag))
-            self.assertEqual((found.get("type"), found["autocomplete"]), (kind, complete))
-            self.assertIn(f"{field}-error", found["aria-describedby"].split())
-            self.assertNotIn("aria-invalid", found)
+            fields = self.inputs(self.ann.text)
+            found = [" ".join(it[key] for key in ("id", "type", "autocomplete")) for it in fields]
+            self.assertEqual(found, wanted)
+            self.assertEqual([it["autofocus"] for it in fields][:2], [True, False])
+            self.assertFalse(any("aria-invalid" in it for it in fields))
         hidden = f'<input type="text" value="{self.name}" autocomplete="username" hidden>'
         self.assertIn(hidden, self.ann.text)
 
@@ -124,6 +132,11 @@ class Answers(Case):
             client = self.ann if path == "/change" else Client(self.port)
             self.assertEqual(client.post(path, **form), 200, form)
             self.assertIn(said, client.error(field))
+            self.assertIn("<title>Error: ", client.text)
+            fields = self.inputs(client.text)
+            wrong = [it["id"] for it in fields if "aria-invalid" in it]
+            self.assertIn(field, wrong)
+            self.assertEqual([it["id"] for it in fields if it["autofocus"]], wrong[:1])
             name = form.pop("name", None)
             if name is not None:
                 self.assertIn(f'value="{escape(name)}"', client.text)
@@ -134,28 +147,19 @@ class Answers(Case):
         self.assertTrue(self.opens(OLD))
 
     def test_passwords_that_will_do(self):
-        """As they were typed, and no other way."""
-        for number, password in enumerate(
-            (EMOJI * 61 + "abcd", UMLAUT * 120 + "abcd", "xyz" * 85 + "x", "  a b c  ")
-        ):
-            name = f"{self.name}.{number}"
-            self.assertEqual(Client(self.port).sign_up(name, password), 303)
-            self.assertTrue(self.opens(password, name))
-            for other in (password.strip() + "!", password[:-1], password.strip() + " "):
-                self.assertFalse(self.opens(other, name), other)
-
-    def test_one_password_however_it_is_written(self):
-        """RFC 8265's OpaqueString: NFC, and one kind of space."""
-        composed, decomposed = "caf\u00e9 caf\u00e9", "cafe\u0301\u00a0cafe\u0301"
-        for number, (one, two) in enumerate(
-            ((composed, decomposed), (decomposed, composed), (composed, composed))
-        ):
+        """As they were typed, and in RFC 8265's form of it: NFC, and one kind of space."""
+        alike = [EMOJI * 61 + "abcd", UMLAUT * 120 + "abcd", "xyz" * 85 + "x", "  a b c  "]
+        pairs = [("caf\u00e9 caf\u00e9", "cafe\u0301\u00a0cafe\u0301"), *zip(alike, alike)]
+        pairs.append(pairs[0][::-1])
+        for number, (one, two) in enumerate(pairs):
             name, ann = f"{self.name}.{number}", Client(self.port)
             self.assertEqual(Client(self.port).sign_up(name, one), 303)
             self.assertEqual(ann.login(name, two), 303)
-            self.assertEqual(ann.change(two, f"{one} new"), 303)
-            self.assertTrue(self.opens(f"{two} new", name))
-            self.assertFalse(self.opens("cafe cafe new", name))
+            for other in (one.strip() + "!", one[:-1], one.strip() + " "):
+                self.assertFalse(self.opens(other, name), other)
+            self.assertEqual(ann.change(two, f"?{one[1:]}"), 303)
+            self.assertTrue(self.opens(f"?{two[1:]}", name))
+            self.assertFalse(self.opens(one, name))
 
     def test_an_unknown_name_is_answered_alike(self):
         """One page, and one hash of the store's own costs, whether there is the name or not."""

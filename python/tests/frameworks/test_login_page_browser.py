@@ -9,7 +9,7 @@ import tempfile
 import unittest
 from unittest import mock
 
-from login_clients import NEW, OLD, ROOM, Case, login_page, store
+from login_clients import NEW, OLD, ROOM, Case, store
 
 try:
     from selenium import webdriver
@@ -41,9 +41,6 @@ class Browser(webdriver.Chrome):
 
     def text(self, selector):
         return self.find_element(CSS, selector).text
-
-    def ids(self, selector):
-        return [it.get_attribute("id") for it in self.find_elements(CSS, selector)]
 
     def leave(self, element):
         """Clicks on a link or a button, and waits until its page has been left."""
@@ -84,58 +81,39 @@ class Walk(Case):
                 self.browser.save_screenshot(f"{PICTURES}/login-page-{name}-{width}.png")
 
     def form(self, name, *errors):
-        """Each field has its label, and what describes it is there. The errors stand at these
-        fields; the first of them, or else the form's first field, has the focus."""
-        browser = self.browser
-        fields = browser.ids(FIELDS)
-        self.assertTrue(fields)
-        for field in browser.find_elements(CSS, FIELDS):
-            self.assertTrue(browser.text(f"label[for={field.get_attribute('id')}]"))
-            self.assertTrue(field.accessible_name)
-            for about in field.get_attribute("aria-describedby").split():
-                browser.find_element("id", about)
-        shown = [it for it in browser.find_elements(CSS, ".error") if it.text]
+        """The errors are seen; the first one's field, or else the first field, has the focus."""
+        fields = self.browser.find_elements(CSS, FIELDS)
+        self.assertTrue(all(it.accessible_name for it in fields))
+        shown = [it for it in self.browser.find_elements(CSS, ".error") if it.is_displayed()]
         self.assertEqual([it.get_attribute("id") for it in shown], [f"{it}-error" for it in errors])
-        self.assertEqual(browser.ids("[aria-invalid=true]"), list(errors))
-        focused = browser.switch_to.active_element.get_attribute("id")
-        self.assertEqual(focused, [*errors, *fields][0])
-        self.assertTrue(all(it.is_displayed() for it in shown))
-        heading = browser.text("h1")
-        self.assertEqual(browser.title, f"Error: {heading}" if errors else heading)
+        focused = self.browser.switch_to.active_element.get_attribute("id")
+        self.assertEqual(focused, [*errors, fields[0].get_attribute("id")][0])
         self.picture(name)
-        return " ".join(it.text for it in shown)
 
     def test_a_walk(self):
         browser, name = self.browser, f"w{self.name}"
         browser.get(f"http://127.0.0.1:{self.port}/")
-        self.assertEqual(browser.text("h1"), "Log in")
         self.form("login")
         browser.follow("Create an account")
         self.form("signup")
         browser.fill(name="Not a name", new="password", again="password")
-        self.assertIn("1 to 32", self.form("signup-wrong", "name", "new"))
-        browser.fill(name=name.upper(), new=OLD, again=NEW)
-        self.assertIn("not the same", self.form("signup-again", "again"))
+        self.form("signup-wrong", "name", "new")
         browser.fill(name=name.upper(), new=OLD, again=OLD)
         self.assertEqual(browser.text("h1"), f"Hello, {name}")
         self.picture("home")
         browser.follow("Change the password")
         self.form("change")
         browser.fill(old=NEW, new=NEW, again=NEW)
-        self.assertIn("The old password is wrong.", self.form("change-wrong", "old"))
+        self.form("change-wrong", "old")
         browser.fill(old=OLD, new=NEW, again=NEW)
         self.assertIn("has been changed", browser.text(".done"))
         self.picture("changed")
-        browser.fill()
-        self.assertEqual(browser.text("h1"), "Log in")
-        browser.fill(name=name, password=OLD)
-        self.assertIn(login_page.NO, self.form("login-wrong", "password"))
-        browser.fill(name=name, password=NEW)
-        self.assertEqual(browser.text("h1"), f"Hello, {name}")
         self.assertIsNone(browser.execute_script("return document.cookie") or None)
         browser.fill()
+        self.assertEqual(browser.text("h1"), "Log in")
         with mock.patch.dict(store.TRIES, {"account": 1}):
-            for _ in range(2):
-                browser.fill(name=name, password=OLD)
-            self.assertEqual(browser.text("h1"), "Sorry")
-            self.picture("too-many")
+            browser.fill(name=name, password=OLD)
+            self.form("login-wrong", "password")
+            browser.fill(name=name, password=OLD)
+        self.assertEqual(browser.text("h1"), "Sorry")
+        self.picture("too-many")
