@@ -173,7 +173,6 @@ def _at_what_stands(user: Any, judge: Callable[[str], tuple[bool, str]]) -> Judg
     raise RecordChanged
 
 
-@hidden
 def judge_alone(user: Any, password: Any) -> Judged:
     """A check of the password that doesn't rehash."""
 
@@ -183,7 +182,6 @@ def judge_alone(user: Any, password: Any) -> Judged:
     return _at_what_stands(user, judge)
 
 
-@hidden
 def judge_login(user: Any, password: Any) -> Judged:
     """A check of the password, which rehashes a record of old costs."""
 
@@ -199,7 +197,6 @@ def judge_login(user: Any, password: Any) -> Judged:
     return _at_what_stands(user, judge)
 
 
-@hidden
 def judge_change(
     user: Any, old_password: Any, new_password: Any, judged: Optional[str] = None
 ) -> Judged:

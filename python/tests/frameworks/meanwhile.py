@@ -1,6 +1,7 @@
 """Records that cost little, and what another process does at the wrong moment."""
 
 import contextlib
+import functools
 from unittest import mock
 
 from asgiref.sync import async_to_sync
@@ -10,6 +11,9 @@ from django.db import connections, transaction
 
 from rigzumal.django import users
 from rigzumal.django.hashers import Argon2PasswordHasher
+
+
+comparing = functools.partial(users.comparing, User)  # of a stock User, for a `with`
 
 
 class Argon2(Argon2PasswordHasher):
@@ -52,11 +56,6 @@ def awaited(call, *given, **named):
         return await call(*given, **named)
 
     return async_to_sync(view)()
-
-
-def comparing():
-    """The time in which a stock User compares, for a `with`."""
-    return users.comparing(User)
 
 
 def meanwhile(act):

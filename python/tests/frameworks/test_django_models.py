@@ -106,13 +106,6 @@ class AsDjangos(Cheap, TransactionTestCase):
         return is_right(ann, "old")
 
     @beside(True)
-    def test_raw(self, model, ann):
-        found = model.objects.raw(f"SELECT id, username FROM {model._meta.db_table}")[0]
-        found.set_password("new")
-        found.save()
-        return is_right(ann, "new")
-
-    @beside(True)
     def test_update_or_create(self, model, ann):
         record = hashers.make_password("new")
         model.objects.update_or_create(username="ann", defaults={"password": record})
