@@ -1,5 +1,4 @@
-"""Settings of the tests. FRAMEWORKS_POSTGRES=PORT takes PostgreSQL in place of SQLite, and with
-FRAMEWORKS_COMPARES a stock User compares."""
+"""Settings of the tests. FRAMEWORKS_POSTGRES=PORT takes PostgreSQL in place of SQLite."""
 
 import os
 import tempfile
@@ -33,7 +32,6 @@ PASSWORD_HASHERS = [
     "django.contrib.auth.hashers.MD5PasswordHasher",
 ]
 AUTHENTICATION_BACKENDS = ["rigzumal.django.backends.CompareAndSetBackend"]
-RIGZUMAL_USER_COMPARES = "FRAMEWORKS_COMPARES" in os.environ
 MIDDLEWARE = [
     "django.contrib.sessions.middleware.SessionMiddleware",
     "django.contrib.auth.middleware.AuthenticationMiddleware",

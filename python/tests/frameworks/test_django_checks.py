@@ -196,33 +196,18 @@ urlpatterns = [
 
 
 class Projects(unittest.TestCase):
-    """Each in a process of its own."""
-
-    def test_the_setting(self):
-        """`manage.py check` of a project with RIGZUMAL_USER_COMPARES: the model compares."""
-        text = (
-            "import django; django.setup()\n"
-            "from django.contrib import admin\n"
-            "from django.contrib.auth.models import User\n"
-            "from django.core.management import call_command\n"
-            "print(type(admin.site._registry[User]).__module__, User.__mro__[1].__name__)\n"
-            "call_command('check')"
-        )
-        for env, said, checked in (
-            ({"FRAMEWORKS_COMPARES": "1"}, "rigzumal.django.admin CompareAndSetMixin", "no issues"),
-            ({}, "django.contrib.auth.admin AbstractUser", "W007"),
+    def test_the_admin_of_the_setting(self):
+        """It takes the place of Django's very own, and leaves a project's own."""
+        django, ours = djangos_admin.UserAdmin, our_admin.UserAdmin
+        for registered, compares, module in (
+            (django, False, django.__module__),
+            (django, True, "ran"),
+            (ours, True, ours.__module__),
         ):
-            written = run(sys.executable, "-c", text, env=env)
-            self.assertIn(said, written)
-            self.assertIn(checked, written)
-
-    def test_the_setting_leaves_a_projects_own(self):
-        """An admin of users that isn't Django's very own stays registered."""
-        get_resolver().url_patterns  # urls.py registers ours
-        registered = admin.site._registry[User]
-        with override_settings(RIGZUMAL_USER_COMPARES=True):
-            runpy.run_path(our_admin.__file__)
-        self.assertIs(admin.site._registry[User], registered)
+            registry = mock.patch.dict(admin.site._registry, {User: registered(User, admin.site)})
+            with registry, override_settings(RIGZUMAL_USER_COMPARES=compares):
+                runpy.run_path(our_admin.__file__, run_name="ran")
+                self.assertEqual(type(admin.site._registry[User]).__module__, module)
 
     def test_without_the_app(self):
         """Hashers, backends and the admin's app refuse it: its settings would be idle."""

@@ -1,6 +1,7 @@
 """The mixin's saves, which compare, however the user was got and whatever is rolled back."""
 
 import copy
+import itertools
 import pickle
 from unittest import mock
 
@@ -115,6 +116,10 @@ class Compared(Written):
             user.save(**how)
         self.assertEqual(stands(user), before)
 
+    def lazy(self):
+        """A user as `request.user` is."""
+        return SimpleLazyObject(self.again)
+
     def ways(self):
         """How one may have come by a user whose password is "old"."""
 
@@ -122,65 +127,54 @@ class Compared(Written):
             self.model.objects.all().delete()
             return self.model.objects.create_user("ann", password="old")
 
-        def saved():
-            ann = self.again()
-            ann.set_password("old")
-            ann.save()
-            return ann
+        def after(act, got=self.again):
+            def way():
+                with cheap(memory=128):
+                    act(ann := got())
+                return ann
 
-        def done(act, ann):
-            with cheap(memory=128):
-                act(ann)
-            return ann
+            return way
 
-        def check(ann):
-            self.assertTrue(ann.check_password("old"))
-
-        def change(ann):
-            self.assertTrue(passwords.change_password(ann, "old", "old"))
-
-        def set_(ann):
-            passwords.set_password(ann, "old")
-
+        acts = (
+            lambda ann: save(ann, "old")(),
+            lambda ann: ann.check_password("old"),
+            lambda ann: passwords.change_password(ann, "old", "old"),
+            lambda ann: passwords.set_password(ann, "old"),
+        )
+        copies = (copy.copy, copy.deepcopy, lambda ann: pickle.loads(pickle.dumps(ann)))
         return [
             self.again,
+            self.lazy,
+            made,
             lambda: self.model.objects.defer("password").get(),
             lambda: self.model.objects.only("email").get(),
-            lambda: SimpleLazyObject(self.again),
-            made,
-            saved,
-            *(lambda it=it: it(saved()) for it in (copy.copy, copy.deepcopy)),
-            lambda: pickle.loads(pickle.dumps(saved())),
-            *(lambda it=it: done(it, self.again()) for it in (check, change, set_)),
-            *(lambda it=it: done(it, SimpleLazyObject(self.again)) for it in (check, change, set_)),
+            *(lambda copied=copied: copied(after(acts[0])()) for copied in copies),
+            *(after(act, got) for act in acts for got in (self.again, self.lazy)),
         ]
 
     def test_a_user_is_compared_with_what_was_read_or_written(self):
         """In an open transaction, since a TestCase is one, as in life."""
-        for way in self.ways():
-            with self.subTest(way=way):
-                self.assertTrue(way().check_password("old"))
+        unusable = "set_unusable_password"
+        for way, (change, *new) in itertools.product(
+            self.ways(), ((unusable,), ("set_password", "mine"))
+        ):
+            self.assertTrue(way().check_password("old"))
+            user = way()
+            reset_elsewhere(user, "reset")
+            user.email = f"{change}@new.org"
+            user.save()
+            self.assertTrue(is_right(user, "reset"))
+            self.assertEqual(self.again().email, user.email)
+            for is_lost in (True, False):
+                reset_elsewhere(user, "old")
                 user = way()
-                reset_elsewhere(user, "reset")
-                user.email = "a@new.org"
-                user.save()
-                self.assertTrue(is_right(user, "reset"))
-                self.assertEqual(self.again().email, "a@new.org")
-                for set_ in (
-                    lambda: user.set_password("mine"),
-                    lambda: user.set_unusable_password(),
-                ):
-                    reset_elsewhere(user, "old")
-                    user = way()
-                    set_()
+                getattr(user, change)(*new)
+                if is_lost:
                     reset_elsewhere(user, "reset")
                     self.lose(user)
-                reset_elsewhere(user, "old")
-                user = way()
-                user.set_password("mine")
-                user.save()
-                self.assertTrue(is_right(user, "mine"))
-                reset_elsewhere(user, "old")
+            user.save()
+            self.assertEqual(user.password, stands(user))
+            reset_elsewhere(user, "old")
 
     def test_a_copy_knows_what_it_was_copied_with(self):
         other = copy.copy(self.ann)
@@ -197,16 +191,12 @@ class Compared(Written):
         self.assertTrue(self.ann.check_password("new"))
         self.assertTrue(self.right("old"))
         self.ann.email = "a@new.org"
-        self.ann.save()
+        self.ann.save(update_fields=["email"])
+        self.assertTrue(self.right("old"))
+        self.ann.email = "a@newer.org"
+        self.ann.save(update_fields=["password"])
         self.assertTrue(self.right("new"))
         self.assertEqual(self.again().email, "a@new.org")
-        for fields, right in ((["password"], "newer"), (["email"], "newer")):
-            self.ann.set_password("newer" if fields == ["password"] else "newest")
-            self.ann.save(update_fields=fields)
-            self.assertTrue(self.right(right))
-        self.ann.set_unusable_password()
-        self.ann.save()
-        self.assertFalse(self.again().has_usable_password())
 
     def test_a_lost_save_writes_no_field(self):
         self.reset("reset")
