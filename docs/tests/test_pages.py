@@ -147,7 +147,7 @@ class PagesTest(unittest.TestCase):
         files = [self.room / f"django{number}.py" for number in range(len(parts))]
         for file, code in zip(files, parts):
             file.write_text(code)
-        run(sys.executable, HERE / "samples_of_django.py", *files, env=OVER_PACKAGE)
+        run(sys.executable, HERE / "samples_of_django.py", *files, env=OVER_PACKAGE, at=self.room)
 
     def test_sample_of_a_co_process(self):
         """The page's co-process over a new book, where credkeep is built."""

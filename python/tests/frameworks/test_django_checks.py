@@ -87,6 +87,7 @@ class Checks(unittest.TestCase):
         found = [it for it in run_checks(tags=["security"]) if it.id.startswith("rigzumal.")]
         for it in found:
             self.assertIs(it.is_serious(), it.id.startswith("rigzumal.E"))
+            self.assertTrue(it.hint)
         return [it for it in found if it.id != "rigzumal.W007"]
 
     def ids(self, **settings):
