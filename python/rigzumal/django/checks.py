@@ -25,7 +25,7 @@ from django.utils.module_loading import import_string
 from rigzumal.django import forms, hashers, users
 from rigzumal.django.backends import CompareAndSetBackend
 
-Messages = Iterator[checks.CheckMessage]
+Messages = list[checks.CheckMessage]
 
 WIDTH = 128
 """Letters that a record of Django's may have."""
@@ -73,44 +73,46 @@ def backends(**_: Any) -> Messages:
 
     A model that compares does so under any backend which calls its check_password.
     """
+    amiss: Messages = []
     found = []
     for path in settings.AUTHENTICATION_BACKENDS:
         try:
             found.append(import_string(path))
         except ImportError as fault:
             text = f"AUTHENTICATION_BACKENDS has {path!r}, which can't be imported."
-            yield _said("E012", text, str(fault))
+            amiss.append(_said("E012", text, str(fault)))
     if _compares():
-        return
+        return amiss
     if not any(issubclass(it, CompareAndSetBackend) for it in found):
         text = "No backend is a CompareAndSetBackend: a login may undo a change."
         hint = "Put 'rigzumal.django.backends.CompareAndSetBackend' for ModelBackend."
-        yield _said("W001", text, hint)
+        amiss.append(_said("W001", text, hint))
     judging_none = (CompareAndSetBackend, RemoteUserBackend)
     for it in found:
         if issubclass(it, ModelBackend) and not issubclass(it, judging_none):
             text = f"{_path(it)} upgrades records at login without a comparison."
             hint = "Remove it, or derive it from CompareAndSetBackend."
-            yield _said("W002", text, hint)
+            amiss.append(_said("W002", text, hint))
+    return amiss
 
 
 def column(**_: Any) -> Messages:
     """E003: the column is too short for a record."""
     field = _password_field()
     width: Optional[int] = field.max_length if field else None
-    if width is not None and width < WIDTH:
-        text = f"The password column has {width} letters, and a record up to {WIDTH}."
-        yield _said("E003", text, f"Give it max_length={WIDTH}.")
+    if width is None or width >= WIDTH:
+        return []
+    text = f"The password column has {width} letters, and a record up to {WIDTH}."
+    return [_said("E003", text, f"Give it max_length={WIDTH}.")]
 
 
 def first_hasher(**_: Any) -> Messages:
     """W004: new records are made by another library."""
-    if not issubclass(import_string(settings.PASSWORD_HASHERS[0]), OURS):
-        text = (
-            "The first of PASSWORD_HASHERS, which makes new records, isn't Rigzumal's."
-        )
-        hint = "Put 'rigzumal.django.hashers.Argon2PasswordHasher' before the others."
-        yield _said("W004", text, hint)
+    if issubclass(import_string(settings.PASSWORD_HASHERS[0]), OURS):
+        return []
+    text = "The first of PASSWORD_HASHERS, which makes new records, isn't Rigzumal's."
+    hint = "Put 'rigzumal.django.hashers.Argon2PasswordHasher' before the others."
+    return [_said("W004", text, hint)]
 
 
 def shadowed_hashers(**_: Any) -> Messages:
@@ -120,23 +122,27 @@ def shadowed_hashers(**_: Any) -> Messages:
     """
     listed = [(path, import_string(path)) for path in settings.PASSWORD_HASHERS]
     judges = {it.algorithm: it for _, it in listed}
+    amiss: Messages = []
     for path, ours in listed:
         judge = judges[ours.algorithm]
         if issubclass(ours, OURS) and not issubclass(judge, OURS):
             text = f"{_path(judge)} comes after {path}, so Django asks it instead."
             hint = f"Remove {_path(judge)}: Rigzumal's reads its records."
-            yield _said("E013", text, hint)
+            amiss.append(_said("E013", text, hint))
+    return amiss
 
 
 def isolation(**_: Any) -> Messages:
     """W005: a transaction would read the record as it was when it began."""
-    for alias, database in settings.DATABASES.items():
-        if _has_snapshots(database):
-            text = (
-                f"The database {alias!r} has an isolation level of snapshots: in a"
-                " transaction an old password is right, or the request fails."
-            )
-            yield _said("W005", text, "Leave the level out, or set READ COMMITTED.")
+    text = (
+        "The database {!r} has an isolation level of snapshots: in a transaction an old"
+        " password is right, or the request fails."
+    )
+    return [
+        _said("W005", text.format(alias), "Leave the level out, or set READ COMMITTED.")
+        for alias, database in settings.DATABASES.items()
+        if _has_snapshots(database)
+    ]
 
 
 def _has_snapshots(database: Any) -> bool:
@@ -160,19 +166,21 @@ def _has_snapshots(database: Any) -> bool:
 def own_methods(**_: Any) -> Messages:
     """E006: a method of the user model's own would be skipped."""
     hint = "Give the model the CompareAndSetMixin, behind the class that has it."
-    for name in users.unreached_methods(get_user_model()):
-        yield _said("E006", f"{name} would be skipped, so logins are refused.", hint)
+    text = "{} would be skipped, so logins are refused."
+    return [
+        _said("E006", text.format(name), hint)
+        for name in users.unreached_methods(get_user_model())
+    ]
 
 
 def user_model(**_: Any) -> Messages:
     """W007: the user model's own methods write without a comparison."""
-    if not _compares() and _password_field() is not None:
-        name = get_user_model()._meta.label
-        text = f"{name}.save and check_password don't compare: they may undo a change."
-        hint = (
-            "Set RIGZUMAL_USER_COMPARES = True, or give the model CompareAndSetMixin."
-        )
-        yield _said("W007", text, hint)
+    if _compares() or _password_field() is None:
+        return []
+    name = get_user_model()._meta.label
+    text = f"{name}.save and check_password don't compare: they may undo a change."
+    hint = "Set RIGZUMAL_USER_COMPARES = True, or give the model CompareAndSetMixin."
+    return [_said("W007", text, hint)]
 
 
 def _outcome() -> str:
@@ -182,35 +190,38 @@ def _outcome() -> str:
 def admin_sites(**_: Any) -> Messages:
     """W008: an admin's page of users, or of one's own password, is Django's."""
     if not apps.is_installed("django.contrib.admin"):
-        return
+        return []
     from django.contrib.admin.sites import all_sites
 
     from rigzumal.django.admin import UserAdmin
     from rigzumal.django.site import AdminSite
 
+    amiss: Messages = []
     for site in all_sites:
         front = f"The admin {site.name!r} has Django's"
         registered = site._registry.get(get_user_model())
         if registered is not None and not isinstance(registered, UserAdmin):
             hint = "Register the user model with rigzumal.django.admin.UserAdmin."
-            yield _said("W008", f"{front} admin of users: {_outcome()}.", hint)
+            amiss.append(_said("W008", f"{front} admin of users: {_outcome()}.", hint))
         if site._registry and not isinstance(site, AdminSite):
             hint = (
                 "Install 'rigzumal.django.apps.AdminConfig' for 'django.contrib.admin',"
                 " or derive the site from rigzumal.django.site.AdminSite."
             )
-            yield _said("W008", f"{front} password_change: {_outcome()}.", hint)
+            amiss.append(_said("W008", f"{front} password_change: {_outcome()}.", hint))
+    return amiss
 
 
 def url_views(**_: Any) -> Messages:
     """W009: a URL leads to Django's own view of a change or of a reset."""
     if not getattr(settings, "ROOT_URLCONF", None):
-        return
+        return []
     hint = "Include 'rigzumal.django.urls', or use the views of rigzumal.django.views."
-    for route, view, form in _password_views(get_resolver().url_patterns):
-        if not issubclass(form, (forms.PasswordChangeForm, forms.SetPasswordForm)):
-            text = f"The URL {route!r} is Django's {view}: {_outcome()}."
-            yield _said("W009", text, hint)
+    return [
+        _said("W009", f"The URL {route!r} is Django's {view}: {_outcome()}.", hint)
+        for route, view, form in _password_views(get_resolver().url_patterns)
+        if not issubclass(form, (forms.PasswordChangeForm, forms.SetPasswordForm))
+    ]
 
 
 def _password_views(patterns: Any, front: str = "") -> Iterator[tuple[str, str, Any]]:
@@ -228,16 +239,17 @@ def _password_views(patterns: Any, front: str = "") -> Iterator[tuple[str, str, 
 
 def command(**_: Any) -> Messages:
     """W010: `manage.py changepassword` is Django's."""
-    if get_commands().get("changepassword") == "django.contrib.auth":
-        end = "a traceback" if _compares() else "undone"
-        text = f"changepassword is Django's own: a change that came meanwhile is {end}."
-        hint = "Put 'rigzumal.django' before 'django.contrib.auth' in INSTALLED_APPS."
-        yield _said("W010", text, hint)
+    if get_commands().get("changepassword") != "django.contrib.auth":
+        return []
+    outcome = "a traceback" if _compares() else "undone"
+    text = f"changepassword is Django's own: a change that came meanwhile is {outcome}."
+    hint = "Put 'rigzumal.django' before 'django.contrib.auth' in INSTALLED_APPS."
+    return [_said("W010", text, hint)]
 
 
 def unlisted_hashers(databases: Any = None, **_: Any) -> Messages:
     """W011: the table has records whose hasher isn't listed: their users can't log in."""
-    field = _password_field()
+    field, amiss = _password_field(), Messages()
     for alias in databases or []:
         if field is None or not router.allow_migrate_model(alias, field.model):
             continue
@@ -248,7 +260,8 @@ def unlisted_hashers(databases: Any = None, **_: Any) -> Messages:
                 " doesn't list: their users can't log in."
             )
             hint = "List the hashers that you had before, behind Rigzumal's."
-            yield _said("W011", text, hint)
+            amiss.append(_said("W011", text, hint))
+    return amiss
 
 
 def _unlisted(holder: Any, alias: str) -> Optional[str]:

@@ -16,6 +16,7 @@ from django.contrib.auth.tokens import default_token_generator
 from django.core.exceptions import ValidationError
 from django.core.management import CommandError, call_command
 from django.db import connections
+from django.db.models.signals import pre_save
 from django.test import TestCase, TransactionTestCase, override_settings
 from django.urls import path
 from django.utils.encoding import force_bytes
@@ -240,15 +241,12 @@ class Admin(Cheap, TestCase):
         return self.client.post(f"{self.page}change/", form, **how)
 
     def test_an_edit_of_another_field_leaves_the_password(self):
-        save = User.save
+        def change(sender, instance, **_):
+            user = User.objects.get(pk=instance.pk)
+            self.assertTrue(passwords.change_password(user, "old", "new"))
 
-        def later(user, *given, **named):
-            patch.stop()
-            self.assertTrue(passwords.change_password(User.objects.get(pk=user.pk), "old", "new"))
-            return save(user, *given, **named)
-
-        patch = mock.patch.object(User, "save", later)
-        patch.start()
+        pre_save.connect(change, sender=User)
+        self.addCleanup(pre_save.disconnect, change, sender=User)
         self.assertEqual(self.edit().status_code, 302)
         self.assertTrue(self.right("new"))
         self.assertEqual(User.objects.get(pk=self.ann.pk).email, "a@new.org")

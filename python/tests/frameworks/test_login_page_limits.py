@@ -1,9 +1,8 @@
 """examples/login_page's limits of tries, and the store that counts them."""
 
-import collections
-import threading
 import time
 import unittest
+from concurrent.futures import ThreadPoolExecutor
 from unittest import mock
 
 from login_clients import CHEAP, DATABASE, NEW, NUMBERS, OLD, Case, Client, Direct, serving, store
@@ -100,11 +99,10 @@ class Limits(Case):
         for minute, status in enumerate([200] * 10 + [429] * 5):
             with self.at(begun + 60 * minute):
                 self.assertEqual(guesser.login(self.name, NEW), status)
-                if minute in (10, 14):
-                    left = str(60 * (15 - minute))
-                    self.assertEqual(guesser.headers["Retry-After"], left)
-                    said = "in a minute." if left == "60" else "in 5 minutes."
-                    self.assertIn(said, guesser.text)
+                for at, left, said in ((10, "300", "in 5 minutes."), (14, "60", "in a minute.")):
+                    if minute == at:
+                        self.assertEqual(guesser.headers["Retry-After"], left)
+                        self.assertIn(said, guesser.text)
         what = store._hash("address 127.0.0.1")
         (counted,) = self.rows("SELECT count(*) FROM try WHERE what = ? AND at >= ?", what, begun)
         self.assertEqual(counted[0], 10)
@@ -116,22 +114,11 @@ class Limits(Case):
 
     def test_tries_count_before_the_hash(self):
         """Many at once are no more than one after another, and those too many cost nothing."""
-        said, worked, work = [], [], Judge.work
-
-        def counted(judge, ticket):
-            worked.append(ticket)
-            return work(judge, ticket)
-
-        threads = [
-            threading.Thread(target=lambda: said.append(self.guess(self.name))) for _ in range(20)
-        ]
-        with mock.patch.object(Judge, "work", counted):
-            for it in threads:
-                it.start()
-            for it in threads:
-                it.join()
-        self.assertEqual(collections.Counter(said), {200: 10, 429: 10})
-        self.assertEqual(len(worked), 10)
+        work = mock.patch.object(Judge, "work", autospec=True, side_effect=Judge.work)
+        with work as worked, ThreadPoolExecutor(20) as pool:
+            said = list(pool.map(self.guess, [self.name] * 20))
+        self.assertEqual(sorted(said), [200] * 10 + [429] * 10)
+        self.assertEqual(worked.call_count, 10)
 
 
 class Store(unittest.TestCase):
