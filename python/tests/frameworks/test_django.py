@@ -105,9 +105,8 @@ class Reports(Cheap, TransactionTestCase):
     def each(self, fault, *left_out, before=lambda user: None):
         """Checks each operation: of a stock User, and of a model with the mixin."""
         for user, label in ((self.ann, "auth.User"), (self.ben, "users_app.Person")):
-            for act in (
-                ACTS.keys() - set(left_out) - (set() if user is self.ben else OF_MIXIN.keys())
-            ):
+            others = set(left_out) if user is self.ben else {*left_out, *OF_MIXIN}
+            for act in sorted(ACTS.keys() - others):
                 user.refresh_from_db()
                 before(user)
                 with override_settings(AUTH_USER_MODEL=label), self.subTest(act, user=user):

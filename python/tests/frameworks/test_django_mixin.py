@@ -336,10 +336,11 @@ class Committed(Compared, TransactionTestCase):
         """Under `using`, whatever the router says: a later save compares with that."""
         ben = Person(username="ben", password="first")
         ben.save(using="other")
-        with override_settings(DATABASE_ROUTERS=[Router("other", "other")]):
-            self.there.update(password="reset")
-            ben.password = "mine"
-            self.lose(ben, using="other")
+        self.there.update(password="reset")
+        ben.password = "mine"
+        with self.assertRaises(RecordChanged):
+            ben.save(using="other")
+        self.assertEqual(self.there.get().password, "reset")
 
     def test_nobody_is_told_of_a_password_that_was_never_put(self):
         """After a lost save, nor after the user was read anew."""

@@ -256,5 +256,6 @@ class Strings(unittest.TestCase):
             record = hasher.encode("secret", "somesaltsomesalt")
             self.assertNotIn(record, repr(records.Judged(True, record, record)))
             shown = hasher.safe_summary(record)
+            self.assertEqual([*shown][-2:], ["salt", "hash"])
             self.assertEqual(shown["salt"], "somesa**********")
             self.assertEqual(shown["hash"], record.split("$")[-1][:6] + "*" * (size - 6))
