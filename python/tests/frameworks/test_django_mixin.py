@@ -332,6 +332,7 @@ class Committed(Compared, TransactionTestCase):
                 self.there.update(last_name=first)
             self.assertEqual(self.there.get().get_full_name(), f"before {first}")
 
+    @override_settings(DATABASE_ROUTERS=[Router("default", "default")])
     def test_a_new_user_of_another_database_is_remembered_there(self):
         """Under `using`, whatever the router says: a later save compares with that."""
         ben = Person(username="ben", password="first")
