@@ -49,6 +49,14 @@ class Cheap:
         return before_update(lambda: self.reset(password), turns)
 
 
+def signed_up(model, password="old", **given):
+    """A user as a view has her: read from the database."""
+    made = model(**given)
+    made.set_password(password)
+    made.save()
+    return model._base_manager.get(pk=made.pk)
+
+
 def awaited(call, *given, **named):
     """The answer of a call, as an asynchronous view awaits it."""
 

@@ -12,7 +12,8 @@ from django.db import transaction
 from django.db.models.signals import post_save, pre_save
 from django.test import TestCase, TransactionTestCase, override_settings
 from django.utils.functional import SimpleLazyObject
-from meanwhile import Cheap, Router, cheap, comparing, is_right, reset_elsewhere, stands, undone
+from meanwhile import Cheap, Router, cheap, comparing, is_right, reset_elsewhere, signed_up
+from meanwhile import stands, undone
 from users_app.models import Person, Pupil
 
 from rigzumal.django import passwords
@@ -52,10 +53,7 @@ class Written(Cheap):
 
     def setUp(self):
         super().setUp()
-        made = self.model(username="ann", email="a@old.org")
-        made.set_password("old")
-        made.save()
-        self.ann = self.again()
+        self.ann = signed_up(self.model, username="ann", email="a@old.org")
 
     def again(self, **given):
         return self.model.objects.get(username="ann", **given)

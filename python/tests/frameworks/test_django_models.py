@@ -12,18 +12,10 @@ from django.db.migrations.state import ModelState, ProjectState
 from django.db.migrations.writer import MigrationWriter
 from django.db.models.signals import post_save, pre_save
 from django.test import TestCase, TransactionTestCase, override_settings
-from meanwhile import Cheap, is_right, reset_elsewhere
+from meanwhile import Cheap, is_right, reset_elsewhere, signed_up
 from users_app.models import Locked, Person, Plain, Unmixed, Unreached
 
 from rigzumal.django import passwords, users
-
-
-def signed_up(model, **given):
-    """A user as a view has her: read from the database."""
-    made = model(username="ann", email="a@old.org", **given)
-    made.set_password("old")
-    made.save()
-    return model.objects.get(pk=made.pk)
 
 
 def beside(expected):
@@ -33,7 +25,8 @@ def beside(expected):
         def test(self):
             for model in (Plain, Person):
                 with self.subTest(model):
-                    self.assertEqual(scenario(self, model, signed_up(model)), expected)
+                    ann = signed_up(model, username="ann")
+                    self.assertEqual(scenario(self, model, ann), expected)
 
         return test
 
@@ -170,7 +163,7 @@ class OwnMethods(Cheap, TestCase):
 
     def setUp(self):
         super().setUp()
-        self.ann = signed_up(Locked)
+        self.ann = signed_up(Locked, username="ann")
 
     def again(self):
         return Locked.objects.get()

@@ -9,7 +9,7 @@ from django.contrib.auth.models import User
 from django.test import TransactionTestCase, override_settings
 from django.utils.functional import SimpleLazyObject
 from meanwhile import Cheap, before_update, cheap, comparing, delete_elsewhere
-from meanwhile import is_right, meanwhile, reset_elsewhere, rows, stands
+from meanwhile import is_right, meanwhile, reset_elsewhere, rows, signed_up, stands
 from operations import ACTS, CHANGES, LOGINS, NEW, OF_MIXIN, OLD, SETS
 from users_app.models import ByMail, Hidden, Locked, Member, Person, Pupil, Staff
 
@@ -54,13 +54,9 @@ def expected(act, other):
 
 class Races(Cheap, TransactionTestCase):
     def signed_up(self, model):
-        """A user as a view has her: read from the database."""
-        ann = model(**{model.USERNAME_FIELD: f"ann{next(NUMBERS)}@example.org"})
-        ann.set_password(OLD)
-        if model is Hidden:
-            ann.is_active = False
-        ann.save()
-        return model._base_manager.get(pk=ann.pk)
+        given = {"is_active": False} if model is Hidden else {}
+        given[model.USERNAME_FIELD] = f"ann{next(NUMBERS)}@example.org"
+        return signed_up(model, OLD, **given)
 
     def answer(self, act, user):
         try:
