@@ -141,7 +141,8 @@ class Argon2PasswordHasher(_RecordHasher):
     _numbers = ("memory_cost", "time_cost", "parallelism")
     _form = re.compile(
         r"(?P<variety>argon2(?:id|i|d))\$(?:v=(?P<version>16|19)\$)?"
-        rf"m=(?P<memory_cost>{_NUMBER}),t=(?P<time_cost>{_NUMBER}),p=(?P<parallelism>{_NUMBER})"
+        rf"m=(?P<memory_cost>{_NUMBER}),t=(?P<time_cost>{_NUMBER})"
+        rf",p=(?P<parallelism>{_NUMBER})"
         r"\$(?P<salt>[A-Za-z0-9+/]+)\$(?P<hash>[A-Za-z0-9+/]+)",
         re.ASCII,
     )
