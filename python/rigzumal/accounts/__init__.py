@@ -20,14 +20,9 @@ its answers.
 """
 
 from rigzumal.accounts._accounts import Accounts, AsyncAccounts
-from rigzumal.accounts._values import (
-    AccountsError,
-    OutcomeUnknown,
-    Reply,
-    StoreFault,
-    Unavailable,
-)
 from rigzumal.accounts.dialects import MariaDB, MySQL, Postgres, Sqlite
+from rigzumal.accounts.parts import AccountsError, OutcomeUnknown, Reply, StoreFault
+from rigzumal.accounts.parts import Unavailable
 from rigzumal.accounts.pools import PerThread, of_engine
 
 __all__ = [

@@ -5,10 +5,10 @@ from __future__ import annotations
 from typing import Any
 
 from rigzumal._library import Secret
-from rigzumal.accounts._operations import Hook, Operations
-from rigzumal.accounts._session import AsyncRuntime, Runtime, run
-from rigzumal.accounts._values import Answer, Key, Kind, Reply, Request, Ticket, Worked
-from rigzumal.accounts.dialects._faults import Fault
+from rigzumal.accounts._operations import Operations
+from rigzumal.accounts._session import AsyncRuntime, Hook, Runtime, run
+from rigzumal.accounts.parts import Answer, Key, Kind, Reply, Request, Ticket, Worked
+from rigzumal.accounts.dialects._dialect import Fault
 from rigzumal.accounts.pools import AsyncPool, Pool
 
 
@@ -140,7 +140,7 @@ class Accounts(Operations[Pool]):
 
     def perform(self, request: Request, *, also: Hook = None) -> Answer:
         """The whole operation, with the records before and after it."""
-        return run(self._performed(request, also))
+        return run(self._perform(request, also))
 
     def begin(self, request: Request) -> Ticket:
         """The first part: reads the record."""
@@ -232,7 +232,7 @@ class AsyncAccounts(Operations[AsyncPool]):
 
     async def perform(self, request: Request, *, also: Hook = None) -> Answer:
         """The whole operation, with the records before and after it."""
-        return await self._performed(request, also)
+        return await self._perform(request, also)
 
     async def begin(self, request: Request) -> Ticket:
         """The first part: reads the record."""

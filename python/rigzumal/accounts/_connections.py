@@ -10,7 +10,7 @@ from typing import Any, Final, Optional
 
 from rigzumal.accounts._session import Job, Runtime
 from rigzumal.accounts._table import Lost, Table, Undone
-from rigzumal.accounts._values import Unavailable
+from rigzumal.accounts.parts import Unavailable
 from rigzumal.accounts.dialects._dialect import Verdict, is_of_driver
 
 _AT_ONCE: Final = 0.5
@@ -27,15 +27,7 @@ _DSN_PASSWORD: Final = re.compile(
 
 @dataclass(frozen=True)
 class Connections:
-    """Where jobs are done.
-
-    Attributes:
-        runtime: blocking, or asyncio's.
-        primary: the pool of connections to the primary.
-        replica: a pool whose copies may be old.
-        table: knows what errors mean.
-        patience: for how many seconds a lost connection is made anew.
-    """
+    """Where jobs are done: pools of the primary, and perhaps of a replica that lags."""
 
     runtime: Runtime
     primary: Any
@@ -47,14 +39,7 @@ class Connections:
         """Does a job once, if there is a replica; Undone if there is none, or it fails."""
         if self.replica is None:
             return Undone(None)
-        try:
-            return await self.runtime.use(self.replica, job)
-        except Lost as lost:
-            return Undone(lost)
-        except Exception as error:  # of the pool, which makes connections
-            if not self._may_pass(error):
-                raise
-            return Undone(error)
+        return await self._once(self.replica, job)
 
     async def patiently(self, job: Job[Any], patience: Optional[float] = None) -> Any:
         """Does a job at the primary until it was done, and waits longer by turns.
@@ -64,28 +49,29 @@ class Connections:
         """
         waits = Waits(self.patience if patience is None else patience)
         while True:
-            said, is_dead = "", False
-            try:
-                done = await self.runtime.use(self.primary, job)
-                if not isinstance(done, Undone):
-                    return done
-                cause = done.cause
-            except Lost as lost:
-                cause = lost.__cause__
-                is_dead = waits.age < _AT_ONCE
-            except Exception as error:  # of the pool, which makes connections
-                if not self._may_pass(error):
-                    raise
-                cause, said = error, _reason(error)
+            done = await self._once(self.primary, job)
+            if not isinstance(done, Undone):
+                return done
+            cause, is_dead = done.cause, False
+            if isinstance(cause, Lost):
+                cause, is_dead = cause.__cause__, waits.age < _AT_ONCE
             if waits.are_over:
                 name = self.table.name(cause)
-                raise Unavailable(f"no server did it in time: {name}{said}") from cause
+                said = f"no server did it in time: {name}{done.reason}"
+                raise Unavailable(said) from cause
             await self.runtime.pause(waits.next(is_dead))
 
-    def _may_pass(self, error: Exception) -> bool:
-        """Whether an error of a pool may be gone if it is asked again."""
-        verdict = self.table.dialect.verdict
-        return is_of_driver(error) and verdict(error) is not Verdict.REFUSED
+    async def _once(self, pool: Any, job: Job[Any]) -> Any:
+        """Does a job; Undone if it did nothing, and may be done another time."""
+        try:
+            return await self.runtime.use(pool, job)
+        except Lost as lost:
+            return Undone(lost)
+        except Exception as error:  # of the pool, which makes connections
+            verdict = self.table.dialect.verdict
+            if not is_of_driver(error) or verdict(error) is Verdict.REFUSED:
+                raise
+            return Undone(error, _reason(error))
 
 
 class Waits:

@@ -12,27 +12,23 @@ from typing import Optional
 
 from rigzumal.accounts._session import Session
 from rigzumal.accounts._table import Table
-from rigzumal.accounts._values import Key, Kind, Reply, Request, StoreFault, Ticket
-from rigzumal.accounts._values import Worked
-from rigzumal.accounts.dialects._dialect import Dialect
-from rigzumal.accounts.dialects._faults import Fault, error
+from rigzumal.accounts.parts import Key, Kind, Reply, Request, StoreFault, Ticket
+from rigzumal.accounts.parts import Worked
+from rigzumal.accounts.dialects._dialect import Dialect, Fault, error
 
 
 async def examine(table: Table, session: Session, record: str) -> list[Fault]:
     """What is wrong with the table and the server; the record is put for a trial."""
     table.dialect.fresh(session.conn)
     findings = await table.dialect.examine(session)
-    faults = findings.faults
-    if not table.confirm:
-        faults += findings.unless_confirmed
-    if findings.is_usable:
-        faults += await _trial(table, session, record)
-    return faults
+    faults = [*findings.faults, *(() if table.confirm else findings.unless_confirmed)]
+    text = await _trial(table, session, record) if findings.is_usable else None
+    return faults if text is None else [*faults, error("no-update", text)]
 
 
-async def _trial(table: Table, session: Session, record: str) -> list[Fault]:
+async def _trial(table: Table, session: Session, record: str) -> Optional[str]:
     """Why no record can be put, by putting one and rolling back."""
-    found: list[Fault] = []
+    fault = None
     try:
         await table.dialect.start(session)
         key = await _row(table.dialect, session)
@@ -43,15 +39,13 @@ async def _trial(table: Table, session: Session, record: str) -> list[Fault]:
             worked = Worked(ticket, Reply.REPLACED, record)
             done = await table.compare(session, worked)
             if done.reply is not Reply.REPLACED:
-                text = "no record can be written: an UPDATE doesn't change a row"
-                found.append(error("no-update", text))
-    except StoreFault as fault:
-        found.append(error("no-update", str(fault)))
+                fault = "no record can be written: an UPDATE doesn't change a row"
+    except StoreFault as raised:
+        fault = str(raised)
     except Exception as raised:
-        text = f"no record can be put: {table.name(raised)}"
-        found.append(error("no-update", text))
+        fault = f"no record can be put: {table.name(raised)}"
     await table.dialect.undo(session)
-    return found
+    return fault
 
 
 async def _row(dialect: Dialect, session: Session) -> Optional[Key]:

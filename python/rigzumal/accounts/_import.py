@@ -6,6 +6,7 @@ import pathlib
 import sys
 import time
 from collections.abc import Callable, Iterable, Iterator, Sequence
+from dataclasses import dataclass
 from typing import Optional
 
 from rigzumal._library import InvalidRecordError
@@ -13,7 +14,7 @@ from rigzumal._parts import none_of_ours, parts
 from rigzumal._statuses import Refusal, Status
 from rigzumal.accounts._accounts import Accounts
 from rigzumal.accounts._session import Session, run
-from rigzumal.accounts._values import Copy, Key, Reply
+from rigzumal.accounts.parts import Key, Reply
 from rigzumal.accounts.dialects._dialect import Dialect
 from rigzumal.accounts.parts import Kind, Request, Ticket, Worked
 from rigzumal.accounts.pools import Pool
@@ -24,6 +25,7 @@ BATCH = 500
 Line = tuple[Key, str]
 
 
+@dataclass
 class Import:
     """Adds accounts with their records, in transactions of a batch each.
 
@@ -31,15 +33,10 @@ class Import:
         takes_foreign: records of other schemes too, for a hook to judge.
     """
 
-    def __init__(
-        self,
-        accounts: Accounts,
-        dialect: Dialect,
-        pool: Pool,
-        takes_foreign: bool = False,
-    ) -> None:
-        self.accounts, self.dialect, self.pool = accounts, dialect, pool
-        self.takes_foreign = takes_foreign
+    accounts: Accounts
+    dialect: Dialect
+    pool: Pool
+    takes_foreign: bool = False
 
     def take(self, file: pathlib.Path, key_of: Callable[[str], Key]) -> dict[str, int]:
         """Adds the accounts of lines "NAME RECORD", and counts what became of them."""
@@ -48,7 +45,7 @@ class Import:
             records = list(self._records(lines, key_of))
         begun = time.monotonic()
         for start in range(0, len(records), BATCH):
-            for word, _ in self.put(records[start : start + BATCH]):
+            for word in self.put(records[start : start + BATCH]):
                 counts[word] += 1
             _progress(min(start + BATCH, len(records)), len(records), begun)
         return counts
@@ -79,7 +76,7 @@ class Import:
                 raise Refusal(why(record, fault)) from None
         return key, record
 
-    def put(self, batch: Sequence[Line]) -> list[tuple[str, Copy]]:
+    def put(self, batch: Sequence[Line]) -> list[str]:
         """Puts a batch in one transaction: "added", "there" or "another" for each."""
         with self.pool() as conn:
             session = Session(conn)
@@ -88,22 +85,19 @@ class Import:
             run(self.dialect.commit(session))
         return words
 
-    def _put(self, session: Session, key: Key, record: str) -> tuple[str, Copy]:
+    def _put(self, session: Session, key: Key, record: str) -> str:
         """An enrolment in the open transaction, of an account that may not be there."""
         if not run(session.execute(self.dialect.select, key)).rows:
             run(session.execute(self.dialect.insert, key))
         ticket = Ticket(Request(Kind.ENROL, key), None)
         worked = Worked(ticket, Reply.ENROLLED, record)
         answer = self.accounts.commit_in(session.conn, worked)
-        if answer.reply is Reply.NO_ACCOUNT:
-            kept = f"the server keeps another name than {shown(key)}"
-            raise Refusal(kept, Status.DATABASE)
         if answer.reply is Reply.ENROLLED:
-            return "added", answer.after
-        if answer.after is None:
-            refused = f"the server keeps no record of {shown(key)}"
-            raise Refusal(refused, Status.DATABASE)
-        return ("there" if answer.after == record else "another"), answer.after
+            return "added"
+        if isinstance(answer.after, str):
+            return "there" if answer.after == record else "another"
+        kept = "no record of" if answer.after is None else "another name than"
+        raise Refusal(f"the server keeps {kept} {shown(key)}", Status.DATABASE)
 
 
 def shown(name: object) -> str:

@@ -3,16 +3,17 @@
 from __future__ import annotations
 
 import base64
+import ctypes
 import os
 from collections.abc import Callable, Iterable
 from typing import Final, Optional, Union
 
+from rigzumal import _library
 from rigzumal._hashers import PasswordHasher, ScryptHasher
-from rigzumal._library import InvalidRecordError, Secret
+from rigzumal._library import InvalidRecordError, Secret, bytes_of, text_bytes
 from rigzumal._parts import Parts, parts
-from rigzumal.accounts._step import is_right, step
-from rigzumal.accounts._values import Copy, Kind, Reply, Request, Ticket, Worked
-from rigzumal.accounts._values import bytes_of_password
+from rigzumal.accounts.parts import Copy, Kind, Reply, Request, Ticket, Worked
+from rigzumal.accounts.parts import bytes_of_password
 
 Hasher = Union[PasswordHasher, ScryptHasher]
 
@@ -24,24 +25,17 @@ shut: then a hash of ours is made, so that it takes as long.
 """
 
 _TAG_SIZE: Final = 32
+# Their numbers in the library for C are their places.
+_OPERATIONS: Final = {kind: number for number, kind in enumerate(Kind, 1)}
+_REPLIES: Final = dict(enumerate(Reply, 1))
+_COPY_FAULT: Final = 24
 
 
 class Judge:
-    """Works requests at copies, with new records by one hasher.
+    """Works requests at copies, with new records by one hasher, as of Accounts.
 
-    Args:
-        hasher: makes the settings of new records. Its tags have 32 bytes, and it has
-            no secret.
-        foreign: judges texts of other schemes.
-        upgrade_from: costs as at the front of a record
-            ("$argon2i$v=19$m=65536,t=3,p=4") that an upgrade replaces, whether its own
-            are higher or not.
-
-    Raises:
-        TypeError: the hasher is of another type.
-        ValueError: the hasher's tags haven't 32 bytes, it has a secret, or its own
-            costs are in the list.
-        InvalidRecordError: one of the list isn't costs.
+    Attributes:
+        sample: a record of the hasher's costs that no password is right for.
     """
 
     def __init__(
@@ -58,19 +52,13 @@ class Judge:
         if getattr(hasher, "secret", None) is not None:
             raise ValueError("records of accounts are made without a secret")
         self._hasher, self._foreign = hasher, foreign
-        self._dummy = f"{self._setting()}${_base64(os.urandom(_TAG_SIZE))}"
-        self._parts = parts(self._dummy)
-        old = [_parts_of_setting(f"{costs}${'A' * 22}") for costs in upgrade_from]
-        self._old = frozenset(it.costs for it in old)
+        self.sample = f"{self._setting()}${_base64(os.urandom(_TAG_SIZE))}"
+        self._parts = parts(self.sample)
+        rest = f"${'A' * 22}${_base64(bytes(_TAG_SIZE))}"
+        self._old = frozenset(parts(costs + rest).costs for costs in upgrade_from)
         if self._parts.costs in self._old:
-            raise ValueError(
-                "an upgrade would be from the hasher's costs to themselves"
-            )
-
-    @property
-    def sample(self) -> str:
-        """A record of the hasher's costs that no password is right for."""
-        return self._dummy
+            fault = "an upgrade would be from the hasher's costs to themselves"
+            raise ValueError(fault)
 
     def new_record(self, password: Secret) -> str:
         """A new record of a password that an account may have."""
@@ -80,15 +68,11 @@ class Judge:
         """What the whole operation does at the ticket's copy.
 
         Whoever has no record costs one hash too, as does an account that isn't there.
-
-        Raises:
-            InvalidRecordError: the copy is of another scheme, and no hook judges it.
-            OutOfMemoryError: there was too little memory.
         """
         request, copy = ticket.request, ticket.copy
         reply, after = self._judged(ticket)
         if not isinstance(copy, str) and request.kind not in (Kind.ENROL, Kind.RESET):
-            is_right(self._dummy, request.password)
+            is_right(self.sample, request.password)
         return Worked(ticket, reply, after)
 
     def _judged(self, ticket: Ticket) -> tuple[Reply, Copy]:
@@ -126,16 +110,16 @@ class Judge:
         assert isinstance(request.password, bytes)
         right = foreign(copy, request.password) if request.can_be_right else None
         if right is None:
-            is_right(self._dummy, request.password)
+            is_right(self.sample, request.password)
         if not right:
             return _wrong(request), copy
         if request.kind is Kind.VERIFY:
             return Reply.YES, copy
         if request.kind is Kind.REMOVE:
             return Reply.REMOVED, None
-        changed = request.kind is Kind.CHANGE
-        new = request.new_password if changed else request.password
-        return (Reply.REPLACED if changed else Reply.UPGRADED), self._made(new)
+        if request.kind is Kind.CHANGE:
+            return Reply.REPLACED, self._made(request.new_password)
+        return Reply.UPGRADED, self._made(request.password)
 
     def _made(self, password: Secret) -> str:
         _, made = step(Kind.ENROL, None, password, b"", self._setting())
@@ -175,9 +159,50 @@ def _dearness(found: Parts) -> tuple[int, int, int]:
     return found.version, found.memory, found.memory * found.passes
 
 
-def _parts_of_setting(setting: str) -> Parts:
-    return parts(f"{setting}${_base64(bytes(_TAG_SIZE))}")
-
-
 def _base64(data: bytes) -> str:
     return base64.b64encode(data).decode().rstrip("=")
+
+
+def step(
+    kind: Kind,
+    copy: Optional[str],
+    password: Secret,
+    new_password: Secret,
+    setting: str,
+) -> tuple[Reply, Optional[str]]:
+    """The reply of a whole operation at a record of ours, and the record after it.
+
+    It is rigzumal_step, whose answer is proved; it resets none. The setting is costs
+    with a fresh salt, for a new record.
+    """
+    text = ctypes.create_string_buffer(_library.TEXT_SIZE)
+    reply = ctypes.c_uint32()
+    given, new = bytes_of(password), bytes_of(new_password)
+    fault = _library._library.rigzumal_step(
+        text,
+        ctypes.c_size_t(_library.TEXT_SIZE),
+        ctypes.byref(reply),
+        ctypes.c_uint32(_OPERATIONS[kind]),
+        None if copy is None else text_bytes(copy),
+        given,
+        ctypes.c_size_t(len(given)),
+        new,
+        ctypes.c_size_t(len(new)),
+        text_bytes(setting),
+    )
+    if fault == _COPY_FAULT and copy is not None:
+        parts(copy)
+    _library.raise_fault(fault)
+    said = _REPLIES[reply.value]
+    if not said.makes_change:
+        return said, copy
+    return said, text.value.decode() or None
+
+
+def is_right(record: str, password: Secret) -> bool:
+    """Whether a record is one of the password."""
+    fault = _library.check(record, password)
+    if fault == _library.MISMATCH:
+        return False
+    _library.raise_fault(fault)
+    return True

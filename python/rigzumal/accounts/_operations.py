@@ -10,25 +10,21 @@ is looked at once more at the primary.
 from __future__ import annotations
 
 from collections.abc import Iterable
-from typing import Any, Callable, ClassVar, Final, Generic, Optional, TypeVar
+from typing import Any, ClassVar, Final, Generic, Optional, TypeVar
 
 from rigzumal._library import OutOfMemoryError, Secret
 from rigzumal.accounts import _examine
 from rigzumal.accounts._connections import Connections, Waits
 from rigzumal.accounts._judgement import Foreign, Hasher, Judge
-from rigzumal.accounts._session import Job, Runtime, Session
-from rigzumal.accounts._table import Also, Broken, Table, Undone, judged
-from rigzumal.accounts._values import NO_ROW, Answer, Copy, Key, Kind, OutcomeUnknown
-from rigzumal.accounts._values import Reply, Request, StoreFault, Ticket, Unavailable
-from rigzumal.accounts._values import Worked
-from rigzumal.accounts.dialects._dialect import Dialect
-from rigzumal.accounts.dialects._faults import Fault
+from rigzumal.accounts._session import Hook, Job, Runtime
+from rigzumal.accounts._table import Broken, Table, Undone, judged
+from rigzumal.accounts.parts import NO_ROW, Answer, Copy, Key, Kind, OutcomeUnknown
+from rigzumal.accounts.parts import Reply, Request, StoreFault, Ticket, Unavailable
+from rigzumal.accounts.parts import Worked
+from rigzumal.accounts.dialects._dialect import Dialect, Fault
 from rigzumal.accounts.pools import check_pool
 
 AnyPool = TypeVar("AnyPool")
-
-Hook = Optional[Callable[[Any, Reply], Any]]
-"""A caller's own statements: called with the driver's connection and the reply."""
 
 AS_A_VERIFY: Final = {
     Reply.KEPT: Reply.YES,
@@ -72,34 +68,29 @@ class Operations(Generic[AnyPool]):
         """Called before each COMMIT of a change is sent."""
 
     async def _replied(self, request: Request, also: Hook) -> Reply:
-        return (await self._performed(request, also)).reply
-
-    async def _performed(self, request: Request, also: Hook) -> Answer:
-        return await self._perform(request, self._told(also))
+        return (await self._perform(request, also)).reply
 
     async def _login(self, key: Key, password: Secret, also: Hook) -> Reply:
         patience: Optional[float] = None
-        told = self._told(also)
-        as_a_verify = None if told is None else _as_a_verify(told)
         try:
             request = Request(Kind.UPGRADE, key, password)
-            answer = await self._perform(request, as_a_verify)
+            answer = await self._perform(request, _as_a_verify(also))
             return AS_A_VERIFY.get(answer.reply, answer.reply)
         except OutcomeUnknown:
-            if told is not None:
+            if also is not None:
                 raise  # its rows may stand
         except (StoreFault, OutOfMemoryError):
             pass
         except Unavailable:
             patience = 0.0  # one look more; but the server was waited for already
         verify = Request(Kind.VERIFY, key, password)
-        return (await self._perform(verify, told, patience)).reply
+        return (await self._perform(verify, also, patience)).reply
 
     async def _examined(self) -> list[Fault]:
-        def examined(session: Session) -> Any:
-            return _examine.examine(self._table, session, self._judge.sample)
-
-        return await self._runtime.use(self._connections.primary, examined)
+        return await self._runtime.use(
+            self._connections.primary,
+            lambda it: _examine.examine(self._table, it, self._judge.sample),
+        )
 
     async def _begin(self, request: Request) -> Ticket:
         return Ticket(request, (await self._first_copy(request))[0])
@@ -107,22 +98,8 @@ class Operations(Generic[AnyPool]):
     async def _commit_in(self, conn: Any, worked: Worked) -> Answer:
         return await self._table.commit_in(self._runtime.session(conn), worked)
 
-    def _told(self, also: Hook) -> Optional[Also]:
-        """A caller's hook as a job."""
-        if also is None:
-            return None
-        hook = also
-
-        async def done(session: Session, reply: Reply) -> None:
-            await self._runtime.told(hook(session.conn, reply))
-
-        return done
-
     async def _perform(
-        self,
-        request: Request,
-        also: Optional[Also] = None,
-        patience: Optional[float] = None,
+        self, request: Request, also: Hook = None, patience: Optional[float] = None
     ) -> Answer:
         """The whole operation, done again if another record stands at its commit."""
         copy, is_settled = await self._first_copy(request, patience)
@@ -164,10 +141,7 @@ class Operations(Generic[AnyPool]):
         return lambda session: self._table.look(session, key)
 
     async def _commit(
-        self,
-        worked: Worked,
-        also: Optional[Also] = None,
-        patience: Optional[float] = None,
+        self, worked: Worked, also: Hook = None, patience: Optional[float] = None
     ) -> Answer:
         """Compares and puts, at once or in a transaction of its own."""
         key = worked.ticket.request.key
@@ -176,38 +150,20 @@ class Operations(Generic[AnyPool]):
         if also is None and not self._table.writes(worked):
             return judged(worked, await self._look(key, patience))
         try:
-            answer: Optional[Answer] = None
-            if also is None and self._is_of_one_statement(worked):
-                answer = await self._connections.patiently(
-                    lambda session: self._table.change_at_once(session, worked),
-                    patience,
-                )
-            if answer is None:
-                answer = await self._change(worked, also, patience)
-            return answer
+            return await self._change(worked, also, patience)
         except Broken:
             pass
         return await self._settled(worked, also)
 
-    def _is_of_one_statement(self, worked: Worked) -> bool:
-        """Whether one statement does it, if the engine has such a one.
-
-        Of NULL to a record, and of a record to NULL, what stands doesn't tell whether it
-        was put. There a connection that breaks before COMMIT has to be known.
-        """
-        copy, after = worked.ticket.copy, worked.after
-        both = isinstance(copy, str) and isinstance(after, str)
-        return bool(self._dialect.at_once) and both and copy != after
-
     async def _change(
-        self, worked: Worked, also: Optional[Also], patience: Optional[float] = None
+        self, worked: Worked, also: Hook, patience: Optional[float] = None
     ) -> Answer:
         answer: Answer = await self._connections.patiently(
             lambda session: self._table.change(session, worked, also), patience
         )
         return answer
 
-    async def _settled(self, worked: Worked, also: Optional[Also]) -> Answer:
+    async def _settled(self, worked: Worked, also: Hook) -> Answer:
         """Finds out whether a change stands whose COMMIT had no answer.
 
         A record is put once, since its salt is fresh. So if the new one stands, it was
@@ -237,7 +193,7 @@ class Operations(Generic[AnyPool]):
             await self._runtime.pause(waits.next())
         raise _unknown(worked, why)
 
-    async def _put_again(self, worked: Worked, also: Optional[Also]) -> bool:
+    async def _put_again(self, worked: Worked, also: Hook) -> bool:
         """Whether the change stands, for good; False if another turn may tell.
 
         Raises:
@@ -256,8 +212,11 @@ class Operations(Generic[AnyPool]):
         return sent.reply is worked.reply
 
 
-def _as_a_verify(also: Also) -> Also:
-    return lambda session, reply: also(session, AS_A_VERIFY.get(reply, reply))
+def _as_a_verify(also: Hook) -> Hook:
+    if also is None:
+        return None
+    hook = also
+    return lambda conn, reply: hook(conn, AS_A_VERIFY.get(reply, reply))
 
 
 def _unknown(worked: Worked, why: str = "") -> OutcomeUnknown:

@@ -9,12 +9,15 @@ from __future__ import annotations
 import asyncio
 import time
 from collections.abc import Awaitable, Callable, Coroutine, Iterable, Mapping
-from types import TracebackType
+from contextlib import closing
 from typing import Any, Generic, NamedTuple, Optional, TypeVar
 
-from rigzumal.accounts._values import StoreFault
+from rigzumal.accounts.parts import Reply, StoreFault
 
 T = TypeVar("T")
+
+Hook = Optional[Callable[[Any, Reply], Any]]
+"""A caller's own statements: called with the driver's connection and the reply."""
 
 
 class Result(NamedTuple):
@@ -33,24 +36,32 @@ class Session:
 
     async def execute(self, sql: str, *values: object) -> Result:
         """Does a statement to its end: a cursor that isn't keeps SQLite's snapshot."""
-        cursor = self.conn.cursor()
-        try:
+        with closing(self.conn.cursor()) as cursor:
             cursor.execute(*_given(sql, values))
-            fetched = cursor.fetchall() if cursor.description else ()
-            return _result(cursor, fetched)
-        finally:
-            cursor.close()
+            return _result(cursor, cursor.fetchall() if cursor.description else ())
+
+    async def tell(self, hook: Callable[[Any, Reply], Any], reply: Reply) -> None:
+        """Calls a caller's own function with a reply, and waits for it."""
+        said = hook(self.conn, reply)
+        if isinstance(said, Coroutine):
+            said.close()
+        if isinstance(said, Awaitable):
+            raise TypeError("`also` has answered a coroutine: use AsyncAccounts")
 
 
 class AsyncSession(Session):
     """A connection of psycopg's AsyncConnection, or of a driver with cursors like it."""
 
     async def execute(self, sql: str, *values: object) -> Result:
-        """Does a statement to its end."""
         async with self.conn.cursor() as cursor:
             await cursor.execute(*_given(sql, values))
             fetched = await cursor.fetchall() if cursor.description else ()
             return _result(cursor, fetched)
+
+    async def tell(self, hook: Callable[[Any, Reply], Any], reply: Reply) -> None:
+        said = hook(self.conn, reply)
+        if isinstance(said, Awaitable):
+            await said
 
 
 def _given(sql: str, values: tuple[object, ...]) -> tuple[Any, ...]:
@@ -82,35 +93,25 @@ class Ending(Generic[T]):
     A pool that rolls back a broken connection raises in place of what the job raised,
     and "COMMIT had no answer" would be taken for "nothing was done". So what a job ended
     by is kept here, and what its pool raises is dropped.
-
-    Attributes:
-        value: what the job answered.
-        has_begun: the pool gave a connection.
     """
 
-    value: T
+    has_begun = False  # the pool gave a connection
+    _value: T
+    _error: Optional[BaseException] = None
 
-    def __init__(self) -> None:
-        self.has_begun = False
-        self._error: Optional[BaseException] = None
-
-    def __enter__(self) -> Ending[T]:
+    async def note(self, job: Job[T], session: Session) -> None:
         self.has_begun = True
-        return self
-
-    def __exit__(
-        self,
-        kind: Optional[type[BaseException]],
-        error: Optional[BaseException],
-        traceback: Optional[TracebackType],
-    ) -> None:
-        self._error = error
+        try:
+            self._value = await job(session)
+        except BaseException as error:
+            self._error = error
+            raise
 
     def answer(self) -> T:
         """What the job answered; raises what it raised."""
         if self._error is not None:
             raise self._error
-        return self.value
+        return self._value
 
 
 def run(coroutine: Coroutine[Any, Any, T]) -> T:
@@ -133,8 +134,8 @@ class Runtime:
         """Does a job on a connection of a pool."""
         ending: Ending[T] = Ending()
         try:
-            with pool() as conn, ending:
-                ending.value = await job(self.session(conn))
+            with pool() as conn:
+                await ending.note(job, self.session(conn))
         except Exception:
             # What a pool raises after a job has ended changes nothing of how it ended.
             if not ending.has_begun:
@@ -149,13 +150,6 @@ class Runtime:
         """Does work that needs a processor for a while."""
         return work(*given)
 
-    async def told(self, said: Any) -> None:
-        """Waits for a caller's own function, which answered so."""
-        if isinstance(said, Coroutine):
-            said.close()
-        if isinstance(said, Awaitable):
-            raise TypeError("`also` has answered a coroutine: use AsyncAccounts")
-
 
 class AsyncRuntime(Runtime):
     """Waits as a task of asyncio does, and hashes in a thread."""
@@ -166,8 +160,7 @@ class AsyncRuntime(Runtime):
         ending: Ending[T] = Ending()
         try:
             async with pool() as conn:
-                with ending:
-                    ending.value = await job(self.session(conn))
+                await ending.note(job, self.session(conn))
         except Exception:
             if not ending.has_begun:
                 raise
@@ -178,7 +171,3 @@ class AsyncRuntime(Runtime):
 
     async def call(self, work: Callable[..., T], *given: Any) -> T:
         return await asyncio.to_thread(work, *given)
-
-    async def told(self, said: Any) -> None:
-        if isinstance(said, Awaitable):
-            await said

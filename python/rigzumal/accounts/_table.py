@@ -7,17 +7,15 @@ was put, COMMIT.
 
 from __future__ import annotations
 
-from collections.abc import Awaitable, Callable
+from collections.abc import Callable
 from dataclasses import dataclass
 from typing import Any, NoReturn, Optional, Union
 
-from rigzumal.accounts._session import Session
-from rigzumal.accounts._values import NO_ROW, Answer, Copy, Key, Reply, StoreFault
-from rigzumal.accounts._values import Worked
-from rigzumal.accounts.dialects._dialect import Dialect, Verdict, is_of_driver
-
-Also = Callable[[Session, Reply], Awaitable[None]]
-"""Does a caller's own statements before COMMIT."""
+from rigzumal.accounts._session import Hook, Session
+from rigzumal.accounts.parts import NO_ROW, Answer, Copy, Key, Reply, StoreFault
+from rigzumal.accounts.parts import Worked
+from rigzumal.accounts.dialects._dialect import ANOTHER_RECORD, Dialect, Verdict
+from rigzumal.accounts.dialects._dialect import is_of_driver
 
 
 class Lost(Exception):
@@ -30,25 +28,24 @@ class Broken(Exception):
 
 @dataclass(frozen=True)
 class Undone:
-    """The server undid the transaction, and the connection is as good as before."""
-
-    cause: Optional[BaseException]
-
-
-class Table:
-    """The jobs on one table.
+    """Nothing was done, and it may be tried again.
 
     Attributes:
-        dialect: of the database, with the names of the table and its columns.
-        confirm: what makes no change is confirmed by a COMMIT that writes.
-        before_commit: called before each COMMIT of a change is sent.
+        cause: the error, or how the connection was lost.
+        reason: why there is no connection, in words that have no row.
     """
 
-    def __init__(
-        self, dialect: Dialect, confirm: bool, before_commit: Callable[[Worked], None]
-    ) -> None:
-        self.dialect, self.confirm = dialect, confirm
-        self.before_commit = before_commit
+    cause: Optional[BaseException]
+    reason: str = ""
+
+
+@dataclass
+class Table:
+    """The jobs on one table."""
+
+    dialect: Dialect
+    confirm: bool  # what makes no change is confirmed by a COMMIT that writes
+    before_commit: Callable[[Worked], None]  # is called before each one of a change
 
     def writes(self, worked: Worked) -> bool:
         """Whether it is committed by an UPDATE, if only of the copy by itself."""
@@ -69,64 +66,74 @@ class Table:
         """The record that a statement reads."""
         return _record((await session.execute(sql, key)).rows)
 
-    async def change_at_once(
+    async def change(
+        self, session: Session, worked: Worked, also: Hook = None
+    ) -> Union[Answer, Undone]:
+        """A change by one statement, or a transaction with a caller's own in it."""
+        self.dialect.fresh(session.conn)
+        done: Union[Answer, Undone, None] = None
+        if also is None and self._is_of_one_statement(worked):
+            done = await self._at_once(session, worked)
+        return done or await self._transaction(session, worked, also)
+
+    def _is_of_one_statement(self, worked: Worked) -> bool:
+        """Whether one statement does it, if the engine has such a one.
+
+        Of NULL to a record, and of a record to NULL, what stands doesn't tell whether it
+        was put. There a connection that breaks before COMMIT has to be known.
+        """
+        copy, after = worked.ticket.copy, worked.after
+        both = isinstance(copy, str) and isinstance(after, str)
+        return bool(self.dialect.at_once) and both and copy != after
+
+    async def _at_once(
         self, session: Session, worked: Worked
     ) -> Union[Answer, Undone, None]:
         """A change by one statement; None if a transaction has to say what stands."""
-        dialect, request = self.dialect, worked.ticket.request
-        put = (worked.after, request.key, worked.ticket.copy)
+        dialect, copy, after = self.dialect, worked.ticket.copy, worked.after
         is_sent = False
-        dialect.fresh(session.conn)
         try:
             await dialect.prepare(session)
             self.before_commit(worked)
             is_sent = True
-            touched = await dialect.put_at_once(session, *put)
+            key = worked.ticket.request.key
+            touched = await dialect.put_at_once(session, after, key, copy)
+            return Answer(worked.reply, copy, after) if touched == 1 else None
         except Exception as error:
             caught = error
-        else:
-            done = Answer(worked.reply, worked.ticket.copy, worked.after)
-            return done if touched == 1 else None
         if is_sent and dialect.refuses_at_once(caught):
             return None
-        if is_sent and is_of_driver(caught) and not dialect.gave_up(caught):
+        if is_sent and self._may_stand(caught):
             raise Broken() from caught
         return await self._undone(session, caught)
 
-    async def change(
-        self, session: Session, worked: Worked, also: Optional[Also] = None
+    def _may_stand(self, caught: Exception) -> bool:
+        """Known to be undone is what the server itself gave up; all else may stand."""
+        return is_of_driver(caught) and not self.dialect.gave_up(caught)
+
+    async def _transaction(
+        self, session: Session, worked: Worked, also: Hook
     ) -> Union[Answer, Undone]:
-        """A transaction of its own, with a caller's own statements in it."""
-        dialect, is_theirs = self.dialect, False
-        caught: Optional[Exception] = None
-        dialect.fresh(session.conn)
+        dialect, is_theirs, is_sent = self.dialect, False, False
         try:
             await dialect.prepare(session)
             await dialect.start(session)
             answer = await self._answer(session, worked)
             if also is not None and answer.reply is not Reply.CHANGED:
                 is_theirs = True
-                await also(session, answer.reply)
+                await session.tell(also, answer.reply)
                 is_theirs = False
             if answer.reply.makes_change:
                 self.before_commit(worked)
-        except Exception as error:
-            caught = error
-        if caught is not None:
-            return await self._undone(session, caught, is_theirs)
-        try:
+            is_sent = True
             await dialect.commit(session)
+            return answer
         except Exception as error:
             caught = error
-        if caught is None:
-            return answer
-        if not is_of_driver(caught):
-            raise caught
-        # Known to be undone is what the server itself gave up; all else may stand.
-        if dialect.gave_up(caught):
-            return await self._undone(session, caught)
-        wrote = answer.reply.makes_change or also is not None
-        raise (Broken if wrote else Lost)() from caught
+        if is_sent and self._may_stand(caught):
+            wrote = answer.reply.makes_change or also is not None
+            raise (Broken if wrote else Lost)() from caught
+        return await self._undone(session, caught, is_theirs)
 
     async def commit_in(self, session: Session, worked: Worked) -> Answer:
         """The same within a transaction that another has begun, and ends."""
@@ -148,16 +155,11 @@ class Table:
         rows, count, _ = await dialect.put(session, worked.after, key, copy)
         if count == 1:
             # A trigger, a short column or a character set may have made another of it.
-            now = (
-                _record(rows)
-                if dialect.returns
-                else await self.one(session, dialect.select, key)
-            )
-            if now != worked.after:
-                raise StoreFault(
-                    "the row has another record than the one that was written"
-                )
-            return Answer(worked.reply, copy, now)
+            if not dialect.returns:
+                rows = (await session.execute(dialect.select, key)).rows
+            if _record(rows) != worked.after:
+                raise StoreFault(ANOTHER_RECORD)
+            return Answer(worked.reply, copy, worked.after)
         if count != 0:
             raise StoreFault(f"the UPDATE says {count} rows, and one is wanted")
         # With a lock: a plain SELECT may read an old snapshot where the UPDATE didn't.
@@ -166,9 +168,8 @@ class Table:
             # NULL may have come back since the UPDATE; a record that was replaced
             # doesn't.
             if answer.after is not None:
-                raise StoreFault(
-                    "the row has the copy, and an UPDATE doesn't change it"
-                )
+                fault = "the row has the copy, and an UPDATE doesn't change it"
+                raise StoreFault(fault)
             return Answer(Reply.CHANGED, None, None)
         return answer
 

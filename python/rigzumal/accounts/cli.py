@@ -23,24 +23,26 @@ input was refused.
 from __future__ import annotations
 
 import argparse
+import functools
 import getpass
 import json
 import os
+import pathlib
 import shutil
 import sys
-from collections.abc import Callable, Sequence
-from typing import Any, Optional, Union
+from collections.abc import Callable, Iterator, Sequence
+from typing import Any, Final, Optional, Union
 
 from rigzumal import PasswordHasher, RigzumalError, ScryptHasher
 from rigzumal._library import InvalidRecordError, bytes_of
 from rigzumal._newline import hint
-from rigzumal._statuses import Refusal, Status, status_of
+from rigzumal._statuses import Refusal, Status, Words, status_of
 from rigzumal.accounts._accounts import Accounts
-from rigzumal.accounts._arguments import parser
 from rigzumal.accounts._import import Import, costs_of, made_by, shown, why
 from rigzumal.accounts._session import Session, run
-from rigzumal.accounts._values import LONGEST_PASSWORD, AccountsError, Key, Reply
+from rigzumal.accounts.parts import LONGEST_PASSWORD, AccountsError, Key, Reply
 from rigzumal.accounts.database import Database
+from rigzumal.accounts.dialects import Dialect
 from rigzumal.accounts.parts import Kind, Request
 from rigzumal.accounts.pools import PerThread
 
@@ -49,9 +51,10 @@ DRIVERS = ("sqlite3", "psycopg", "pymysql")
 
 def main(words: Optional[Sequence[str]] = None) -> int:
     """Runs the command, and answers its exit status."""
-    given = parser(__doc__.partition("\n\n")[2]).parse_args(words)
+    given = _parser().parse_args(words)
     try:
-        return _run(given)
+        run, _ = _COMMANDS[given.command]
+        return run(_Command(given))
     except BrokenPipeError:
         return Status.STREAM
     except Refusal as refusal:
@@ -73,31 +76,13 @@ def main(words: Optional[Sequence[str]] = None) -> int:
     except Exception as fault:
         if type(fault).__module__.partition(".")[0] not in DRIVERS:
             raise
-        _say(f"{type(fault).__name__}: {_line(fault)}")
+        first, *_ = [*str(fault).strip().splitlines(), ""]  # others may have a row
+        _say(f"{type(fault).__name__}: {first}")
     return Status.DATABASE
-
-
-def _run(given: argparse.Namespace) -> int:
-    if given.command == "history":
-        from rigzumal.accounts.torture import logs
-
-        try:
-            return Status.NO if logs.main(given.logs) else Status.DONE
-        except ValueError as fault:
-            raise Refusal(str(fault)) from None
-    if not given.database:
-        wanted = "no database: --database URL, or RIGZUMAL_DATABASE"
-        raise Refusal(wanted, Status.WORDS)
-    return _RUNS[given.command](_Command(given))
 
 
 def _say(text: str) -> None:
     print(f"rigzumal: {text}", file=sys.stderr)
-
-
-def _line(fault: Exception) -> str:
-    """The first line of a driver's text; further ones may have a row."""
-    return (str(fault).strip().splitlines() or [""])[0]
 
 
 class _Command:
@@ -105,24 +90,37 @@ class _Command:
 
     def __init__(self, given: argparse.Namespace) -> None:
         self.given = given
-        self.database = Database(given.database)
-        if self.database.is_missing and given.command not in ("init", "torture"):
-            missing = f"{given.database}: no such file; init makes one"
-            raise Refusal(missing, Status.DATABASE)
-        self.pool = PerThread(self.database.connect)
-        if given.command != "torture":
-            names = (given.table, given.key, given.record)
-            kind = int if given.numbers else str
-            self.dialect = self.database.dialect_kind()(*names, kind)
+
+    @functools.cached_property
+    def database(self) -> Database:
+        url = self.given.database
+        if not url:
+            fault = "no database: --database URL, or RIGZUMAL_DATABASE"
+            raise Refusal(fault, Status.WORDS)
+        database = Database(url)
+        if database.is_missing and self.given.command not in ("init", "torture"):
+            fault = f"{url}: no such file; init makes one"
+            raise Refusal(fault, Status.DATABASE)
+        return database
+
+    @functools.cached_property
+    def pool(self) -> PerThread:
+        return PerThread(self.database.connect)
+
+    @functools.cached_property
+    def dialect(self) -> Dialect:
+        given = self.given
+        kind = int if given.numbers else str
+        return self.database.dialect_kind()(given.table, given.key, given.record, kind)
 
     def accounts(self) -> Accounts:
-        given = self.given
+        given, dialect = self.given, self.dialect
         hasher: Union[PasswordHasher, ScryptHasher] = (
             ScryptHasher(log2_n=given.log2_n)
             if given.scrypt
             else PasswordHasher(given.passes, given.memory, given.lanes)
         )
-        return Accounts(self.pool, self.dialect, hasher, confirm=given.confirm)
+        return Accounts(self.pool, dialect, hasher, confirm=given.confirm)
 
     def key(self, name: str) -> Key:
         if not self.given.numbers:
@@ -151,7 +149,7 @@ class _Command:
         if isinstance(accounts.begin(Request(Kind.ENROL, key)).copy, str):
             return self.say(Reply.EXISTS)
         record = accounts.new_record(password)
-        ((word, _),) = Import(accounts, self.dialect, self.pool).put([(key, record)])
+        (word,) = Import(accounts, self.dialect, self.pool).put([(key, record)])
         reply = Reply.ENROLLED if word == "added" else Reply.EXISTS
         return self.say(reply, Reply.ENROLLED)
 
@@ -199,11 +197,8 @@ class _Command:
         with self.pool() as conn:
             cursor = conn.cursor()
             cursor.execute(self.dialect.every)
-            while True:
-                row = cursor.fetchone()
-                if row is None:
-                    break
-                name, record = row
+            rows: Iterator[tuple[Any, Any]] = iter(cursor.fetchone, None)
+            for name, record in rows:
                 fields = {"name": name, "costs": costs_of(record)}
                 if record is not None and fields["costs"] is None:
                     fields["foreign"] = True
@@ -227,21 +222,20 @@ class _Command:
         from rigzumal.accounts import torture
         from rigzumal.accounts.torture import logs
 
-        given = self.given
-        table = "rigzumal_torture" if given.table == "accounts" else given.table
-        run = torture.Torture(given.database, table, kill=given.kill)
-        run.confirm = given.confirm
-        run.processes, run.seconds = given.processes, given.seconds
-        run.accounts, run.folder = given.accounts, given.logs
+        given, table = self.given, self.given.table
+        names = ("processes", "seconds", "accounts", "kill", "confirm")
+        run = torture.Torture(
+            self.database.url,
+            "rigzumal_torture" if table == "accounts" else table,
+            folder=given.logs,
+            **{name: getattr(given, name) for name in names},
+        )
         accounts = run.run()
-        found = torture.verdict(accounts)
-        if found:
-            print(f"illegal: {found}\nlogs: {run.folder}")
+        if not logs.is_legal(accounts, f", {run.killed} killed"):
+            print(f"logs: {run.folder}")
             return Status.NO
-        print(f"legal: {logs.summary(accounts.values())}, {run.killed} killed")
-        if not any(
-            it.makes_change for one in accounts.values() for it in one.operations
-        ):
+        every = [it for one in accounts.values() for it in one.operations]
+        if not any(it.makes_change for it in every):
             raise Refusal("no change was made, so nothing is shown", Status.NO)
         if given.kill and not run.killed:
             said = "no process was killed, so nothing is shown of that"
@@ -251,17 +245,78 @@ class _Command:
             shutil.rmtree(run.folder)
         return Status.DONE
 
+    def history(self) -> int:
+        from rigzumal.accounts.torture import logs
 
-_RUNS: dict[str, Callable[[_Command], int]] = {
-    "init": _Command.init,
-    "add": _Command.add,
-    "check": _Command.check,
-    "reset": _Command.reset,
-    "import": _Command.take,
-    "list": _Command.show,
-    "examine": _Command.examine,
-    "torture": _Command.torture,
+        try:
+            accounts = logs.read(self.given.logs)
+        except ValueError as fault:
+            raise Refusal(str(fault)) from None
+        return Status.DONE if logs.is_legal(accounts) else Status.NO
+
+
+_COMMANDS: Final[dict[str, tuple[Callable[[_Command], int], str]]] = {
+    "init": (_Command.init, "create the table"),
+    "add": (_Command.add, "add an account with a password"),
+    "check": (_Command.check, "write yes, or no with status 4"),
+    "reset": (_Command.reset, "give an account another password"),
+    "import": (_Command.take, "add the accounts of a file, all of a bad file or none"),
+    "list": (_Command.show, "write each account, and the costs of its record"),
+    "examine": (_Command.examine, "name faults of the table and the server"),
+    "torture": (
+        _Command.torture,
+        "run many processes at once, and judge their history",
+    ),
+    "history": (_Command.history, "judge logs"),
 }
+
+
+def _parser() -> argparse.ArgumentParser:
+    words = Words(
+        prog="python3 -m rigzumal accounts",
+        description=__doc__.partition("\n\n")[2],
+        formatter_class=argparse.RawDescriptionHelpFormatter,
+    )
+    url = os.environ.get("RIGZUMAL_DATABASE")
+    words.add_argument("--database", metavar="URL", default=url)
+    words.add_argument("--table", default="accounts", help="by default: accounts")
+    words.add_argument("--key", default="name", help="its column of names")
+    words.add_argument("--record", default="record", help="its column of records")
+    words.add_argument("--numbers", action="store_true", help="names are whole numbers")
+    words.add_argument("--json", action="store_true", help="write lines of JSON")
+    confirm = "confirm each answer by a write (docs/SCALE.md)"
+    words.add_argument("--confirm", action="store_true", help=confirm)
+    words.add_argument("--scrypt", action="store_true", help="by scrypt, not Argon2id")
+    words.add_argument("--memory", type=int, default=65536, help="of Argon2, in KiB")
+    words.add_argument("--passes", type=int, default=3, help="of Argon2")
+    words.add_argument("--lanes", type=int, default=4, help="of Argon2")
+    words.add_argument("--log2-n", type=int, default=17, help="of scrypt")
+    commands = words.add_subparsers(
+        dest="command", required=True, metavar="COMMAND", parser_class=Words
+    )
+    made = {
+        name: commands.add_parser(name, help=text, description=f"{text}.".capitalize())
+        for name, (_, text) in _COMMANDS.items()
+    }
+    for name in ("add", "check", "reset"):
+        made[name].add_argument("name")
+    made["import"].add_argument("file", type=pathlib.Path, help='lines "NAME RECORD"')
+    foreign = "accept records of other schemes, which your hook judges"
+    made["import"].add_argument("--foreign", action="store_true", help=foreign)
+    torture = made["torture"]
+    torture.add_argument("--processes", type=_count, default=8)
+    torture.add_argument("--seconds", type=_count, default=60)
+    torture.add_argument("--accounts", type=_count, default=4)
+    torture.add_argument("--kill", action="store_true", help="processes, now and then")
+    torture.add_argument("--logs", type=pathlib.Path, help="a folder for the logs")
+    made["history"].add_argument("logs", nargs="+")
+    return words
+
+
+def _count(text: str) -> int:
+    if not text.isascii() or not text.isdigit() or int(text) == 0:
+        raise argparse.ArgumentTypeError(f"{text!r} is not 1 or more")
+    return int(text)
 
 
 def _password(twice: bool = False) -> bytes:

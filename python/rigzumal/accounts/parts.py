@@ -7,26 +7,167 @@
 For rows that an operation commits with its reply, its `also` is enough.
 """
 
-from rigzumal.accounts._values import (
-    NO_ROW,
-    Answer,
-    Copy,
-    Key,
-    Kind,
-    NoRow,
-    Request,
-    Ticket,
-    Worked,
-)
+from __future__ import annotations
 
-__all__ = [
-    "NO_ROW",
-    "Answer",
-    "Copy",
-    "Key",
-    "Kind",
-    "NoRow",
-    "Request",
-    "Ticket",
-    "Worked",
-]
+import enum
+import uuid
+from dataclasses import dataclass, field
+from typing import TYPE_CHECKING, Final, Union
+
+from rigzumal._library import Secret, bytes_of
+
+Key = Union[int, str, bytes, uuid.UUID]
+"""The name of an account, of its column's type."""
+
+LONGEST_PASSWORD: Final = 256
+"""Bytes of the longest password. A longer one is refused, and never cut off."""
+
+
+class Reply(enum.Enum):
+    """The answer of an operation."""
+
+    ENROLLED = "enrolled"
+    EXISTS = "exists"
+    YES = "yes"
+    NO = "no"
+    ABSENT = "absent"
+    REPLACED = "replaced"
+    WRONG = "wrong"
+    UPGRADED = "upgraded"
+    KEPT = "kept"
+    REMOVED = "removed"
+    CHANGED = "changed"
+    NO_ACCOUNT = "noaccount"
+
+    # Hidden from mypy, whose `truthy-bool` then names each place where it is missing.
+    if not TYPE_CHECKING:
+
+        def __bool__(self) -> bool:
+            """Refuses `if accounts.login(..)`, which would let everybody in."""
+            fault = "a Reply is no truth value: compare with Reply.YES or the like"
+            raise TypeError(fault)
+
+    @property
+    def makes_change(self) -> bool:
+        """Whether the operation replaced, added or removed the record."""
+        return self.value in ("enrolled", "replaced", "upgraded", "removed")
+
+
+class Kind(enum.Enum):
+    """The operations."""
+
+    ENROL = "enrol"
+    VERIFY = "verify"
+    CHANGE = "change"
+    UPGRADE = "upgrade"
+    REMOVE = "remove"
+    RESET = "reset"
+
+
+class NoRow(enum.Enum):
+    """The copy of an account that doesn't exist."""
+
+    NO_ROW = "no row"
+
+
+NO_ROW: Final = NoRow.NO_ROW
+
+Copy = Union[str, None, NoRow]
+"""An account's record as it was read; None for no record, NO_ROW for no account."""
+
+
+def bytes_of_password(password: Secret) -> bytes:
+    """The bytes of a password that an account may have.
+
+    Raises:
+        TypeError: the password is neither bytes nor text.
+        ValueError: the password has over 256 bytes, or is text without UTF-8.
+    """
+    given = bytes_of(password)
+    if len(given) > LONGEST_PASSWORD:
+        raise ValueError(f"a password has up to {LONGEST_PASSWORD} bytes")
+    return given
+
+
+@dataclass(frozen=True)
+class Request:
+    """An operation to be done on an account.
+
+    Attributes:
+        kind: which.
+        key: the account's name, of its column's type, or a subclass of str.
+        password: bytes or text; not of a reset.
+        new_password: bytes or text, of a change and of a reset.
+        can_be_right: False if no account can have the password, over 256 bytes or text
+            without UTF-8. It is then empty, and a wrong password.
+
+    Raises:
+        TypeError: a password is neither bytes nor text.
+        ValueError: a new password has over 256 bytes, or is text without UTF-8.
+    """
+
+    kind: Kind
+    key: Key
+    password: Secret = field(default=b"", repr=False)
+    new_password: Secret = field(default=b"", repr=False)
+    can_be_right: bool = field(default=True, init=False, repr=False)
+
+    def __post_init__(self) -> None:
+        if isinstance(self.key, str):
+            # As a driver sees it, whatever the subclass makes of itself.
+            object.__setattr__(self, "key", str.__str__(self.key))
+        object.__setattr__(self, "new_password", bytes_of_password(self.new_password))
+        password = b""
+        try:
+            password = bytes_of_password(self.password)
+        except ValueError:
+            # Anybody may try a password, and gets an answer.
+            if self.kind is Kind.ENROL:
+                raise
+            object.__setattr__(self, "can_be_right", False)
+        object.__setattr__(self, "password", password)
+
+
+@dataclass(frozen=True)
+class Ticket:
+    """A request that was begun, with the copy of the account's record."""
+
+    request: Request
+    copy: Copy = field(repr=False)
+
+
+@dataclass(frozen=True)
+class Worked:
+    """The effect of the whole operation at the copy: its reply, and the record after it."""
+
+    ticket: Ticket
+    reply: Reply
+    after: Copy = field(repr=False)
+
+
+@dataclass(frozen=True)
+class Answer:
+    """A reply, the record at which it was judged, and the record after it."""
+
+    reply: Reply
+    before: Copy = field(repr=False)
+    after: Copy = field(repr=False)
+
+
+class AccountsError(Exception):
+    """The base of the operations' own exceptions."""
+
+
+class StoreFault(AccountsError):
+    """The table, the server or a connection has a fault; no change was made."""
+
+
+class Unavailable(AccountsError):
+    """No server did the operation in time; no change was made."""
+
+
+class OutcomeUnknown(AccountsError):
+    """COMMIT was sent, no answer came, and the row doesn't show whether it was done.
+
+    The change may be there, may have been replaced since, or may still come.
+    """

@@ -23,7 +23,7 @@ import os
 import threading
 from collections.abc import AsyncIterator, Awaitable, Callable, Iterator
 from contextlib import AbstractAsyncContextManager, AbstractContextManager
-from contextlib import asynccontextmanager, contextmanager
+from contextlib import asynccontextmanager, contextmanager, suppress
 from typing import Any, Optional
 
 Pool = Callable[[], AbstractContextManager[Any]]
@@ -55,10 +55,8 @@ class _Held:
         return self.pid == os.getpid()
 
     def close(self) -> None:
-        try:
+        with suppress(Exception):
             self.conn.close()
-        except Exception:
-            pass
 
     def __del__(self) -> None:
         if self.is_mine:
@@ -141,7 +139,9 @@ def of_engine(engine: Any) -> Any:
 
     @contextmanager
     def pool() -> Iterator[Any]:
-        with _connected(engine.connect) as conn:
+        with _drivers_error():
+            conn = engine.connect()
+        with conn:
             try:
                 yield conn.connection.driver_connection
             except BaseException:
@@ -150,10 +150,8 @@ def of_engine(engine: Any) -> Any:
 
     @asynccontextmanager
     async def awaited() -> AsyncIterator[Any]:
-        try:
+        with _drivers_error():
             conn = await engine.connect()
-        except Exception as error:
-            raise _drivers(error)
         try:
             yield (await conn.get_raw_connection()).driver_connection
         except BaseException:
@@ -165,13 +163,10 @@ def of_engine(engine: Any) -> Any:
     return awaited if hasattr(engine, "sync_engine") else pool
 
 
-def _connected(connect: Callable[[], Any]) -> Any:
+@contextmanager
+def _drivers_error() -> Iterator[None]:
+    """Raises the driver's own error within SQLAlchemy's, by which one knows what it means."""
     try:
-        return connect()
+        yield
     except Exception as error:
-        raise _drivers(error)
-
-
-def _drivers(error: Exception) -> BaseException:
-    """The driver's own error within SQLAlchemy's, by which one knows what it means."""
-    return getattr(error, "orig", None) or error
+        raise getattr(error, "orig", None) or error

@@ -2,53 +2,96 @@
 
 import asyncio
 import sqlite3
+import uuid
 
 import servers
 from support import LOW, Awaiting
 from rigzumal.accounts import AsyncAccounts, MariaDB, MySQL, Postgres, Sqlite
 from rigzumal.accounts.pools import PerUse
 
+DISK = sqlite3.OperationalError("disk I/O error")
+DISK.sqlite_errorcode, DISK.sqlite_errorname = 10, "SQLITE_IOERR"
+IGNORING = "CREATE TRIGGER tr BEFORE UPDATE ON users"
+
 
 class OnSqlite:
     kind, dialect = servers.SqliteFile, Sqlite("users", "name", "record")
     broken = sqlite3.OperationalError("disk I/O error")
     again = lost_look = sqlite3.OperationalError("database is locked")
+    # What a COMMIT may raise though it was done.
+    unknown = (broken, DISK)
     # What is sent: a change at once, in a transaction, and an answer that is confirmed.
     one = several = confirmed = "BEGIN UPDATE SELECT COMMIT"
     levels = ("SELECT 1",)
-    keys = (("BIGINT", int, 7), ("BLOB", bytes, b"\0\xff"))
+    # Columns of keys, with a key, and with another that no row has.
+    keys = (("BIGINT", int, 7, 8), ("BLOB", bytes, b"\0\xff", b"x"))
     shouting = (
         "CREATE TRIGGER tr AFTER UPDATE ON users WHEN NEW.record LIKE '%m=%' BEGIN"
         " UPDATE users SET record = upper(NEW.record) WHERE name = NEW.name; END",
     )
+    ignoring = (f"{IGNORING} BEGIN SELECT RAISE(IGNORE); END",)
+    # Columns whose collation takes other texts for the same, columns that change a record, and
+    # settings of connections under which they do.
+    folding, changing, modes = ("TEXT COLLATE NOCASE",), (), ()
 
     def as_dictionaries(self):
-        conn = self.connect()
-        conn.row_factory = sqlite3.Row
-        return conn
+        def dictionary(cursor, row):
+            return {it[0]: value for it, value in zip(cursor.description, row)}
+
+        for factory in (sqlite3.Row, dictionary):
+            conn = self.connect()
+            conn.row_factory = factory
+            yield conn
 
 
-class OnPostgres:
-    kind, dialect = servers.PostgresServer, Postgres("users", "name", "record")
+class OnServer:
     broken = lost_look = ConnectionError("planted")
+    unknown = (broken,)
+
+
+class OnPostgres(OnServer):
+    kind, dialect = servers.PostgresServer, Postgres("users", "name", "record")
     one, several, confirmed = "UPDATE", "BEGIN UPDATE COMMIT", "BEGIN UPDATE COMMIT"
     levels = tuple(
         f"SET default_transaction_isolation = '{it}'"
         for it in ("repeatable read", "serializable", "read committed")
     )
-    keys = (("bigint", int, 7), ("smallint", int, 7), ("bytea", bytes, b"\0\xff"))
+    keys = (
+        ("bigint", int, 7, 8),
+        ("smallint", int, 7, 2**40),
+        ("bytea", bytes, b"\0\xff", b"of another size"),
+        ("uuid", uuid.UUID, uuid.UUID(int=7), uuid.UUID(int=8)),
+    )
     check_number = "23514"
     lock_timeout = "SET lock_timeout = '300ms'"
     statement_timeout = "SET statement_timeout = '200ms'"
     shouting = (
         "CREATE OR REPLACE FUNCTION shout() RETURNS trigger LANGUAGE plpgsql AS"
         " 'BEGIN NEW.record = upper(NEW.record); RETURN NEW; END'",
-        "CREATE TRIGGER tr BEFORE UPDATE ON users FOR EACH ROW EXECUTE FUNCTION shout()",
+        f"{IGNORING} FOR EACH ROW EXECUTE FUNCTION shout()",
     )
+    ignoring = (
+        "CREATE OR REPLACE FUNCTION nothing() RETURNS trigger LANGUAGE plpgsql AS"
+        " 'BEGIN RETURN NULL; END'",
+        f"{IGNORING} FOR EACH ROW EXECUTE FUNCTION nothing()",
+    )
+    folding, changing = ("text COLLATE ci", "citext", "char(20)"), ("char(300)", "varchar(60)")
+    modes = ("SELECT 1",)
 
     @property
     def again(self):
         return servers.psycopg.errors.DeadlockDetected("planted")
+
+    def create(self):
+        """With the extension and the collation that some tests need."""
+        # A statement that was prepared knows the table that was there before.
+        self.conn.prepare_threshold = None
+        super().create()
+        self.execute("CREATE EXTENSION IF NOT EXISTS citext")
+        self.execute(
+            "CREATE COLLATION IF NOT EXISTS ci"
+            " (provider = icu, locale = 'und-u-ks-level2', deterministic = false)"
+        )
 
     def end_sessions(self):
         self.execute(
@@ -59,7 +102,7 @@ class OnPostgres:
     def as_dictionaries(self):
         from psycopg.rows import dict_row
 
-        return self.connect(row_factory=dict_row)
+        yield self.connect(row_factory=dict_row)
 
     def of_role(self, grants):
         """What connects as a role that may do this alone."""
@@ -74,23 +117,24 @@ class OnPostgres:
         return lambda: servers.psycopg.connect(url, autocommit=True)
 
 
-class OnMariaDB:
+class OnMariaDB(OnServer):
     kind, dialect = servers.MariaServer, MariaDB("users", "name", "record")
-    broken = lost_look = ConnectionError("planted")
     one, several = "BEGIN", "START UPDATE SELECT COMMIT"
     confirmed = "START UPDATE UPDATE SELECT COMMIT"
     levels = tuple(
         f"SET SESSION TRANSACTION ISOLATION LEVEL {it}"
         for it in ("REPEATABLE READ", "SERIALIZABLE", "READ COMMITTED")
     )
-    keys = (("BIGINT", int, 7), ("VARBINARY(16)", bytes, b"\0\xff"))
+    keys = (("BIGINT", int, 7, 8), ("VARBINARY(16)", bytes, b"\0\xff", b"x"))
     check_number = "4025"
     lock_timeout = "SET innodb_lock_wait_timeout = 1"
     statement_timeout = "SET SESSION max_statement_time = 0.2"
-    shouting = (
-        "CREATE TRIGGER tr BEFORE UPDATE ON users"
-        " FOR EACH ROW SET NEW.record = UPPER(NEW.record)",
-    )
+    shouting = (f"{IGNORING} FOR EACH ROW SET NEW.record = UPPER(NEW.record)",)
+    ignoring = ()
+    folding = ("TEXT CHARACTER SET utf8mb4 COLLATE utf8mb4_general_ci",)
+    changing = ("VARCHAR(60)", "VARCHAR(90)")
+    # Without strict mode the server cuts off what is too long.
+    modes = ("SET sql_mode = 'STRICT_TRANS_TABLES'", "SET sql_mode = ''")
 
     @property
     def again(self):
@@ -106,7 +150,7 @@ class OnMariaDB:
     def as_dictionaries(self):
         from pymysql.cursors import DictCursor
 
-        return self.connect(cursorclass=DictCursor)
+        yield self.connect(cursorclass=DictCursor)
 
     def of_role(self, grants):
         """What connects as a user who may do this alone."""
@@ -144,9 +188,9 @@ class OnSqliteTasks(OnSqlite):
     async def awaiting(self):
         return Awaiting(self.connect())
 
-    def accounts(self, hasher=LOW, **more):
+    def accounts(self, hasher=LOW, dialect=None, **more):
         pool, given = PerUse(self.awaiting), {"patience": 5.0, **more}
-        return Awaited(AsyncAccounts(pool, self.dialect, hasher, **given))
+        return Awaited(AsyncAccounts(pool, dialect or self.dialect, hasher, **given))
 
 
 class OnPostgresTasks(OnPostgres):

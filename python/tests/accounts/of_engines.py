@@ -5,9 +5,9 @@ its `kind` (a server that is started, and connects), its `dialect`, and its sett
 """
 
 import contextlib
+import itertools
 import threading
 import time
-import traceback
 from unittest import mock
 
 from support import HIGH, LOW, READS, after_hash, in_threads, losing, sent
@@ -88,14 +88,24 @@ class Operations:
             self.assertIs(act(), wanted)
             self.assertIn(memory or "None", str(self.stands()))
 
+    def test_a_slow_login_never_undoes_a_change(self):
+        """The race: a login with the stolen password, begun before the change."""
+        self.put(LOW.hash("stolen"))
+        accounts, owner, once = self.accounts(HIGH), self.accounts(HIGH), []
+        after_hash(accounts, lambda: once.append(owner.change("ann", "stolen", "new")))
+        self.assertIs(accounts.login("ann", "stolen"), Reply.NO)
+        self.assertEqual(once, [Reply.REPLACED])
+        self.assertFalse(self.is_right("stolen"))
+        self.assertTrue(self.is_right("new"))
+
     def test_each_change_compares(self):
-        """What was worked out at a record that is gone is put by no operation: a slow login
-        undoes no change."""
+        """What was worked out at a record that is gone is put by no operation, and answered by
+        none."""
         accounts = self.accounts(HIGH)
-        for kind, given in CHANGES:
+        for kind, given in (*CHANGES, (Kind.VERIFY, ("one", ""))):
             self.put(LOW.hash("one"))
             slow = self.worked(accounts, kind, *given)
-            self.assertTrue(slow.reply.makes_change)
+            self.assertEqual(slow.reply.makes_change, kind is not Kind.VERIFY)
             for stands in (LOW.hash("another"), LOW.hash("one"), None):
                 self.put(stands)
                 with self.subTest(kind=kind, stands=stands):
@@ -156,6 +166,21 @@ class Connections:
         with self.assertRaisesRegex(StoreFault, "no transaction is open"):
             self.accounts().commit_in(self.conn, worked)
         self.assertTrue(self.is_right("one"))
+
+    def test_a_callers_transaction(self):
+        """All or nothing; and a copy that is gone is not put."""
+        self.put(LOW.hash("one"))
+        accounts, caller = self.accounts(), self.another()
+        worked = self.worked(accounts, Kind.CHANGE, "one", "two")
+        for end, reply, right in (
+            ("ROLLBACK", Reply.REPLACED, "one"),
+            ("COMMIT", Reply.REPLACED, "two"),
+            ("ROLLBACK", Reply.CHANGED, "two"),
+        ):
+            self.execute(self.dialect.begin, conn=caller)
+            self.assertIs(accounts.commit_in(caller, worked).reply, reply)
+            self.execute(end, conn=caller)
+            self.assertTrue(self.is_right(right))
 
     def test_a_session_beside_a_verify(self):
         """It stands before a change, or isn't there."""
@@ -225,14 +250,15 @@ class Connections:
             self.assertEqual(sorted(said), ["replaced"] + ["wrong"] * 7, setting)
 
     def test_rows_as_dictionaries(self):
-        self.put(LOW.hash("one"))
-        accounts = self.accounts(connect=self.as_dictionaries)
-        self.assertIs(accounts.change("ann", "one", "two"), Reply.REPLACED)
-        self.assertIs(accounts.remove("ann", "two"), Reply.REMOVED)
-        self.assertEqual(accounts.examine(), [])
+        for conn in self.as_dictionaries():
+            self.put(LOW.hash("one"))
+            accounts = self.accounts(connect=lambda: conn)
+            self.assertIs(accounts.change("ann", "one", "two"), Reply.REPLACED)
+            self.assertIs(accounts.remove("ann", "two"), Reply.REMOVED)
+            self.assertEqual(accounts.examine(), [])
 
     def test_keys_of_other_types(self):
-        for column, kind, key in self.keys:
+        for column, kind, key, other in self.keys:
             self.dialect = self.another_dialect(key_type=kind)
             for make in (self.create, lambda: self.table(key=column)):
                 make()
@@ -241,10 +267,9 @@ class Connections:
                 self.execute(self.dialect.insert, key)
                 self.assertIs(accounts.enrol(key, "one"), Reply.ENROLLED)
                 self.assertIs(accounts.login(key, "one"), Reply.YES)
+                self.assertIs(accounts.login(other, "one"), Reply.NO_ACCOUNT)
                 with self.assertRaises(TypeError):
-                    accounts.login("7x", "one")
-        if self.keys[1][0] == "smallint":
-            self.assertIs(accounts.login(b"of another size", "one"), Reply.NO_ACCOUNT)
+                    accounts.login(str(key), "one")
 
     def test_a_key_of_two_rows(self):
         self.execute("DROP TABLE users")
@@ -260,26 +285,161 @@ class Connections:
             accounts.commit(worked)
         self.assertEqual(self.execute("SELECT record FROM users"), [(record,)] * 2)
 
+    def test_names_with_signs(self):
+        """Of a table and columns, in statements with values and without."""
+        dialect = self.another_dialect(table='a"`b%c', key="k%`1", record='r "s', key_type=int)
+        self.execute(f"DROP TABLE IF EXISTS {dialect.table}".replace("%%", "%"))
+        self.execute(dialect.create())
+        self.execute(dialect.insert, 7)
+        accounts = self.accounts(dialect=dialect)
+        self.assertEqual(accounts.examine(), [])
+        self.assertIs(accounts.enrol(7, "one"), Reply.ENROLLED)
+        self.assertIs(accounts.change(7, "one", "two"), Reply.REPLACED)
+        self.assertIs(accounts.verify(7, "two"), Reply.YES)
+        self.assertIs(accounts.verify(8, "two"), Reply.NO_ACCOUNT)
+        ((key, record),) = self.execute(dialect.every)
+        self.assertEqual((key, record[:9]), (7, "$argon2id"))
+
+    def test_bytes_are_compared(self):
+        """Under each collation that takes other texts for the same."""
+        for column in self.folding:
+            self.table(column)
+            self.put("abcDEF")
+            for copy in ("ABCdef", "abcDEF ", "abcdef", "\u00e4bcDEF", "abcDEF"):
+                cursor = self.conn.cursor()
+                cursor.execute(self.dialect.update, ("x", "ann", copy))
+                self.assertEqual(cursor.rowcount, copy == "abcDEF", (column, copy))
+                cursor.close()
+
+    def test_columns_that_change_a_record(self):
+        """They are found as a record is put, and none stands."""
+        for column in self.changing:
+            for mode in self.modes:
+                self.table(column)
+                accounts = self.accounts(connect=self.setting(mode))
+                for stands in ("short", None):
+                    self.put(stands)
+                    before = self.stands()
+                    ticket = Ticket(Request(Kind.RESET, "ann", "", "two"), stands)
+                    with self.subTest(column=column, mode=mode, stands=stands):
+                        with self.assertRaises(StoreFault):
+                            accounts.commit(accounts.work(ticket))
+                        self.assertEqual(self.stands(), before)
+
     def test_a_trigger_that_rewrites(self):
         """What it makes of a record is undone, and said without the record."""
         for sql in self.shouting:
             self.execute(sql)
-        accounts = self.accounts()
+        accounts, confirming = self.accounts(), self.accounts(confirm=True)
         for stands, act in (
             ("one", lambda: accounts.change("ann", "one", "two")),
             ("one", lambda: accounts.reset("ann", "two")),
             (None, lambda: accounts.enrol("ann", "two")),
+            ("one", lambda: confirming.verify("ann", "one")),
         ):
             # Put as another writes it, past the trigger.
             record = stands and LOW.hash(stands)
             self.put(record)
-            with self.assertRaises(StoreFault) as raised:
+            with self.assertRaisesRegex(StoreFault, "than the one that was written") as raised:
                 act()
-            said = "".join(traceback.format_exception(raised.exception))
-            self.assertNotIn("$argon2id", said)
-            self.assertIn("than the one that was written", said)
+            self.assert_no_record(raised.exception)
             self.assertEqual(self.stands(), record)
         self.assertIn("than the one that was written", self.said(accounts))
+
+    def test_a_trigger_that_ignores(self):
+        if not self.ignoring:
+            self.skipTest("no trigger here ignores an UPDATE")
+        for sql in self.ignoring:
+            self.execute(sql)
+        accounts = self.accounts()
+        self.put(LOW.hash("one"))
+        with self.assertRaisesRegex(StoreFault, "an UPDATE doesn't change"):
+            accounts.change("ann", "one", "two")
+        self.assertIn("an UPDATE doesn't change a row", self.said(accounts))
+
+
+class LostAnswers:
+    """COMMITs without an answer, whether they were done or not."""
+
+    def test_what_stands_tells(self):
+        """Whether a record was put; of none nothing is known, so nothing is sent again."""
+        unknown = OutcomeUnknown
+        # What is answered, and whether a record stands, if it wasn't done and if it was.
+        for stands, act, *wanted in (
+            ("one", lambda it: it.change("ann", "one", "two"), *[(Reply.REPLACED, True)] * 2),
+            ("one", lambda it: it.reset("ann", "two"), *[(Reply.REPLACED, True)] * 2),
+            ("one", lambda it: it.upgrade("ann", "one"), *[(Reply.UPGRADED, True)] * 2),
+            (None, lambda it: it.enrol("ann", "x"), (unknown, False), (Reply.ENROLLED, True)),
+            (None, lambda it: it.reset("ann", "x"), (unknown, False), (Reply.ENROLLED, True)),
+            ("one", lambda it: it.remove("ann", "one"), (Reply.REMOVED, False), (unknown, False)),
+        ):
+            for is_done, error, times in itertools.product((0, 1), self.unknown, (1, 3)):
+                reply, is_record = wanted[is_done]
+                record = stands and LOW.hash(stands)
+                self.put(record)
+                accounts = self.losing(not is_done, times, error, hasher=HIGH, patience=5.0)
+                with self.subTest(reply=reply, stands=stands, done=is_done, times=times):
+                    if reply is unknown:
+                        self.assertRaises(unknown, act, accounts)
+                    else:
+                        self.assertIs(act(accounts), reply)
+                        self.assertNotEqual(self.stands(), record)
+                    self.assertEqual(self.stands() is not None, is_record)
+
+    def test_another_change_meanwhile(self):
+        """The new record may have stood and been replaced: nobody knows, and nothing is put."""
+        for before, at in itertools.product((True, False), (1, 2)):
+            self.put(LOW.hash("one"))
+            accounts, looks = self.losing(before), []
+            table, look = accounts._table, accounts._table.look
+
+            async def slow(session, key):
+                # Before one looks what stands, and between that and what is sent again.
+                looks.append(1)
+                if len(looks) == 2 and at == 1:
+                    self.put(LOW.hash("another"))
+                found = await look(session, key)
+                if len(looks) == 2 and at == 2:
+                    self.put(LOW.hash("another"))
+                return found
+
+            table.look = slow
+            with self.assertRaises(OutcomeUnknown):
+                accounts.change("ann", "one", "two")
+            self.assertTrue(self.is_right("another"))
+
+    def test_what_was_done_is_put_over_itself(self):
+        """What stands may not be on the disk."""
+        self.put(LOW.hash("one"))
+        accounts, puts = self.losing(before=False), []
+        put = accounts._dialect.put
+
+        def noted(session, after, key, copy):
+            puts.append(after == copy)
+            return put(session, after, key, copy)
+
+        accounts._dialect.put = noted
+        self.assertIs(accounts.change("ann", "one", "two"), Reply.REPLACED)
+        self.assertIs(puts[-1], True)
+
+    def test_a_fault_after_a_lost_answer_says_nothing_of_it(self):
+        """The change stands, or may come to stand: it is unknown, and no StoreFault."""
+        for before in (True, False):
+            self.put(LOW.hash("one"))
+            accounts, looks = self.losing(before), []
+            look = accounts._table.look
+
+            def broken(*given):
+                looks.append(1)
+                if len(looks) > 1:
+                    raise StoreFault("the disk is full")
+                return look(*given)
+
+            accounts._table.look = broken
+            with self.assertRaisesRegex(OutcomeUnknown, "StoreFault") as raised:
+                accounts.change("ann", "one", "two")
+            self.assertIsNone(raised.exception.__context__)
+            self.assertEqual(self.is_right("two"), not before)
 
 
 class Confirmed:
@@ -306,8 +466,7 @@ class Confirmed:
         """Nothing was changed, so it is sent again; the answer is no unknown one."""
         for stands, reply in ((LOW.hash("one"), Reply.YES), (None, Reply.ABSENT)):
             self.put(stands)
-            dialect = losing(self.another_dialect(), True, 2, self.lost_look)
-            accounts = self.accounts(dialect=dialect, confirm=True)
+            accounts = self.losing(True, 2, self.lost_look, confirm=True, patience=5.0)
             self.assertIs(accounts.verify("ann", "one"), reply)
 
 
@@ -329,51 +488,6 @@ class AtOnce:
         self.assertEqual(self.stands(), answer.after)
         self.assertTrue(LOW.verify(answer.after, "two"))
 
-    def lost(self, before, times=1):
-        """Accounts over what loses the statement's answer, before it was done or after."""
-        broken = ConnectionError("planted")
-        dialect = losing(self.another_dialect(), before, times, broken, "put_at_once")
-        return self.accounts(dialect=dialect)
-
-    def test_an_answer_that_is_lost(self):
-        for before in (True, False):
-            for times in (1, 3):
-                self.put(LOW.hash("one"))
-                reply = self.lost(before, times).change("ann", "one", "two")
-                self.assertIs(reply, Reply.REPLACED)
-                self.assertTrue(self.is_right("two"))
-
-    def test_an_answer_that_is_lost_and_another_change(self):
-        """Nobody knows whether it stood before."""
-        for before in (True, False):
-            self.put(LOW.hash("one"))
-            accounts = self.lost(before)
-            settled = accounts._settled
-
-            def later(*given):
-                self.put(LOW.hash("another"))
-                return settled(*given)
-
-            accounts._settled = later
-            with self.assertRaises(OutcomeUnknown):
-                accounts.change("ann", "one", "two")
-            self.assertTrue(self.is_right("another"))
-
-    def test_a_lost_commit_is_confirmed_too(self):
-        """What stands may not be on the disk, so it is put over itself."""
-        self.put(LOW.hash("one"))
-        accounts, puts = self.lost(before=False), []
-        dialect = accounts._dialect
-        put = dialect.put
-
-        def noted(session, after, key, copy):
-            puts.append(after == copy)
-            return put(session, after, key, copy)
-
-        dialect.put = noted
-        self.assertIs(accounts.change("ann", "one", "two"), Reply.REPLACED)
-        self.assertEqual(puts, [True])
-
     def test_a_connection_is_as_before(self):
         """No transaction is open after a change, a refusal or another's change."""
         self.put(LOW.hash("one"))
@@ -386,8 +500,7 @@ class AtOnce:
         for _ in range(2):
             with self.assertRaisesRegex(StoreFault, self.check_number) as raised:
                 dearer.change("ann", "one", "two")
-            said = "".join(traceback.format_exception(raised.exception))
-            self.assertNotIn("$argon2id", said)
+            self.assert_no_record(raised.exception)
             self.assertIs(dearer.login("ann", "one"), Reply.YES)
 
     def test_who_may_not_update(self):
@@ -649,7 +762,7 @@ class OnServers:
         self.put(LOW.hash("one"))
         for name in ("put_at_once", "commit") if self.dialect.at_once else ("commit",):
             for error in (AttributeError("mine"), TypeError("mine"), NameError("mine")):
-                dialect = losing(self.another_dialect(), True, 9, error, name)
+                dialect = losing(self.another_dialect(), True, 9, error, [name])
                 if name == "commit":
                     dialect.at_once = ""
                 with self.assertRaisesRegex(type(error), "mine"):
@@ -660,7 +773,7 @@ class OnServers:
         """What the server refused is refused at once, and not tried for all of patience."""
         self.put(LOW.hash("one"))
         self.execute("ALTER TABLE users ADD CHECK (record LIKE '%m=64,%')")
-        dialect = losing(self.another_dialect(), True, 99, ConnectionError("planted"), "undo")
+        dialect = losing(self.another_dialect(), True, 99, ConnectionError("planted"), ["undo"])
         made = []
         accounts = self.accounts(
             HIGH, dialect, lambda: made.append(self.connect()) or made[-1], patience=60.0

@@ -7,8 +7,7 @@ import signal
 import time
 
 from rigzumal.accounts import Accounts, MariaDB, PerThread, Reply
-from rigzumal.accounts.torture._logged import LOW
-from rigzumal.accounts.torture._worker import hasher
+from rigzumal.accounts.torture._worker import LOW, hasher
 
 DIALECT = MariaDB("shown_early", "name", "record")
 CHEAP = hasher(LOW)

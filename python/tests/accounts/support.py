@@ -6,6 +6,7 @@ import pathlib
 import sqlite3
 import sys
 import threading
+import traceback
 import unittest
 import warnings
 from unittest import mock
@@ -82,13 +83,16 @@ class Base(unittest.TestCase):
         self.execute("DROP TABLE IF EXISTS users")
         self.execute(self.dialect.create())
 
-    def table(self, record="VARCHAR(512)", more="", key="VARCHAR(150)"):
+    def table(self, record="VARCHAR(512)", key="VARCHAR(150)"):
         """Another table."""
         self.execute("DROP TABLE IF EXISTS users")
-        self.execute(f"CREATE TABLE users (name {key} PRIMARY KEY, record {record}) {more}")
+        self.execute(f"CREATE TABLE users (name {key} PRIMARY KEY, record {record})")
 
     def connect(self, **more):
         return self.server.connect(**more)
+
+    def no_connection(self):
+        raise AssertionError("a connection was asked for")
 
     def another(self, **more):
         """One more connection, which is closed after the test."""
@@ -122,7 +126,7 @@ class Base(unittest.TestCase):
     def losing(self, before, times=1, error=None, **more):
         """Accounts whose first COMMITs break: before they are done, or after."""
         dialect = losing(self.another_dialect(), before, times, error or self.broken)
-        return self.accounts(patience=0.5, dialect=dialect, **more)
+        return self.accounts(dialect=dialect, **{"patience": 0.5, **more})
 
     def put(self, record, name="ann"):
         self.execute("DELETE FROM users WHERE name = %s", name)
@@ -138,20 +142,15 @@ class Base(unittest.TestCase):
         except VerifyMismatchError:
             return False
 
-    def tried_bytes(self, stands, copy):
-        """The copy is another text, and another under the column's collation alone."""
-        self.put(stands)
-        for given, wanted in ((copy, 0), (stands, 1)):
-            cursor = self.conn.cursor()
-            cursor.execute(self.dialect.update, ("x", "ann", given))
-            self.assertEqual(cursor.rowcount, wanted, f"{stands!r} and {given!r}")
-            cursor.close()
-
     def worked(self, accounts, kind, password, new=""):
         return accounts.work(accounts.begin(Request(kind, "ann", password, new)))
 
     def said(self, accounts):
         return "; ".join(map(str, accounts.examine()))
+
+    def assert_no_record(self, error):
+        """None is in what is raised, nor in what it was raised from."""
+        self.assertNotIn("$argon2", "".join(traceback.format_exception(error)))
 
 
 def closed(conn):
@@ -160,19 +159,23 @@ def closed(conn):
         conn.close()
 
 
-def losing(dialect, before, times=1, error=Base.broken, name="commit"):
+def losing(dialect, before, times=1, error=Base.broken, names=("commit", "put_at_once")):
     """The dialect, whose first COMMITs break: before they are done, or after."""
-    commit, left = getattr(dialect, name), [times]
+    left = [times]
 
-    async def breaks(session, *given):
-        left[0] -= 1
-        if left[0] < 0:
-            return await commit(session, *given)
-        if not before:
-            await commit(session, *given)
-        raise error
+    def breaking(commit):
+        async def breaks(session, *given):
+            left[0] -= 1
+            if left[0] < 0:
+                return await commit(session, *given)
+            if not before:
+                await commit(session, *given)
+            raise error
 
-    setattr(dialect, name, breaks)
+        return breaks
+
+    for name in names:
+        setattr(dialect, name, breaking(getattr(dialect, name)))
     return dialect
 
 

@@ -10,6 +10,7 @@ from support import Base
 
 SERVERS = (engines.OnPostgres, engines.OnMariaDB, engines.OnMySQL)
 ENGINES = (engines.OnSqlite, *SERVERS)
+TASKS = (engines.OnSqliteTasks, engines.OnPostgresTasks)
 
 
 def made(suite, engine):
@@ -20,7 +21,8 @@ def made(suite, engine):
 globals().update(
     made(suite, engine)
     for suite, on in (
-        (of_engines.Operations, (*ENGINES, engines.OnSqliteTasks, engines.OnPostgresTasks)),
+        (of_engines.Operations, (*ENGINES, *TASKS)),
+        (of_engines.LostAnswers, (*ENGINES, *TASKS)),
         (of_engines.Connections, ENGINES),
         (of_engines.Confirmed, ENGINES),
         (of_engines.RowsOfOnesOwn, ENGINES),

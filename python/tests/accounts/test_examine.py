@@ -1,12 +1,11 @@
 """What `examine` says: each table, role and setting that won't do by itself."""
 
-import sqlite3
 import unittest
 
 import engines
 import support
 from support import LOW
-from rigzumal.accounts import Postgres, Reply, StoreFault
+from rigzumal.accounts import Postgres, Reply, Sqlite, StoreFault
 
 CASE, BLANKS = "differ in case", "differ by blanks at the end"
 ACCENTS, CUT = "differ by accents", "a record has up to 512 bytes"
@@ -36,67 +35,91 @@ class Said:
 
 class OnSqlite(Said, engines.OnSqlite, support.Base):
     def test_tables(self):
-        table = "CREATE TABLE users (name TEXT {}, record {})"
-        trigger = "CREATE TRIGGER tr BEFORE UPDATE ON users BEGIN SELECT"
-        ignored = [table.format("PRIMARY KEY", "TEXT"), f"{trigger} RAISE(IGNORE)"]
+        text = "CREATE TABLE users (name TEXT {}, record TEXT{})"
+        key, short = "PRIMARY KEY", " CHECK (length(record) < 60)"
+        refused = "no record can be put: IntegrityError SQLITE_CONSTRAINT_CHECK"
+        index = "; CREATE UNIQUE INDEX i ON users (name{})"
         self.each_table(
             [
-                (table.format("PRIMARY KEY", "TEXT"),),
-                (table.format("COLLATE NOCASE PRIMARY KEY", "TEXT"), CASE),
-                (table.format("COLLATE RTRIM PRIMARY KEY", "TEXT"), BLANKS),
-                (
-                    table.format("COLLATE NOCASE", "TEXT")
-                    + "; CREATE UNIQUE INDEX i ON users (name COLLATE BINARY)",
-                    CASE,
-                ),
-                (table.format("", "TEXT"), NOT_UNIQUE),
-                (table.format("", "TEXT, UNIQUE (name, record)"), NOT_UNIQUE),
-                (table.format("", "TEXT, UNIQUE (record)"), NOT_UNIQUE),
-                (table.format("", "TEXT, b, PRIMARY KEY (name, b)"), NOT_UNIQUE),
-                (
-                    table.format("", "TEXT")
-                    + "; CREATE UNIQUE INDEX i ON users (name) WHERE record IS NULL",
-                    NOT_UNIQUE,
-                ),
-                (
-                    table.format("PRIMARY KEY", "TEXT NOT NULL"),
-                    "NOT NULL",
-                ),
-                (
-                    table.format("PRIMARY KEY", "TEXT CHECK (length(record) < 60)"),
-                    "no record can be put: IntegrityError SQLITE_CONSTRAINT_CHECK",
-                ),
-                (table.format("PRIMARY KEY", "TEXT CHECK (record LIKE '$argon2%')"),),
+                (text.format(key, ""),),
+                (text.format(f"COLLATE NOCASE {key}", ""), CASE),
+                (text.format(f"COLLATE RTRIM {key}", ""), BLANKS),
+                (text.format("COLLATE NOCASE", "") + index.format(" COLLATE BINARY"), CASE),
+                (text.format("", ""), NOT_UNIQUE),
+                (text.format("", ", UNIQUE (name, record)"), NOT_UNIQUE),
+                (text.format("", ", UNIQUE (record)"), NOT_UNIQUE),
+                (text.format("", ", b, PRIMARY KEY (name, b)"), NOT_UNIQUE),
+                (text.format("", "") + f"{index.format('')} WHERE record IS NULL", NOT_UNIQUE),
+                (text.format(key, " NOT NULL"), "NOT NULL"),
+                (text.format(key, short), refused),
+                (text.format(key, " CHECK (record LIKE '$argon2%')"),),
                 # Rows that the trial can't make: it is done at one that is there.
-                (table.format("PRIMARY KEY", "TEXT, mail TEXT NOT NULL"),),
+                (text.format(key, ", mail TEXT NOT NULL"),),
                 (
-                    table.format("PRIMARY KEY", "TEXT CHECK (length(record) < 60), b")
-                    + "; CREATE UNIQUE INDEX i ON users (b);"
-                    " INSERT INTO users VALUES ('ann', NULL, 1)",
-                    "SQLITE_CONSTRAINT_CHECK",
+                    text.format(key, f"{short}, b UNIQUE")
+                    + "; INSERT INTO users VALUES ('ann', NULL, 1)",
+                    refused,
                 ),
                 (
-                    "CREATE TABLE users (name TEXT PRIMARY KEY, mail TEXT NOT NULL,"
-                    " record TEXT CHECK (length(record) < 60));"
-                    " INSERT INTO users VALUES ('ann', 'x', NULL)",
-                    "SQLITE_CONSTRAINT_CHECK",
+                    text.format(key, f"{short}, mail TEXT NOT NULL")
+                    + "; INSERT INTO users VALUES ('ann', NULL, 'x')",
+                    refused,
                 ),
                 (
-                    "CREATE TABLE users (name TEXT PRIMARY KEY, mail TEXT NOT NULL,"
-                    " record TEXT); INSERT INTO users VALUES ('ann', 'x', 'old')",
+                    text.format(key, ", mail TEXT NOT NULL")
+                    + "; INSERT INTO users VALUES ('ann', 'old', 'x')",
                 ),
             ]
         )
-        self.execute("DROP TABLE users")
-        self.execute(ignored[0])
-        self.conn.execute(f"{ignored[1]}; END")
-        self.assert_faults(["an UPDATE doesn't change a row"])
-        self.execute("DROP TRIGGER tr")
-        self.conn.execute(
-            "CREATE TRIGGER tr AFTER UPDATE ON users BEGIN UPDATE users SET"
-            " record = 'x' WHERE name = NEW.name AND record <> 'x'; END"
-        )
-        self.assert_faults(["the trigger tr", "than the one that was written"])
+
+    def test_schemas_and_spellings(self):
+        """As a statement finds the table, so it is examined."""
+        self.conn.execute("CREATE TRIGGER tr AFTER UPDATE ON users BEGIN SELECT 1; END")
+        for names in (
+            ("main.users", "name", "record"),
+            ("Users", "NAME", "Record"),
+        ):
+            accounts = self.accounts(dialect=Sqlite(*names))
+            self.assert_faults(["trigger tr"], accounts)
+            self.put(LOW.hash("one"))
+            self.assertIs(accounts.verify("ann", "one"), Reply.YES)
+
+    def test_what_is_an_error_and_what_a_warning(self):
+        """Each by its code; samples stop at errors alone."""
+        for columns, code, is_error in (
+            ("name TEXT, record TEXT", "key-not-unique", True),
+            ("name INTEGER PRIMARY KEY, record TEXT", "key-type", True),
+            ("login TEXT PRIMARY KEY, record TEXT", "no-column", True),
+            ("name TEXT PRIMARY KEY, record TEXT CHECK (record = 'x')", "no-update", True),
+            ("name TEXT PRIMARY KEY, record TEXT NOT NULL", "record-not-null", False),
+            ("name TEXT COLLATE NOCASE PRIMARY KEY, record TEXT", "names-folded", False),
+            ("name TEXT COLLATE RTRIM PRIMARY KEY, record TEXT", "names-folded", True),
+        ):
+            self.execute("DROP TABLE users")
+            self.execute(f"CREATE TABLE users ({columns})")
+            (fault,) = self.accounts().examine()
+            self.assertEqual((fault.code, fault.is_error), (code, is_error), columns)
+            self.assertEqual(fault.severity.value, "error" if is_error else "warning")
+            self.assertEqual(str(fault), fault.text)
+
+    def test_types_of_keys(self):
+        for column, kind, words in (
+            ("TEXT", str, ""),
+            ("TEXT", int, "name is TEXT, and keys are int"),
+            ("VARCHAR(9)", bytes, ""),
+            ("BIGINT", int, ""),
+            ("INTEGER", str, "name is INTEGER, and keys are str"),
+            ("DECIMAL(9)", str, "name is DECIMAL(9), and keys are str"),
+            ("DECIMAL(9)", int, ""),
+            ("BLOB", str, ""),
+            ("BLOB", int, ""),
+            ("", str, ""),
+            ("TEXT COLLATE NOCASE", str, "name confuses names that differ in case"),
+            ("TEXT COLLATE NOCASE", bytes, ""),
+        ):
+            self.table(key=column)
+            said = self.said(self.accounts(dialect=self.another_dialect(key_type=kind)))
+            self.assertEqual(said[: len(words)] if words else said, words, column)
 
     def with_pragma(self, pragma, path=None, **more):
         if path is not None:
@@ -188,21 +211,22 @@ class OnServer(Said):
 class OnPostgres(OnServer, engines.OnPostgres, support.Base):
     sound = ""
 
-    def setUp(self):
-        super().setUp()
-        # A statement that was prepared knows the table that was there before.
-        self.conn.prepare_threshold = None
-
-    def test_lengths(self):
-        self.lengths("varchar(60)", "varchar(96)", "varchar(128)", "varchar(511)")
+    def test_types_of_records(self):
+        self.lengths("varchar(60)", "varchar(511)")
+        table = "CREATE TABLE users (name text PRIMARY KEY, record {})"
+        self.each_table(
+            [
+                (table.format("char(300)"), "character(300)", "than the one that was written"),
+                (table.format("bytea"), "record is bytea, not text", "the record is no text"),
+                (table.format("text NOT NULL DEFAULT ''"), "NOT NULL"),
+            ]
+        )
 
     def test_keys(self):
-        self.execute("CREATE EXTENSION IF NOT EXISTS citext")
-        for name, level in (("ci", "level2"), ("ai", "level1-kc-true")):
-            self.execute(
-                f"CREATE COLLATION IF NOT EXISTS {name} (provider = icu,"
-                f" locale = 'und-u-ks-{level}', deterministic = false)"
-            )
+        self.execute(
+            "CREATE COLLATION IF NOT EXISTS ai (provider = icu,"
+            " locale = 'und-u-ks-level1-kc-true', deterministic = false)"
+        )
         table = "CREATE TABLE users (name {}, record text"
         self.each_table(
             [
@@ -261,7 +285,6 @@ class OnPostgres(OnServer, engines.OnPostgres, support.Base):
         self.assert_faults(["no unique", "no table"], self.accounts(dialect=dialect))
 
     def test_settings_of_a_session(self):
-        self.table("text")
         for setting, *words in (
             ("synchronous_commit = off", "synchronous_commit is off"),
             ("synchronous_commit = local", "synchronous_commit is local"),
@@ -274,7 +297,6 @@ class OnPostgres(OnServer, engines.OnPostgres, support.Base):
                 self.assert_faults(words, self.accounts(connect=connect))
 
     def test_settings_of_the_server(self):
-        self.table("text")
         for name in ("fsync", "full_page_writes"):
             self.server.set(**{name: "off"})
             try:
@@ -287,10 +309,6 @@ class OnPostgres(OnServer, engines.OnPostgres, support.Base):
 
 class OnMariaDB(OnServer, engines.OnMariaDB, support.Base):
     sound = "CHARACTER SET utf8mb4 COLLATE utf8mb4_nopad_bin"
-
-    def test_lengths(self):
-        bad = ("VARCHAR(60)", "VARCHAR(96)", "VARCHAR(128)", "VARCHAR(511)")
-        self.lengths(*bad, "TINYTEXT")
 
     def test_keys(self):
         table = "CREATE TABLE users (name VARCHAR(90){}, record TEXT{})"
@@ -339,6 +357,7 @@ class OnMariaDB(OnServer, engines.OnMariaDB, support.Base):
         self.assertIs(accounts.verify("ann", "one"), Reply.YES)
 
     def test_types_of_records(self):
+        self.lengths("VARCHAR(60)", "VARCHAR(511)", "TINYTEXT")
         table = "CREATE TABLE users (name VARCHAR(90) PRIMARY KEY, record {}) "
         self.each_table(
             [
@@ -376,7 +395,6 @@ class OnMariaDB(OnServer, engines.OnMariaDB, support.Base):
             self.assertEqual(self.stands(), "old")
 
     def test_settings(self):
-        self.table(more=self.sound)
         name = "innodb_flush_log_at_trx_commit"
         self.addCleanup(self.server.as_root, f"SET GLOBAL {name} = 1")
         for value in (0, 2):

@@ -4,6 +4,7 @@ RIGZUMAL_HISTORIES is how many are tried: 100000 take some two minutes.
 """
 
 import copy
+import itertools
 import math
 import os
 import random
@@ -132,7 +133,7 @@ def some_order_of_part(events):
 def made(rng):
     """A small history: legal at first, and then bent a few times."""
     first = rng.choice([None, "r0"])
-    account = Account(seed(first), Operation.end(None, 60.0))
+    account = Account(Operation.seed(first, "one", 1), Operation.end(None, 60.0))
     state = (first, "one" if first else None, 1)
     for number in range(rng.randint(1, 7)):
         kind = rng.choice(KINDS)
@@ -271,184 +272,103 @@ def shaped(op, events):
     return any(after(op, it, (op.before, op.after, op.reply)) for it in states)
 
 
-def operation(name, kind, called, answered, reply, before, after, password="one", new=None):
-    return Operation(name, kind, password, called, new, 1, answered, reply, before, after)
+def written(text):
+    """Operations as "NAME KIND CALLED-ANSWERED REPLY BEFORE>AFTER", and without an answer as "NAME
+    KIND CALLED BEFORE>AFTER ..", with each attempt; a dot is no record. A capital letter is a
+    record of the password "two", which a change to it has put."""
+    for line in filter(None, text.split("; ")):
+        name, kind, span, *rest = line.split()
+        called, _, answered = span.partition("-")
+        made = Operation(name, kind, "one", float(called), "one", 2)
+        if answered:
+            made.answered, made.reply = float(answered), rest.pop(0)
+        ways = [[None if it == "." else it for it in way.split(">")] for way in rest]
+        if ways[-1][1] and ways[-1][1].isupper():
+            made.new_password = "two"
+        if answered:
+            ((made.before, made.after),) = ways
+        else:
+            made.attempts = [Attempt(*it, "replaced" if it[1] else "removed") for it in ways]
+        yield made
 
 
-def seed(record, password="one"):
-    return Operation.seed(record, password, 1)
+def account(first, last, text):
+    word = "two" if first and first.isupper() else "one"
+    ends = Operation.seed(first, word, 1), Operation.end(last, 99.0)
+    return Account(*ends, list(written(text)))
 
 
-def end(record):
-    return Operation.end(record, 99.0)
+LOOKS = "; ".join(f"e{it} verify 1-2 yes x>x; l{it} verify 20-21 no Y>Y" for it in range(1000))
+GONE = "and nothing replaced it"
+# What stands at first and at the end, the operations, and those without an answer that took place.
+LEGAL = (
+    # Of an operation's attempts the last alone is open: those before were known not to be done.
+    ("x", "z", "a change 1 x>y u>z; b upgrade 2-3 upgraded x>u", "a"),
+    # A record that a crash has taken may have been read, and nobody was told.
+    ("x", "w", "a change 1 x>y; b change 2 y>z; c change 10-11 replaced x>w", ""),
+    # What was told of wants all before it; what is gone went some way, which nobody saw.
+    ("x", "z", "a change 1 x>y; b change 2 y>z; c verify 10-11 yes z>z", "ab"),
+    ("x", None, "a change 1 x>y; b remove 2 y>.; c verify 10-11 absent .>.", "ab"),
+    # Of several ways out the one that ends first.
+    ("x", "w", "a remove 30 x>.; b change 1 x>y; c remove 2 y>.; d enrol 10-11 enrolled .>w", "bc"),
+    ("x", "w", "a remove 20 x>.; b change 30 x>y; c remove 2 y>.; d enrol 22-23 enrolled .>w", "a"),
+    # An answer and a call at one time may come in either order.
+    ("x", "y", "a change 5-6 replaced x>y; b verify 4-5 yes x>x; c verify 5-5 yes y>y", ""),
+)
+# The same with what is said, and the operations that show it.
+ILLEGAL = (
+    ("x", "y", "a change 1 x>y u>z; b upgrade 2-3 upgraded x>u", "nobody put the record y", "end"),
+    ("x", "z", "a change 1 x>y; b change 2-3 replaced x>z; c verify 4-5 yes y>y", "both", "a b"),
+    ("x", "x", "a change 1 x>y; c verify 3-4 yes y>y", "a replaced x, which stands at", "a end"),
+    ("x", None, "a change 1 x>y; c verify 10-11 absent .>.", f"x is gone, {GONE}", "seed end"),
+    ("x", None, "a change 1-2 replaced x>y", f"y is gone, {GONE}", "a end"),
+    ("X", None, "a remove 1 X>.", f"X is gone, {GONE}", "seed end"),
+    ("x", "x", "a change 1-2 replaced x>y", "a replaced x, which stands at the end", "a end"),
+    ("x", "x", "a change 1-2 replaced x>x", "a was answered replaced, and put x", "a"),
+    # A login with the old password, whose upgrade writes over a change.
+    (
+        *(
+            "x",
+            "u",
+            "a upgrade 1-9 upgraded x>u; b change 2-3 replaced x>Y; c verify 20-21 yes u>u",
+        ),
+        *("a and b both replaced x", "a b"),
+    ),
+    # A stale answer among two thousand looks.
+    (
+        *("x", "Y", f"a change 10-11 replaced x>Y; {LOOKS}; b verify 12-13 yes x>x"),
+        *("a was answered before b was called, and can come after it alone", "a b"),
+    ),
+    (
+        *("x", "y", "a remove 1-2 removed x>.; b enrol 3-4 enrolled .>y; c verify 5-6 yes x>x"),
+        *("can come after it alone", "a c"),
+    ),
+    (
+        *("r", "r", "a change 1-8 replaced x>y; b change 1-8 replaced y>x"),
+        *("records replaced each other in a ring", "a b"),
+    ),
+    (
+        *(None, "x", "a enrol 1-2 enrolled .>x; b verify 3-4 absent .>.; c verify 5-6 yes x>x"),
+        *("stand at a time", "a b c"),
+    ),
+)
 
 
 class Said(unittest.TestCase):
-    def test_the_last_attempt_alone_is_open(self):
-        """The one before was known not to be done, as the next was made."""
-        for after, legal in (("second", True), ("first", False)):
-            op = operation("a", "change", 1, math.inf, None, None, None, "one", "two")
-            op.attempts = [
-                Attempt("old", "first", "replaced"),
-                Attempt("up", "second", "replaced"),
-            ]
-            up = operation("b", "upgrade", 2, 3, "upgraded", "old", "up")
-            up.costs = 2
-            account = Account(seed("old"), end(after), [op, up])
-            if legal:
-                history.check(account)
-                self.assertEqual((op.reply, op.after), ("replaced", "second"))
-            else:
-                self.refused(account)
+    def test_what_took_place(self):
+        for first, last, text, found_out in LEGAL:
+            with self.subTest(text):
+                of = account(first, last, text)
+                history.check(of)
+                self.assertEqual({it.id for it in of.operations if it.found_out}, set(found_out))
 
-    def lost(self, name, kind, called, before, after):
-        op = operation(name, kind, called, math.inf, None, None, None, "one", "one")
-        reply = "replaced" if after else "removed"
-        op.attempts = [Attempt(before, after, reply)]
-        return op
-
-    def test_what_was_tried_is_no_evidence(self):
-        """A record that a crash has taken may have been read, and nobody was told."""
-        ops = [
-            self.lost("a", "change", 1, "x", "y"),
-            self.lost("b", "change", 2, "y", "z"),
-            operation("c", "change", 10, 11, "replaced", "x", "w", "one", "one"),
-        ]
-        history.check(Account(seed("x"), end("w"), ops))
-        self.assertEqual([it.found_out for it in ops], [False] * 3)
-        told = operation("d", "verify", 3, 4, "yes", "z", "z")
-        said = self.refused(Account(seed("x"), end("w"), [*ops, told]))
-        self.assertIn("both replaced x", str(said))
-
-    def test_what_stands_at_the_end_was_not_replaced(self):
-        """Whether the answer of what replaced it came or not."""
-        told = operation("c", "verify", 3, 4, "yes", "y", "y")
-        lost = self.lost("a", "change", 1, "x", "y")
-        answered = operation("b", "change", 1, 2, "replaced", "x", "y", "one", "one")
-        for replaces in (lost, answered):
-            said = self.refused(Account(seed("x"), end("x"), [replaces, told]))
-            self.assertIn(f"{replaces.id} replaced x, which stands at the end", str(said))
-        history.check(Account(seed("x"), end("y"), [answered, told]))
-
-    def test_what_was_told_of_wants_all_before_it(self):
-        ops = [
-            self.lost("a", "change", 1, "x", "y"),
-            self.lost("b", "change", 2, "y", "z"),
-            operation("c", "verify", 10, 11, "yes", "z", "z"),
-        ]
-        history.check(Account(seed("x"), end("z"), ops))
-        self.assertEqual([it.found_out for it in ops], [True, True, False])
-
-    def test_a_way_out_over_what_nobody_saw(self):
-        ops = [
-            self.lost("a", "change", 1, "x", "y"),
-            self.lost("b", "remove", 2, "y", None),
-            operation("c", "verify", 10, 11, "absent", None, None),
-        ]
-        history.check(Account(seed("x"), end(None), ops))
-        self.assertEqual([it.found_out for it in ops], [True, True, False])
-        said = self.refused(Account(seed("x"), end(None), ops[::2]))
-        self.assertIn("gone", str(said))
-
-    def test_of_several_ways_out_the_one_that_ends_first(self):
-        for late in (False, True):
-            ops = [
-                self.lost("a", "remove", 30, "x", None),
-                self.lost("b", "change", 1, "x", "y"),
-                self.lost("c", "remove", 30 if late else 2, "y", None),
-                operation("d", "enrol", 10, 11, "enrolled", None, "w"),
-            ]
-            account = Account(seed("x"), end("w"), ops)
-            if late:
-                self.refused(account)
-                continue
-            history.check(account)
-            self.assertEqual({it.id for it in ops if it.found_out}, {"b", "c"})
-        ops = [
-            self.lost("a", "remove", 20, "x", None),
-            self.lost("b", "change", 30, "x", "y"),
-            self.lost("c", "remove", 2, "y", None),
-            operation("d", "enrol", 22, 23, "enrolled", None, "w"),
-        ]
-        history.check(Account(seed("x"), end("w"), ops))
-        self.assertEqual({it.id for it in ops if it.found_out}, {"a"})
-
-    def test_no_way_out_by_a_wrong_password(self):
-        ops = [self.lost("a", "remove", 1, "x", None)]
-        ops[0].password = "two"
-        self.assertIn("gone", str(self.refused(Account(seed("x"), end(None), ops))))
-
-    def test_a_moment_at_an_edge(self):
-        """An answer and a call at one time may come in either order."""
-        ops = [
-            operation("a", "change", 5, 6, "replaced", "old", "new", "one", "two"),
-            operation("b", "verify", 4, 5, "yes", "old", "old"),
-            operation("c", "verify", 5, 5, "yes", "new", "new", "two"),
-        ]
-        history.check(Account(seed("old"), end("new"), ops))
-
-    def test_a_change_to_the_same_record(self):
-        ops = [operation("a", "change", 1, 2, "replaced", "old", "old", "one", "one")]
-        self.assertIn("put old", str(self.refused(Account(seed("old"), end("old"), ops))))
-
-    def refused(self, account):
-        with self.assertRaises(Illegal) as raised:
-            history.check(account)
-        return raised.exception
-
-    def test_a_change_undone_by_a_login(self):
-        """The upgrade writes the old password's record over the changed one."""
-        ops = [
-            operation("login", "upgrade", 1, 9, "upgraded", "old", "up"),
-            operation("change", "change", 2, 3, "replaced", "old", "new", "one", "two"),
-            operation("look", "verify", 20, 21, "yes", "up", "up"),
-        ]
-        ops[0].costs = 2
-        found = self.refused(Account(seed("old"), end("up"), ops))
-        self.assertEqual({it.id for it in found.part}, {"login", "change"})
-        self.assertIn("both replaced old", str(found))
-
-    def test_a_stale_answer(self):
-        """Among a thousand looks, the two that show it are found."""
-        ops = [operation("change", "change", 10, 11, "replaced", "old", "new", "one", "two")]
-        for number in range(1000):
-            ops.append(operation(f"early{number}", "verify", 1, 2, "yes", "old", "old"))
-            ops.append(operation(f"late{number}", "verify", 20, 21, "no", "new", "new"))
-        ops.append(operation("stale", "verify", 12, 13, "yes", "old", "old"))
-        found = self.refused(Account(seed("old"), end("new"), ops))
-        self.assertEqual([it.id for it in found.part], ["change", "stale"])
-
-    def test_a_record_that_came_back(self):
-        ops = [
-            operation("a", "remove", 1, 2, "removed", "old", None),
-            operation("b", "enrol", 3, 4, "enrolled", None, "new"),
-            operation("c", "verify", 5, 6, "yes", "old", "old"),
-        ]
-        found = self.refused(Account(seed("old"), end("new"), ops))
-        self.assertEqual([it.id for it in found.part], ["a", "c"])
-
-    def test_a_record_that_is_gone(self):
-        ops = [operation("a", "change", 1, 2, "replaced", "old", "new", "one", "two")]
-        self.assertIn("gone", str(self.refused(Account(seed("old"), end(None), ops))))
-        found = self.refused(Account(seed("old"), end("old"), ops))
-        self.assertEqual([it.id for it in found.part], ["a", "end"])
-
-    def test_records_that_replaced_each_other(self):
-        ops = [
-            operation("a", "change", 1, 8, "replaced", "x", "y", "one", "one"),
-            operation("b", "change", 1, 8, "replaced", "y", "x", "one", "one"),
-        ]
-        self.assertIn("ring", str(self.refused(Account(seed("r"), end("r"), ops))))
-
-    def test_no_record_within_a_chain(self):
-        ops = [
-            operation("a", "enrol", 1, 2, "enrolled", None, "x"),
-            operation("b", "verify", 3, 4, "absent", None, None),
-            operation("c", "verify", 5, 6, "yes", "x", "x"),
-        ]
-        found = self.refused(Account(seed(None), end("x"), ops))
-        self.assertEqual([it.id for it in found.part][:2], ["a", "b"])
-        self.assertEqual(len(found.part), 3)
+    def test_what_shows_it(self):
+        for first, last, text, words, part in ILLEGAL:
+            with self.subTest(text[:80]):
+                with self.assertRaises(Illegal) as raised:
+                    history.check(account(first, last, text))
+                self.assertIn(words, str(raised.exception))
+                self.assertEqual([it.id for it in raised.exception.part], part.split())
 
     def test_wrong_judgements(self):
         for kind, reply, put in (
@@ -460,60 +380,56 @@ class Said(unittest.TestCase):
             ("remove", "removed", "new"),
             ("verify", "noaccount", "old"),
         ):
-            ops = [operation("a", kind, 1, 2, reply, "old", put)]
-            self.refused(Account(seed("old"), end(put), ops))
+            of = account("old", put, f"a {kind} 1-2 {reply} old>{put}")
+            of.operations[0].costs = 1
+            self.assertRaises(Illegal, history.check, of)
 
     def test_time_in_proportion(self):
         """A long history of one account takes as long as many short ones."""
         took = {}
         for count in (5_000, 40_000):
-            ops, record = [], "r0"
-            for number in range(count):
-                put, span = f"r{number + 1}", (number, number + 9)
-                change = (*span, "replaced", record, put, "one", "one")
-                ops.append(operation(f"o{number}", "change", *change))
-                ops.append(operation(f"v{number}", "verify", *span, "yes", record, record))
-                record = put
-            account = Account(seed("r0"), end(record), ops)
-            account.end.called = account.end.called + count
+            text = "; ".join(
+                f"o{it} change {it}-{it + 9} replaced r{it}>r{it + 1};"
+                f" v{it} verify {it}-{it + 9} yes r{it}>r{it}"
+                for it in range(count)
+            )
+            of = account("r0", f"r{count}", text)
+            of.end.called += count
             begun = time.process_time()
-            history.check(account)
+            history.check(of)
             took[count] = time.process_time() - begun
         self.assertLess(took[40_000], 8 * 3 * took[5_000])
 
 
 class Logs(unittest.TestCase):
     def test_lines_of_a_killed_process(self):
+        """Its last line may be cut off; what it tried may have been done."""
+        end = '{"event": "end", "key": 7, "time": 99, "record": "%s"}'
         lines = [
             '{"event": "seed", "key": 7, "record": "a", "password": "one", "costs": 1}',
-            '{"event": "end", "key": 7, "time": 99, "record": "b"}',
             '{"event": "call", "id": "1", "time": 1, "kind": "change", "key": 7,'
             ' "password": "one", "new_password": "two", "costs": 1}',
-            '{"event": "try", "id": "1", "before": "a", "after": "b",' ' "reply": "replaced"}',
+            '{"event": "try", "id": "1", "before": "a", "after": "b", "reply": "replaced"}',
         ]
+        unknown = '{"event": "answer", "id": "1", "time": 2, "reply": "unknown"}'
+        cut = '{"event": "answer", "id": "1", "ti'
         with tempfile.TemporaryDirectory() as folder:
             path = os.path.join(folder, "log")
-            with open(path, "w") as file:
-                file.write("\n".join(lines) + '\n{"event": "answer", "id": "1", "ti')
-            accounts = logs.read([path])
-            history.check(accounts[7])
-            self.assertEqual(accounts[7].operations[0].reply, "replaced")
-            self.assertEqual(logs.main([path]), 0)
-            unknown = '{"event": "answer", "id": "1", "time": 2, "reply": "unknown"}'
-            for record, status in (("a", 0), ("b", 0), ("c", 1)):
-                lines[1] = lines[1].replace('"b"', f'"{record}"')
+
+            def read(*some):
                 with open(path, "w") as file:
-                    file.write("\n".join([*lines, unknown]) + "\n")
-                self.assertEqual(logs.main([path]), status, record)
-                lines[1] = lines[1].replace(f'"{record}"', '"b"')
-            with open(path, "w") as file:
-                file.write("\n".join(lines[:3]) + "\n")
-            self.assertEqual(logs.main([path]), 1)
-            for some in (lines[1:], lines[1:2], lines[:1]):
-                with open(path, "w") as file:
-                    file.write("\n".join(some) + "\n")
+                    file.write("\n".join(some))
+                return logs.read([path])
+
+            for record, last in itertools.product("abc", (unknown + "\n", cut)):
+                accounts = read(*lines, end % record, last)
+                self.assertEqual(history.verdict(accounts) is None, record != "c", record)
+                (op,) = accounts[7].operations
+                self.assertEqual(op.reply, "replaced" if record == "b" else None)
+            self.assertIsNotNone(history.verdict(read(*lines[:2], end % "b", "")))
+            for some in ((*lines[1:], end % "b"), (end % "b",), lines[:1]):
                 with self.assertRaises(ValueError):
-                    logs.read([path])
+                    read(*some, "")
 
 
 if __name__ == "__main__":

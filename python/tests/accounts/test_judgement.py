@@ -1,14 +1,13 @@
 """What a whole operation does at a copy, and what it costs."""
 
 import random
-import threading
 import unittest
 from unittest import mock
 
 from support import HIGH, LOW, OLDER, READS, Base, counted
 import rigzumal
 from rigzumal import PasswordHasher, ScryptHasher
-from rigzumal.accounts import Reply, _judgement, _step
+from rigzumal.accounts import Reply, _judgement
 from rigzumal.accounts.parts import Kind, NO_ROW, Request, Ticket
 
 
@@ -27,7 +26,7 @@ class Upgrades(Base):
                 for _ in range(2)
             ]
             judges = [_judgement.Judge(it) for it in hashers]
-            found = [rigzumal.parts(it._dummy) for it in judges]
+            found = [rigzumal.parts(it.sample) for it in judges]
             up = judges[1]._goes_up(found[0]), judges[0]._goes_up(found[1])
             self.assertFalse(all(up))
             self.assertFalse(judges[0]._goes_up(found[0]))
@@ -98,19 +97,20 @@ class Foreign(Base):
 
     def test_texts_of_other_schemes(self):
         accounts = self.accounts(foreign=self.hook)
-        self.put("$2b$one")
-        self.assertIs(accounts.verify("ann", "one"), Reply.YES)
-        self.assertIs(accounts.verify("ann", "two"), Reply.NO)
-        self.assertIs(accounts.enrol("ann", "two"), Reply.EXISTS)
-        for call in (accounts.upgrade, accounts.remove):
-            self.assertIs(call("ann", "two"), Reply.WRONG)
-        self.assertIs(accounts.change("ann", "two", "x"), Reply.WRONG)
-        self.assertEqual(self.stands(), "$2b$one")
-        self.assertIs(accounts.login("ann", "one"), Reply.YES)
-        self.assertTrue(self.is_right("one"))
-        self.put("$2b$one")
-        self.assertIs(accounts.change("ann", "one", "new"), Reply.REPLACED)
-        self.assertTrue(self.is_right("new"))
+        for act, reply, right in (
+            (lambda: accounts.verify("ann", "one"), Reply.YES, None),
+            (lambda: accounts.verify("ann", "two"), Reply.NO, None),
+            (lambda: accounts.enrol("ann", "two"), Reply.EXISTS, None),
+            (lambda: accounts.upgrade("ann", "two"), Reply.WRONG, None),
+            (lambda: accounts.remove("ann", "two"), Reply.WRONG, None),
+            (lambda: accounts.change("ann", "two", "x"), Reply.WRONG, None),
+            (lambda: accounts.login("ann", "one"), Reply.YES, "one"),
+            (lambda: accounts.change("ann", "one", "new"), Reply.REPLACED, "new"),
+        ):
+            self.put("$2b$one")
+            self.assertIs(act(), reply)
+            self.assertEqual(self.stands() == "$2b$one", right is None)
+            self.assertTrue(right is None or self.is_right(right))
         self.put("$2b$one")
         self.assertIs(accounts.remove("ann", "one"), Reply.REMOVED)
         self.assertIsNone(self.stands())
@@ -180,26 +180,6 @@ class Costs(Base):
             self.assertEqual(rigzumal.parts(dummy), made)
             self.assertEqual(password, b"x")
 
-    def test_nothing_is_hashed_twice_if_the_server_is_busy(self):
-        self.put(LOW.hash("one"))
-        made = []
-
-        def connect():
-            made.append(self.connect(timeout=0.01))
-            return made[-1]
-
-        accounts = self.accounts(connect=connect)
-        other = self.connect()
-        other.execute("BEGIN IMMEDIATE")
-        timer = threading.Timer(0.5, lambda: other.execute("COMMIT"))
-        timer.start()
-        with counted() as hashes:
-            self.assertIs(accounts.change("ann", "one", "two"), Reply.REPLACED)
-        timer.join()
-        other.close()
-        self.assertEqual(hashes, ["change"])
-        self.assertEqual(len(made), 1)
-
 
 class Steps(unittest.TestCase):
     """One step against the table of what a whole operation does."""
@@ -214,7 +194,7 @@ class Steps(unittest.TestCase):
             maker, owner = rng.choice(hashers), rng.choice(words)
             copy = rng.choice([None, maker.hash(owner), maker.hash(owner)])
             setting = rng.choice(hashers).costs + "$c29tZXNhbHRzb21lc2FsdA"
-            found = _step.step(kind, copy, password, new, setting)
+            found = _judgement.step(kind, copy, password, new, setting)
             expected = wanted(kind, copy, owner, password, new, setting)
             self.assertEqual(found, expected)
 
@@ -224,10 +204,10 @@ class Steps(unittest.TestCase):
         for kind in READS:
             for copy in ("garbage", "", LOW.hash("x") + "="):
                 with self.assertRaises(bad):
-                    _step.step(kind, copy, "x", "y", setting)
+                    _judgement.step(kind, copy, "x", "y", setting)
         for kind, copy in ((Kind.ENROL, None), (Kind.CHANGE, LOW.hash("x"))):
             with self.assertRaises(bad):
-                _step.step(kind, copy, "x", "y", "$argon2id$v=19$m=1,t=1,p=1$c29t")
+                _judgement.step(kind, copy, "x", "y", "$argon2id$v=19$m=1,t=1,p=1$c29t")
 
 
 def wanted(kind, copy, owner, password, new, setting):

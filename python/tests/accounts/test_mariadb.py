@@ -13,18 +13,13 @@ from unittest import mock
 import engines
 import support
 from support import LOW, Base, Scripted, run, sent
-from rigzumal.accounts import AsyncAccounts, MariaDB, Reply, StoreFault, Unavailable
+from rigzumal.accounts import AsyncAccounts, MariaDB, Reply, StoreFault, Unavailable, cli, torture
 from rigzumal.accounts._session import Result
 from rigzumal.accounts.dialects import mariadb
-from rigzumal.accounts.parts import Kind, Request, Ticket
+from rigzumal.accounts.parts import Kind
 
 
 class OnMariaDB(engines.OnMariaDB, Base):
-    def test_bytes_are_compared(self):
-        self.table(more="CHARACTER SET utf8mb4 COLLATE utf8mb4_general_ci")
-        for copy in ("ABCdef", "abcDEF ", "abcdef", "äbcDEF"):
-            self.tried_bytes("abcDEF", copy)
-
     def test_numbers_are_no_names(self):
         self.put(LOW.hash("one"))
         found = self.execute("SELECT name FROM users WHERE name = %s", 0)
@@ -32,19 +27,6 @@ class OnMariaDB(engines.OnMariaDB, Base):
         with self.assertRaises(TypeError):
             self.accounts().verify(0, "one")
         self.assertIs(self.accounts().verify("0", "one"), Reply.NO_ACCOUNT)
-
-    def test_a_short_column(self):
-        """Without strict mode the server cuts off what is too long."""
-        for mode in ("STRICT_TRANS_TABLES", "NO_ENGINE_SUBSTITUTION"):
-            self.table("VARCHAR(60)")
-            self.execute("INSERT INTO users VALUES ('ann', NULL)")
-            accounts = self.accounts(connect=self.setting(sql_mode=mode))
-            with self.assertRaises(StoreFault):
-                accounts.enrol("ann", "one")
-            self.assertIsNone(self.stands())
-            said = self.said(accounts)
-            self.assertIn("varchar(60)", said)
-            self.assertEqual("isn't strict" in said, mode[0] == "N")
 
     def test_a_callers_repeatable_read(self):
         self.put(LOW.hash("old"))
@@ -74,9 +56,7 @@ class OnMariaDB(engines.OnMariaDB, Base):
             for kind, new in ((Kind.CHANGE, "two"), (Kind.REMOVE, ""))
         ]
         for act in (
-            lambda: accounts.verify("ann", "one"),
             lambda: accounts.login("ann", "one"),
-            lambda: accounts.enrol("ann", "one"),
             lambda: accounts.commit(worked[0]),
             lambda: accounts.commit(worked[1]),
             # A connection that was refused is refused again.
@@ -163,23 +143,23 @@ class OnMariaDB(engines.OnMariaDB, Base):
                 self.assertIn(b"the server keeps another name", done.stderr)
                 self.assertEqual(self.execute("SELECT * FROM accounts"), [])
 
-    def test_a_binary_log(self):
-        """What isn't in it after a power cut is rolled back, so it is synced."""
-        fine = {"sql_mode": "STRICT_ALL_TABLES", "log_bin": "ON", "sync_binlog": "1"}
-        self.assertEqual(mariadb.of_server(fine), [])
-        (said,) = mariadb.of_server({**fine, "sync_binlog": "0"})
-        self.assertIn("sync_binlog is 0", str(said))
-        careless = {**fine, "sync_binlog": "0", "log_bin": "OFF"}
-        self.assertEqual(mariadb.of_server(careless), [])
+    def test_what_examine_says_of_a_session(self):
+        """With a binary log, what isn't in it after a power cut is rolled back, so it is synced."""
         seen = dict(self.execute("SHOW SESSION VARIABLES"))
-        self.assertTrue({"log_bin", "sync_binlog"} <= set(seen))
-        for value, words in (("0", "wsrep_sync_wait"), ("6", "wsrep_sync_wait")):
-            galera = {**fine, "wsrep_on": "ON", "wsrep_sync_wait": value}
-            (said,) = mariadb.of_server(galera)
-            self.assertIn(words, str(said))
-        for value in ("1", "7"):
-            galera = {**fine, "wsrep_on": "ON", "wsrep_sync_wait": value}
-            self.assertEqual(mariadb.of_server(galera), [])
+        fine = {"sql_mode": "STRICT_ALL_TABLES", "log_bin": "ON", "sync_binlog": "1"}
+        self.assertTrue(set(fine) <= set(seen))
+        sync, galera = "wsrep_sync_wait has no 1", {"wsrep_on": "ON"}
+        for more, *words in (
+            ({},),
+            ({"sync_binlog": "0"}, "sync_binlog is 0"),
+            ({"sync_binlog": "0", "log_bin": "OFF"},),
+            ({"sql_mode": "NO_ENGINE_SUBSTITUTION"}, "sql_mode isn't strict"),
+            *(({**galera, "wsrep_sync_wait": it}, sync) for it in "06"),
+            *(({**galera, "wsrep_sync_wait": it},) for it in "17"),
+        ):
+            found = [str(it) for it in mariadb.of_server({**fine, **more})]
+            self.assertEqual([it[: len(word)] for it, word in zip(found, words)], words)
+            self.assertEqual(len(found), len(words), found)
 
     def test_a_statement_that_the_server_does_not_take(self):
         """As MySQL: it is asked once, and then transactions do it. What fails after the UPDATE
@@ -201,17 +181,6 @@ class OnMariaDB(engines.OnMariaDB, Base):
                 self.assertEqual((reply, " ".join(found)), (Reply.REPLACED, words))
             self.assertTrue(self.is_right("two"))
 
-    def test_a_column_that_cuts_off(self):
-        """Where the server isn't strict."""
-        self.table("VARCHAR(90)")
-        self.put("short")
-        accounts = self.accounts(connect=self.setting(sql_mode=""))
-        worked = accounts.work(Ticket(Request(Kind.RESET, "ann", "", "two"), "short"))
-        self.assertGreater(len(worked.after), 90)
-        with self.assertRaises(StoreFault):
-            accounts.commit(worked)
-        self.assertEqual(self.stands(), "short")
-
     def test_a_confirmed_look_writes(self):
         """An UPDATE of a record to itself writes no log; a confirmed look does."""
 
@@ -227,8 +196,8 @@ class OnMariaDB(engines.OnMariaDB, Base):
                 accounts.verify("ann", "one")
                 self.assertEqual(written() - before, 2 if confirm else 0)
 
-    def test_what_examine_says_without_a_binary_log(self):
-        """It is a fault where looks aren't confirmed."""
+    def test_what_is_shown_early(self):
+        """A fault where looks aren't confirmed: --confirm is for examine and torture too."""
         said = "log_bin is OFF: a crash may lose a change by which a login was answered"
         for seen, words in (
             ({"log_bin": "OFF"}, (said,)),
@@ -237,40 +206,19 @@ class OnMariaDB(engines.OnMariaDB, Base):
             ({"log_bin": "OFF", "wsrep_on": "ON"}, ()),
         ):
             self.assertEqual(tuple(map(str, mariadb.shown_early(seen))), words)
-        early = mariadb.shown_early({})
+        printed, early = io.StringIO(), (mariadb.error("shown-early", "early"),)
+        given = ["--database", self.server.url, "--table", "users"]
         with mock.patch.object(mariadb, "shown_early", return_value=early):
             self.assertEqual(self.accounts().examine(), [*early])
             self.assertEqual(self.accounts(confirm=True).examine(), [])
-
-    def test_the_command(self):
-        """--confirm is for examine, check and torture."""
-        from rigzumal.accounts import cli, torture
-
-        given = ["--database", self.server.url, "--table", "users"]
-        said, early = io.StringIO(), (mariadb.error("shown-early", "early"),)
-        with mock.patch.object(mariadb, "shown_early", return_value=early):
-            with contextlib.redirect_stdout(said):
+            with contextlib.redirect_stdout(printed):
                 self.assertEqual(cli.main([*given, "examine"]), 5)
                 self.assertEqual(cli.main([*given, "--confirm", "examine"]), 0)
-        self.assertEqual(said.getvalue(), "error: early\n")
+        self.assertEqual(printed.getvalue(), "error: early\n")
         for confirm in (False, True):
             tortured = torture.Torture(self.server.url, confirm=confirm)
-            made = tortured.made(AsyncAccounts, None, 64)
+            made = tortured.made(AsyncAccounts, self.no_connection, 64)
             self.assertEqual(made._table.confirm, confirm)
-
-    def test_a_trigger_between(self):
-        """What it makes of the record is rolled back."""
-        record = LOW.hash("one")
-        for stands in (record, None):
-            self.put(stands)
-            self.execute(
-                "CREATE TRIGGER tr BEFORE UPDATE ON users FOR EACH ROW"
-                " SET NEW.record = COALESCE(CONCAT(NEW.record, 'x'), 'x')"
-            )
-            with self.assertRaises(StoreFault):
-                self.accounts(confirm=True).verify("ann", "one")
-            self.assertEqual(self.stands(), stands)
-            self.execute("DROP TRIGGER tr")
 
     def test_the_two_updates(self):
         """What stands between them is never committed."""

@@ -1,16 +1,18 @@
-"""The operations on accounts, in transactions of their own and of callers."""
+"""What the operations do whatever the engine: over SQLite, with threads and with asyncio."""
 
+import asyncio
 import base64
 import contextlib
 import os
+import threading
 import unittest
 from unittest import mock
 
-from support import HIGH, LOW, Base, Scripted, after_hash
-from rigzumal.accounts import Accounts, Reply, Sqlite, StoreFault
-from rigzumal.accounts.parts import Kind, NO_ROW, Request, Ticket, Worked
+from support import HIGH, LOW, Awaiting, Base, Scripted, after_hash
 from rigzumal import ScryptHasher
+from rigzumal.accounts import Accounts, AsyncAccounts, Reply, Sqlite, StoreFault
 from rigzumal.accounts._session import Result, run
+from rigzumal.accounts.parts import Kind, NO_ROW, Request, Ticket, Worked
 
 
 class Operations(Base):
@@ -19,47 +21,14 @@ class Operations(Base):
         accounts = self.accounts(ScryptHasher(log2_n=4))
         self.assertIs(accounts.enrol("ann", "one"), Reply.ENROLLED)
         self.assertIs(accounts.upgrade("ann", "one"), Reply.KEPT)
-        self.assertIs(self.accounts(LOW).login("ann", "one"), Reply.YES)
-        self.assertIn("$scrypt$ln=4,", self.stands())
-        dearer = self.accounts(ScryptHasher(log2_n=5))
-        self.assertIs(dearer.login("ann", "one"), Reply.YES)
-        self.assertIn("$scrypt$ln=5,", self.stands())
         listed = self.accounts(LOW, upgrade_from=["$scrypt$ln=5,r=8,p=1"])
-        self.assertIs(listed.login("ann", "one"), Reply.YES)
-        self.assertIn("$argon2id$", self.stands())
-
-    def test_the_three_parts(self):
-        self.put(LOW.hash("one"))
-        accounts = self.accounts()
-        slow = self.worked(accounts, Kind.UPGRADE, "one")
-        change = self.worked(accounts, Kind.CHANGE, "one", "two")
-        self.assertIs(slow.reply, Reply.KEPT)
-        self.assertIs(accounts.commit(change).reply, Reply.REPLACED)
-        late = accounts.commit(slow)
-        self.assertIs(late.reply, Reply.CHANGED)
-        self.assertEqual(late.after, self.stands())
-        again = accounts.commit(change)
-        self.assertIs(again.reply, Reply.CHANGED)
-        self.assertTrue(self.is_right("two"))
-
-    def test_a_slow_login_never_undoes_a_change(self):
-        """The race: a login with the stolen password, begun before the change."""
-        self.put(LOW.hash("stolen"))
-        accounts, owner, once = self.accounts(HIGH), self.accounts(HIGH), []
-        after_hash(accounts, lambda: once.append(owner.change("ann", "stolen", "new")))
-        self.assertIs(accounts.login("ann", "stolen"), Reply.NO)
-        self.assertEqual(once, [Reply.REPLACED])
-        self.assertFalse(self.is_right("stolen"))
-        self.assertTrue(self.is_right("new"))
-
-    def test_a_login_whose_record_changes_again_and_again(self):
-        """An upgrade that never stood is no yes; a wrong password was wrong as it was read."""
-        for password, reply in (("one", Reply.CHANGED), ("two", Reply.NO)):
-            self.put(LOW.hash("one"))
-            accounts = self.accounts(HIGH, tries=3)
-            after_hash(accounts, lambda: self.put(LOW.hash("one")), 99)
-            self.assertIs(accounts.login("ann", password), reply)
-            self.assertIn("m=64,", self.stands())
+        for accounts, costs in (
+            (self.accounts(LOW), "$scrypt$ln=4,"),
+            (self.accounts(ScryptHasher(log2_n=5)), "$scrypt$ln=5,"),
+            (listed, "$argon2id$"),
+        ):
+            self.assertIs(accounts.login("ann", "one"), Reply.YES)
+            self.assertIn(costs, self.stands())
 
     def test_passwords_are_their_bytes(self):
         """Two spellings of one letter are two passwords; blanks and case count."""
@@ -78,62 +47,58 @@ class Operations(Base):
             self.assertIs(accounts.verify("ann", given), Reply.YES)
             for other in others:
                 self.assertIs(accounts.verify("ann", other), Reply.NO, other)
-                reply = accounts.change("ann", other, "new")
-                self.assertIs(reply, Reply.WRONG, other)
+                self.assertIs(accounts.change("ann", other, "new"), Reply.WRONG, other)
 
     def test_changed_after_so_many_tries(self):
-        self.put(LOW.hash("one"))
-        accounts, turns = self.accounts(tries=3), []
+        """An upgrade that never stood is no yes; what changes nothing is answered as it was
+        read."""
+        accounts, turns = self.accounts(HIGH, tries=3), []
 
         def changed():
             turns.append(self.stands())
             self.put(LOW.hash("one"))
 
         after_hash(accounts, changed, 99)
-        for kind in (Kind.REMOVE, Kind.CHANGE):
+        for act, reply, count in (
+            (lambda: accounts.remove("ann", "one"), Reply.CHANGED, 3),
+            (lambda: accounts.change("ann", "one", "two"), Reply.CHANGED, 3),
+            (lambda: accounts.login("ann", "one"), Reply.CHANGED, 3),
+            (lambda: accounts.login("ann", "two"), Reply.NO, 1),
+            (lambda: accounts.verify("ann", "one"), Reply.YES, 1),
+        ):
+            self.put(LOW.hash("one"))
             turns.clear()
-            answer = accounts.perform(Request(kind, "ann", "one", "two"))
-            self.assertIs(answer.reply, Reply.CHANGED)
-            self.assertEqual(len(set(turns)), 3)
-            self.assertEqual(answer.after, self.stands())
-        # What changes nothing is answered by the record that stood as it was read.
-        turns.clear()
-        self.assertIs(accounts.verify("ann", "one"), Reply.YES)
-        self.assertEqual(len(turns), 1)
+            self.assertIs(act(), reply)
+            self.assertEqual(len(set(turns)), count)
+            self.assertIn("m=64,", self.stands())
+        answer = accounts.perform(Request(Kind.CHANGE, "ann", "one", "two"))
+        self.assertEqual((answer.reply, answer.after), (Reply.CHANGED, self.stands()))
 
-    def test_no_record_that_came_back(self):
-        """The UPDATE found a record, and it was removed before the row was read."""
+    def test_what_an_update_found(self):
+        """It found a record, which was removed before the row was read; a driver that doesn't
+        count; a key of more than one row."""
         table = self.accounts()._table
-        for copy, stands, reply in (
-            (None, None, Reply.CHANGED),
-            (None, "other", Reply.CHANGED),
-            ("copy", None, Reply.CHANGED),
-            ("copy", "other", Reply.CHANGED),
-            ("copy", "copy", StoreFault),
+        for copy, count, stands, reply in (
+            (None, 0, None, Reply.CHANGED),
+            (None, 0, "other", Reply.CHANGED),
+            ("copy", 0, None, Reply.CHANGED),
+            ("copy", 0, "other", Reply.CHANGED),
+            ("copy", 0, "copy", StoreFault),
+            ("copy", -1, "copy", StoreFault),
+            ("copy", 2, "copy", StoreFault),
         ):
             ticket = Ticket(Request(Kind.RESET, "ann", "", "x"), copy)
-            session = Scripted(Result([], 0), Result([(stands,)], 1))
+            session = Scripted(Result([], count), Result([(stands,)], 1))
             job = table.compare(session, Worked(ticket, Reply.REPLACED, "new"))
             if reply is StoreFault:
-                with self.assertRaises(StoreFault):
-                    run(job)
-                continue
-            answer = run(job)
-            self.assertIs(answer.reply, reply)
-            self.assertEqual(answer.after, stands)
-
-    def test_one_row_is_updated(self):
-        """A driver that doesn't count, or a key of more than one row."""
-        table = self.accounts()._table
-        ticket = Ticket(Request(Kind.RESET, "ann", "", "x"), "copy")
-        for count in (-1, 2):
-            session = Scripted(Result([], count))
-            with self.assertRaises(StoreFault):
-                run(table.compare(session, Worked(ticket, Reply.REPLACED, "new")))
+                self.assertRaises(StoreFault, run, job)
+            else:
+                answer = run(job)
+                self.assertEqual((answer.reply, answer.after), (reply, stands))
 
     def test_replicas_may_lag(self):
         """A copy that is gone is no answer: the primary is looked at."""
-        stale = self.connect()
+        stale = self.another()
         stale.execute("ATTACH ':memory:' AS old")
         stale.execute("CREATE TABLE old.users (name TEXT PRIMARY KEY, record TEXT)")
         stale.execute("INSERT INTO old.users VALUES ('ann', ?)", (LOW.hash("old"),))
@@ -142,9 +107,8 @@ class Operations(Base):
 
         @contextlib.contextmanager
         def replica():
-            with mock.patch.object(
-                dialect, "select", dialect.select.replace("users", 'old"."users')
-            ):
+            old = dialect.select.replace("users", 'old"."users')
+            with mock.patch.object(dialect, "select", old):
                 yield stale
 
         accounts = self.accounts(dialect=dialect, replica=replica)
@@ -169,7 +133,6 @@ class Operations(Base):
         self.conn.execute("DELETE FROM users")
         self.assertIs(accounts.verify("ann", "old"), Reply.NO_ACCOUNT)
         self.assertIs(accounts.enrol("ann", "old"), Reply.NO_ACCOUNT)
-        stale.close()
 
     def test_copies_are_read_from_the_replica(self):
         """One look each, and everything else at the primary."""
@@ -181,31 +144,28 @@ class Operations(Base):
             uses.append(name)
             yield self.conn
 
-        accounts = Accounts(
-            lambda: used("primary"),
-            self.dialect,
-            LOW,
-            replica=lambda: used("replica"),
-        )
+        @contextlib.asynccontextmanager
+        async def awaited(name):
+            uses.append(name)
+            yield Awaiting(self.conn)
+
+        def over(kind, pool):
+            more = {"replica": lambda: pool("replica")}
+            return kind(lambda: pool("primary"), self.dialect, LOW, **more)
+
+        threads, tasks = over(Accounts, used), over(AsyncAccounts, awaited)
         for act in (
-            lambda: accounts.verify("ann", "one"),
-            lambda: accounts.login("ann", "one"),
-            lambda: accounts.change("ann", "one", "two"),
+            lambda: threads.verify("ann", "one"),
+            lambda: threads.login("ann", "one"),
+            lambda: threads.change("ann", "one", "two"),
+            lambda: asyncio.run(tasks.change("ann", "two", "one")),
         ):
             uses.clear()
             act()
             self.assertEqual(uses, ["replica", "primary"])
 
-    def test_each_record_has_a_salt_of_its_own(self):
-        """By which it is known whether a lost COMMIT was done."""
-        self.put(None)
-        accounts, salts = self.accounts(), set()
-        for _ in range(20):
-            accounts.reset("ann", "one")
-            salts.add(self.stands().split("$")[4])
-        self.assertEqual(len(salts), 20)
-
     def test_salts_are_the_systems_random_bytes(self):
+        """Sixteen for each record: by them one knows whether a lost COMMIT was done."""
         self.put(LOW.hash("old"))
         accounts = self.accounts(HIGH)
         for number, act in enumerate(
@@ -224,55 +184,27 @@ class Operations(Base):
             salt = base64.b64encode(drawn).decode().rstrip("=")
             self.assertEqual(self.stands().split("$")[4], salt)
 
-
-class CallersTransactions(Base):
-    def test_all_or_nothing(self):
-        self.put(LOW.hash("one"))
-        self.conn.execute("CREATE TABLE sessions (name TEXT)")
-        accounts = self.accounts()
-        worked = self.worked(accounts, Kind.CHANGE, "one", "two")
-        for end, right in (("ROLLBACK", "one"), ("COMMIT", "two")):
-            self.conn.execute("BEGIN IMMEDIATE")
-            answer = accounts.commit_in(self.conn, worked)
-            self.assertIs(answer.reply, Reply.REPLACED)
-            self.conn.execute("INSERT INTO sessions VALUES ('ann')")
-            self.conn.execute(end)
-            self.assertTrue(self.is_right(right))
-        found = self.conn.execute("SELECT count(*) FROM sessions").fetchone()
-        self.assertEqual(found, (1,))
-        self.conn.execute("BEGIN IMMEDIATE")
-        self.assertIs(accounts.commit_in(self.conn, worked).reply, Reply.CHANGED)
-        self.conn.execute("ROLLBACK")
-
-    def test_a_verify_within(self):
-        self.put(LOW.hash("one"))
-        accounts = self.accounts()
-        worked = self.worked(accounts, Kind.VERIFY, "one")
-        self.conn.execute("BEGIN IMMEDIATE")
-        self.assertIs(accounts.commit_in(self.conn, worked).reply, Reply.YES)
-        self.conn.execute("COMMIT")
-
-    def test_a_change_of_a_name_that_no_column_holds(self):
-        """It is asked of no server, whatever its copy is said to be."""
-
-        def connect():
-            raise AssertionError("a connection was asked for")
-
-        accounts, record = self.accounts(connect=connect), LOW.hash("one")
-        ticket = Ticket(Request(Kind.RESET, "a\0b", "", "x"), record)
-        answer = accounts.commit(Worked(ticket, Reply.REPLACED, LOW.hash("two")))
-        self.assertEqual(
-            (answer.reply, answer.before, answer.after), (Reply.NO_ACCOUNT, NO_ROW, NO_ROW)
-        )
+    def test_a_new_record(self):
+        """For an INSERT of one's own; each has a salt of its own."""
+        accounts = self.accounts(HIGH)
+        records = {accounts.new_record("one") for _ in range(3)}
+        self.assertEqual(len(records), 3)
+        for record in records:
+            self.put(record)
+            self.assertIn("m=128,", record)
+            self.assertIs(accounts.login("ann", "one"), Reply.YES)
+            self.assertEqual(self.stands(), record)
 
     def test_names_that_no_column_holds(self):
-        """They are asked of no server, as in the operations."""
-        accounts = self.accounts()
+        """They are asked of no server, whatever their copy is said to be."""
+        accounts, record = self.accounts(connect=self.no_connection), LOW.hash("one")
         for name in ("a\0b", "\ud800"):
-            worked = accounts.work(accounts.begin(Request(Kind.RESET, name, "", "x")))
+            ticket = Ticket(Request(Kind.RESET, name, "", "x"), record)
+            worked = Worked(ticket, Reply.REPLACED, LOW.hash("two"))
             self.conn.execute("BEGIN IMMEDIATE")
-            answer = accounts.commit_in(self.conn, worked)
-            self.assertIs(answer.reply, Reply.NO_ACCOUNT)
+            for answer in (accounts.commit(worked), accounts.commit_in(self.conn, worked)):
+                self.assertIs(answer.reply, Reply.NO_ACCOUNT)
+                self.assertEqual((answer.before, answer.after), (NO_ROW, NO_ROW))
             self.conn.execute("ROLLBACK")
 
     def test_keys_of_another_type(self):
@@ -281,6 +213,68 @@ class CallersTransactions(Base):
         with self.assertRaises(TypeError):
             self.accounts().commit_in(self.conn, worked)
         self.assertTrue(self.conn.in_transaction)
+
+
+class Awaited(Base):
+    """What is particular over coroutines."""
+
+    def setUp(self):
+        super().setUp()
+        self.put(LOW.hash("one"))
+
+    def awaiting(self):
+        @contextlib.asynccontextmanager
+        async def pool():
+            yield Awaiting(self.conn)
+
+        return AsyncAccounts(pool, self.dialect, LOW)
+
+    def test_a_hash_holds_up_no_task(self):
+        """It is made in another thread, one operation's beside the next one's."""
+        accounts, threads = self.awaiting(), set()
+        work = accounts._judge.work
+        both = threading.Barrier(2, timeout=20)
+
+        def noted(ticket):
+            threads.add(threading.current_thread())
+            both.wait()
+            return work(ticket)
+
+        async def act():
+            accounts._judge.work = noted
+            looks = [accounts.verify("ann", "one") for _ in range(2)]
+            return await asyncio.gather(*looks)
+
+        self.assertEqual(asyncio.run(act()), [Reply.YES] * 2)
+        self.assertNotIn(threading.main_thread(), threads)
+
+    def test_rows_of_ones_own(self):
+        """`also` may be awaited: its row is committed with the reply, or not at all."""
+        self.conn.execute("CREATE TABLE sessions (reply TEXT)")
+        accounts, told = self.awaiting(), []
+
+        def plain(conn, reply):
+            told.append(reply)
+            conn.execute("INSERT INTO sessions VALUES (?)", (reply.value,))
+
+        async def awaited(conn, reply):
+            await asyncio.sleep(0)
+            plain(conn, reply)
+
+        async def fails(conn, reply):
+            await awaited(conn, reply)
+            raise KeyError("mine")
+
+        for also in (plain, awaited):
+            reply = asyncio.run(accounts.change("ann", "one", "one", also=also))
+            self.assertIs(reply, Reply.REPLACED)
+            self.assertIs(asyncio.run(accounts.login("ann", "one", also=also)), Reply.YES)
+        with self.assertRaises(KeyError):
+            asyncio.run(accounts.change("ann", "one", "two", also=fails))
+        self.assertTrue(self.is_right("one"))
+        rows = [row for (row,) in self.conn.execute("SELECT reply FROM sessions")]
+        self.assertEqual(rows, ["replaced", "yes"] * 2)
+        self.assertEqual(told, [Reply.REPLACED, Reply.YES] * 2 + [Reply.REPLACED])
 
 
 if __name__ == "__main__":

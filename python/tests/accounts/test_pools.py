@@ -10,12 +10,17 @@ from engines import Awaited
 from support import LOW, OLDER, Awaiting, Base, Session, after_hash, losing, sent
 from rigzumal.accounts import Accounts, AsyncAccounts, OutcomeUnknown, PerThread, Reply, StoreFault
 from rigzumal.accounts._session import AsyncSession
+from rigzumal.accounts.pools import PerUse
 
 BUSY = sqlite3.OperationalError("database is locked")
 
 
 class Alarm(BaseException):
     """As a timeout of gevent, a cancelled task or an interrupt."""
+
+
+def interrupted(worked):
+    raise Alarm
 
 
 class Pool:
@@ -78,42 +83,45 @@ WAYS = (raises_another, raises_at_any_end, raises_a_base_exception, swallows, ro
 class LostAnswers:
     """A COMMIT without an answer, and a pool that does as it likes afterwards."""
 
-    def made(self, way, dialect):
-        self.pool = Pool(way, self.conn)
-        return self.over(self.pool, dialect)
-
-    def each(self, before):
+    def each(self, dialect, wanted):
+        """Accounts over a pool of each way; what a use of it is to answer or to raise."""
         for way in WAYS:
+            self.pool = Pool(way, self.conn)
             with self.subTest(pool=way.__name__):
-                yield way, self.made(way, losing(self.another_dialect(), before))
+                is_alarm = way is raises_a_base_exception
+                yield self.over(self.pool, dialect()), Alarm if is_alarm else wanted
 
-    def test_a_change_that_was_made(self):
-        for way, accounts in self.each(before=False):
-            self.put(LOW.hash("old"))
-            change = lambda: accounts.change("ann", "old", "new")
-            with sent(self.session) as found:
-                if way is raises_a_base_exception:
-                    self.assertRaises(Alarm, change)
+    def assert_answer(self, wanted, act):
+        if isinstance(wanted, Reply):
+            self.assertIs(act(), wanted)
+        else:
+            self.assertRaises(wanted, act)
+
+    def test_changes(self):
+        """Each is made once, and a removal isn't known."""
+        for kind, before, reply, right, after_alarm in (
+            ("change", False, Reply.REPLACED, "new", "new"),
+            ("change", True, Reply.REPLACED, "new", "old"),
+            ("remove", False, OutcomeUnknown, None, None),
+        ):
+            lost = lambda: losing(self.another_dialect(), before)
+            for accounts, wanted in self.each(lost, reply):
+                self.put(LOW.hash("old"))
+                given = ("ann", "old", "new") if kind == "change" else ("ann", "old")
+                with sent(self.session) as found:
+                    self.assert_answer(wanted, lambda: getattr(accounts, kind)(*given))
+                password = after_alarm if wanted is Alarm else right
+                if password is None:
+                    self.assertIsNone(self.stands())
                 else:
-                    self.assertIs(change(), Reply.REPLACED)
-            self.assertEqual(found.count("UPDATE"), 2 - (way is raises_a_base_exception))
-            self.assertTrue(self.is_right("new"))
-
-    def test_a_change_that_was_not_made(self):
-        for way, accounts in self.each(before=True):
-            self.put(LOW.hash("old"))
-            change = lambda: accounts.change("ann", "old", "new")
-            if way is raises_a_base_exception:
-                self.assertRaises(Alarm, change)
-                self.assertTrue(self.is_right("old"))
-            else:
-                self.assertIs(change(), Reply.REPLACED)
-                self.assertTrue(self.is_right("new"))
+                    self.assertTrue(self.is_right(password))
+                if kind == "change":
+                    self.assertEqual(found.count("UPDATE"), 1 if wanted is Alarm else 2)
 
     def test_an_enrolment_that_its_owner_has_removed_since(self):
         """It stays removed, and its outcome is unknown."""
-        for way in WAYS:
-            self.put(None)
+
+        def removing():
             dialect = losing(self.another_dialect(), before=False)
             commit = dialect.commit
 
@@ -125,44 +133,27 @@ class LostAnswers:
                     self.conn.execute("UPDATE users SET record = NULL")
 
             dialect.commit = removed
-            accounts = self.made(way, dialect)
-            wanted = Alarm if way is raises_a_base_exception else OutcomeUnknown
-            with self.subTest(pool=way.__name__), self.assertRaises(wanted):
-                accounts.enrol("ann", "new")
-            self.assertIsNone(self.stands())
+            return dialect
 
-    def test_a_removal(self):
-        for way, accounts in self.each(before=False):
-            self.put(LOW.hash("old"))
-            wanted = Alarm if way is raises_a_base_exception else OutcomeUnknown
-            with self.assertRaises(wanted):
-                accounts.remove("ann", "old")
+        for accounts, wanted in self.each(removing, OutcomeUnknown):
+            self.put(None)
+            self.assert_answer(wanted, lambda: accounts.enrol("ann", "new"))
             self.assertIsNone(self.stands())
 
     def test_a_fault_is_said(self):
         """What a job raised is what its caller is told."""
-        for way in WAYS:
-            self.put(LOW.hash("old"))
-            accounts = self.made(way, self.dialect)
+        for accounts, wanted in self.each(self.another_dialect, StoreFault):
             self.conn.execute("ALTER TABLE users RENAME TO gone")
-            wanted = Alarm if way is raises_a_base_exception else StoreFault
-            with self.subTest(pool=way.__name__), self.assertRaises(wanted):
-                accounts.verify("ann", "old")
+            self.assert_answer(wanted, lambda: accounts.verify("ann", "old"))
             self.assertEqual(self.pool.uses, 1)
             self.conn.execute("ALTER TABLE gone RENAME TO users")
 
     def test_an_interrupt_is_no_lost_connection(self):
         """It comes through, whatever the pool makes of it; nothing is sent again."""
-        for way in WAYS:
+        for accounts, _ in self.each(self.another_dialect, Alarm):
             self.put(LOW.hash("old"))
-            accounts = self.made(way, self.dialect)
-
-            def interrupted(worked):
-                raise Alarm
-
             accounts._table.before_commit = interrupted
-            with self.subTest(pool=way.__name__), self.assertRaises(Alarm):
-                accounts.change("ann", "old", "new")
+            self.assertRaises(Alarm, accounts.change, "ann", "old", "new")
             self.assertEqual(self.pool.uses, 2)
             self.assertTrue(self.is_right("old"))
 
@@ -174,9 +165,9 @@ class LostAnswers:
                 raise RuntimeError("the pool is shut")
 
             async def __aenter__(self):
-                raise RuntimeError("the pool is shut")
+                self.__enter__()
 
-            async def __aexit__(self, *given):
+            def __exit__(self, *given):
                 raise AssertionError("it never was entered")
 
         accounts = self.over(Shut(rolls_back, None), self.dialect)
@@ -184,11 +175,10 @@ class LostAnswers:
             accounts.verify("ann", "old")
 
     def test_what_examine_says_is_not_swallowed(self):
-        accounts = self.made(swallows, self.dialect)
+        accounts = self.over(Pool(swallows, self.conn), self.dialect)
         self.assertEqual(accounts.examine(), [])
         self.dialect.examine = None
-        with self.assertRaises(TypeError):
-            accounts.examine()
+        self.assertRaises(TypeError, accounts.examine)
 
 
 class LostAnswersOfThreads(LostAnswers, Base):
@@ -204,54 +194,12 @@ class LostAnswersOfTasks(LostAnswers, Base):
     def over(self, pool, dialect):
         return Awaited(AsyncAccounts(pool, dialect, LOW, patience=0.5))
 
-    def test_a_cancellation_comes_through(self):
-        """At the pool's way back too, where the work is done."""
-        self.put(LOW.hash("old"))
+
+class Cancellations(Base):
+    def cancelled(self, pool, waiting):
+        """A change over a pool, which is cancelled as it waits there."""
 
         async def act():
-            waiting = asyncio.Event()
-
-            @contextlib.asynccontextmanager
-            async def pool():
-                yield Awaiting(self.conn)
-                if not waiting.is_set():
-                    waiting.set()
-                    await asyncio.Event().wait()
-
-            accounts = AsyncAccounts(pool, self.dialect, LOW)
-            task = asyncio.create_task(accounts.change("ann", "old", "new"))
-            await asyncio.wait_for(waiting.wait(), 60)
-            task.cancel()
-            with self.assertRaises(asyncio.CancelledError):
-                await task
-
-        asyncio.run(act())
-
-    def test_a_cancellation_that_a_rollback_replaces(self):
-        """The pool's rollback raises in its place: it is a cancellation all the same."""
-        self.put(LOW.hash("old"))
-        uses = []
-
-        async def act():
-            waiting = asyncio.Event()
-
-            class Waits(Awaiting):
-                @contextlib.asynccontextmanager
-                async def cursor(self):
-                    if len(uses) == 2:
-                        waiting.set()
-                        await asyncio.Event().wait()
-                    async with Awaiting.cursor(self) as cursor:
-                        yield cursor
-
-            @contextlib.asynccontextmanager
-            async def pool():
-                uses.append(1)
-                try:
-                    yield Waits(self.conn)
-                except BaseException:
-                    raise BUSY from None
-
             accounts = AsyncAccounts(pool, self.dialect, LOW, patience=0.5)
             task = asyncio.create_task(accounts.change("ann", "old", "new"))
             await asyncio.wait_for(waiting.wait(), 60)
@@ -259,7 +207,44 @@ class LostAnswersOfTasks(LostAnswers, Base):
             with self.assertRaises(asyncio.CancelledError):
                 await task
 
+        self.put(LOW.hash("old"))
         asyncio.run(act())
+
+    def test_at_the_pools_way_back(self):
+        """It comes through where the work is done, too."""
+        waiting = asyncio.Event()
+
+        @contextlib.asynccontextmanager
+        async def pool():
+            yield Awaiting(self.conn)
+            if not waiting.is_set():
+                waiting.set()
+                await asyncio.Event().wait()
+
+        self.cancelled(pool, waiting)
+
+    def test_one_that_a_rollback_replaces(self):
+        """The pool's rollback raises in its place: it is a cancellation all the same."""
+        waiting, uses = asyncio.Event(), []
+
+        class Waits(Awaiting):
+            @contextlib.asynccontextmanager
+            async def cursor(self):
+                if len(uses) == 2:
+                    waiting.set()
+                    await asyncio.Event().wait()
+                async with Awaiting.cursor(self) as cursor:
+                    yield cursor
+
+        @contextlib.asynccontextmanager
+        async def pool():
+            uses.append(1)
+            try:
+                yield Waits(self.conn)
+            except BaseException:
+                raise BUSY from None
+
+        self.cancelled(pool, waiting)
         self.assertEqual(len(uses), 2)
         self.assertTrue(self.is_right("old"))
 
@@ -268,17 +253,12 @@ class OpenTransactions(Base):
     """A pool that keeps its connections finds none of ours open."""
 
     def test_after_a_refused_statement(self):
-        self.conn.execute("DROP TABLE users")
-        self.conn.execute(
-            "CREATE TABLE users (name TEXT PRIMARY KEY, record TEXT"
-            " CHECK (record NOT LIKE '%t=1%'))"
-        )
+        self.table("TEXT CHECK (record NOT LIKE '%t=1%')")
         self.put(OLDER)
         accounts = self.kept(conn=self.conn)
         for _ in range(2):
-            with self.assertRaises(StoreFault) as raised:
+            with self.assertRaisesRegex(StoreFault, "SQLITE_CONSTRAINT_CHECK"):
                 accounts.change("ann", "password", "new")
-            self.assertIn("SQLITE_CONSTRAINT_CHECK", str(raised.exception))
             self.assertFalse(self.conn.in_transaction)
         self.assertIs(accounts.verify("ann", "password"), Reply.YES)
 
@@ -293,38 +273,35 @@ class OpenTransactions(Base):
         """After an interrupt it is the pool that rolls back."""
         self.put(LOW.hash("one"))
         accounts = self.kept(conn=self.conn)
-
-        def interrupted(worked):
-            raise Alarm
-
         accounts._table.before_commit = interrupted
-        with self.assertRaises(Alarm):
-            accounts.change("ann", "one", "two")
+        self.assertRaises(Alarm, accounts.change, "ann", "one", "two")
         self.assertTrue(self.conn.in_transaction)
         with self.assertRaisesRegex(StoreFault, "pool closes what it gave out"):
             accounts.verify("ann", "one")
 
 
 class OnePerThread(Base):
-    def test_a_forked_child_makes_its_own(self):
-        self.put(LOW.hash("one"))
-        made = []
-
-        def connect():
-            made.append(os.getpid())
-            return self.connect()
-
-        accounts = self.accounts(connect=connect)
-        self.assertIs(accounts.verify("ann", "one"), Reply.YES)
+    def forked(self, act):
+        """The status of a child that does this."""
         pid = os.fork()
         if pid == 0:
             try:
-                reply = accounts.change("ann", "one", "two")
-                fine = reply is Reply.REPLACED and made[1:] == [os.getpid()]
-                os._exit(0 if fine else 1)
+                os._exit(act())
             finally:
-                os._exit(2)
-        self.assertEqual(os.waitpid(pid, 0)[1], 0)
+                os._exit(99)
+        return os.waitstatus_to_exitcode(os.waitpid(pid, 0)[1])
+
+    def test_a_forked_child_makes_its_own(self):
+        self.put(LOW.hash("one"))
+        made = []
+        accounts = self.accounts(connect=lambda: made.append(os.getpid()) or self.connect())
+        self.assertIs(accounts.verify("ann", "one"), Reply.YES)
+
+        def change():
+            reply = accounts.change("ann", "one", "two")
+            return 0 if reply is Reply.REPLACED and made[1:] == [os.getpid()] else 1
+
+        self.assertEqual(self.forked(change), 0)
         self.assertIs(accounts.verify("ann", "two"), Reply.YES)
         self.assertEqual(made, [os.getpid()])
 
@@ -336,23 +313,20 @@ class OnePerThread(Base):
             def close(self):
                 ended.append(os.getpid())
 
-            def __del__(self):
-                ended.append(os.getpid())
+            __del__ = close
 
         used, shut = PerThread(Connection), PerThread(Connection)
         for pool in (used, shut):
             with pool():
                 pass
-        pid = os.fork()
-        if pid == 0:
-            try:
-                shut.close()
-                with used(), shut():
-                    pass
-                os._exit(len(ended))
-            finally:
-                os._exit(99)
-        self.assertEqual(os.waitpid(pid, 0)[1], 0)
+
+        def act():
+            shut.close()
+            with used(), shut():
+                pass
+            return len(ended)
+
+        self.assertEqual(self.forked(act), 0)
         self.assertEqual(ended, [])
 
     def test_a_connection_is_given_up_after_an_exception(self):
@@ -375,16 +349,27 @@ class OnePerThread(Base):
 
     def test_an_operation_after_an_interrupt(self):
         self.put(LOW.hash("one"))
-        accounts, alarms = self.accounts(), [Alarm()]
-
-        def interrupted(worked):
-            if alarms:
-                raise alarms.pop()
-
+        accounts = self.accounts()
         accounts._table.before_commit = interrupted
-        with self.assertRaises(Alarm):
-            accounts.change("ann", "one", "two")
+        self.assertRaises(Alarm, accounts.change, "ann", "one", "two")
+        accounts._table.before_commit = lambda worked: None
         self.assertIs(accounts.change("ann", "one", "two"), Reply.REPLACED)
+
+    def test_a_connection_for_each_use_is_closed(self):
+        """Of a task, after a fault too."""
+        made = []
+
+        async def connect():
+            made.append(self.connect())
+            return Awaiting(made[-1])
+
+        accounts = Awaited(AsyncAccounts(PerUse(connect), self.dialect, LOW))
+        self.assertIs(accounts.verify("ann", "one"), Reply.NO_ACCOUNT)
+        self.conn.execute("DROP TABLE users")
+        self.assertRaises(StoreFault, accounts.verify, "ann", "one")
+        self.assertEqual(len(made), 2)
+        for conn in made:
+            self.assertRaises(sqlite3.ProgrammingError, conn.execute, "SELECT 1")
 
 
 if __name__ == "__main__":

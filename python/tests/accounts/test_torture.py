@@ -14,8 +14,9 @@ from support import Base, losing
 from rigzumal.accounts import Reply, StoreFault, cli, torture
 from rigzumal.accounts._table import Table
 from rigzumal.accounts.parts import Answer, Kind
-from rigzumal.accounts.torture import _logged, _torture
+from rigzumal.accounts.torture import _torture
 from rigzumal.accounts.torture._order import Operation
+from rigzumal.accounts.torture.logs import Log
 from rigzumal.accounts.torture.history import Account
 
 
@@ -61,10 +62,8 @@ class Tortures(Base):
         self.assertEqual(found.fetchall(), [("users",)])
 
     def test_a_kill_that_kills_nobody(self):
-        with mock.patch.object(_torture.os, "kill"):
-            with mock.patch.object(_torture, "RISK", 0):
-                with mock.patch.object(_logged.Log, "_dare"):
-                    said = self.command("--processes=2", "--kill", status=4)
+        with mock.patch.object(os, "kill"), mock.patch.object(Log, "_dare"):
+            said = self.command("--processes=2", "--kill", status=4)
         self.assertIn("no process was killed", said)
 
     def test_kills_before_a_commit(self):
@@ -90,10 +89,9 @@ class Tortures(Base):
             told(log, *given)
             log.risk = 1.0
 
-        told = _logged.Log.tried
-        with mock.patch.object(_logged.Log, "tried", tried):
-            with mock.patch.object(_torture, "RISK", 1.0):
-                accounts = self.run_one(kill=True)
+        told = Log.tried
+        with mock.patch.object(Log, "tried", tried), mock.patch.object(_torture, "RISK", 1.0):
+            accounts = self.run_one(kill=True)
         self.assertGreater(self.torture.killed, 0)
         self.assertIsNone(torture.verdict(accounts))
         found_out = [it for it in self.operations(accounts) if it.found_out]

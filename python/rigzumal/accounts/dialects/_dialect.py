@@ -1,18 +1,23 @@
-"""The parts of an engine: its statements, its transactions, the meaning of its errors."""
+"""An engine's statements, its transactions, the meaning of its errors, and its faults."""
 
 from __future__ import annotations
 
 import enum
-from collections.abc import Callable, Container, Iterable
+import functools
+from collections.abc import Container, Iterable, Iterator, Sequence
+from dataclasses import dataclass
 from typing import Any, ClassVar, Final, NamedTuple
 
 from rigzumal.accounts._session import Result, Session
-from rigzumal.accounts._values import Copy, Key, StoreFault
-from rigzumal.accounts.dialects._faults import Fault, Findings, error, warning
+from rigzumal.accounts.parts import Copy, Key, StoreFault
 
 LONGEST_RECORD: Final = 512
 """Bytes of the longest record."""
 
+TOO_SHORT: Final = f"a record has up to {LONGEST_RECORD} bytes"
+CRASH_LOSES: Final = "a crash loses acknowledged changes"
+POWER_CUT_LOSES: Final = "a power cut loses acknowledged changes"
+ANOTHER_RECORD: Final = "the row has another record than the one that was written"
 NO_TRANSACTION: Final = "no transaction is open on the connection"
 _BIGINT: Final = 2**63
 
@@ -38,6 +43,56 @@ def other_driver(conn: Any, wanted: str) -> StoreFault:
     found = type(conn).__module__.partition(".")[0]
     more = ": of its engine, of_engine makes a pool" if found == "sqlalchemy" else ""
     return StoreFault(f"the driver is {found}, and {wanted} is wanted{more}")
+
+
+class Severity(enum.Enum):
+    """How much a fault matters."""
+
+    ERROR = "error"
+    WARNING = "warning"
+
+
+@dataclass(frozen=True)
+class Fault:
+    """A finding of `examine`.
+
+    Attributes:
+        severity: an error loses acknowledged changes, answers wrongly or refuses a good
+            operation; a warning is good to know.
+        code: its name in a word or two, such as "key-not-unique".
+        text: for people.
+    """
+
+    severity: Severity
+    code: str
+    text: str
+
+    @property
+    def is_error(self) -> bool:
+        return self.severity is Severity.ERROR
+
+    def __str__(self) -> str:
+        return self.text
+
+
+error: Final = functools.partial(Fault, Severity.ERROR)
+warning: Final = functools.partial(Fault, Severity.WARNING)
+not_durable: Final = functools.partial(error, "not-durable")
+
+
+@dataclass(frozen=True)
+class Findings:
+    """The findings in an engine's catalogue and settings.
+
+    Attributes:
+        faults: the faults.
+        is_usable: whether a trial is possible there, and can be undone.
+        unless_confirmed: no fault if looks are confirmed by a COMMIT that writes.
+    """
+
+    faults: list[Fault]
+    is_usable: bool = True
+    unless_confirmed: tuple[Fault, ...] = ()
 
 
 class Mode(NamedTuple):
@@ -234,40 +289,38 @@ class Dialect:
 
     # ---- faults that a table of any engine may have
 
-    def missing(
-        self, found: Container[str], spelled: Callable[[str], str] = str
-    ) -> list[Fault]:
+    def missing(self, found: Container[str]) -> list[Fault]:
         """Columns that aren't there."""
         return [
             error("no-column", f"no column {self.table_name}.{name}")
             for name in (self.key_name, self.record_name)
-            if spelled(name) not in found
+            if name not in found
         ]
 
-    def common_faults(self, nullable: bool, unique: bool) -> list[Fault]:
+    def common_faults(self, nullable: bool, unique: bool) -> Iterator[Fault]:
         """What every engine's table has to be."""
-        faults = []
         if not nullable:
             text = f"{self.record_name} is NOT NULL: no account can be without a record"
-            faults.append(warning("record-not-null", text))
+            yield warning("record-not-null", text)
         if not unique:
             text = f"{self.key_name} has no unique index of its own"
-            faults.append(error("key-not-unique", text))
-        return faults
+            yield error("key-not-unique", text)
 
-    def after_triggers(self, names: Iterable[object]) -> list[Fault]:
+    def after_triggers(self, rows: Iterable[Sequence[object]]) -> Iterator[Fault]:
         """What a trigger before the write makes of a record shows at the trial."""
-        return [
-            warning("after-trigger", f"the trigger {name} may change what was written")
-            for name in names
-        ]
+        for (name,) in rows:
+            text = f"the trigger {name} may change what was written"
+            yield warning("after-trigger", text)
 
-    def key_faults(self, kind: str, fits: bool) -> list[Fault]:
+    def key_faults(self, kind: str, fits: bool) -> Iterator[Fault]:
         """A column that compares keys otherwise than they are."""
-        if fits:
-            return []
-        wanted = self.key_type.__name__
-        return [error("key-type", f"{self.key_name} is {kind}, and keys are {wanted}")]
+        if not fits:
+            wanted = self.key_type.__name__
+            yield error("key-type", f"{self.key_name} is {kind}, and keys are {wanted}")
+
+    def record_fault(self, said: str) -> Fault:
+        """A column that holds no record as it is."""
+        return error("record-type", f"{self.record_name} is {said}")
 
     async def folded_names(self, session: Session) -> list[Fault]:
         """Names that are one account by the key's column, and differ elsewhere.

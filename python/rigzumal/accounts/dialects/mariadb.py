@@ -4,15 +4,18 @@ from __future__ import annotations
 
 import socket
 import weakref
+from collections.abc import Iterator
 from typing import Any, Final, Optional
 
 from rigzumal.accounts._session import Result, Session
-from rigzumal.accounts._values import Copy, Key, StoreFault
-from rigzumal.accounts.dialects._dialect import LONGEST_RECORD, Dialect, Mode, Verdict
-from rigzumal.accounts.dialects._dialect import other_driver
-from rigzumal.accounts.dialects._faults import Fault, Findings, error, not_durable
-from rigzumal.accounts.dialects._faults import warning
+from rigzumal.accounts.parts import Copy, Key, StoreFault
+from rigzumal.accounts.dialects._dialect import ANOTHER_RECORD, CRASH_LOSES
+from rigzumal.accounts.dialects._dialect import LONGEST_RECORD, POWER_CUT_LOSES
+from rigzumal.accounts.dialects._dialect import TOO_SHORT, Dialect, Fault, Findings
+from rigzumal.accounts.dialects._dialect import Mode, Verdict, error, not_durable
+from rigzumal.accounts.dialects._dialect import other_driver, warning
 
+UNCOMMITTED: Final = "READ UNCOMMITTED: uncommitted records are read"
 NOBODYS_RECORD: Final = (
     "$argon2id$v=19$m=8,t=1,p=1$bm9ib2R5J3M$"
     "AAAAAAAAAAAAAAAAAAAAAAAAAAAAAAAAAAAAAAAAAAA"
@@ -75,7 +78,7 @@ class MariaDB(Dialect):
             return
         found = await session.execute("SHOW SESSION VARIABLES LIKE 't%isolation'")
         if any(level.upper().startswith("READ-UNC") for _, level in found.rows):
-            raise StoreFault("READ UNCOMMITTED: uncommitted records are read")
+            raise StoreFault(UNCOMMITTED)
         self._prepared.add(session.conn)
 
     def _at_once(self, t: str, k: str, r: str) -> str:
@@ -130,7 +133,7 @@ class MariaDB(Dialect):
         result = await session.execute(self.update, copy, key, other)
         if result.affected != 1:
             # Never committed: what stands by now is no record of anybody's.
-            raise StoreFault("the row has another record than the one that was written")
+            raise StoreFault(ANOTHER_RECORD)
         return result
 
     def verdict(self, raised: BaseException) -> Verdict:
@@ -155,7 +158,6 @@ class MariaDB(Dialect):
 
     async def examine(self, session: Session) -> Findings:
         schema, _, t = self.table_name.rpartition(".")
-        k, r = self.key_name, self.record_name
         of = "table_schema = COALESCE(NULLIF(%s, ''), DATABASE()) AND table_name = %s"
         found = await session.execute(
             "SELECT column_name, data_type, character_maximum_length,"
@@ -164,7 +166,7 @@ class MariaDB(Dialect):
             schema,
             t,
         )
-        columns = {row[0]: row for row in found.rows}
+        columns = {name: more for name, *more in found.rows}
         missing = self.missing(columns)
         if missing:
             return Findings(missing, is_usable=False)
@@ -174,11 +176,11 @@ class MariaDB(Dialect):
             " AND MAX(column_name) = %s AND MAX(sub_part) IS NULL",
             schema,
             t,
-            k,
+            self.key_name,
         )
-        nullable = columns[r][4] == "YES"
-        faults = self.common_faults(nullable, bool(unique.rows))
-        faults += self._type_faults(columns[k][1], *columns[r][1:4])
+        *record, nullable = columns[self.record_name]
+        faults = [*self.common_faults(nullable == "YES", bool(unique.rows))]
+        faults += self._type_faults(columns[self.key_name][0], *record)
         sql = f"SELECT engine FROM information_schema.tables WHERE {of}"
         ((engine,),) = (await session.execute(sql, schema, t)).rows
         if engine != "InnoDB":
@@ -186,58 +188,53 @@ class MariaDB(Dialect):
             faults.append(error("no-transactions", text))
         rows = (await session.execute("SHOW SESSION VARIABLES")).rows
         seen = {name: value for name, value in rows}
-        faults += of_server(seen) + await self.folded_names(session)
+        faults += [*of_server(seen), *await self.folded_names(session)]
         return Findings(faults, engine == "InnoDB", shown_early(seen))
 
     def _type_faults(
         self, key: str, kind: str, length: Optional[int], charset: Optional[str]
-    ) -> list[Fault]:
-        faults, r = [], self.record_name
+    ) -> Iterator[Fault]:
         texts = ("varchar", "text", "mediumtext", "longtext")
         if kind not in texts or (length or 0) < LONGEST_RECORD:
-            text = f"{r} is {kind}({length}): a record has up to 512 bytes"
-            faults.append(error("record-type", text))
+            yield self.record_fault(f"{kind}({length}): {TOO_SHORT}")
         if charset not in ("ascii", "latin1", "utf8mb3", "utf8mb4", "utf8"):
-            text = f"{r} is in {charset}, whose bytes aren't those of ASCII"
-            faults.append(error("record-type", text))
+            yield self.record_fault(f"in {charset}, whose bytes aren't those of ASCII")
         kinds = {
             str: ("char", "varchar", "text"),
             int: ("tinyint", "smallint", "mediumint", "int", "bigint"),
             bytes: ("binary", "varbinary", "blob"),
         }
-        return faults + self.key_faults(key, key in kinds[self.key_type])
+        yield from self.key_faults(key, key in kinds[self.key_type])
 
 
 def shown_early(seen: dict[str, str]) -> tuple[Fault, ...]:
     """Without a binary log InnoDB shows a commit before its own log is on the disk."""
-    if seen.get("log_bin") == "ON" or seen.get("wsrep_on") == "ON":
+    if "ON" in (seen.get("log_bin"), seen.get("wsrep_on")):
         return ()
     text = "log_bin is OFF: a crash may lose a change by which a login was answered"
     return (warning("shown-early", text),)
 
 
-def of_server(seen: dict[str, str]) -> list[Fault]:
+def of_server(seen: dict[str, str]) -> Iterator[Fault]:
     """What is wrong with a session of MariaDB."""
-    faults = []
     if "STRICT_" not in seen["sql_mode"]:
-        text = "sql_mode isn't strict: what is too long is cut off"
-        faults.append(warning("not-strict", text))
+        yield warning(
+            "not-strict", "sql_mode isn't strict: what is too long is cut off"
+        )
     level = seen.get("tx_isolation") or seen.get("transaction_isolation", "")
     if level == "READ-UNCOMMITTED":
-        text = "READ UNCOMMITTED: uncommitted records are read"
-        faults.append(error("read-uncommitted", text))
+        yield error("read-uncommitted", UNCOMMITTED)
     for name in ("innodb_flush_log_at_trx_commit", "innodb_doublewrite"):
         if seen.get(name, "1") not in ("1", "ON"):
-            text = f"{name} is {seen[name]}: a crash loses acknowledged changes"
-            faults.append(not_durable(text))
+            yield not_durable(f"{name} is {seen[name]}: {CRASH_LOSES}")
     # With a binary log, what isn't in it after a power cut is rolled back.
     if seen.get("log_bin") == "ON" and seen.get("sync_binlog") != "1":
-        text = f"sync_binlog is {seen.get('sync_binlog')}: a power cut loses"
-        faults.append(not_durable(f"{text} acknowledged changes"))
+        yield not_durable(
+            f"sync_binlog is {seen.get('sync_binlog')}: {POWER_CUT_LOSES}"
+        )
     if seen.get("wsrep_on") == "ON" and not int(seen["wsrep_sync_wait"]) & 1:
         text = "wsrep_sync_wait has no 1: a node may read what was replaced"
-        faults.append(error("no-sync-wait", text))
-    return faults
+        yield error("no-sync-wait", text)
 
 
 def _number(raised: BaseException) -> Optional[int]:

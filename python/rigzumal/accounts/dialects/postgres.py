@@ -3,14 +3,19 @@
 from __future__ import annotations
 
 import uuid
+from collections.abc import Iterator
 from typing import Any, Final
 
 from rigzumal.accounts._session import Result, Session
-from rigzumal.accounts._values import Copy, Key, StoreFault
-from rigzumal.accounts.dialects._dialect import LONGEST_RECORD, Dialect, Mode, Verdict
-from rigzumal.accounts.dialects._dialect import other_driver
-from rigzumal.accounts.dialects._faults import Fault, Findings, error, not_durable
-from rigzumal.accounts.dialects._faults import warning
+from rigzumal.accounts.parts import Copy, Key, StoreFault
+from rigzumal.accounts.dialects._dialect import CRASH_LOSES, LONGEST_RECORD, TOO_SHORT
+from rigzumal.accounts.dialects._dialect import Dialect, Fault, Findings, Mode, Verdict
+from rigzumal.accounts.dialects._dialect import (
+    error,
+    not_durable,
+    other_driver,
+    warning,
+)
 
 SNAPSHOT: Final = (
     "the transaction is of REPEATABLE READ: begin by READ COMMITTED or SERIALIZABLE"
@@ -147,81 +152,66 @@ class Postgres(Dialect):
 
     async def examine(self, session: Session) -> Findings:
         t = self.table.replace("%%", "%")
-        of = "attrelid = to_regclass(%s) AND attnum > 0 AND NOT attisdropped"
-        found = await session.execute(
-            "SELECT attname, format_type(atttypid, atttypmod), attnotnull"
-            f" FROM pg_attribute WHERE {of}",
-            t,
-        )
+        found = await session.execute(_COLUMNS, t)
         columns = {name: more for name, *more in found.rows}
         missing = self.missing(columns)
         if missing:
             return Findings(missing, is_usable=False)
         unique = await session.execute(_UNIQUE, t, self.key_name)
         kind, bound = columns[self.record_name]
-        faults = self.common_faults(not bound, bool(unique.rows))
+        faults = [*self.common_faults(not bound, bool(unique.rows))]
         faults += self._type_faults(columns[self.key_name][0], kind)
-        # An AFTER trigger for each row: bit 0 is ROW, 1 BEFORE, 6 INSTEAD OF.
-        triggers = await session.execute(
-            "SELECT tgname FROM pg_trigger WHERE tgrelid = to_regclass(%s)"
-            " AND NOT tgisinternal AND tgtype::int & 66 = 0",
-            t,
-        )
-        faults += self.after_triggers(name for (name,) in triggers.rows)
-        wrong, is_table = await self._relation_faults(session, t)
-        faults += wrong
-        for name, good in _DURABLE:
-            ((value,),) = (await session.execute(f"SHOW {name}")).rows
-            if value not in good:
-                text = f"{name} is {value}: a crash loses acknowledged changes"
-                faults.append(not_durable(text))
-        faults += await self.folded_names(session)
-        return Findings(faults, is_usable=is_table)
-
-    async def _relation_faults(
-        self, session: Session, table: str
-    ) -> tuple[list[Fault], bool]:
-        """What is wrong with the table as such, and whether it is one."""
-        found = await session.execute(
-            "SELECT relkind::text, relrowsecurity, relpersistence::text FROM pg_class"
-            " WHERE oid = to_regclass(%s)",
-            table,
-        )
-        ((relation, secured, persistence),) = found.rows
-        faults, is_table = [], relation in ("r", "p")
+        triggers = await session.execute(_TRIGGERS, t)
+        faults += self.after_triggers(triggers.rows)
+        ((is_table, secured, is_logged),) = (await session.execute(_TABLE, t)).rows
         if not is_table:
             faults.append(error("not-a-table", f"{self.table_name} is no table"))
-        if persistence != "p":
+        if not is_logged:
             text = f"{self.table_name} is unlogged: a crash empties it"
             faults.append(not_durable(text))
         if secured:
             text = "row security may show an UPDATE less than a SELECT"
             faults.append(warning("row-security", text))
-        return faults, is_table
+        for name, good in _DURABLE:
+            ((value,),) = (await session.execute(f"SHOW {name}")).rows
+            if value not in good:
+                faults.append(not_durable(f"{name} is {value}: {CRASH_LOSES}"))
+        faults += await self.folded_names(session)
+        return Findings(faults, is_usable=is_table)
 
-    def _type_faults(self, key: str, record: str) -> list[Fault]:
-        faults = []
+    def _type_faults(self, key: str, record: str) -> Iterator[Fault]:
         if record.startswith("character varying("):
             if int(record[18:-1]) < LONGEST_RECORD:
-                text = f"{self.record_name} is {record}: a record has up to 512 bytes"
-                faults.append(error("record-type", text))
+                yield self.record_fault(f"{record}: {TOO_SHORT}")
         elif record not in ("text", "character varying"):
-            text = f"{self.record_name} is {record}, not text"
-            faults.append(error("record-type", text))
+            yield self.record_fault(f"{record}, not text")
         kinds = {
             str: ("text", "character", "citext", "name"),
             int: ("bigint", "integer", "smallint"),
             bytes: ("bytea",),
             uuid.UUID: ("uuid",),
         }
-        is_fit = key.startswith(kinds[self.key_type])
-        return faults + self.key_faults(key, is_fit)
+        yield from self.key_faults(key, key.startswith(kinds[self.key_type]))
 
 
 def _state(raised: BaseException) -> str:
     return getattr(raised, "sqlstate", None) or ""
 
 
+_COLUMNS: Final = (
+    "SELECT attname, format_type(atttypid, atttypmod), attnotnull FROM pg_attribute"
+    " WHERE attrelid = to_regclass(%s) AND attnum > 0 AND NOT attisdropped"
+)
+# An AFTER trigger for each row: bit 0 is ROW, 1 BEFORE, 6 INSTEAD OF.
+_TRIGGERS: Final = (
+    "SELECT tgname FROM pg_trigger WHERE tgrelid = to_regclass(%s)"
+    " AND NOT tgisinternal AND tgtype::int & 66 = 0"
+)
+_TABLE: Final = (
+    "SELECT relkind IN ('r', 'p') AS is_table, relrowsecurity,"
+    " relpersistence = 'p' AS is_logged FROM pg_class"
+    " WHERE oid = to_regclass(%s)"
+)
 _UNIQUE: Final = (
     "SELECT 1 FROM pg_index i JOIN pg_attribute a ON a.attrelid = i.indrelid"
     " AND a.attnum = i.indkey[0] WHERE i.indrelid = to_regclass(%s)"

@@ -3,15 +3,16 @@
 from __future__ import annotations
 
 import sqlite3
-from collections.abc import Container
+from collections.abc import Container, Iterator
 from typing import Any, Final
 
 from rigzumal.accounts._session import Session
-from rigzumal.accounts._values import StoreFault
-from rigzumal.accounts.dialects._dialect import NO_TRANSACTION, Dialect, Mode, Verdict
-from rigzumal.accounts.dialects._dialect import other_driver
-from rigzumal.accounts.dialects._faults import Fault, Findings, error, not_durable
-from rigzumal.accounts.dialects._faults import warning
+from rigzumal.accounts.parts import StoreFault
+from rigzumal.accounts.dialects._dialect import NO_TRANSACTION, POWER_CUT_LOSES, Dialect
+from rigzumal.accounts.dialects._dialect import Fault, Findings, Mode, Verdict, error
+from rigzumal.accounts.dialects._dialect import not_durable, other_driver, warning
+
+_UNCOMMITTED: Final = "read_uncommitted is on: uncommitted records are read"
 
 
 class Sqlite(Dialect):
@@ -62,22 +63,22 @@ class Sqlite(Dialect):
     async def examine(self, session: Session) -> Findings:
         schema, _, t = self.table_name.rpartition(".")
         of = (t, schema) if schema else (t,)
-        marks = ", ".join("?" * len(of))
+        info = f"pragma_table_info({', '.join('?' * len(of))})"
         found = await session.execute(
-            f'SELECT lower(name), type, "notnull", pk FROM pragma_table_info({marks})',
-            *of,
+            f'SELECT name, type, "notnull", pk FROM {info}', *of
         )
         # Names of columns are the same in any case.
-        columns = {row[0]: row for row in found.rows}
-        missing = self.missing(columns, str.lower)
+        spelled = {name.lower(): name for name in (self.record_name, self.key_name)}
+        columns = {spelled.get(row[0].lower(), row[0]): row[1:] for row in found.rows}
+        missing = self.missing(columns)
         if missing:
             return Findings(missing, is_usable=False)
-        k = self.key_name.lower()
-        nullable = not columns[self.record_name.lower()][2]
-        unique = [name for name, row in columns.items() if row[3]] == [k]
-        faults = self._type_faults(columns[k][1])
+        kind, _, _ = columns[self.key_name]
+        nullable = not columns[self.record_name][1]
+        unique = [name for name, row in columns.items() if row[2]] == [self.key_name]
+        faults = [*self._type_faults(kind)]
         faults += self.common_faults(
-            nullable, unique or await self._has_index(session, k, *of)
+            nullable, unique or await self._has_index(session, *of)
         )
         master = self.quoted(schema or "main")
         triggers = await session.execute(
@@ -85,14 +86,14 @@ class Sqlite(Dialect):
             " AND lower(tbl_name) = lower(?) AND upper(sql) LIKE '%AFTER%'",
             t,
         )
-        faults += self.after_triggers(name for (name,) in triggers.rows)
+        faults += self.after_triggers(triggers.rows)
         for name, good, fault in _PRAGMAS:
             ((value,),) = (await session.execute(f"PRAGMA {name}")).rows
             if value not in good:
                 faults.append(fault)
         return Findings(faults + await self.folded_names(session))
 
-    async def _has_index(self, session: Session, key: str, *of: str) -> bool:
+    async def _has_index(self, session: Session, *of: str) -> bool:
         """Whether a unique index is of the key alone, and of all rows."""
         marks = ", ".join("?" * len(of))
         indexes = await session.execute(
@@ -101,35 +102,30 @@ class Sqlite(Dialect):
         for index, is_unique, partial in indexes.rows:
             sql = f"SELECT lower(name) FROM pragma_index_xinfo({marks}) WHERE key = 1"
             columns = await session.execute(sql, index, *of[1:])
-            if is_unique and not partial and columns.rows == [(key,)]:
+            is_of_key = columns.rows == [(self.key_name.lower(),)]
+            if is_unique and not partial and is_of_key:
                 return True
         return False
 
-    def _type_faults(self, declared: str) -> list[Fault]:
+    def _type_faults(self, declared: str) -> Iterator[Fault]:
         """SQLite takes '07' for 7, or 7 for '7', as the column's type has it."""
         words = declared.upper()
-        holds: type
+        holds: type = float
         if "INT" in words:
             holds = int
         elif any(it in words for it in ("CHAR", "CLOB", "TEXT")):
             holds = str
-        else:
-            holds = bytes if not words or "BLOB" in words else float
-        fits: dict[type, tuple[type, ...]] = {
-            str: (str, bytes),
-            int: (int, float, bytes),
-        }
-        is_fit = holds in fits.get(self.key_type, (holds,))
-        return self.key_faults(declared, is_fit)
+        elif not words or "BLOB" in words:
+            holds = bytes
+        fits = {str: (str, bytes), int: (int, float, bytes)}
+        yield from self.key_faults(declared, holds in fits.get(self.key_type, (holds,)))
 
 
 _PRAGMAS: Final[tuple[tuple[str, Container[object], Fault], ...]] = (
     (
         "synchronous",
         (2, 3),
-        not_durable(
-            "synchronous is below FULL: a power cut loses acknowledged changes"
-        ),
+        not_durable(f"synchronous is below FULL: {POWER_CUT_LOSES}"),
     ),
     (
         "busy_timeout",
@@ -144,9 +140,6 @@ _PRAGMAS: Final[tuple[tuple[str, Container[object], Fault], ...]] = (
     (
         "read_uncommitted",
         (0,),
-        error(
-            "read-uncommitted",
-            "read_uncommitted is on: uncommitted records are read",
-        ),
+        error("read-uncommitted", _UNCOMMITTED),
     ),
 )

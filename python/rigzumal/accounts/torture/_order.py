@@ -67,9 +67,9 @@ class Operation:
         """The password of the record that this operation put."""
         return self.new_password if self.kind in ("change", "reset") else self.password
 
-    def took_place(self, attempt: Attempt, end: float) -> None:
-        """Notes an attempt that was made before the end, though its answer was lost."""
-        self.before, self.after, self.reply = attempt
+    def took_place(self, end: float) -> None:
+        """Notes that its last attempt was made before the end, and its answer was lost."""
+        self.before, self.after, self.reply = self.attempts[-1]
         self.answered, self.found_out = end, True
 
     def __str__(self) -> str:
@@ -148,36 +148,29 @@ class _Records:
                 self.looks[it.before].append(it)
         for it in events:
             self._judge(it)
-            by = self.replacer.get(it.before or "") if it.kind == "end" else None
-            if by is not None:
-                said = f"{by.id} replaced {it.before}, which stands at the end"
-                raise _Conflict(said)
 
     def _note_change(self, it: Operation) -> None:
-        if it.after is not None:
-            other = self.maker.setdefault(it.after, it)
+        for record, known, word in (
+            (it.after, self.maker, "put"),
+            (it.before, self.replacer, "replaced"),
+        ):
+            other = it if record is None else known.setdefault(record, it)
             if other is not it:
-                raise _Conflict(f"{other.id} and {it.id} both put {it.after}")
-        if it.before is not None:
-            other = self.replacer.setdefault(it.before, it)
-            if other is not it:
-                raise _Conflict(f"{other.id} and {it.id} both replaced {it.before}")
+                raise _Conflict(f"{other.id} and {it.id} both {word} {record}")
 
     def _judge(self, it: Operation) -> None:
         """Refuses a reply that isn't that of the whole operation at the record."""
+        record, by = it.before or "no record", self.replacer.get(it.before or "")
+        if it.kind == "end" and by is not None:
+            raise _Conflict(f"{by.id} replaced {record}, which stands at the end")
         if it.kind in ("seed", "end"):
             return
-        maker = self.maker.get(it.before) if it.before is not None else None
-        if it.reply not in possible(it, it.before, maker):
-            raise _Conflict(
-                f"{it.id} ({it.kind}) was answered {it.reply}"
-                f" at {it.before or 'no record'}"
-            )
+        if it.reply not in possible(it, it.before, self.maker.get(it.before or "")):
+            raise _Conflict(f"{it.id} ({it.kind}) was answered {it.reply} at {record}")
         ends_with = it.after is not None if it.reply != "removed" else it.after is None
         if it.makes_change and (not ends_with or it.after == it.before):
-            raise _Conflict(
-                f"{it.id} was answered {it.reply}, and put {it.after or 'no record'}"
-            )
+            put = it.after or "no record"
+            raise _Conflict(f"{it.id} was answered {it.reply}, and put {put}")
 
     def spans(self) -> list[_Span]:
         """The spans of the chains, and of what was done where no record stood."""

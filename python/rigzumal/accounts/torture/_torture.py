@@ -2,27 +2,27 @@
 
 from __future__ import annotations
 
+import asyncio
 import dataclasses
-import json
-import os
+import functools
+import multiprocessing
 import pathlib
 import random
-import signal
 import sys
 import tempfile
 import time
-import traceback
 from collections.abc import Callable, Mapping
+from multiprocessing.process import BaseProcess
 from typing import Any, Optional
 
-from rigzumal.accounts._values import StoreFault
+from rigzumal.accounts._accounts import Accounts
+from rigzumal.accounts.parts import StoreFault
 from rigzumal.accounts.database import Database
 from rigzumal.accounts.dialects import Dialect
 from rigzumal.accounts.parts import Kind, Request
 from rigzumal.accounts.pools import PerThread
 from rigzumal.accounts.torture import history, logs
-from rigzumal.accounts.torture._logged import LOW, LoggedAccounts
-from rigzumal.accounts.torture._worker import Worker, hasher
+from rigzumal.accounts.torture._worker import LOW, Worker, hasher
 
 MIX = {
     **{"enrol": 2, "verify": 6, "login": 4, "change": 4},
@@ -79,7 +79,6 @@ class Torture:
     alter: Callable[[Any], None] = lambda accounts: None
     settings: tuple[str, ...] = ()
     killed: int = 0
-    _kind: Optional[type[Dialect]] = None
 
     def run(self) -> dict[Any, history.Account]:
         """Runs it, and returns what was logged.
@@ -90,10 +89,10 @@ class Torture:
         self.folder = self.folder or pathlib.Path(tempfile.mkdtemp(prefix="torture-"))
         self.folder.mkdir(exist_ok=True)
         names = [f"user{number}" for number in range(self.accounts)]
-        with open(self.folder / "log-top", "w") as top:
-            self._fill(names, top)
-            faults = self._load(names)
-            self._read_ends(names, top)
+        top = logs.Log(self.folder / "log-top")
+        self._fill(names, top)
+        faults = self._load(names)
+        self._read_ends(names, top)
         if faults:
             raise StoreFault(f"{faults} processes ended by an exception")
         return logs.read(map(str, self.folder.glob("log-*")))
@@ -106,9 +105,11 @@ class Torture:
 
     def dialect(self) -> Dialect:
         """A dialect for the table, of whatever engine is there."""
-        if self._kind is None:
-            self._kind = Database(self.url).dialect_kind()
         return self._kind(self.table, KEY, RECORD, str)
+
+    @functools.cached_property
+    def _kind(self) -> type[Dialect]:
+        return Database(self.url).dialect_kind()
 
     def made(self, kind: Any, pool: Any, memory: int, replica: Any = None) -> Any:
         """Accounts of a process or of a task."""
@@ -121,7 +122,7 @@ class Torture:
         is_postgres = self.url.startswith("postgres")
         return is_postgres and self.tasks > 0 and number % 4 == 3
 
-    def _fill(self, names: list[str], top: Any) -> None:
+    def _fill(self, names: list[str], top: logs.Log) -> None:
         conn = Database(self.url).connect()
         if self.url.startswith("sqlite"):
             conn.execute("PRAGMA journal_mode = WAL")
@@ -130,22 +131,18 @@ class Torture:
         cursor.execute(dialect.create())
         for number, name in enumerate(names):
             cursor.execute(dialect.insert, (name,))
-            record = None
-            if number % 2:
-                record = hasher(LOW).hash("one")
-                cursor.execute(dialect.update, (record, name, None))
-            seed = {"event": "seed", "key": name, "record": record}
-            print(json.dumps({**seed, "password": "one", "costs": LOW}), file=top)
+            record = hasher(LOW).hash("one") if number % 2 else None
+            cursor.execute(dialect.update, (record, name, None))
+            top.write("seed", key=name, record=record, password="one", costs=LOW)
         cursor.close()
         conn.close()
 
-    def _read_ends(self, names: list[str], top: Any) -> None:
+    def _read_ends(self, names: list[str], top: logs.Log) -> None:
         pool = PerThread(Database(self.end_url or self.url).connect)
-        accounts = self.made(LoggedAccounts, pool, LOW)
+        accounts = self.made(Accounts, pool, LOW)
         for name in names:
             record = accounts.begin(Request(Kind.VERIFY, name)).copy
-            end = {"event": "end", "key": name, "time": time.monotonic_ns()}
-            print(json.dumps({**end, "record": record}), file=top)
+            top.write("end", key=name, time=time.monotonic_ns(), record=record)
 
     def _load(self, names: list[str]) -> int:
         """Runs the processes; returns how many ended by an exception.
@@ -153,40 +150,39 @@ class Torture:
         If they are killed, the first of them is so at its first change.
         """
         end, faults = time.monotonic() + self.seconds, 0
-        risk = 1.0 if self.kill else 0.0
-        running = {}
-        for number in range(self.processes):
-            running[self._start(number, names, end, risk)] = number
-            risk = RISK if self.kill else 0.0
+        risks = [1.0, *[RISK] * self.processes] if self.kill else [0.0] * self.processes
+        running = {
+            number: self._start(number, names, end, risks[number])
+            for number in range(self.processes)
+        }
         while running:
             time.sleep(0.02)
             if self.kill and random.random() < 0.05:
-                os.kill(random.choice(list(running)), signal.SIGKILL)
-            for pid, number in list(running.items()):
-                done, status = os.waitpid(pid, os.WNOHANG)
-                if not done:
+                random.choice([*running.values()]).kill()
+            for number, process in list(running.items()):
+                status = process.exitcode
+                if status is None:
                     continue
-                del running[pid]
-                if self.kill and os.WIFSIGNALED(status):
+                del running[number]
+                if self.kill and status < 0:
                     self.killed += 1
                     if time.monotonic() < end:
-                        running[self._start(number, names, end, risk)] = number
-                elif status != 0:
+                        running[number] = self._start(number, names, end, RISK)
+                elif status:
                     print(f"process {number} ended with {status}", file=sys.stderr)
                     faults += 1
         return faults
 
-    def _start(self, number: int, names: list[str], end: float, risk: float) -> int:
+    def _start(
+        self, number: int, names: list[str], end: float, risk: float
+    ) -> BaseProcess:
         """A process by fork, so that it begins at once; no connection is open here."""
-        pid = os.fork()
-        if pid:
-            return pid
-        status = 1
-        try:
-            Worker(self, number, risk).work(names, end)
-            status = 0
-        except BaseException:
-            traceback.print_exc()
-        finally:
-            sys.stderr.flush()
-            os._exit(status)
+        given = number, names, end, risk
+        made = multiprocessing.get_context("fork").Process(
+            target=self._work, args=given
+        )
+        made.start()
+        return made
+
+    def _work(self, number: int, names: list[str], end: float, risk: float) -> None:
+        asyncio.run(Worker(self, number, risk).work(names, end))

@@ -1,4 +1,4 @@
-"""One process of a torture: what it asks of its accounts, and the log of it."""
+"""One process of a torture: what it asks of accounts whose operations are logged."""
 
 from __future__ import annotations
 
@@ -9,21 +9,26 @@ import os
 import random
 import sys
 import time
-from typing import TYPE_CHECKING, Any
+from collections.abc import Iterator
+from contextlib import contextmanager
+from typing import TYPE_CHECKING, Any, Optional, Union
 
 from rigzumal._hashers import PasswordHasher
-from rigzumal.accounts._session import AsyncSession, Session, run
-from rigzumal.accounts._values import AccountsError, Answer, Kind, OutcomeUnknown, Reply
-from rigzumal.accounts._values import Request, Unavailable, Worked
+from rigzumal.accounts._accounts import Accounts, AsyncAccounts
+from rigzumal.accounts._operations import Operations
+from rigzumal.accounts._session import AsyncSession, Hook, Session, run
+from rigzumal.accounts.parts import AccountsError, Answer, Kind, OutcomeUnknown, Reply
+from rigzumal.accounts.parts import Request, Unavailable, Worked
 from rigzumal.accounts.database import Database
 from rigzumal.accounts.dialects._dialect import Verdict, is_of_driver
 from rigzumal.accounts.pools import PerThread, PerUse
-from rigzumal.accounts.torture._logged import HIGH, LOW, AnyAccounts, Log
-from rigzumal.accounts.torture._logged import LoggedAccounts, LoggedAsyncAccounts
+from rigzumal.accounts.torture.logs import Log
 
 if TYPE_CHECKING:
     from rigzumal.accounts.torture._torture import Torture
 
+LOW, HIGH = 64, 72
+"""KiB of the two costs between which upgrades go."""
 PASSWORDS = ("one", "two")
 PATIENT, HASTY = 60.0, 0.02
 """Seconds after which a task of asyncio is cancelled."""
@@ -39,6 +44,56 @@ async def done(said: Any) -> Any:
     return await said if inspect.isawaitable(said) else said
 
 
+class Logged(Operations[Any]):
+    """Operations that are written down.
+
+    Attributes:
+        log: where.
+        memory: the costs of new records.
+        last: what was answered last.
+    """
+
+    log: Log
+    memory: int
+    last: Answer
+    _name = ""
+
+    def _before_commit(self, worked: Worked) -> None:
+        self.log.tried(self._name, worked)
+
+    @contextmanager
+    def call(self, request: Request) -> Iterator[list[Answer]]:
+        """Logs a call, and what is put into the list within as its answer."""
+        said: list[Answer] = []
+        name = self._name = self.log.begin(request, self.memory)
+        try:
+            yield said
+        except AccountsError as fault:
+            is_unknown = isinstance(fault, OutcomeUnknown)
+            self.log.end(name, "unknown" if is_unknown else "failed")
+            raise
+        self.log.answered(name, said[0])
+
+    async def _perform(
+        self, request: Request, also: Hook = None, patience: Optional[float] = None
+    ) -> Answer:
+        with self.call(request) as said:
+            said.append(await super()._perform(request, also, patience))
+        self.last = said[0]
+        return said[0]
+
+
+class LoggedAccounts(Logged, Accounts):
+    """Over a blocking driver."""
+
+
+class LoggedAsyncAccounts(Logged, AsyncAccounts):
+    """For asyncio."""
+
+
+AnyAccounts = Union[LoggedAccounts, LoggedAsyncAccounts]
+
+
 class Worker:
     """One process of it."""
 
@@ -50,13 +105,10 @@ class Worker:
         self.database = Database(torture.url, number)
         self.is_awaited = torture.is_awaited(number)
         self.replica = None
-        if torture.replica:
+        if torture.replica and not self.is_awaited:
             self.replica = PerThread(Database(torture.replica, number).connect)
 
-    def work(self, names: list[str], end: float) -> None:
-        asyncio.run(self._tasks(names, end))
-
-    async def _tasks(self, names: list[str], end: float) -> None:
+    async def work(self, names: list[str], end: float) -> None:
         count = self.torture.tasks if self.is_awaited else 1
         await asyncio.gather(*(self._task(names, end) for _ in range(count)))
 
@@ -66,15 +118,14 @@ class Worker:
         kinds, weights = zip(*self.torture.mix.items())
         while time.monotonic() < end:
             kind, key = rng.choices(kinds, weights)[0], rng.choice(names)
-            dearer = kind in ("upgrade", "login")
-            asked = accounts[rng.choice((LOW, HIGH)) if dearer else LOW]
+            costs = (LOW, HIGH) if kind in ("upgrade", "login") else (LOW,)
+            asked = accounts[rng.choice(costs)]
             # A task that is cancelled is one more whose answer never comes.
             seconds = HASTY if self.is_awaited and rng.random() < 0.1 else PATIENT
             one, two = rng.choice(PASSWORDS), rng.choice(PASSWORDS)
             way = "login" if kind == "login" else rng.choice(self.torture.ways)
             of_kind = Kind.VERIFY if way == "login" else Kind(kind)
-            request = Request(of_kind, key, one, two)
-            doing = getattr(self, f"_{way}")(asked, request)
+            doing = getattr(self, f"_{way}")(asked, Request(of_kind, key, one, two))
             try:
                 await asyncio.wait_for(doing, seconds)
             except AccountsError as fault:
@@ -143,13 +194,12 @@ class Worker:
     # ---- what it asks
 
     def _accounts(self, memory: int) -> AnyAccounts:
-        made: AnyAccounts
-        if self.is_awaited:
-            pool = PerUse(self._connect_awaited)
-            made = self.torture.made(LoggedAsyncAccounts, pool, memory)
-        else:
-            threads = PerThread(self._connect)
-            made = self.torture.made(LoggedAccounts, threads, memory, self.replica)
+        kind, pool = (
+            (LoggedAsyncAccounts, PerUse(self._connect_awaited))
+            if self.is_awaited
+            else (LoggedAccounts, PerThread(self._connect))
+        )
+        made: AnyAccounts = self.torture.made(kind, pool, memory, self.replica)
         made.log, made.memory = self.log, memory
         self.torture.alter(made)
         return made
@@ -172,6 +222,4 @@ def _looks(conn: Any, reply: Reply) -> Any:
     """A statement of a caller's own: over asyncio it is awaited."""
     cursor = conn.cursor()
     said = cursor.execute("SELECT 1")
-    if inspect.isawaitable(said):
-        return said
-    return cursor.fetchall()
+    return said if inspect.isawaitable(said) else cursor.fetchall()

@@ -4,11 +4,9 @@ A history is legal if each operation can be given one moment between its call an
 answer, so that every reply, and the record after it, is what the whole operation does
 at the record that stands at its moment. An operation without an answer has one moment
 after its call, or took no place. The law `updates_are_one_history` of the crate
-cred_book proves this of any store whose update is one comparison and one writing, in
-the order of those updates; the times of call and answer say which orders are possible
-from outside. An operation there is any function from the row that stands, or from there
-being none, to a reply and the row after. So the law covers resets, new rows, texts of
-other schemes, and an upgrade that keeps dearer costs, as it covers the five operations.
+cred_book proves this of any store whose update is one comparison and one writing, and
+of any function from what stands to a reply and what stands after: resets and texts of
+other schemes too.
 
 Why the check is exact. Each record has a fresh salt, so it stands during one period,
 and each change names the record that it replaces. So the changes of an account fall
@@ -16,8 +14,7 @@ into chains, and the order within a chain is given: it can be kept if and only i
 earliest moments, taken one after another, are in time. A chain can come before another,
 or before what was done where no record stood, if and only if none of its calls is after
 one of the other's answers. There are moments for all if and only if each two have an
-order. Sorting apart, this takes time in proportion to the history. The part that is shown of an illegal one is found by leaving
-out halves, quarters and so on for as long as the rest is refused.
+order. Sorting apart, this takes time in proportion to the history.
 
 What an operation without an answer was about to commit is no evidence that it read what
 stood: a crash may take away what nobody was answered by. It took place exactly if what
@@ -30,10 +27,9 @@ from __future__ import annotations
 import collections
 from collections.abc import Iterable, Mapping, Sequence
 from dataclasses import dataclass, field
-from typing import Any, NamedTuple, Optional
+from typing import Any, Optional
 
-from rigzumal.accounts.torture._order import Attempt, Operation, Record, conflict
-from rigzumal.accounts.torture._order import possible
+from rigzumal.accounts.torture._order import Operation, Record, conflict, possible
 
 NO_EFFECT = frozenset({"failed", "changed"})
 
@@ -85,8 +81,7 @@ def check(account: Account) -> None:
     if reason is None:
         _complete(account, events)
         return
-    one, two = _shrunk(events), _shrunk(events[::-1])
-    shorter = one if len(one) <= len(two) else two
+    shorter = min(_shrunk(events), _shrunk(events[::-1]), key=len)
     part = sorted(shorter, key=lambda operation: operation.called)
     raise Illegal(conflict(part) or reason, part)
 
@@ -103,66 +98,57 @@ def _settle(account: Account) -> None:
     that it replaced. A record that is gone, and that nothing so far replaced, was led
     to a removal by others without an answer.
     """
-    end, tries = account.end.called, _Tries(account.operations)
+    end, lost = account.end.called, _Lost(account.operations)
     seen = {account.end.before, *(it.before for it in _effective(account.operations))}
     todo = list(seen)
     while todo:
-        lost = tries.putting.get(todo.pop())
-        if lost is not None and not lost.operation.reply:
-            lost.operation.took_place(lost.attempt, end)
-            if lost.attempt.before not in seen:
-                seen.add(lost.attempt.before)
-                todo.append(lost.attempt.before)
+        it = lost.putting.get(todo.pop())
+        if it is not None and not it.reply:
+            it.took_place(end)
+            if it.before not in seen:
+                seen.add(it.before)
+                todo.append(it.before)
     for record, maker in _unreplaced(account).items():
-        for lost in tries.way_out(record, maker):
-            lost.operation.took_place(lost.attempt, end)
+        for it in lost.way_out(record, maker):
+            it.took_place(end)
 
 
-class _Lost(NamedTuple):
-    """An operation without an answer, and its last attempt."""
-
-    operation: Operation
-    attempt: Attempt
-
-
-class _Tries:
-    """What was tried last by operations that had no answer."""
+class _Lost:
+    """Operations that had no answer, by what their last attempts were to put."""
 
     def __init__(self, operations: Iterable[Operation]) -> None:
-        self.putting: dict[Record, _Lost] = {}
-        self._at: dict[Record, list[_Lost]] = collections.defaultdict(list)
+        self.putting: dict[Record, Operation] = {}
+        self._at: dict[Record, list[Operation]] = collections.defaultdict(list)
         for it in operations:
             if not it.reply and it.attempts:
-                lost = _Lost(it, it.attempts[-1])
-                self._at[lost.attempt.before].append(lost)
-                if lost.attempt.after is not None:
-                    self.putting[lost.attempt.after] = lost
+                self._at[it.attempts[-1].before].append(it)
+                if it.attempts[-1].after is not None:
+                    self.putting[it.attempts[-1].after] = it
 
-    def way_out(self, record: Record, maker: Operation) -> list[_Lost]:
+    def way_out(self, record: Record, maker: Operation) -> list[Operation]:
         """What led from a record to none; of several ways the one that ends first.
 
         Nobody was told of what stood between, so the moment of its last call is all by
         which one way is better than another.
         """
-        best: list[_Lost] = []
-        ways = [(record, maker, list[_Lost]())]
+        best: list[Operation] = []
+        ways = [(record, maker, best)]
         while ways:
             at, maker, way = ways.pop()
-            for lost in self._at.get(at, ()):
-                if lost in way or lost.operation.reply:
+            for it in self._at.get(at, ()):
+                last = it.attempts[-1]
+                if it in way or it.reply or last.reply not in possible(it, at, maker):
                     continue
-                if lost.attempt.reply not in possible(lost.operation, at, maker):
-                    continue
-                longer = [*way, lost]
-                if lost.attempt.after is not None:
-                    ways.append((lost.attempt.after, lost.operation, longer))
+                longer = [*way, it]
+                if last.after is not None:
+                    ways.append((last.after, it, longer))
                 elif not best or _last_call(longer) < _last_call(best):
                     best = longer
         return best
 
 
-def _last_call(way: Iterable[_Lost]) -> float:
-    return max(lost.operation.called for lost in way)
+def _last_call(way: Iterable[Operation]) -> float:
+    return max(it.called for it in way)
 
 
 def _unreplaced(account: Account) -> dict[Record, Operation]:

@@ -20,11 +20,67 @@ from __future__ import annotations
 
 import json
 import math
-from collections.abc import Iterable, Sequence
+import os
+import random
+import signal
+import time
+from collections.abc import Iterable, Iterator
 from typing import Any
 
+from rigzumal.accounts.parts import NO_ROW, Answer, Request, Worked
 from rigzumal.accounts.torture._order import Attempt, Operation
 from rigzumal.accounts.torture.history import Account, verdict
+
+
+class Log:
+    """What one process writes down.
+
+    Attributes:
+        risk: how often it kills itself at its own worst moments, between an UPDATE and
+            its COMMIT, and between a COMMIT and its answer.
+    """
+
+    def __init__(self, path: Any, name: str = "", risk: float = 0.0) -> None:
+        self._file = os.open(path, os.O_WRONLY | os.O_CREAT | os.O_APPEND, 0o600)
+        self._name, self._count, self.risk = name, 0, risk
+
+    def begin(self, request: Request, memory: int) -> str:
+        """Writes a call; the answer is its name."""
+        self._count += 1
+        name = f"{self._name}-{self._count}"
+        said: dict[str, Any] = {"kind": request.kind.value, "key": request.key}
+        for word in ("password", "new_password"):
+            said[word] = getattr(request, word).decode()
+        self.write("call", id=name, time=time.monotonic_ns(), costs=memory, **said)
+        return name
+
+    def tried(self, name: str, worked: Worked) -> None:
+        """Writes that a change is about to be committed."""
+        before, after = worked.ticket.copy, worked.after
+        if before != after:
+            said = {"before": before, "after": after, "reply": worked.reply.value}
+            self.write("try", id=name, **said)
+            self._dare()
+
+    def answered(self, name: str, answer: Answer) -> None:
+        """Writes what was answered, at which record and with which after it."""
+        if answer.reply.makes_change:
+            self._dare()
+        records = {"before": answer.before, "after": answer.after}
+        if NO_ROW in records.values():
+            records = dict.fromkeys(records)
+        self.end(name, answer.reply.value, **records)
+
+    def end(self, name: str, reply: str, **said: object) -> None:
+        self.write("answer", id=name, time=time.monotonic_ns(), reply=reply, **said)
+
+    def write(self, event: str, **said: object) -> None:
+        """Writes a line."""
+        os.write(self._file, (json.dumps({"event": event, **said}) + "\n").encode())
+
+    def _dare(self) -> None:
+        if random.random() < self.risk:
+            os.kill(os.getpid(), signal.SIGKILL)
 
 
 def read(paths: Iterable[str]) -> dict[Any, Account]:
@@ -35,35 +91,33 @@ def read(paths: Iterable[str]) -> dict[Any, Account]:
             unfinished, is none of the format.
     """
     try:
-        return _read(paths)
+        return _read(line for path in paths for line in _lines(path))
     except (KeyError, TypeError) as fault:
         raise ValueError(f"a line is none of a log: {fault}") from None
 
 
-def _read(paths: Iterable[str]) -> dict[Any, Account]:
+def _read(lines: Iterable[dict[str, Any]]) -> dict[Any, Account]:
     seeds: dict[Any, Operation] = {}
     ends: dict[Any, Operation] = {}
     operations: dict[str, tuple[Any, Operation]] = {}
     answers = []
-    for path in paths:
-        for line in _lines(path):
-            event = line["event"]
-            if event == "seed":
-                given = line["record"], line["password"], line["costs"]
-                seeds[line["key"]] = Operation.seed(*given)
-            elif event == "end":
-                ends[line["key"]] = Operation.end(line["record"], line["time"])
-            elif event == "call":
-                operations[line["id"]] = (line["key"], _called(line))
-            else:
-                answers.append(line)
+    for line in lines:
+        event = line["event"]
+        if event == "seed":
+            given = line["record"], line["password"], line["costs"]
+            seeds[line["key"]] = Operation.seed(*given)
+        elif event == "end":
+            ends[line["key"]] = Operation.end(line["record"], line["time"])
+        elif event == "call":
+            operations[line["id"]] = (line["key"], _called(line))
+        else:
+            answers.append(line)
     for line in answers:
         _note(operations[line["id"]][1], line)
     missing = seeds.keys() ^ ends.keys()
     if missing:
-        raise ValueError(
-            f"what stood at first or at the end isn't known of {sorted(missing)}"
-        )
+        what = "what stood at first or at the end isn't known"
+        raise ValueError(f"{what} of {sorted(missing)}")
     accounts = {key: Account(seed, ends[key]) for key, seed in seeds.items()}
     for key, operation in operations.values():
         if key not in accounts:
@@ -72,23 +126,16 @@ def _read(paths: Iterable[str]) -> dict[Any, Account]:
     return accounts
 
 
-def _lines(path: str) -> Iterable[dict[str, Any]]:
+def _lines(path: str) -> Iterator[dict[str, Any]]:
     with open(path, "rb") as file:
         for line in file:
-            if not line.endswith(b"\n"):
-                return
-            yield json.loads(line)
+            if line.endswith(b"\n"):
+                yield json.loads(line)
 
 
 def _called(line: dict[str, Any]) -> Operation:
-    return Operation(
-        line["id"],
-        line["kind"],
-        line["password"],
-        line["time"],
-        line.get("new_password"),
-        line.get("costs") or 0,
-    )
+    given = line["id"], line["kind"], line["password"], line["time"]
+    return Operation(*given, line.get("new_password"), line.get("costs") or 0)
 
 
 def _note(operation: Operation, line: dict[str, Any]) -> None:
@@ -115,9 +162,9 @@ def summary(accounts: Iterable[Account]) -> str:
     return ", ".join(f"{count} {name}" for name, count in counts.items())
 
 
-def main(paths: Sequence[str]) -> int:
-    """Prints the verdict on the logs; the status is 1 if they are illegal."""
-    accounts = read(paths)
+def is_legal(accounts: dict[Any, Account], more: str = "") -> bool:
+    """Prints the verdict, and how much was judged."""
     found = verdict(accounts)
-    print(f"illegal: {found}" if found else f"legal: {summary(accounts.values())}")
-    return 1 if found else 0
+    legal = f"legal: {summary(accounts.values())}{more}"
+    print(f"illegal: {found}" if found else legal)
+    return found is None
