@@ -6,11 +6,11 @@
 Prints the tables of docs/SCALE.md in Markdown, in some half an hour for all engines:
 operations a second under costs that are next to nothing (64 KiB), so that what is seen
 is the database; the statements of an operation, with the time of each; and the
-database's share of an operation under 64 MiB. A thousand accounts, a connection for
-each process. The rows of a table take turns, ten times each, so that what else the
-machine does is in all of them. "change in a transaction" is a change as of an engine
-that has no statement for all of it. With --logins there are a login and a plain one alone, in
-some three minutes for three engines with one and four processes.
+database's share of a change under 64 MiB. A thousand accounts, a connection for each
+process. The rows of a table take turns, ten times each, so that what else the machine
+does is in all of them. "change in a transaction" is a change as of an engine that has no
+statement for all of it. With --logins there are a login and a plain one alone, in some
+three minutes for three engines with one and four processes.
 """
 
 import argparse
@@ -30,80 +30,80 @@ from rigzumal.accounts.database import Database
 
 COUNT = 1000
 CHEAP = PasswordHasher(time_cost=1, memory_cost=64, parallelism=1)
+MIDDLE = PasswordHasher(time_cost=1, memory_cost=8192, parallelism=1)
 DEAR = PasswordHasher(time_cost=3, memory_cost=65536, parallelism=1)
-CHANGE, PLAIN, BRACED = "change", "plain UPDATE", "plain UPDATE in BEGIN, COMMIT"
-SEVERAL = "change in a transaction"
+CHANGE, SEVERAL = "change", "change in a transaction"
+PLAIN, BRACED = "plain UPDATE", "plain UPDATE in BEGIN, COMMIT"
 LOGIN, LOOK = "login", "plain login"
-ROWS = ("hash", LOOK, LOGIN, "login 95, change 5", CHANGE, SEVERAL, PLAIN, BRACED)
-LOGINS = (LOOK, LOGIN)
-
-
-def connect(url, number=0):
-    """A connection as a service has it: what Galera needs is set."""
-    conn = Database(url, number).connect()
-    if "," in url:
-        with conn.cursor() as cursor:
-            cursor.execute("SET SESSION wsrep_sync_wait = 1")
-    return conn
+ROWS = ("hash", CHANGE, SEVERAL, PLAIN, BRACED)
 
 
 class Load:
     """One process: its connection, and what it does over and over."""
 
     def __init__(self, url, number=0):
-        self.rng = random.Random(number)
-        self.pool = PerThread(lambda: connect(url, number))
-        kind = Database(url).dialect_kind()
-        self.dialect = kind("bench", "name", "record", str)
-        self.accounts = Accounts(self.pool, self.dialect, CHEAP, patience=30, tries=50)
-        several = kind("bench", "name", "record", str)
-        several.at_once = ""
-        self.several = Accounts(self.pool, several, CHEAP, patience=30, tries=50)
+        self.rng, self.database = random.Random(number), Database(url, number)
+        self.pool = PerThread(self.connect)
+        self.kind = self.database.dialect_kind()
+        self.accounts, self.several = self.over(CHEAP), self.over(CHEAP)
+        self.several._dialect.at_once = ""
         self.record = CHEAP.hash("pw")
+        self.dialect = self.accounts._dialect
         self.plain = self.dialect.update.partition(" AND ")[0]
 
-    def name(self):
-        return f"user{self.rng.randrange(COUNT)}"
+    def connect(self):
+        """A connection as a service has it: what Galera needs is set."""
+        conn = self.database.connect()
+        if "," in self.database.url:
+            with conn.cursor() as cursor:
+                cursor.execute("SET SESSION wsrep_sync_wait = 1")
+        return conn
+
+    def over(self, hasher):
+        dialect = self.kind("bench", "name", "record", str)
+        return Accounts(self.pool, dialect, hasher, patience=30, tries=50)
 
     def act(self, row):
+        name = f"user{self.rng.randrange(COUNT)}"
         if row == "hash":
             CHEAP.verify(self.record, "pw")
         elif row == LOGIN:
-            self.accounts.login(self.name(), "pw")
-        elif row == LOOK:
-            self.look(self.name())
-        elif row in (PLAIN, BRACED):
-            self.update(self.name(), row == BRACED)
-        elif row == SEVERAL:
-            self.several.change(self.name(), "pw", "pw")
-        elif row == CHANGE or self.rng.random() < 0.05:
-            self.accounts.change(self.name(), "pw", "pw")
+            self.accounts.login(name, "pw")
+        elif row in (CHANGE, SEVERAL):
+            (self.accounts if row == CHANGE else self.several).change(name, "pw", "pw")
         else:
-            self.accounts.login(self.name(), "pw")
+            self.by_hand(name, row)
 
-    def look(self, name):
-        """As services do it: a SELECT and a hash."""
-        with self.pool() as conn:
-            cursor = conn.cursor()
-            cursor.execute(self.dialect.select, (name,))
-            ((record,),) = cursor.fetchall()
-            cursor.close()
-        CHEAP.verify(record, "pw")
-
-    def update(self, name, is_braced, hasher=CHEAP):
+    def by_hand(self, name, row):
         """As services do it: read, verify, hash, and update with no comparison."""
         with self.pool() as conn:
             cursor = conn.cursor()
             cursor.execute(self.dialect.select, (name,))
             ((record,),) = cursor.fetchall()
-            hasher.verify(record, "pw")
-            made = hasher.hash("pw")
-            if is_braced:
-                cursor.execute(self.dialect.begin)
-            cursor.execute(self.plain, (made, name))
-            if is_braced:
-                cursor.execute(self.dialect.commit_sql)
+            CHEAP.verify(record, "pw")
+            if row != LOOK:
+                made = CHEAP.hash("pw")
+                if row == BRACED:
+                    cursor.execute(self.dialect.begin)
+                cursor.execute(self.plain, (made, name))
+                if row == BRACED:
+                    cursor.execute(self.dialect.commit_sql)
             cursor.close()
+
+    def fill(self):
+        """The table, whose accounts have one record."""
+        with self.pool() as conn:
+            cursor = conn.cursor()
+            if self.database.kind == "sqlite":
+                cursor.execute("PRAGMA journal_mode = WAL")
+            cursor.execute(self.dialect.create())
+            cursor.execute(self.dialect.begin)
+            for number in range(COUNT):
+                cursor.execute(self.dialect.insert, (f"user{number}",))
+                cursor.execute(self.plain, (self.record, f"user{number}"))
+            cursor.execute(self.dialect.commit_sql)
+            cursor.close()
+        self.pool.close()
 
 
 def measured(url, row, processes, seconds):
@@ -111,8 +111,8 @@ def measured(url, row, processes, seconds):
     read, write = os.pipe()
     pids = []
     for number in range(processes):
-        pid = os.fork()
-        if pid == 0:
+        pids.append(os.fork())
+        if pids[-1] == 0:
             try:
                 load = Load(url, number)
                 load.act(row)
@@ -128,7 +128,6 @@ def measured(url, row, processes, seconds):
                 os.write(write, f"{count / (time.monotonic() - begun)}\n".encode())
             finally:
                 os._exit(0)
-        pids.append(pid)
     for pid in pids:
         os.waitpid(pid, 0)
     os.close(write)
@@ -143,26 +142,23 @@ def table(engine, url, rows, counts, seconds, turns):
     """The rows of an engine, and what ours have of a plain one's throughput."""
     print(f"\n| {engine} |", " | ".join(f"{it}" for it in counts), "|")
     print("|---|" + "---|" * len(counts))
-    figures = {(row, count): [] for row in rows for count in counts}
+    figures = collections.defaultdict(list)
     for count in counts:
         for _ in range(turns):
             for row in rows:
-                found = measured(url, row, count, seconds / turns)
-                figures[row, count].append(found)
+                figures[row, count].append(measured(url, row, count, seconds / turns))
     middle = {it: statistics.median(found) for it, found in figures.items()}
     for row in rows:
-        text = " | ".join(f"{middle[row, it]:.0f}" for it in counts)
-        print(f"| {row} | {text} |")
+        print(f"| {row} |", " | ".join(f"{middle[row, it]:.0f}" for it in counts), "|")
     for ours, plain in ((CHANGE, PLAIN), (CHANGE, BRACED), (LOGIN, LOOK)):
         if ours in rows:
             parts = (f"{middle[ours, it] / middle[plain, it]:.2f}" for it in counts)
             print(f"| {ours} of a {plain} | {' | '.join(parts)} |", flush=True)
 
 
-def statements(url):
-    """What each operation sends, with the medians of the times that it takes, in ms."""
-    load, execute = Load(url), Session.execute
-    lines = []
+def statements(load):
+    """What a login and a change send, with the medians of the times that it takes, in ms."""
+    execute, lines = Session.execute, []
 
     async def timed(session, sql, *values):
         begun = time.perf_counter()
@@ -179,23 +175,18 @@ def statements(url):
             for place, (word, milliseconds) in enumerate(found):
                 took[place, word].append(milliseconds)
         # The first use of a connection asks for more.
-        said = (
-            f"{word} {statistics.median(it):.2f}"
-            for (_, word), it in sorted(took.items())
-            if len(it) > 150
-        )
-        lines.append(f"{row}: {', '.join(said)}")
+        often = ((word, it) for (_, word), it in sorted(took.items()) if len(it) > 150)
+        said = ", ".join(f"{word} {statistics.median(it):.2f}" for word, it in often)
+        lines.append(f"{row}: {said}")
     Session.execute = execute
-    load.pool.close()
     return "; ".join(lines)
 
 
-def share(url):
-    """The database's share under 64 MiB, in percent, of whole operations."""
-    load = Load(url)
-    accounts = Accounts(load.pool, load.dialect, DEAR)
+def share(load):
+    """The database's share of a change under 64 MiB, in percent."""
+    accounts, shares = load.over(DEAR), []
     accounts.reset("user0", "pw")
-    work, said = accounts._judge.work, {}
+    work = accounts._judge.work
 
     def timed(ticket):
         begun = time.perf_counter()
@@ -204,76 +195,41 @@ def share(url):
         return worked
 
     accounts._judge.work = timed
-    for name, act in (
-        ("verify", lambda: accounts.verify("user0", "pw")),
-        ("change", lambda: accounts.change("user0", "pw", "pw")),
-    ):
-        shares = []
-        for _ in range(20):
-            hashed = []
-            begun = time.perf_counter()
-            act()
-            took = time.perf_counter() - begun
-            shares.append(100 * (took - sum(hashed)) / took)
-        said[name] = statistics.median(shares)
-    load.pool.close()
-    return ", ".join(f"{name} {value:.2f} %" for name, value in said.items())
+    for _ in range(20):
+        hashed, begun = [], time.perf_counter()
+        accounts.change("user0", "pw", "pw")
+        took = time.perf_counter() - begun
+        shares.append(100 * (took - sum(hashed)) / took)
+    return f"change {statistics.median(shares):.2f} %"
 
 
 def times():
     """How long a verify takes by what stands, in ms: medians of 60, with 8 MiB."""
-    hasher = PasswordHasher(time_cost=1, memory_cost=8192, parallelism=1)
-    url = f"sqlite:///{servers.ROOM}/times.db"
-    fill(url)
-    pool = PerThread(lambda: connect(url))
-    dialect = Database(url).dialect_kind()("bench", "name", "record", str)
-    accounts = Accounts(pool, dialect, hasher)
+    load = Load(f"sqlite:///{servers.ROOM}/times.db")
+    load.fill()
+    accounts, took = load.over(MIDDLE), collections.defaultdict(list)
     accounts.reset("user0", "pw")
-    with pool() as conn:
-        conn.execute("UPDATE bench SET record = NULL WHERE name = 'user1'")
-    took = {}
+    accounts.remove("user1", "pw")
     for _ in range(60):
         for what, name, password in (
             ("right", "user0", "pw"),
             ("wrong", "user0", "x"),
             ("no record", "user1", "x"),
             ("no account", "nobody", "x"),
-            ("a record of old costs", "user2", "x"),
         ):
             begun = time.perf_counter()
             accounts.verify(name, password)
-            took.setdefault(what, []).append(1000 * (time.perf_counter() - begun))
+            took[what].append(1000 * (time.perf_counter() - begun))
     said = ", ".join(f"{name} {statistics.median(it):.2f}" for name, it in took.items())
     print(f"\nA verify under 8 MiB takes, in ms: {said}.")
 
 
-def fill(url):
-    database = Database(url)
-    conn = database.connect()
-    if database.kind == "sqlite":
-        conn.execute("PRAGMA journal_mode = WAL")
-    dialect = database.dialect_kind()("bench", "name", "record", str)
-    cursor = conn.cursor()
-    cursor.execute(dialect.create())
-    record = CHEAP.hash("pw")
-    cursor.execute(dialect.begin)
-    for number in range(COUNT):
-        cursor.execute(dialect.insert, (f"user{number}",))
-        plain = dialect.update.partition(" AND ")[0]
-        cursor.execute(plain, (record, f"user{number}"))
-    cursor.execute(dialect.commit_sql)
-    conn.close()
-
-
-def url_of(engine):
-    if engine == "sqlite":
-        return f"sqlite:///{servers.ROOM}/bench.db"
-    if engine == "postgres":
-        return servers.PostgresServer("bench-postgres").start().url
-    if engine == "mariadb":
-        return servers.MariaServer("bench-mariadb").start().url
-    places = ",".join(f"127.0.0.1:{node.port}" for node in servers.galera())
-    return f"mysql://store:store@{places}/store"
+URLS = {
+    "sqlite": lambda: f"sqlite:///{servers.ROOM}/bench.db",
+    "postgres": lambda: servers.PostgresServer("bench-postgres").start().url,
+    "mariadb": lambda: servers.MariaServer("bench-mariadb").start().url,
+    "galera": lambda: servers.cluster_url(servers.galera()),
+}
 
 
 def main():
@@ -286,18 +242,18 @@ def main():
     given = words.parse_args()
     counts = [int(it) for it in given.processes.split(",")]
     begun, ends = time.monotonic(), []
-    for engine in given.engines or ["sqlite", "postgres", "mariadb", "galera"]:
+    for engine in given.engines or URLS:
         try:
-            url = url_of(engine)
+            url = URLS[engine]()
         except servers.Missing as reason:
             print(f"{engine} is skipped: {reason}", file=sys.stderr)
             continue
-        fill(url)
-        rows = LOGINS if given.logins else ROWS
+        load = Load(url)
+        load.fill()
+        rows = (LOOK, LOGIN) if given.logins else ROWS
         table(engine, url, rows, counts, given.seconds, given.turns)
-        if given.logins:
-            continue
-        ends.append(f"| {engine} | {statements(url)} | {share(url)} |")
+        if not given.logins:
+            ends.append(f"| {engine} | {statements(load)} | {share(load)} |")
     if ends:
         print("\n| Engine | Statements, with ms | The database's share under 64 MiB |")
         print("|---|---|---|", *ends, sep="\n")

@@ -1,6 +1,7 @@
 """Private database servers in a temporary folder, ended by their own pids."""
 
 import atexit
+import contextlib
 import itertools
 import os
 import pathlib
@@ -42,16 +43,13 @@ class Missing(unittest.SkipTest):
 def free_port(count=1):
     """The first of so many ports that nothing listens on."""
     while True:
-        with socket.socket() as first:
-            first.bind(("127.0.0.1", 0))
-            port = first.getsockname()[1]
-        try:
-            for other in range(port, port + count):
-                with socket.socket() as probe:
-                    probe.bind(("127.0.0.1", other))
+        with contextlib.ExitStack() as stack, contextlib.suppress(OSError, OverflowError):
+            port = 0
+            for place in range(count):
+                probe = stack.enter_context(socket.socket())
+                probe.bind(("127.0.0.1", port and port + place))
+                port = port or probe.getsockname()[1]
             return port
-        except (OSError, OverflowError):
-            continue
 
 
 def need(driver, name, *programs):
@@ -68,31 +66,26 @@ def as_user(name):
     """What subprocess needs to run as another user, since no server runs as root."""
     if os.getuid() != 0:
         return {}
-    try:
-        entry = pwd.getpwnam(name)
-    except KeyError:
-        raise Missing(f"there is no user {name}") from None
+    if name not in {it.pw_name for it in pwd.getpwall()}:
+        raise Missing(f"there is no user {name}")
+    entry = pwd.getpwnam(name)
     return {"user": entry.pw_uid, "group": entry.pw_gid, "extra_groups": []}
 
 
 def descendants(pid):
     """The processes that a process started, and itself."""
     found = [pid]
-    try:
+    with contextlib.suppress(OSError):
         children = pathlib.Path(f"/proc/{pid}/task/{pid}/children").read_text()
-    except OSError:
-        return found
-    for child in children.split():
-        found += descendants(int(child))
+        for child in children.split():
+            found += descendants(int(child))
     return found
 
 
 def kill(pids, number=signal.SIGKILL):
     for pid in pids:
-        try:
+        with contextlib.suppress(ProcessLookupError):
             os.kill(pid, number)
-        except ProcessLookupError:
-            pass
 
 
 class Server:
@@ -106,38 +99,20 @@ class Server:
         self.process = None
         atexit.register(self.stop_at_exit)
 
-    def run(self, *words, **more):
-        done = subprocess.run(
-            [str(word) for word in words],
-            stdout=subprocess.PIPE,
-            stderr=subprocess.STDOUT,
-            cwd=ROOM,
-            timeout=600,
-            **as_user(self.user),
-            **more,
-        )
+    def run(self, *words):
+        both = {"stdout": subprocess.PIPE, "stderr": subprocess.STDOUT}
+        given = {"cwd": ROOM, "timeout": 600, **as_user(self.user), **both}
+        done = subprocess.run([*map(str, words)], **given)
         if done.returncode:
             raise RuntimeError(f"{words}: {done.stdout.decode(errors='replace')}")
-        return done.stdout.decode(errors="replace")
-
-    def words(self):
-        raise NotImplementedError
-
-    def ready(self):
-        raise NotImplementedError
 
     def start(self, *more, wait=120.0):
         """Starts it, and waits until it answers."""
         with open(self.log, "ab") as log:
-            self.process = subprocess.Popen(
-                [*map(str, self.words()), *more],
-                stdin=subprocess.DEVNULL,
-                stdout=log,
-                stderr=log,
-                cwd=ROOM,
-                start_new_session=True,
-                **as_user(self.user),
-            )
+            streams = {"stdin": subprocess.DEVNULL, "stdout": log, "stderr": log}
+            given = {"cwd": ROOM, "start_new_session": True, **as_user(self.user)}
+            words = [*map(str, self.words()), *more]
+            self.process = subprocess.Popen(words, **streams, **given)
         end = time.monotonic() + wait
         while not self.ready():
             if self.process.poll() is not None or time.monotonic() > end:
@@ -214,20 +189,7 @@ class PostgresServer(OfPostgres):
         self.bin = found[-1].parent
         super().__init__(name)
         self.port = free_port()
-        if of is None:
-            self.make()
-        else:
-            self.copy(of)
-
-    def make(self):
-        ROOM.chmod(0o777)
-        arguments = "-A trust -U store --no-sync --locale=C.UTF-8 -E UTF8".split()
-        self.run(self.bin / "initdb", "-D", self.folder, *arguments)
-        self.settings()
-        with open(self.folder / "pg_hba.conf", "a") as file:
-            file.write("host replication store 127.0.0.1/32 trust\n")
-
-    def settings(self):
+        self.make() if of is None else self.copy(of)
         with open(self.folder / "postgresql.conf", "a") as file:
             file.write(
                 f"port = {self.port}\nlisten_addresses = '127.0.0.1'\n"
@@ -236,15 +198,19 @@ class PostgresServer(OfPostgres):
                 "hot_standby = on\nwal_keep_size = 256MB\n"
             )
 
+    def make(self):
+        ROOM.chmod(0o777)
+        arguments = "-A trust -U store --no-sync --locale=C.UTF-8 -E UTF8".split()
+        self.run(self.bin / "initdb", "-D", self.folder, *arguments)
+        with open(self.folder / "pg_hba.conf", "a") as file:
+            file.write("host replication store 127.0.0.1/32 trust\n")
+
     def copy(self, of):
         """A standby: a copy of another node, that follows it."""
         name = self.folder.name
         source = f"host=127.0.0.1 port={of.port} user=store application_name={name}"
-        self.run(
-            self.bin / "pg_basebackup",
-            *("-d", source, "-D", self.folder, "-R", "--checkpoint=fast", "--no-sync"),
-        )
-        self.settings()
+        given = ("-d", source, "-D", self.folder, "-R", "--checkpoint=fast", "--no-sync")
+        self.run(self.bin / "pg_basebackup", *given)
 
     def words(self):
         return [self.bin / "postgres", "-D", self.folder]
@@ -323,14 +289,12 @@ class OfMySql(Server):
 
     def start(self, *more, wait=120.0):
         super().start(*more, wait=wait)
-        self.as_root(
-            "CREATE DATABASE IF NOT EXISTS store CHARACTER SET utf8mb4",
-            f"CREATE USER IF NOT EXISTS store@'127.0.0.1' IDENTIFIED BY '{self.password}'",
-            f"CREATE USER IF NOT EXISTS store@'localhost' IDENTIFIED BY '{self.password}'",
-            "GRANT ALL ON store.* TO store@'127.0.0.1'",
-            "GRANT ALL ON store.* TO store@'localhost'",
-            *self.more_grants,
-        )
+        self.as_root("CREATE DATABASE IF NOT EXISTS store CHARACTER SET utf8mb4")
+        for owner in ("store@'127.0.0.1'", "store@'localhost'"):
+            self.as_root(
+                f"CREATE USER IF NOT EXISTS {owner} IDENTIFIED BY '{self.password}'",
+                *(f"GRANT {it} TO {owner}" for it in ("ALL ON store.*", *self.more_grants)),
+            )
         return self
 
 
@@ -340,67 +304,55 @@ class MariaServer(OfMySql):
     user = "mysql"
     has_binary_log = True
 
-    def __init__(self, name, cluster=None):
+    cluster = ()
+
+    def __init__(self, name):
         self.program = need(pymysql, "python3-pymysql", "mariadbd", "mariadb-install-db")
         super().__init__(name)
         ROOM.chmod(0o777)
         self.port = free_port(8)
-        self.cluster = cluster
         self.socket = f"{self.folder}.sock"
         # Servers that are made at a time would take each other's files in /tmp.
         self.temporary = ROOM / f"{name}.tmp"
         self.temporary.mkdir()
         self.temporary.chmod(0o777)
-        self.run(
-            *("mariadb-install-db", "--no-defaults", f"--datadir={self.folder}"),
-            f"--tmpdir={self.temporary}",
-            *("--auth-root-authentication-method=normal", "--skip-test-db"),
-        )
+        given = ("--auth-root-authentication-method=normal", "--skip-test-db")
+        folders = (f"--datadir={self.folder}", f"--tmpdir={self.temporary}")
+        self.run("mariadb-install-db", "--no-defaults", *folders, *given)
         self.file = ROOM / f"{name}.cnf"
 
-    def write_settings(self):
+    def words(self):
         lines = [
-            "[mysqld]",
-            f"datadir={self.folder}",
-            f"tmpdir={self.temporary}",
-            f"socket={self.socket}",
-            f"pid-file={self.folder}.pid",
-            f"port={self.port}",
-            "bind-address=127.0.0.1",
-            "innodb_buffer_pool_size=32M",
-            "innodb_log_file_size=16M",
-            "innodb_flush_log_at_trx_commit=1",
-            "performance_schema=OFF",
-            "skip-name-resolve",
-            "max_connections=100",
+            *("[mysqld]", f"datadir={self.folder}", f"tmpdir={self.temporary}"),
+            *(f"socket={self.socket}", f"pid-file={self.folder}.pid", f"port={self.port}"),
+            *("bind-address=127.0.0.1", "skip-name-resolve", "max_connections=100"),
+            *("innodb_buffer_pool_size=32M", "innodb_log_file_size=16M"),
+            *("innodb_flush_log_at_trx_commit=1", "performance_schema=OFF"),
         ]
-        if self.has_binary_log and not self.cluster:
+        if self.cluster:
+            lines += self.of_cluster()
+        elif self.has_binary_log:
             # What is read is on the disk then: docs/SCALE.md.
             lines += ["log_bin=binlog", "sync_binlog=1", "server_id=1"]
             lines += ["log_bin_trust_function_creators=1"]
-        if self.cluster:
-            base = self.port + 1
-            nodes = ",".join(f"127.0.0.1:{it.port + 1}" for it in self.cluster)
-            lines += [
-                "binlog_format=ROW",
-                "innodb_autoinc_lock_mode=2",
-                "wsrep_on=ON",
-                "wsrep_provider=/usr/lib/galera/libgalera_smm.so",
-                "wsrep_cluster_name=rigzumal",
-                f"wsrep_cluster_address=gcomm://{nodes}",
-                f"wsrep_node_name={self.folder.name}",
-                f"wsrep_node_address=127.0.0.1:{base}",
-                f"wsrep_sst_receive_address=127.0.0.1:{self.port + 4}",
-                "wsrep_sst_method=rsync",
-                f'wsrep_provider_options="base_port={base};gcache.size=32M;'
-                f"ist.recv_addr=127.0.0.1:{self.port + 3};"
-                f'gmcast.listen_addr=tcp://127.0.0.1:{base}"',
-            ]
         self.file.write_text("\n".join(lines) + "\n")
-
-    def words(self):
-        self.write_settings()
         return [self.program, f"--defaults-file={self.file}"]
+
+    def of_cluster(self):
+        base = self.port + 1
+        nodes = ",".join(f"127.0.0.1:{it.port + 1}" for it in self.cluster)
+        return [
+            *("binlog_format=ROW", "innodb_autoinc_lock_mode=2"),
+            *("wsrep_on=ON", "wsrep_provider=/usr/lib/galera/libgalera_smm.so"),
+            *("wsrep_cluster_name=rigzumal", f"wsrep_cluster_address=gcomm://{nodes}"),
+            f"wsrep_node_name={self.folder.name}",
+            f"wsrep_node_address=127.0.0.1:{base}",
+            f"wsrep_sst_receive_address=127.0.0.1:{self.port + 4}",
+            "wsrep_sst_method=rsync",
+            f'wsrep_provider_options="base_port={base};gcache.size=32M;'
+            f"ist.recv_addr=127.0.0.1:{self.port + 3};"
+            f'gmcast.listen_addr=tcp://127.0.0.1:{base}"',
+        ]
 
     def ready(self):
         return super().ready() and (
@@ -417,10 +369,7 @@ class MySqlServer(OfMySql):
 
     user = "root"  # only root enters another root, and its users are none of this machine's
     password = ""  # PyMySQL needs python3-cryptography for one
-    more_grants = (
-        "GRANT PROCESS, CONNECTION_ADMIN ON *.* TO store@'127.0.0.1'",
-        "GRANT PROCESS, CONNECTION_ADMIN ON *.* TO store@'localhost'",
-    )
+    more_grants = ("PROCESS, CONNECTION_ADMIN ON *.*",)
 
     def __init__(self, name):
         self.root = os.environ.get("RIGZUMAL_MYSQL", "").rstrip("/")
@@ -464,3 +413,8 @@ def galera(count=3):
     for node in nodes[1:]:
         node.start(wait=120)
     return nodes
+
+
+def cluster_url(nodes):
+    places = ",".join(f"127.0.0.1:{node.port}" for node in nodes)
+    return f"mysql://store:store@{places}/store"

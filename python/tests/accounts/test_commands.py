@@ -1,7 +1,8 @@
-"""The command."""
+"""The command: its words, answers and exit statuses, which are credkeep's, and its lines of JSON."""
 
 import contextlib
 import io
+import json
 import os
 import pathlib
 import pty
@@ -15,202 +16,222 @@ from support import LOW, Base
 from rigzumal.accounts import cli
 from rigzumal.accounts.database import Database
 
+COSTS = "--memory 64 --passes 1 --lanes 1".split()
+SHELL = [sys.executable, "-m", "rigzumal", "accounts", *COSTS]
+FOREIGN = "$2y$05$" + "a" * 53
+RECORD = LOW.hash("one")
+
 
 class Commands(Base):
-    def run_command(self, *words, given=b"", status=0, database=None):
-        """What the command prints on both streams."""
-        said, costs = io.StringIO(), "--memory 64 --passes 1 --lanes 1".split()
+    def setUp(self):
+        super().setUp()
+        url = {"RIGZUMAL_DATABASE": self.server.url}
+        self.enterContext(mock.patch.dict(os.environ, url))
+
+    def streams(self, *words, given=b"", status=0):
+        """What the command writes on standard output, and on standard error."""
+        said, error = io.StringIO(), io.StringIO()
         stdin = io.TextIOWrapper(io.BytesIO(given))
-        url = {"RIGZUMAL_DATABASE": database or self.server.url}
-        with mock.patch.dict(os.environ, url), mock.patch.object(sys, "stdin", stdin):
-            with contextlib.redirect_stdout(said), contextlib.redirect_stderr(said):
-                found = cli.main([*costs, *words])
-        self.assertEqual(found, status, said.getvalue())
-        return said.getvalue()
+        with mock.patch.object(sys, "stdin", stdin), contextlib.redirect_stdout(said):
+            with contextlib.redirect_stderr(error):
+                try:
+                    found = cli.main([*COSTS, *words])
+                except SystemExit as end:  # of argparse
+                    found = end.code
+        self.assertEqual(found, status, said.getvalue() + error.getvalue())
+        return said.getvalue(), error.getvalue()
 
-    def says(self, said, *words, **more):
-        self.assertEqual(self.run_command(*words, **more), said)
+    def run_command(self, *words, **more):
+        return "".join(self.streams(*words, **more))
 
-    def test_accounts(self):
-        self.says("", "init")
-        self.assertIn("already exists", self.run_command("init", status=5))
-        self.says("enrolled\n", "add", "ann@x", given=b"one")
-        self.says("exists\n", "add", "ann@x", given=b"two", status=4)
-        self.says("yes\n", "check", "ann@x", given=b"one\n")
-        for wrong in (b"two", b"one ", b"one\n\n"):
-            said = self.run_command("check", "ann@x", given=wrong, status=4)
-            self.assertEqual(said.splitlines()[-1], "no")
-        self.says("no account\n", "check", "bob", given=b"one", status=4)
-        self.says("replaced\n", "reset", "ann@x", given=b"two")
-        self.says("yes\n", "check", "ann@x", given=b"two")
-        self.says("no account\n", "reset", "bob", given=b"two", status=4)
-        self.says("ann@x argon2id v=19 m=64,t=1,p=1\n", "list")
-        self.says("", "examine")
+    def shell(self, *words, **more):
+        """The command as a process."""
+        return subprocess.run([*SHELL, *words], **{"capture_output": True, **more})
 
-    def test_an_empty_input_is_no_password(self):
-        self.run_command("init")
-        for words in (("add", "ann"), ("check", "ann"), ("reset", "ann")):
-            for given in (b"", b"\n"):
-                if words[0] == "check":
-                    self.conn.execute("DELETE FROM accounts")
-                    self.run_command("add", "ann", given=b"one")
-                said = self.run_command(*words, given=given, status=6)
-                self.assertIn("no password", said)
-        self.says("yes\n", "check", "ann", given=b"one")
-
-    def test_imports(self):
-        self.run_command("init")
-        record = LOW.hash("one")
-        folder = pathlib.Path(self.server.path).parent
-        file = folder / "names"
-        lines = [f"user {number}@x {record}" for number in range(1200)]
-        file.write_text("\n".join(lines) + "\n")
-        self.says("1200 added, 0 there already\n", "import", str(file))
-        lines[7] = f"user 7@x {LOW.hash('two')}"
-        file.write_text("\r\n".join([*lines, f"new {record}"]))
-        said = self.run_command("import", str(file), status=4)
-        another = "1 with another record, which stays"
-        self.assertEqual(said, f"1 added, 1199 there already, {another}\n")
-        self.says("yes\n", "check", "user 7@x", given=b"one")
-        for bad in ("ann", "ann garbage", f"\n{record}", "ann $2b$12$x", f"\udcff {record}"):
-            file.write_text(f"bob {record}\n{bad}\n", errors="surrogateescape")
-            said = self.run_command("import", str(file), status=6)
-            self.assertIn("line 2: ", said)
-        self.assertIn("UTF-8", said)
-        self.says("no account\n", "check", "bob", given=b"one", status=4)
-        self.run_command("import", str(folder / "none"), status=2)
-
-    def names(self, *lines):
-        file = pathlib.Path(self.server.path).parent / "names"
-        file.write_text("".join(f"{line}\n" for line in lines))
+    def file(self, *lines):
+        file = pathlib.Path(f"{self.server.path}.names")
+        file.write_text("".join(f"{it}\n" for it in lines), errors="surrogateescape")
         return str(file)
 
     def count(self):
         return self.conn.execute("SELECT count(*) FROM accounts").fetchone()[0]
 
-    def test_records_of_other_schemes_are_taken_if_asked_for(self):
+    def test_answers_and_statuses(self):
+        """Of each command, in their order; standard error has the reason from 1 to 6 but 4."""
+        one, two, bad = (
+            pathlib.Path(self.file(line)).rename(f"{self.server.path}.{line[-3:]}")
+            for line in (f"bob {RECORD}", f"bob {LOW.hash('two')}", "cid garbage")
+        )
+        for words, given, status, said in (
+            (["list"], b"", 5, ""),
+            (["init"], b"", 0, ""),
+            (["init"], b"", 5, ""),
+            (["add", "ann"], b"one", 0, "enrolled"),
+            (["add", "ann"], b"two", 4, "exists"),
+            (["add", "eve"], b"", 6, ""),
+            (["add", "eve"], b"\n", 6, ""),
+            (["add", "eve\udcff"], b"one", 1, ""),
+            (["--numbers", "add", str(2**63)], b"one", 1, ""),
+            (["check", "ann"], b"one\n", 0, "yes"),
+            (["check", "ann"], b"two", 4, "no"),
+            (["check", "ann"], b"one ", 4, "no"),
+            (["check", "ann"], b"", 6, ""),
+            (["check", "eve"], b"one", 4, "no account"),
+            (["reset", "ann"], b"two", 0, "replaced"),
+            (["reset", "ann"], b"\n", 6, ""),
+            (["check", "ann"], b"two", 0, "yes"),
+            (["reset", "eve"], b"two", 4, "no account"),
+            (["import", str(one)], b"", 0, "1 added, 0 there already"),
+            (
+                *(["import", str(two)], b"", 4),
+                "0 added, 0 there already, 1 with another record, which stays",
+            ),
+            (["import", str(bad)], b"", 6, ""),
+            (["import", "none"], b"", 2, ""),
+            (
+                ["list"],
+                b"",
+                0,
+                "\n".join(f"{it} argon2id v=19 m=64,t=1,p=1" for it in ("ann", "bob")),
+            ),
+            (["list", "hunter2"], b"", 1, ""),
+            (["lists"], b"", 1, ""),
+            (["--lanes", "0", "add", "eve"], b"one", 1, ""),
+            (["--table", "none", "check", "ann"], b"two", 5, ""),
+            (["--database", "oracle://x", "examine"], b"", 1, ""),
+            (["--database", "sqlite:////nowhere/at/all.db", "examine"], b"", 5, ""),
+            (["--database", "", "examine"], b"", 1, ""),
+            (["examine"], b"", 0, ""),
+            (["history", "none"], b"", 2, ""),
+            (["history", str(bad)], b"", 6, ""),
+        ):
+            with self.subTest(words=words, given=given):
+                found, error = self.streams(*words, given=given, status=status)
+                self.assertEqual(found, said and f"{said}\n")
+                self.assertEqual(status not in (0, 4), bool(error), error)
+                self.assertNotIn("hunter2", error)
+        self.conn.execute("DROP TABLE accounts")
+        self.conn.execute("CREATE TABLE accounts (name, record)")
+        self.assertIn("error: ", self.run_command("examine", status=5))
+
+    def test_json(self):
+        """The same answers, with the same statuses."""
+
+        def told(*words, **more):
+            said, _ = self.streams("--json", *words, **more)
+            return [json.loads(it) for it in said.splitlines()]
+
+        costs = {"costs": "$argon2id$v=19$m=64,t=1,p=1"}
+        self.assertEqual(told("init"), [])
+        file = self.file(f"ann {RECORD}", f"b\u00e9 {RECORD}", f"cid {FOREIGN}")
+        counts = {"added": 3, "there": 0, "another": 0}
+        self.assertEqual(told("import", "--foreign", file), [counts])
+        counts = {"added": 0, "there": 0, "another": 1}
+        file = self.file(f"ann {LOW.hash('two')}")
+        self.assertEqual(told("import", file, status=4), [counts])
+        self.assertEqual(told("add", "dan", given=b"one"), [{"reply": "enrolled"}])
+        self.assertEqual(told("check", "dan", given=b"one"), [{"reply": "yes"}])
+        self.assertEqual(told("check", "eve", given=b"x", status=4), [{"reply": "noaccount"}])
+        self.conn.execute("INSERT INTO accounts VALUES ('eve', NULL)")
+        rows = [
+            {"name": "ann", **costs},
+            {"name": "b\u00e9", **costs},
+            {"name": "cid", "costs": None, "foreign": True},
+            {"name": "dan", **costs},
+            {"name": "eve", "costs": None},
+        ]
+        self.assertEqual(sorted(told("list"), key=lambda it: it["name"]), rows)
+        self.conn.execute("DROP TABLE accounts")
+        self.conn.execute("CREATE TABLE accounts (name TEXT, record)")
+        found = [(it["severity"], it["code"]) for it in told("examine", status=5)]
+        self.assertIn(("error", "key-not-unique"), found)
+
+    def test_a_process(self):
+        """A full disk, and a file that is mistyped, which isn't made."""
         self.run_command("init")
-        record, ours = "$2y$05$" + "a" * 53, LOW.hash("one")
-        file = self.names(f"ann {record}", f"bob {ours}", f"cid {'x' * 512}")
-        self.assertIn("line 1:", self.run_command("import", file, status=6))
-        self.assertEqual(self.count(), 0)
-        for count in ("3 added, 0", "0 added, 3"):
-            self.says(f"{count} there already\n", "import", "--foreign", file)
-        found = self.conn.execute("SELECT name, record FROM accounts").fetchall()
-        self.assertEqual(dict(found), {"ann": record, "bob": ours, "cid": "x" * 512})
-        for bad in ("x" * 513, "a\u00e9", "a\0b", "a\tb", "a\x7f", ""):
-            file = self.names(f"eve {ours}", f"dan {bad}")
-            said = self.run_command("import", "--foreign", file, status=6)
-            self.assertIn("line 2:", said)
-        self.assertEqual(self.count(), 3)
+        self.run_command("add", "ann", given=b"one")
+        with open("/dev/full", "wb") as full:
+            done = self.shell("list", stdout=full, stderr=subprocess.PIPE, capture_output=False)
+        said = b"rigzumal: No space left on device\n"
+        self.assertEqual((done.returncode, done.stderr), (2, said))
+        url = {**os.environ, "RIGZUMAL_DATABASE": f"{self.server.url}.typo"}
+        done = self.shell("list", env=url)
+        self.assertEqual(done.returncode, 5)
+        self.assertIn(b"typo: no such file; init makes one", done.stderr)
+        self.assertFalse(os.path.exists(f"{self.server.path}.typo"))
+        # A table that is made has what SCALE.md asks of SQLite.
+        self.assertEqual(self.shell("init", env=url).returncode, 0)
+        with contextlib.closing(sqlite3.connect(f"{self.server.path}.typo")) as conn:
+            self.assertEqual(conn.execute("PRAGMA journal_mode").fetchone(), ("wal",))
+
+    def test_imports(self):
+        """Whole batches, by lines of any end."""
+        self.run_command("init")
+        lines = [f"user {number}@x {RECORD}" for number in range(1200)]
+        said = self.run_command("import", self.file(*lines))
+        self.assertEqual(said, "1200 added, 0 there already\n")
+        lines[7] = f"user 7@x {LOW.hash('two')}"
+        file = pathlib.Path(self.file())
+        file.write_text("\r\n".join([*lines, f"new {RECORD}"]))
+        said = self.run_command("import", str(file), status=4)
+        another = "1 with another record, which stays"
+        self.assertEqual(said, f"1 added, 1199 there already, {another}\n")
+        self.assertEqual(self.run_command("check", "user 7@x", given=b"one"), "yes\n")
 
     def test_a_bad_line_anywhere_imports_nothing(self):
         """All lines are read before the first is put, past every batch too."""
         self.run_command("init")
-        good = [f"user{number} {LOW.hash('x')}" for number in range(1001)]
+        good = [f"user{number} {RECORD}" for number in range(1001)]
         for at in (0, 1, 499, 500, 501, 1001):
-            file = self.names(*good[:at], "ann garbage", *good[at:])
-            said = self.run_command("import", file, status=6)
-            self.assertIn(f"line {at + 1}:", said)
-            self.assertEqual(self.count(), 0)
-
-    def test_a_name_that_no_column_holds(self):
-        self.run_command("init")
-        record = LOW.hash("x")
-        file = self.names(f"ann {record}", f"be\0n {record}")
-        said = self.run_command("import", file, status=6)
-        self.assertIn("line 2: no column holds this name", said)
-        self.assertEqual(self.count(), 0)
-        for words in (["add"], ["--numbers", "add"]):
-            name = str(2**63) if "--numbers" in words else os.fsdecode(b"a\xff")
-            said = self.run_command(*words, name, given=b"x", status=1)
-            self.assertIn("no column holds this name", said)
-        self.assertEqual(self.count(), 0)
-
-    def test_a_record_of_another_scheme(self):
-        self.run_command("init")
-        for record, said in (
-            ("$2b$12$R9h/cIPz0gi.URNNX3kh2O", "the record's scheme is 2b, and "),
-            ("pbkdf2_sha256$260000$abc$def", "the record's scheme is pbkdf2_sha256"),
-            ("argon2$argon2id$v=19$m=8,t=1$c$d", "the record's scheme is argon2, and "),
-            ("$6$rounds=5000$salt$hash", "the record's scheme is 6, and "),
-            ("hunter2", ""),
-            ("$hunter2", ""),
-            ("hunter2$x$y", ""),
-            ("$argon2id$v=19$m=hunter2", ""),
+            file = self.file(*good[:at], "ann garbage", *good[at:])
+            self.assertIn(f"line {at + 1}:", self.run_command("import", file, status=6))
+        for bad, said in (
+            ("ann", ""),
+            (f" {RECORD}", 'it is no "NAME RECORD"'),
+            (f"\udcff {RECORD}", "it is not in UTF-8"),
+            (f"be\0n {RECORD}", "no column holds this name"),
+            ("ann $2b$12$R9h/cIPz0gi.URNNX3kh2O", "the record's scheme is 2b, and "),
+            ("ann pbkdf2_sha256$260000$abc$def", "the record's scheme is pbkdf2_sha256"),
+            ("ann argon2$argon2id$v=19$m=8,t=1$c$d", "the record's scheme is argon2, and "),
+            ("ann $6$rounds=5000$salt$hash", "the record's scheme is 6, and "),
+            ("ann hunter2", ""),
+            ("ann $hunter2", ""),
+            ("ann hunter2$x$y", ""),
+            ("ann $argon2id$v=19$m=hunter2", ""),
         ):
-            file = self.names(f"ann {record}")
-            found = self.run_command("import", file, status=6)
-            self.assertIn("line 1: " + said, found)
-            self.assertNotIn("hunter2", found)
-            self.conn.execute("DELETE FROM accounts")
-            self.conn.execute("INSERT INTO accounts VALUES ('ann', ?)", (record,))
-            found = self.run_command("check", "ann", given=b"x", status=5)
-            self.assertIn(said, found)
-            self.assertNotIn("hunter2", found)
+            with self.subTest(bad=bad):
+                found = self.run_command("import", self.file(good[0], bad), status=6)
+                self.assertIn(f"line 2: {said}", found)
+                self.assertNotIn("hunter2", found)
+                self.assertEqual(self.count(), 0)
+                if said.startswith("the record's") or "hunter2" in bad:
+                    self.conn.execute("INSERT INTO accounts VALUES ('ann', ?)", (bad[4:],))
+                    found = self.run_command("check", "ann", given=b"x", status=5)
+                    self.assertIn(said, found)
+                    self.assertNotIn("hunter2", found)
+                    self.conn.execute("DELETE FROM accounts")
 
-    def test_a_newline_at_a_passwords_end(self):
-        """Where one more, or one less, would be right, that is said."""
-        made = "--memory 64 --passes 1 --lanes 1".split()
-
-        def shell(*words, given, status=0):
-            command = [sys.executable, "-m", "rigzumal", *words]
-            done = subprocess.run(command, input=given, capture_output=True)
-            self.assertEqual(done.returncode, status, done)
-            return done.stdout.decode(), done.stderr.decode()
-
+    def test_records_of_other_schemes_are_taken_if_asked_for(self):
         self.run_command("init")
-        for owner, given, hint in (
-            (b"one", b"one\n", "without the newline at its end"),
-            (b"one\n", b"one", "with a newline at its end"),
-            (b"one\n", b"one\n\n", "without the newline at its end"),
-            (b"one", b"two\n", ""),
-            (b"one", b"two", ""),
-            (b"one", b"one\n\n", ""),
-        ):
-            record, _ = shell("hash", *made, given=owner)
-            said, error = shell("verify", record.strip(), given=given, status=4)
-            self.assertEqual((said, bool(error)), ("no\n", bool(hint)))
-            self.assertIn(hint, error)
-            self.conn.execute("DELETE FROM accounts")
-            row = ("ann", record.strip())
-            self.conn.execute("INSERT INTO accounts VALUES (?, ?)", row)
-            taken = given.removesuffix(b"\n")
-            status = 4 if owner != taken else 0
-            said = self.run_command("check", "ann", given=given, status=status)
-            near = (taken + b"\n", taken.removesuffix(b"\n"))
-            self.assertEqual("at its end" in said, owner != taken and owner in near)
-        self.assertEqual(shell("verify", record.strip(), given=b"one")[0], "yes\n")
-        self.assertIn("accounts", shell("--help", given=b"")[0])
-
-    def test_the_first_line_of_a_drivers_text_alone(self):
-        """Further ones may have a row."""
-        error = sqlite3.OperationalError("it failed\nDETAIL: (ann, $argon2id$x)")
-        said = io.StringIO()
-        with mock.patch.object(Database, "connect", side_effect=error):
-            with contextlib.redirect_stderr(said):
-                status = cli.main(["--database", "mysql://x/y", "list"])
-        self.assertEqual(status, 5)
-        self.assertEqual(said.getvalue(), "rigzumal: OperationalError: it failed\n")
-
-    def test_a_table_that_is_made(self):
-        """With what SCALE.md asks of SQLite."""
-        path = f"{self.server.path}.new"
-        self.says("", "init", database=f"sqlite:///{path}")
-        conn = sqlite3.connect(path)
-        self.assertEqual(conn.execute("PRAGMA journal_mode").fetchone(), ("wal",))
-        conn.close()
+        taken = {"ann": FOREIGN, "bob": RECORD, "cid": "x" * 512}
+        file = self.file(*(f"{name} {record}" for name, record in taken.items()))
+        for count in ("3 added, 0", "0 added, 3"):
+            said = self.run_command("import", "--foreign", file)
+            self.assertEqual(said, f"{count} there already\n")
+        found = self.conn.execute("SELECT name, record FROM accounts").fetchall()
+        self.assertEqual(dict(found), taken)
+        for bad in ("x" * 513, "a\u00e9", "a\0b", "a\tb", "a\x7f", ""):
+            file = self.file(f"eve {RECORD}", f"dan {bad}")
+            self.assertIn("line 2:", self.run_command("import", "--foreign", file, status=6))
+        self.assertEqual(self.count(), 3)
 
     def test_a_long_import_shows_how_far_it_is(self):
         self.run_command("init")
-        file = pathlib.Path(self.server.path).parent / "names"
-        record = LOW.hash("one")
-        file.write_text("".join(f"user{it} {record}\n" for it in range(1200)))
+        file = self.file(*(f"user{it} {RECORD}" for it in range(1200)))
         mine, theirs = pty.openpty()
-        url = {"RIGZUMAL_DATABASE": f"sqlite:///{self.server.path}"}
-        words = [sys.executable, "-m", "rigzumal", "accounts", "import", str(file)]
-        env = {**os.environ, **url}
-        done = subprocess.run(words, stdout=subprocess.PIPE, stderr=theirs, env=env)
+        done = self.shell(
+            "import", file, stdout=subprocess.PIPE, stderr=theirs, capture_output=False
+        )
         os.close(theirs)
         shown = os.read(mine, 65536).decode()
         os.close(mine)
@@ -218,15 +239,55 @@ class Commands(Base):
         self.assertIn("500 of 1200", shown)
         self.assertIn(f"[{'#' * 40}] 1200 of 1200", shown)
 
+    def test_a_passwords_end(self):
+        """Where another newline, or no carriage return, would be right, that is said."""
+        self.run_command("init")
+        for owner, given, hint in (
+            (b"one\n", b"one", "with a newline at its end"),
+            (b"one\n", b"one\n\n", ""),
+            (b"one", b"two\n", ""),
+            (b"one", b"one\n\n", "without the newline at its end"),
+            (b"one", b"one\r\n", "without the carriage return at its end"),
+        ):
+            self.conn.execute("DELETE FROM accounts")
+            self.conn.execute("INSERT INTO accounts VALUES (?, ?)", ("ann", LOW.hash(owner)))
+            is_right = owner == given.removesuffix(b"\n")
+            said, error = self.streams("check", "ann", given=given, status=0 if is_right else 4)
+            self.assertEqual(said, "yes\n" if is_right else "no\n")
+            self.assertIn(hint, error)
+            self.assertEqual(bool(hint), bool(error))
+
+    def test_the_hashers_command(self):
+        """It hints at the same, and names this one."""
+
+        def shell(*words, given, status=0):
+            command = [sys.executable, "-m", "rigzumal", *words]
+            done = subprocess.run(command, input=given, capture_output=True)
+            self.assertEqual(done.returncode, status, done)
+            return done.stdout.decode(), done.stderr.decode()
+
+        record, _ = shell("hash", *COSTS, given=b"one")
+        self.assertEqual(shell("verify", record.strip(), given=b"one")[0], "yes\n")
+        for given, hint in ((b"one\n", "without the newline at its end"), (b"two", "")):
+            said, error = shell("verify", record.strip(), given=given, status=4)
+            self.assertEqual((said, bool(error)), ("no\n", bool(hint)))
+            self.assertIn(hint, error)
+        self.assertIn("accounts", shell("--help", given=b"")[0])
+
+    def test_the_first_line_of_a_drivers_text_alone(self):
+        """Further ones may have a row."""
+        error = sqlite3.OperationalError("it failed\nDETAIL: (ann, $argon2id$x)")
+        with mock.patch.object(Database, "connect", side_effect=error):
+            said = self.run_command("--database", "mysql://x/y", "list", status=5)
+        self.assertEqual(said, "rigzumal: OperationalError: it failed\n")
+
     def test_a_terminal_is_asked(self):
         """Twice for a new password, and not if there is no password."""
         self.run_command("init")
         for typed, said in (("one\none\n", "enrolled"), ("one\ntwo\n", "passwords differ")):
             pid, mine = pty.fork()
             if pid == 0:
-                os.environ["RIGZUMAL_DATABASE"] = f"sqlite:///{self.server.path}"
-                words = ["-m", "rigzumal", "accounts", "--memory", "64", "add", "ann"]
-                os.execv(sys.executable, [sys.executable, *words])
+                os.execv(sys.executable, [*SHELL, "add", "ann"])
             shown = ""
             for line in typed.splitlines(True):
                 while not shown.rstrip().endswith(("password:", "once more:")):
@@ -245,12 +306,14 @@ class Commands(Base):
         self.conn.execute("CREATE TABLE people (id INTEGER PRIMARY KEY, pw TEXT)")
         self.conn.execute("INSERT INTO people VALUES (7, NULL)")
         names = "--table people --key id --record pw --numbers".split()
-        self.says("", *names, "examine")
-        self.says("enrolled\n", *names, "add", "7", given=b"one")
-        self.says("yes\n", *names, "check", "7", given=b"one")
-        said = self.run_command(*names, "check", "x", given=b"one", status=1)
-        self.assertIn("no whole number", said)
-        self.says("yes\n", *names[:-1], "check", "7", given=b"one")
+        for words, status, said in (
+            ([*names, "examine"], 0, ""),
+            ([*names, "add", "7"], 0, "enrolled\n"),
+            ([*names, "check", "7"], 0, "yes\n"),
+            ([*names, "check", "x"], 1, "rigzumal: 'x' is no whole number\n"),
+            ([*names[:-1], "check", "7"], 0, "yes\n"),
+        ):
+            self.assertEqual(self.run_command(*words, given=b"one", status=status), said)
 
     def test_an_addition_is_whole(self):
         """No account is left without a record if its record isn't put."""
@@ -259,11 +322,10 @@ class Commands(Base):
             "CREATE TRIGGER tr BEFORE UPDATE ON accounts BEGIN SELECT RAISE(IGNORE); END"
         )
         self.run_command("add", "ann", given=b"one", status=5)
-        found = self.conn.execute("SELECT count(*) FROM accounts").fetchone()
-        self.assertEqual(found, (0,))
+        self.assertEqual(self.count(), 0)
         self.conn.execute("DROP TRIGGER tr")
         self.conn.execute("INSERT INTO accounts VALUES ('ben', NULL)")
-        self.says("enrolled\n", "add", "ben", given=b"one")
+        self.assertEqual(self.run_command("add", "ben", given=b"one"), "enrolled\n")
 
     def test_names_that_write_to_the_terminal(self):
         self.run_command("init")
@@ -275,29 +337,8 @@ class Commands(Base):
         self.assertIn("\u00e9ve no record", said)
 
     def test_logs_that_are_none(self):
-        log = os.path.join(os.path.dirname(self.server.path), "log")
-        for line in (
-            "x",
-            "[]",
-            "{}",
-            '{"event": "answer", "id": "1"}',
-            '{"event": "seed"}',
-        ):
-            with open(log, "w") as file:
-                file.write(line + "\n")
-            self.run_command("history", log, status=6)
-        self.run_command("history", log + "no", status=2)
-
-    def test_databases(self):
-        for url in ("sqlite://", "sqlite:///", "sqlite:///:memory:"):
-            with self.assertRaises(ValueError):
-                Database(url)
-        for url in ("", "oracle://x", "sqlite", "/tmp/x.db"):
-            with self.assertRaises(ValueError):
-                Database(url)
-        self.assertNotIn("secret", repr(Database("mysql://a:secret@h/d")))
-        self.run_command("examine", status=1, database="oracle://x")
-        self.run_command("examine", status=5, database="sqlite:////nowhere/at/all.db")
+        for line in ("x", "[]", "{}", '{"event": "answer", "id": "1"}', '{"event": "seed"}'):
+            self.run_command("history", self.file(line), status=6)
 
 
 if __name__ == "__main__":

@@ -84,6 +84,9 @@ class MySQL(unittest.TestCase):
         with self.assertRaises(ValueError):
             Database("mysql://ada@db").connect()
         self.assertEqual(self.tried, [])
+        files = ("sqlite://", "sqlite:///", "sqlite:///:memory:")
+        for url in (*files, "", "oracle://x", "sqlite", "/tmp/x.db"):
+            self.assertRaises(ValueError, Database, url)
 
 
 class PostgreSQL(unittest.TestCase):

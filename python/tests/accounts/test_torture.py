@@ -99,34 +99,23 @@ class Tortures(Base):
 
     # ---- what is noted
 
-    def test_an_exception_of_a_process_is_a_fault(self):
-        def broken(accounts):
-            accounts.login = mock.Mock(side_effect=RuntimeError)
-
-        with self.assertRaisesRegex(StoreFault, "2 processes ended by an exception"):
-            self.run_one(alter=broken)
-
     def test_everything_is_called(self):
         """The whole, one with a statement of its own, the parts, a caller's transaction
-        and the login."""
+        and the login; an exception of a process is a fault."""
         self.assertEqual(set(_torture.WAYS), {"whole", "also", "parts", "within"})
         self.assertEqual(set(_torture.MIX), {"login", *(it.value for it in Kind)})
-        for name, way, mix in (
-            ("perform", "whole", {"change": 1}),
-            ("perform", "also", {"change": 1}),
-            ("login", "whole", {"login": 1}),
-            ("begin", "parts", {"change": 1}),
-            ("work", "parts", {"change": 1}),
-            ("commit", "parts", {"change": 1}),
-            ("commit_in", "within", {"change": 1}),
-        ):
+        ways = [("perform", "whole"), ("perform", "also"), ("login", "whole")]
+        ways += [(it, "parts") for it in ("begin", "work", "commit")]
+        for name, way in (*ways, ("commit_in", "within")):
 
             def broken(accounts):
                 setattr(accounts, name, mock.Mock(side_effect=RuntimeError))
 
+            mix = {"login" if name == "login" else "change": 1}
             given = {"table": f"t{name}{way}", "seconds": 10, "ways": (way,), "mix": mix}
-            with self.subTest(name=name, way=way), self.assertRaises(StoreFault):
-                self.run_one(alter=broken, **given)
+            with self.subTest(name=name, way=way):
+                with self.assertRaisesRegex(StoreFault, "2 processes ended by an exception"):
+                    self.run_one(alter=broken, **given)
 
     def test_an_unknown_outcome_is_no_failure(self):
         def unknown(accounts):
