@@ -10,23 +10,27 @@ import time
 import unittest
 
 import breaking
-import runs
 from breaking import OWN, lossy, queued, queued_tasks
-from runs import SECONDS, Pair, Run, Tasks, killed_servers, lagging, legal, refused, started
-from rigzumal.accounts import torture
+from runs import GALERA, MARIADB, POSTGRES, SECONDS, SQLITE, Pair, Run, Tasks
+from runs import galera, killed_servers, lagging, legal, maria, maria_without_log, postgres, refused
 from shown_early import Crashes
 
 LOST = {"alter": lossy, "patience": 5.0}
 LOST_IN_POOLS = {"alter": queued, "patience": 5.0, "ways": OWN}
 # Without upgrades and looks, so that records come and go as fast as they can.
 CHANGES = {"mix": {"enrol": 3, "verify": 3, "change": 6, "remove": 2, "reset": 1}}
+NONE = {"mix": {"enrol": 6, "remove": 6, "verify": 2}, "accounts": 1}
 WHOLE = {"patience": 3.0, "ways": ("whole",)}
 WAITS = {"settings": ("SET SESSION wsrep_sync_wait = 1",)}
+# Galera's default: a node may read what was replaced at another.
+NO_WAITS = {"settings": ("SET SESSION wsrep_sync_wait = 0",), "accounts": 1}
+UNCOMPARED = {"alter": breaking.uncompared, **CHANGES}
+SNAPSHOTS = {"alter": breaking.snapshots, "accounts": 2}
 
 
-def is_legal(url, kind=torture.Torture, **given):
+def is_legal(url, **given):
     def test(self):
-        self.told(legal(Run(url(), kind, **given)))
+        self.told(legal(Run(url(), **given)))
 
     return test
 
@@ -44,77 +48,60 @@ class Histories(unittest.TestCase):
     def told(self, said):
         print(f"{self.id().rpartition('.test_')[2]}: {said}", flush=True)
 
-    test_sqlite_with_kills = is_legal(runs.sqlite, kill=True)
-    test_sqlite_lost_commits = is_legal(runs.sqlite, **LOST)
-    test_sqlite_lost_commits_in_pools = is_legal(runs.sqlite, **LOST_IN_POOLS)
-    test_postgres_lost_commits = is_legal(runs.postgres_url, **LOST)
-    test_postgres_lost_commits_in_pools = is_legal(runs.postgres_url, **LOST_IN_POOLS)
-    test_postgres_tasks_cancelled = is_legal(runs.postgres_url, Tasks)
+    test_sqlite_with_kills = is_legal(SQLITE, kill=True)
+    test_sqlite_lost_commits = is_legal(SQLITE, **LOST)
+    test_sqlite_lost_commits_in_pools = is_legal(SQLITE, **LOST_IN_POOLS)
+    test_postgres_lost_commits = is_legal(POSTGRES, **LOST)
+    test_postgres_lost_commits_in_pools = is_legal(POSTGRES, **LOST_IN_POOLS)
+    test_postgres_tasks_cancelled = is_legal(POSTGRES, kind=Tasks)
     test_postgres_tasks_lost_commits_in_pools = is_legal(
-        runs.postgres_url, Tasks, alter=queued_tasks, tasks=4, ways=OWN
+        POSTGRES, kind=Tasks, alter=queued_tasks, tasks=4, ways=OWN
     )
-    test_mariadb_lost_commits = is_legal(runs.maria_url, **LOST)
-    test_mariadb_lost_commits_in_pools = is_legal(runs.maria_url, **LOST_IN_POOLS)
-    test_galera = is_legal(runs.galera_url, kill=True, **WAITS)
-    test_galera_lost_commits = is_legal(runs.galera_url, **LOST, **WAITS)
+    test_mariadb_lost_commits = is_legal(MARIADB, **LOST)
+    test_mariadb_lost_commits_in_pools = is_legal(MARIADB, **LOST_IN_POOLS)
+    test_galera = is_legal(GALERA, kill=True, **WAITS)
+    test_galera_lost_commits = is_legal(GALERA, **LOST, **WAITS)
 
-    test_refused_uncompared_sqlite = is_refused(runs.sqlite, alter=breaking.uncompared, **CHANGES)
-    test_refused_uncompared_postgres = is_refused(
-        runs.postgres_url, alter=breaking.uncompared, **CHANGES
-    )
-    test_refused_uncompared_mariadb = is_refused(
-        runs.maria_url, alter=breaking.uncompared, **CHANGES
-    )
-    test_refused_uncounted = is_refused(runs.sqlite, alter=breaking.uncounted, **CHANGES)
-    test_refused_snapshots_postgres = is_refused(
-        runs.postgres_url, alter=breaking.snapshots, accounts=2
-    )
-    test_refused_snapshots_mariadb = is_refused(
-        runs.maria_url, alter=breaking.snapshots, accounts=2
-    )
-    test_refused_resent = is_refused(runs.postgres_url, alter=breaking.resent, **CHANGES, **WHOLE)
+    test_refused_uncompared_sqlite = is_refused(SQLITE, **UNCOMPARED)
+    test_refused_uncompared_postgres = is_refused(POSTGRES, **UNCOMPARED)
+    test_refused_uncompared_mariadb = is_refused(MARIADB, **UNCOMPARED)
+    test_refused_uncounted = is_refused(SQLITE, alter=breaking.uncounted, **CHANGES)
+    test_refused_snapshots_postgres = is_refused(POSTGRES, **SNAPSHOTS)
+    test_refused_snapshots_mariadb = is_refused(MARIADB, **SNAPSHOTS)
+    test_refused_resent = is_refused(POSTGRES, alter=breaking.resent, **CHANGES, **WHOLE)
     test_refused_resent_at_none = is_refused(
-        runs.postgres_url,
-        alter=breaking.resent_at_none,
-        mix={"enrol": 6, "remove": 6, "verify": 2},
-        accounts=1,
-        **WHOLE,
+        POSTGRES, alter=breaking.resent_at_none, **NONE, **WHOLE
     )
-    # Galera's default: a node may read what was replaced at another.
-    test_refused_galera_without_sync_wait = is_refused(
-        runs.galera_url, settings=("SET SESSION wsrep_sync_wait = 0",), accounts=1
-    )
+    test_refused_galera_without_sync_wait = is_refused(GALERA, **NO_WAITS)
 
     def test_postgres_with_kills(self):
         """Clients killed; the server killed, and stopped at once, every other second."""
-        run = Run(runs.postgres_url(), kill=True, seconds=2 * SECONDS)
-        self.told(killed_servers(run, [runs.postgres()]))
+        run = Run(POSTGRES(), kill=True, seconds=2 * SECONDS)
+        self.told(killed_servers(run, postgres()))
 
     def test_mariadb_with_kills(self):
         """Clients killed; the server killed every other second."""
-        run = Run(runs.maria_url(), kill=True, seconds=2 * SECONDS)
-        self.told(killed_servers(run, [runs.maria()], pause=3.0))
+        run = Run(MARIADB(), kill=True, seconds=2 * SECONDS)
+        self.told(killed_servers(run, maria(), pause=3.0))
 
     def test_mariadb_confirmed_with_kills(self):
         """The same with no binary log: each look is confirmed by a COMMIT that writes."""
-        server = runs.maria_without_log()
+        server = maria_without_log()
         run = Run(server.url, kill=True, confirm=True, seconds=2 * SECONDS)
-        self.told(killed_servers(run, [server], pause=3.0))
+        self.told(killed_servers(run, server, pause=3.0))
 
     def test_mariadb_what_was_read_stays(self):
         """The server is killed just as a login was answered by a change without one."""
-        logged = Crashes(runs.maria()).run(6)
-        confirmed_ones = Crashes(runs.maria_without_log(), confirm=True).run(6)
+        logged = Crashes(maria()).run(6)
+        confirmed_ones = Crashes(maria_without_log(), confirm=True).run(6)
         for crashes in (logged, confirmed_ones):
-            if crashes.lost:
-                raise AssertionError(f"{crashes.lost} lost of {crashes.kills}")
+            self.assertEqual(crashes.lost, 0, f"of {crashes.kills}")
         self.told(f"{logged.kills} kills with a binary log, {confirmed_ones.kills} confirmed")
 
     def test_refused_mariadb_without_a_binary_log(self):
         """There a crash takes what a login was answered by: seldom, but it does."""
-        crashes = Crashes(runs.maria_without_log()).run(30, until_lost=True)
-        if not crashes.lost:
-            raise AssertionError(f"none was lost in {crashes.kills} kills")
+        crashes = Crashes(maria_without_log()).run(30, until_lost=True)
+        self.assertTrue(crashes.lost, f"none was lost in {crashes.kills} kills")
         self.told(f"1 lost of {crashes.kills}")
 
     def failed_over(self, pair, fail_over):
@@ -127,36 +114,34 @@ class Histories(unittest.TestCase):
 
     def test_postgres_synchronous_failover(self):
         """The primary is killed amid the load, and its synchronous standby takes over."""
-        pair = Pair(**runs.synchronous(Pair.made + 1))
-        self.told(legal(self.failed_over(pair, runs.fail_over)))
+        self.told(legal(self.failed_over(Pair(is_synchronous=True), Pair.fail_over)))
 
     def test_postgres_synchronous_failover_with_a_slow_receiver(self):
         """The same, with the standby's receiver stopped, and killed, before."""
-        pair = Pair(**runs.synchronous(Pair.made + 1))
-        self.told(legal(self.failed_over(pair, runs.fail_over_with_lag)))
+        self.told(legal(self.failed_over(Pair(is_synchronous=True), Pair.fail_over_with_lag)))
 
     def test_refused_asynchronous_failover(self):
         """An asynchronous standby that lags takes over: acknowledged changes are gone."""
-        self.told(refused(lambda: self.failed_over(Pair(), runs.fail_over_with_lag)))
+        self.told(refused(lambda: self.failed_over(Pair(), Pair.fail_over_with_lag)))
 
     def test_postgres_copies_of_a_replica(self):
         """Copies are read from a standby that lags, commits go to the primary."""
-        pair = started("lagging", lagging)
+        pair = lagging()
         self.told(legal(Run(pair.primary.url, replica=pair.standby.url)))
 
     def test_refused_unlooked_replica(self):
-        pair = started("lagging", lagging)
+        pair = lagging()
         given = {"replica": pair.standby.url, "alter": breaking.unlooked}
         self.told(refused(lambda: Run(pair.primary.url, **given)))
 
     def test_galera_copies_that_do_not_wait(self):
         """Copies are read by sessions of wsrep_sync_wait=0, and all else by others."""
-        self.told(legal(Run(runs.galera_url(), replica=runs.galera_url(), **WAITS)))
+        self.told(legal(Run(GALERA(), replica=GALERA(), **WAITS)))
 
     def test_galera_with_a_node_killed(self):
         """A node is killed amid the load, and comes back."""
-        run = Run(runs.galera_url(), seconds=2 * SECONDS, **WAITS)
-        node = runs.galera()[2]
+        run = Run(GALERA(), seconds=2 * SECONDS, **WAITS)
+        node = galera()[2]
         time.sleep(SECONDS / 2)
         node.kill()
         time.sleep(SECONDS / 2)

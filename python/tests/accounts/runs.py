@@ -1,5 +1,7 @@
 """A torture in a process of its own, and the servers that it runs on."""
 
+import functools
+import itertools
 import multiprocessing
 import os
 import signal
@@ -16,14 +18,14 @@ SECONDS = float(os.environ.get("RIGZUMAL_SECONDS", "8"))
 class Run:
     """A torture in a process of its own, while this one kills servers."""
 
-    count = 0
+    numbers = itertools.count(1)
 
     def __init__(self, url, kind=torture.Torture, **given):
-        Run.count += 1
-        self.folder = servers.ROOM / f"run{Run.count}"
+        number = next(Run.numbers)
+        self.folder = servers.ROOM / f"run{number}"
         # What is altered is the accounts of a process, and none of asyncio's.
         given = {"tasks": 0 if "alter" in given else 4, **given}
-        given = {"seconds": SECONDS, "table": f"t{Run.count}", **given}
+        given = {"seconds": SECONDS, "table": f"t{number}", **given}
         self.torture = kind(url, folder=self.folder, **given)
         self.said = multiprocessing.SimpleQueue()
         self.process = multiprocessing.Process(target=self.judge)
@@ -34,19 +36,11 @@ class Run:
         os.dup2(os.open(f"{self.folder}.err", os.O_WRONLY | os.O_CREAT), 2)
         accounts = self.torture.run()
         found = torture.verdict(accounts)
-        self.said.put(
-            {
-                "reason": found and found.reason,
-                "part": found and [str(it) for it in found.part],
-                "summary": logs.summary(accounts.values()) + f", {self.torture.killed} killed",
-            }
-        )
-
-    def running(self):
-        """Whether it runs still."""
-        return self.process.is_alive()
+        summary = logs.summary(accounts.values()) + f", {self.torture.killed} killed"
+        self.said.put((found and found.reason, found and [*map(str, found.part)], summary))
 
     def verdict(self):
+        """Why it is illegal, by which operations, and how much was judged."""
         self.process.join()
         if self.process.exitcode:
             tail = open(f"{self.folder}.err").read()[-3000:]
@@ -55,72 +49,54 @@ class Run:
 
 
 def legal(run):
-    said = run.verdict()
-    if said["reason"]:
-        raise AssertionError(f"{said['reason']}: {said['part']}; {said['summary']}")
+    reason, part, summary = run.verdict()
+    if reason:
+        raise AssertionError(f"{reason}: {part}; {summary}")
     with open(f"{run.folder}.err") as file:
         faults = {line.strip() for line in file if line.startswith("StoreFault")}
     # A replica may not have the table yet.
     faults = {it for it in faults if "42P01" not in it}
     if faults:
         raise AssertionError(f"the history is legal, but {faults}")
-    return said["summary"]
+    return summary
 
 
 def refused(start, turns=8):
     """Whether a run of what was broken is refused; luck may make one legal."""
     for _ in range(turns):
-        said = start().verdict()
-        if said["reason"]:
-            return f"{said['reason']} ({len(said['part'])} operations)"
-    raise AssertionError(f"the history is legal: {said['summary']}")
+        reason, part, summary = start().verdict()
+        if reason:
+            return f"{reason} ({len(part)} operations)"
+    raise AssertionError(f"the history is legal: {summary}")
 
 
-STARTED = {}
-
-
-def started(name, make):
-    if name not in STARTED:
-        STARTED[name] = make()
-    return STARTED[name]
-
-
-def sqlite():
-    return servers.SqliteFile().url
-
-
+@functools.cache
 def postgres():
-    return started("postgres", lambda: servers.PostgresServer("postgres").start())
+    return servers.PostgresServer("postgres").start()
 
 
+@functools.cache
 def maria():
-    return started("maria", lambda: servers.MariaServer("maria").start())
+    return servers.MariaServer("maria").start()
 
 
+@functools.cache
 def maria_without_log():
-    def make():
-        made = servers.MariaServer("plain")
-        made.has_binary_log = False
-        return made.start()
-
-    return started("plain", make)
+    made = servers.MariaServer("plain")
+    made.has_binary_log = False
+    return made.start()
 
 
+@functools.cache
 def galera():
-    return started("galera", servers.galera)
+    return servers.galera()
 
 
-def postgres_url():
-    return postgres().url
-
-
-def maria_url():
-    return maria().url
-
-
-def galera_url():
-    places = ",".join(f"127.0.0.1:{node.port}" for node in galera())
-    return f"mysql://store:store@{places}/store"
+# What has the URL of each engine; the server is started when it is asked for.
+SQLITE = lambda: servers.SqliteFile().url
+POSTGRES = lambda: postgres().url
+MARIADB = lambda: maria().url
+GALERA = lambda: servers.cluster_url(galera())
 
 
 class Tasks(torture.Torture):
@@ -130,20 +106,18 @@ class Tasks(torture.Torture):
         return True
 
 
-def killed_servers(run, nodes, pause=1.5):
+def killed_servers(run, node, pause=1.5):
+    """The verdict, while the server is stopped at once and killed by turns."""
     count = 0
     time.sleep(1.5)
-    while run.running():
-        node = nodes[count % len(nodes)]
+    while run.process.is_alive():
         if count % 2:
             node.end(signal.SIGQUIT)
         else:
             node.kill()
         node.start()
         count += 1
-        end = time.monotonic() + pause
-        while time.monotonic() < end and run.running():
-            time.sleep(0.1)
+        run.process.join(pause)
     return f"{legal(run)}, {count} kills of the server"
 
 
@@ -152,19 +126,21 @@ class Pair:
 
     made = 0
 
-    def __init__(self, **settings):
+    def __init__(self, is_synchronous=False):
         Pair.made += 1
         self.primary = servers.PostgresServer(f"first{Pair.made}").start()
         self.standby = servers.PostgresServer(f"second{Pair.made}", self.primary)
         self.standby.start()
-        self.primary.set(**settings)
-        while not self.state():
+        if is_synchronous:
+            name = self.standby.folder.name
+            self.primary.set(synchronous_standby_names=name, synchronous_commit="on")
+        while not self.is_streaming():
             time.sleep(0.1)
 
-    def state(self):
+    def is_streaming(self):
         with self.primary.connect() as conn:
-            found = conn.execute("SELECT state, sync_state FROM pg_stat_replication")
-            return [row for row in found if row[0] == "streaming"]
+            found = conn.execute("SELECT state FROM pg_stat_replication").fetchall()
+            return ("streaming",) in found
 
     @property
     def url(self):
@@ -180,30 +156,22 @@ class Pair:
             if node.process.poll() is None:
                 node.kill()
 
+    def fail_over(self):
+        self.primary.kill()
+        self.standby.promote()
 
-def synchronous(pair_number):
-    return {
-        "synchronous_standby_names": f"second{pair_number}",
-        "synchronous_commit": "on",
-    }
-
-
-def fail_over(pair):
-    pair.primary.kill()
-    pair.standby.promote()
-
-
-def fail_over_with_lag(pair):
-    with pair.standby.connect() as conn:
-        ((receiver,),) = conn.execute("SELECT pid FROM pg_stat_wal_receiver").fetchall()
-    os.kill(receiver, signal.SIGSTOP)
-    time.sleep(1.0)
-    pair.primary.kill()
-    os.kill(receiver, signal.SIGKILL)
-    time.sleep(1.0)
-    pair.standby.promote()
+    def fail_over_with_lag(self):
+        with self.standby.connect() as conn:
+            ((receiver,),) = conn.execute("SELECT pid FROM pg_stat_wal_receiver").fetchall()
+        os.kill(receiver, signal.SIGSTOP)
+        time.sleep(1.0)
+        self.primary.kill()
+        os.kill(receiver, signal.SIGKILL)
+        time.sleep(1.0)
+        self.standby.promote()
 
 
+@functools.cache
 def lagging():
     pair = Pair()
     pair.standby.set(recovery_min_apply_delay="30ms")

@@ -2,8 +2,6 @@
 
 import asyncio
 import contextlib
-import pathlib
-import tempfile
 import threading
 import unittest
 from collections import Counter
@@ -11,6 +9,7 @@ from collections import Counter
 import engines
 import servers
 import support
+from engines import Awaited
 from support import LOW
 from rigzumal.accounts import (
     Accounts,
@@ -22,7 +21,6 @@ from rigzumal.accounts import (
     StoreFault,
     of_engine,
 )
-from rigzumal.accounts import torture
 from rigzumal.accounts.parts import Kind, Request, Ticket
 
 
@@ -72,21 +70,17 @@ class Refused(unittest.TestCase):
         asyncpg = module("asyncpg")
         server = support.server(servers.PostgresServer)
 
-        async def act():
+        @contextlib.asynccontextmanager
+        async def pool():
             conn = await asyncpg.connect(server.url)
-
-            @contextlib.asynccontextmanager
-            async def pool():
-                yield conn
-
-            accounts = AsyncAccounts(pool, Postgres("users", "name", "record"), LOW)
             try:
-                with self.assertRaisesRegex(StoreFault, "the driver is asyncpg"):
-                    await accounts.verify("ann", "one")
+                yield conn
             finally:
                 await conn.close()
 
-        asyncio.run(act())
+        accounts = Awaited(AsyncAccounts(pool, Postgres("users", "name", "record"), LOW))
+        with self.assertRaisesRegex(StoreFault, "the driver is asyncpg"):
+            accounts.verify("ann", "one")
 
     def test_others(self):
         """SQLAlchemy's own connections are named with what makes a pool of their engine."""
@@ -105,6 +99,7 @@ class Engines:
         self.execute(self.dialect.insert, "ann")
 
     def engine(self, **given):
+        given = {"isolation_level": "AUTOCOMMIT", **given}
         made = self.sqlalchemy.create_engine(self.sqlalchemy_url, **given)
         self.addCleanup(made.dispose)
         return made
@@ -113,9 +108,10 @@ class Engines:
         return Accounts(of_engine(engine), self.dialect, LOW, **more)
 
     def test_operations(self):
+        plain = self.engine(isolation_level=None)
         for engine in (
-            self.engine(isolation_level="AUTOCOMMIT", pool_size=2),
-            self.engine().execution_options(isolation_level="AUTOCOMMIT"),
+            self.engine(pool_size=2),
+            plain.execution_options(isolation_level="AUTOCOMMIT"),
         ):
             accounts = self.over(engine)
             self.assertEqual(accounts.examine(), [])
@@ -128,17 +124,16 @@ class Engines:
 
     def test_pools_that_will_not_do(self):
         """An engine that isn't in autocommit, and its own connections, which are named."""
-        engine = self.engine(isolation_level="AUTOCOMMIT")
         for pool, said in (
-            (of_engine(self.engine()), "autocommit|transaction is open"),
-            (engine.connect, "the driver is sqlalchemy, .* of_engine"),
+            (of_engine(self.engine(isolation_level=None)), "autocommit|transaction is open"),
+            (self.engine().connect, "the driver is sqlalchemy, .* of_engine"),
         ):
             for name in ("verify", "login", "enrol"):
                 with self.assertRaisesRegex(StoreFault, said):
                     getattr(Accounts(pool, self.dialect, LOW), name)("ann", "one")
 
     def test_a_connection_is_given_up_after_an_exception(self):
-        engine = self.engine(isolation_level="AUTOCOMMIT", pool_size=1)
+        engine = self.engine(pool_size=1)
         pool, made = of_engine(engine), []
         for error in (KeyError, KeyboardInterrupt):
             for _ in range(2):
@@ -152,42 +147,26 @@ class Engines:
         self.assertEqual(engine.pool.checkedout(), 0)
 
     def test_a_pool_that_is_empty_is_no_lost_connection(self):
-        engine = self.engine(
-            isolation_level="AUTOCOMMIT",
-            poolclass=self.sqlalchemy.pool.QueuePool,
-            pool_size=1,
-            max_overflow=0,
-            pool_timeout=0.01,
-        )
+        kind = self.sqlalchemy.pool.QueuePool
+        engine = self.engine(poolclass=kind, pool_size=1, max_overflow=0, pool_timeout=0.01)
         with of_engine(engine)():
             with self.assertRaises(self.sqlalchemy.exc.TimeoutError):
                 self.over(engine).verify("ann", "one")
 
 
-class EnginesOfSqlite(Engines, engines.OnSqlite, support.Base):
-    @property
-    def sqlalchemy_url(self):
-        return f"sqlite:///{self.server.path}"
-
-    def engine(self, **given):
-        given.setdefault("poolclass", self.sqlalchemy.pool.QueuePool)
-        arguments = {"check_same_thread": False, "timeout": 5}
-        return super().engine(connect_args=arguments, **given)
-
+class AwaitedEngines(Engines):
     def test_asyncio(self):
-        module("aiosqlite")
+        module(self.asynchronous_driver)
         from sqlalchemy.ext.asyncio import create_async_engine
 
-        url = f"sqlite+aiosqlite:///{self.server.path}"
-
         async def act():
-            engine = create_async_engine(url, isolation_level="AUTOCOMMIT")
-            accounts = AsyncAccounts(of_engine(engine), self.dialect, LOW)
+            engine = create_async_engine(self.asynchronous_url, isolation_level="AUTOCOMMIT")
+            pool = of_engine(engine)
+            accounts = AsyncAccounts(pool, self.dialect, LOW)
             self.assertIs(await accounts.reset("ann", "one"), Reply.ENROLLED)
             self.assertIs(await accounts.change("ann", "one", "two"), Reply.REPLACED)
             said = await asyncio.gather(*(accounts.login("ann", it) for it in ("one", "two")))
             self.assertEqual(said, [Reply.NO, Reply.YES])
-            pool = of_engine(engine)
             with self.assertRaises(KeyError):
                 async with pool() as conn:
                     raise KeyError
@@ -198,6 +177,23 @@ class EnginesOfSqlite(Engines, engines.OnSqlite, support.Base):
         asyncio.run(act())
 
 
+class EnginesOfSqlite(AwaitedEngines, engines.OnSqlite, support.Base):
+    asynchronous_driver = "aiosqlite"
+
+    @property
+    def sqlalchemy_url(self):
+        return f"sqlite:///{self.server.path}"
+
+    @property
+    def asynchronous_url(self):
+        return f"sqlite+aiosqlite:///{self.server.path}"
+
+    def engine(self, **given):
+        given.setdefault("poolclass", self.sqlalchemy.pool.QueuePool)
+        arguments = {"check_same_thread": False, "timeout": 5}
+        return super().engine(connect_args=arguments, **given)
+
+
 class EnginesOfMariaDB(Engines, engines.OnMariaDB, support.Base):
     @property
     def sqlalchemy_url(self):
@@ -205,7 +201,7 @@ class EnginesOfMariaDB(Engines, engines.OnMariaDB, support.Base):
 
     def test_a_restart(self):
         """The server is waited for: its refusals are the driver's, not SQLAlchemy's."""
-        accounts = self.over(self.engine(isolation_level="AUTOCOMMIT"), patience=20.0)
+        accounts = self.over(self.engine(), patience=20.0)
         accounts.reset("ann", "one")
         self.server.end()
         timer = threading.Timer(1.0, self.server.start)
@@ -216,57 +212,36 @@ class EnginesOfMariaDB(Engines, engines.OnMariaDB, support.Base):
             timer.join()
 
 
-class EnginesOfPostgres(Engines, engines.OnPostgres, support.Base):
+class EnginesOfPostgres(AwaitedEngines, engines.OnPostgres, support.Base):
+    asynchronous_driver = "psycopg"
+
     @property
     def sqlalchemy_url(self):
         return self.server.url.replace("postgresql:", "postgresql+psycopg:")
+
+    asynchronous_url = sqlalchemy_url
 
     def setUp(self):
         super().setUp()
         if self.sqlalchemy.__version__ < "2":
             self.skipTest("SQLAlchemy 1.4 has no psycopg 3")
 
-    def test_asyncio(self):
-        from sqlalchemy.ext.asyncio import create_async_engine
-
-        async def act():
-            engine = create_async_engine(self.sqlalchemy_url, isolation_level="AUTOCOMMIT")
-            accounts = AsyncAccounts(of_engine(engine), self.dialect, LOW)
-            self.assertIs(await accounts.reset("ann", "one"), Reply.ENROLLED)
-            self.assertIs(await accounts.change("ann", "one", "two"), Reply.REPLACED)
-            await engine.dispose()
-
-        asyncio.run(act())
-
 
 class Pooler(unittest.TestCase):
     """PgBouncer, whose sessions are another's from one transaction to the next."""
 
-    def setUp(self):
-        of = support.server(servers.PostgresServer)
-        self.bouncer = servers.PgBouncer("bouncer", of).start()
-        self.addCleanup(self.bouncer.end)
-        self.dialect = Postgres("bounced", "name", "record")
-        with of.connect() as conn:
-            conn.execute("DROP TABLE IF EXISTS bounced")
-            conn.execute(self.dialect.create())
-            for number in range(4):
-                conn.execute("INSERT INTO bounced (name) VALUES (%s)", (f"user{number}",))
-
-    def test_a_torture_through_it(self):
-        """Of more accounts than a statement may be used without being prepared."""
-        with tempfile.TemporaryDirectory() as folder:
-            given = {"processes": 4, "accounts": 8, "seconds": 2.0, "patience": 5.0}
-            run = torture.Torture(self.bouncer.url, folder=pathlib.Path(folder), **given)
-            accounts = run.run()
-        run.drop()
-        self.assertIsNone(torture.verdict(accounts))
-        self.assertTrue(any(it.operations for it in accounts.values()))
-
     def test_no_statement_is_prepared(self):
         """By psycopg's defaults, which prepare a statement at its sixth use."""
-        said, pool = Counter(), support.PerThread(self.bouncer.connect)
-        accounts = Accounts(pool, self.dialect, LOW, patience=5.0)
+        of, dialect = support.server(servers.PostgresServer), Postgres("bounced", "name", "record")
+        bouncer = servers.PgBouncer("bouncer", of).start()
+        self.addCleanup(bouncer.end)
+        with of.connect() as conn:
+            conn.execute("DROP TABLE IF EXISTS bounced")
+            conn.execute(dialect.create())
+            for number in range(4):
+                conn.execute(dialect.insert, (f"user{number}",))
+        said, pool = Counter(), support.PerThread(bouncer.connect)
+        accounts = Accounts(pool, dialect, LOW, patience=5.0)
 
         def act(number):
             name = f"user{number}"
@@ -279,15 +254,8 @@ class Pooler(unittest.TestCase):
             pool.close()
 
         support.in_threads(act, 4)
-        self.assertEqual(
-            dict(said),
-            {
-                Reply.ENROLLED: 48 + 4,
-                Reply.REPLACED: 48 - 4 + 48,
-                Reply.YES: 48,
-                Reply.REMOVED: 48,
-            },
-        )
+        counts = {Reply.ENROLLED: 48 + 4, Reply.REPLACED: 48 - 4 + 48}
+        self.assertEqual(said, {**counts, Reply.YES: 48, Reply.REMOVED: 48})
 
 
 if __name__ == "__main__":
