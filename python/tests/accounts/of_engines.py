@@ -127,12 +127,8 @@ class Operations:
             self.assertEqual((answer.reply, answer.after), (Reply.NO_ACCOUNT, NO_ROW))
 
     def test_threads(self):
-        """Of eight changes of one record one is made; of eight logins one upgrades."""
+        """Of eight logins one upgrades, and all are let in."""
         for turn in range(3):
-            self.put(LOW.hash("one"))
-            said = in_threads(lambda n: self.accounts().change("ann", "one", f"new{n}"), 8)
-            said = sorted(it.value for it in said)
-            self.assertEqual(said, ["replaced"] + ["wrong"] * 7)
             self.put(LOW.hash("one"))
             said = in_threads(lambda n: self.accounts(HIGH).login("ann", "one"), 8)
             self.assertEqual(said, [Reply.YES] * 8)
@@ -206,6 +202,8 @@ class Connections:
         low, high = self.kept(conn=conn), self.kept(HIGH, conn)
         confirming = self.kept(conn=conn, confirm=True)
         one, several, confirmed = self.one, self.several, self.confirmed
+        looked = f"{self.dialect.begin.split()[0]} SELECT COMMIT"
+        own = {"also": lambda conn, reply: None}
         for stands, act, reply, words in (
             ("one", lambda: low.verify("ann", "one"), "yes", ""),
             ("one", lambda: low.verify("ann", "two"), "no", ""),
@@ -220,6 +218,8 @@ class Connections:
             ("one", lambda: low.remove("ann", "one"), "removed", several),
             (None, lambda: low.enrol("ann", "one"), "enrolled", several),
             (None, lambda: low.reset("ann", "one"), "enrolled", several),
+            ("one", lambda: low.change("ann", "one", "two", **own), "replaced", several),
+            ("one", lambda: low.login("ann", "one", **own), "yes", looked),
             ("one", lambda: confirming.verify("ann", "one"), "yes", confirmed),
             ("one", lambda: confirming.verify("ann", "two"), "no", confirmed),
             ("one", lambda: confirming.login("ann", "one"), "yes", confirmed),
@@ -557,40 +557,35 @@ class RowsOfOnesOwn:
                 self.assertEqual(self.rows(), [reply.value])
 
     def test_an_exception_undoes_all(self):
-        """It comes through as it is, and nothing stands."""
+        """It comes through as it is, be it a driver's, and nothing stands."""
         record = LOW.hash("one")
         accounts = self.accounts(patience=60.0)
-        for error in (KeyError("mine"), FileNotFoundError("mine"), RuntimeError("mine")):
 
+        def raising(error):
             def raises(conn, reply):
                 self.also(conn, reply)
+                if error is None:
+                    self.execute("INSERT INTO nowhere VALUES (1)", conn=conn)
                 raise error
 
+            return raises
+
+        for error in (KeyError("mine"), FileNotFoundError("mine"), RuntimeError("mine"), None):
+            also = raising(error)
             for act in (
-                lambda: accounts.change("ann", "one", "two", also=raises),
-                lambda: accounts.login("ann", "one", also=raises),
-                lambda: accounts.remove("ann", "one", also=raises),
+                lambda: accounts.change("ann", "one", "two", also=also),
+                lambda: accounts.login("ann", "one", also=also),
+                lambda: accounts.remove("ann", "one", also=also),
             ):
                 self.put(record)
                 self.calls.clear()
-                with self.assertRaises(type(error)) as raised:
+                with self.assertRaises(Exception) as raised:
                     act()
-                self.assertIs(raised.exception, error)
+                self.assertNotIsInstance(raised.exception, (StoreFault, Unavailable))
+                self.assertIs(raised.exception, error or raised.exception)
                 self.assertEqual(len(self.calls), 1)
                 self.assertEqual((self.rows(), self.stands()), ([], record))
         self.assertIs(accounts.verify("ann", "one"), Reply.YES)
-
-    def test_an_error_of_its_own_statement(self):
-        """The driver's error comes through, and no change stands."""
-        self.put(LOW.hash("one"))
-
-        def fails(conn, reply):
-            self.execute("INSERT INTO nowhere VALUES (1)", conn=conn)
-
-        with self.assertRaises(Exception) as raised:
-            self.accounts().change("ann", "one", "two", also=fails)
-        self.assertNotIsInstance(raised.exception, (StoreFault, Unavailable))
-        self.assertTrue(self.is_right("one"))
 
     def test_it_is_called_again_at_each_turn(self):
         """Another record stands at the first commit: its row was undone with it."""
@@ -637,16 +632,6 @@ class RowsOfOnesOwn:
                 with self.assertRaises(OutcomeUnknown):
                     getattr(self.losing(before), name)("ann", "two", also=self.also)
             self.assertEqual(self.rows(), [] if before else ["yes"] * 2)
-
-    def test_one_transaction(self):
-        """Even where one statement would do: BEGIN comes first, and COMMIT last."""
-        self.put(LOW.hash("one"))
-        accounts = self.accounts()
-        accounts.verify("ann", "one")
-        with sent() as found:
-            accounts.change("ann", "one", "two", also=lambda conn, reply: None)
-        self.assertEqual(found[1], self.dialect.begin.split()[0])
-        self.assertEqual(found[-1], "COMMIT")
 
     def test_a_coroutine_is_refused(self):
         self.put(LOW.hash("one"))
@@ -706,14 +691,6 @@ class OnServers:
         self.assertIs(accounts.change("ann", "one", "two"), Reply.REPLACED)
         self.assertIs(accounts.verify("ann", "two"), Reply.YES)
 
-    def test_sessions_that_are_ended(self):
-        """By the server, between operations: no visitor sees it."""
-        self.put(LOW.hash("one"))
-        accounts = self.accounts()
-        for _ in range(5):
-            self.assertIs(accounts.change("ann", "one", "one"), Reply.REPLACED)
-            self.end_sessions()
-
     def test_connections_of_a_pool_that_all_died(self):
         """Each is taken and given up, with no pause that grows."""
         self.put(LOW.hash("one"))
@@ -734,7 +711,7 @@ class OnServers:
 
         accounts = Accounts(pool, self.dialect, LOW)
         with mock.patch.object(type(accounts._runtime), "pause", pause):
-            self.assertIs(accounts.login("ann", "one"), Reply.YES)
+            self.assertIs(accounts.change("ann", "one", "two"), Reply.REPLACED)
         self.assertEqual(len(pauses), 40)
         self.assertLess(sum(pauses), 0.5)
 

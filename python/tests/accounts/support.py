@@ -220,8 +220,6 @@ def sent(kind=Session):
 class Scripted:
     """A session that answers what it is told, one statement after another."""
 
-    conn = None
-
     def __init__(self, *answers):
         self.answers, self.statements = list(answers), []
 
@@ -239,17 +237,15 @@ def counted():
     made, step, is_right = [], _judgement.step, _judgement.is_right
 
     def counted_step(kind, copy, *given):
-        if copy is not None or kind is Kind.ENROL:
-            made.append(kind.value)
+        made.extend([kind.value] if copy is not None or kind is Kind.ENROL else [])
         return step(kind, copy, *given)
 
     def counted_check(*given):
         made.append("dummy")
         return is_right(*given)
 
-    with mock.patch.object(_judgement, "step", counted_step):
-        with mock.patch.object(_judgement, "is_right", counted_check):
-            yield made
+    with mock.patch.multiple(_judgement, step=counted_step, is_right=counted_check):
+        yield made
 
 
 class Awaiting:
@@ -270,13 +266,11 @@ class Awaiting:
 
 
 class AwaitingCursor:
-    statusmessage = None
-
     def __init__(self, cursor):
         self.cursor = cursor
 
-    description = property(lambda self: self.cursor.description)
-    rowcount = property(lambda self: self.cursor.rowcount)
+    def __getattr__(self, name):
+        return getattr(self.cursor, name)
 
     async def execute(self, *given):
         self.cursor.execute(*given)

@@ -37,9 +37,8 @@ class Patience(unittest.TestCase):
         self.enterContext(mock.patch.object(_connections.random, "uniform", lambda *span: 1.0))
 
     def connections(self, *answers, patience=10.0, replica=None):
-        runtime = Runtime(*answers)
-        clock = mock.patch.object(_connections.time, "monotonic", lambda: runtime.now)
-        self.enterContext(clock)
+        runtime, time = Runtime(*answers), _connections.time
+        self.enterContext(mock.patch.object(time, "monotonic", lambda: runtime.now))
         table = Table(Sqlite("users", "name", "record"), False, lambda worked: None)
         return runtime, Connections(runtime, "primary", replica, table, patience)
 

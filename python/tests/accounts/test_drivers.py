@@ -11,16 +11,8 @@ import servers
 import support
 from engines import Awaited
 from support import LOW
-from rigzumal.accounts import (
-    Accounts,
-    AsyncAccounts,
-    MariaDB,
-    Postgres,
-    Reply,
-    Sqlite,
-    StoreFault,
-    of_engine,
-)
+from rigzumal.accounts import Accounts, AsyncAccounts, MariaDB, Postgres, Reply, Sqlite, StoreFault
+from rigzumal.accounts import of_engine
 from rigzumal.accounts.parts import Kind, Request, Ticket
 
 

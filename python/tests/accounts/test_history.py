@@ -63,71 +63,61 @@ def after(op, state, claim):
     return stands, new, op.costs
 
 
-def some_order(account):
-    """Whether there is a legal order, by trying them all."""
-    todo = [it for it in account.operations if it.reply not in ("failed", "changed")]
-    todo = [it for it in todo if it.reply or it.attempts]
+def ordered(ops, state, stood, then, is_end=lambda left, state: not left):
+    """Whether all can be done in some order, by trying each; `then` has what one leads to."""
     seen = set()
 
     def go(state, stood, left):
         if (state, stood, left) in seen:
             return False
         seen.add((state, stood, left))
-        ops = [it for it in todo if it.id in left]
-        if not any(it.reply for it in ops) and state[0] == account.end.before:
+        todo = [it for it in ops if it.id in left]
+        if is_end(todo, state):
             return True
-        bound = min((it.answered for it in ops if it.reply), default=math.inf)
-        for it in ops:
-            if it.called > bound:
-                continue
-            claim = (it.before, it.after, it.reply) if it.reply else it.attempts[-1]
-            then = after(it, state, claim)
-            if then is None or (then[0] != state[0] and then[0] in stood):
-                continue  # each record is put once
-            if go(then, stood | {then[0]} - {None}, left - {it.id}):
-                return True
-        return False
+        bound = min((it.answered for it in todo if it.reply), default=math.inf)
+        ways = ((then(it, state, stood), it.id) for it in todo if it.called <= bound)
+        return any(way and go(*way, left - {done}) for way, done in ways)
+
+    return go(state, stood - {None}, frozenset(it.id for it in ops))
+
+
+def some_order(account):
+    """Whether there is a legal order; what had no answer may be left out."""
+    ops = [it for it in account.operations if it.reply not in ("failed", "changed")]
+
+    def then(it, state, stood):
+        claim = (it.before, it.after, it.reply) if it.reply else it.attempts[-1]
+        new = after(it, state, claim)
+        if new is None or (new[0] != state[0] and new[0] in stood):
+            return None  # each record is put once
+        return new, stood | {new[0]} - {None}
+
+    def is_end(left, state):
+        return state[0] == account.end.before and not any(it.reply for it in left)
 
     first = account.seed
-    return go(
-        (first.after, first.password if first.after else None, first.costs),
-        frozenset({first.after} - {None}),
-        frozenset(it.id for it in todo),
-    )
+    state = (first.after, first.password if first.after else None, first.costs)
+    ops = [it for it in ops if it.reply or it.attempts]
+    return ordered(ops, state, frozenset({first.after}), then, is_end)
 
 
 def some_order_of_part(events):
     """The same of a part: others may put and replace what this part doesn't."""
     makers = {it.after for it in events if it.makes_change and it.after}
     replaced = {it.before for it in events if it.makes_change and it.before}
-    seen = set()
 
-    def go(state, stood, left):
-        if (state, stood, left) in seen:
-            return False
-        seen.add((state, stood, left))
-        ops = [it for it in events if it.id in left]
-        if not ops:
-            return True
-        bound = min(it.answered for it in ops)
-        for it in ops:
-            if it.called > bound:
-                continue
-            if it.before != state:
-                # Others did something between.
-                if state in replaced or it.before in stood or it.before in makers:
-                    continue
-            if it.kind == "end" and it.before in replaced:
-                continue  # what stands at the end is replaced by nobody
-            now = it.after if it.makes_change else it.before
-            if now is not None and now != it.before and now in stood | {it.before}:
-                continue
-            if go(now, stood | {it.before, now} - {None}, left - {it.id}):
-                return True
-        return False
+    def then(it, state, stood):
+        between = state in replaced or it.before in stood or it.before in makers
+        if it.before != state and between:
+            return None  # others can't have done something between
+        if it.kind == "end" and it.before in replaced:
+            return None  # what stands at the end is replaced by nobody
+        now = it.after if it.makes_change else it.before
+        if now is not None and now != it.before and now in stood | {it.before}:
+            return None
+        return now, stood | {it.before, now} - {None}
 
-    start = object()
-    return go(start, frozenset(), frozenset(it.id for it in events))
+    return ordered(events, object(), frozenset(), then)
 
 
 def made(rng):

@@ -16,15 +16,8 @@ import servers
 from servers import psycopg
 from support import LOW, Base, sent
 from rigzumal import InvalidRecordError
-from rigzumal.accounts import (
-    Accounts,
-    AsyncAccounts,
-    OutcomeUnknown,
-    Reply,
-    StoreFault,
-    Unavailable,
-    torture,
-)
+from rigzumal.accounts import AsyncAccounts, OutcomeUnknown, Reply, StoreFault, Unavailable
+from rigzumal.accounts import torture
 from rigzumal.accounts.parts import Kind, Request
 from rigzumal.accounts.pools import PerUse
 from rigzumal.accounts.torture import _worker
@@ -262,32 +255,25 @@ class OnPostgres(engines.OnPostgres, Base):
         self.assertIs(accounts.remove("ann", "two"), Reply.REMOVED)
         self.assertEqual(list(conn._notice_handlers), [])
 
-    def test_psycopgs_pool(self):
+    def test_psycopgs_pool_of_asyncio(self):
         try:
-            from psycopg_pool import AsyncConnectionPool, ConnectionPool
+            from psycopg_pool import AsyncConnectionPool
         except ImportError:
             self.skipTest("python3-psycopg-pool is not there")
         self.put(LOW.hash("one"))
-        given = {"kwargs": {"autocommit": True}, "min_size": 2, "max_size": 4}
-        with ConnectionPool(self.server.url, **given) as pool:
-            accounts = Accounts(pool.connection, self.dialect, LOW)
-            self.assertIs(accounts.change("ann", "one", "two"), Reply.REPLACED)
-            self.end_sessions()
-            for _ in range(6):
-                self.assertIs(accounts.change("ann", "two", "two"), Reply.REPLACED)
-        with ConnectionPool(self.server.url) as pool:
-            with self.assertRaises(StoreFault):
-                Accounts(pool.connection, self.dialect, LOW).verify("ann", "two")
 
-        async def awaited():
+        async def act():
+            given = {"kwargs": {"autocommit": True}, "min_size": 2, "max_size": 4}
             pool = AsyncConnectionPool(self.server.url, open=False, **given)
             await pool.open()
             accounts = AsyncAccounts(pool.connection, self.dialect, LOW)
-            replies = [accounts.login("ann", "two") for _ in range(20)]
+            replies = [accounts.login("ann", "one") for _ in range(20)]
             self.assertEqual(set(await asyncio.gather(*replies)), {Reply.YES})
+            self.end_sessions()
+            self.assertIs(await accounts.change("ann", "one", "two"), Reply.REPLACED)
             await pool.close()
 
-        asyncio.run(awaited())
+        asyncio.run(act())
 
     def test_asyncio(self):
         """Connections in each mode, and a server that isn't there."""

@@ -12,16 +12,8 @@ from unittest import mock
 
 import support
 from support import HIGH, LOW, Base, counted
-from rigzumal.accounts import (
-    Accounts,
-    AsyncAccounts,
-    MariaDB,
-    OutcomeUnknown,
-    Postgres,
-    Reply,
-    StoreFault,
-    Unavailable,
-)
+from rigzumal.accounts import Accounts, AsyncAccounts, MariaDB, OutcomeUnknown, Postgres, Reply
+from rigzumal.accounts import StoreFault, Unavailable
 from rigzumal.accounts.parts import Kind, Request
 from rigzumal.accounts._session import Result, run
 from rigzumal.accounts.dialects import MySQL, Verdict
@@ -131,23 +123,6 @@ class Arguments(Base):
                     self.assertEqual(len(hashes), 1)
                     self.assertEqual(self.stands(), stands)
         self.assertIs(accounts.login("bob", "x" * 257), Reply.NO_ACCOUNT)
-
-    def test_a_primary_in_the_wrong_mode(self):
-        """The replica's connections are right, and the primary's aren't."""
-        self.put(LOW.hash("one"))
-        opened = self.another()
-        opened.execute("BEGIN")
-        for wrong in (self.another(isolation_level=""), opened):
-            accounts = Accounts(
-                lambda: contextlib.nullcontext(wrong),
-                self.dialect,
-                LOW,
-                replica=lambda: contextlib.nullcontext(self.conn),
-            )
-            with self.assertRaises(StoreFault):
-                accounts.change("ann", "one", "two")
-            wrong.rollback()
-            self.assertTrue(self.is_right("one"))
 
     def test_rows_and_records_of_other_types(self):
         self.put(LOW.hash("one").encode())
