@@ -16,16 +16,13 @@ class Accounts(Operations[Pool]):
     """Password records in a service's own table.
 
     A row is an account; NULL in its record is an account without one. The operations
-    run in their own transactions, on connections in autocommit without an open one: a
-    caller's transaction may read an old record, and would hold locks during a hash.
-
-    Any number of threads may use one object.
+    run in their own transactions, on connections in autocommit without an open one. Any
+    number of threads may use one object.
 
     Args:
         pool: a callable that returns a context manager of a connection to the primary.
             After any exception (BaseException too: interrupts, cancelled tasks) it closes
-            the connection or rolls it back before it gives it out again. Its own
-            exceptions afterwards are dropped, since the work has ended by then.
+            the connection or rolls it back before it gives it out again.
         dialect: of the database, with the names of the table and its columns.
         hasher: PasswordHasher or ScryptHasher, for the costs of new records. Its tags
             have 32 bytes, and it has no secret. An operation hashes on its own thread
@@ -40,9 +37,8 @@ class Accounts(Operations[Pool]):
             more. It ends no statement that hangs: connections need their own time limits
             (docs/SCALE.md).
         confirm: confirm an answer without a change, such as a verify's, by writing the
-            record over itself. That COMMIT comes to the disk and to a standby after all
-            that was read. It is for servers that show a change before it is safe (MariaDB
-            without a binary log), and makes a login cost as much as a change.
+            record over itself. It is for servers that show a change before it is safe
+            (MariaDB without a binary log), and makes a login cost as much as a change.
 
     Raises:
         TypeError: the pool or the hasher is of another kind.
@@ -163,9 +159,7 @@ class Accounts(Operations[Pool]):
         The reply holds once the caller's COMMIT is acknowledged, which on PostgreSQL
         with a synchronous standby is a COMMIT without a warning. After CHANGED, and
         after any exception, roll back and try again from BEGIN. An operation without a
-        change reads its row with a lock, so that the record stays until the end: a
-        session that you write beside it doesn't outlive a later change that ends all
-        sessions.
+        change reads its row with a lock, so that the record stays until the end.
 
         SQLite's transaction begins by BEGIN IMMEDIATE. PostgreSQL's is READ COMMITTED,
         or SERIALIZABLE if all transactions on these rows are. MariaDB's is of any level

@@ -13,7 +13,6 @@ from collections.abc import Iterable
 from typing import Any, ClassVar, Final, Generic, Optional, TypeVar
 
 from rigzumal._library import OutOfMemoryError, Secret
-from rigzumal.accounts import _examine
 from rigzumal.accounts._connections import Connections, Waits
 from rigzumal.accounts._judgement import Foreign, Hasher, Judge
 from rigzumal.accounts._session import Hook, Job, Runtime
@@ -87,9 +86,9 @@ class Operations(Generic[AnyPool]):
         return (await self._perform(verify, also, patience)).reply
 
     async def _examined(self) -> list[Fault]:
+        record, pool = self._judge.sample, self._connections.primary
         return await self._runtime.use(
-            self._connections.primary,
-            lambda it: _examine.examine(self._table, it, self._judge.sample),
+            pool, lambda session: self._table.examine(session, record)
         )
 
     async def _begin(self, request: Request) -> Ticket:

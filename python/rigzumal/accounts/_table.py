@@ -7,15 +7,17 @@ was put, COMMIT.
 
 from __future__ import annotations
 
+import secrets
+import uuid
 from collections.abc import Callable
 from dataclasses import dataclass
 from typing import Any, NoReturn, Optional, Union
 
 from rigzumal.accounts._session import Hook, Session
-from rigzumal.accounts.parts import NO_ROW, Answer, Copy, Key, Reply, StoreFault
-from rigzumal.accounts.parts import Worked
-from rigzumal.accounts.dialects._dialect import ANOTHER_RECORD, Dialect, Verdict
-from rigzumal.accounts.dialects._dialect import is_of_driver
+from rigzumal.accounts.dialects._dialect import ANOTHER_RECORD, Dialect, Fault
+from rigzumal.accounts.dialects._dialect import Severity, Verdict, is_of_driver
+from rigzumal.accounts.parts import NO_ROW, Answer, Copy, Key, Kind, Reply, Request
+from rigzumal.accounts.parts import StoreFault, Ticket, Worked
 
 
 class Lost(Exception):
@@ -173,6 +175,55 @@ class Table:
             return Answer(Reply.CHANGED, None, None)
         return answer
 
+    async def examine(self, session: Session, record: str) -> list[Fault]:
+        """What is wrong with the table and the server: what the engine shows, and a trial.
+
+        The catalogues don't show all of it: a role that may not update, a rule that does
+        nothing, a CHECK that no record passes. So the record is put, and rolled back.
+        """
+        self.dialect.fresh(session.conn)
+        found = await self.dialect.examine(session)
+        faults = [*found.faults, *(() if self.confirm else found.unless_confirmed)]
+        text = await self._trial(session, record) if found.is_usable else None
+        return faults + ([Fault(Severity.ERROR, "no-update", text)] if text else [])
+
+    async def _trial(self, session: Session, record: str) -> Optional[str]:
+        """Why no record can be put."""
+        fault = None
+        try:
+            await self.dialect.start(session)
+            key = await self._row(session)
+            if key is not None:
+                # With a lock, so that nobody else's change comes between.
+                copy = await self.one(session, self.dialect.share, key)
+                ticket = Ticket(Request(Kind.RESET, key), copy)
+                done = await self.compare(
+                    session, Worked(ticket, Reply.REPLACED, record)
+                )
+                if done.reply is not Reply.REPLACED:
+                    fault = "no record can be written: an UPDATE doesn't change a row"
+        except StoreFault as raised:
+            fault = str(raised)
+        except Exception as raised:
+            fault = f"no record can be put: {self.name(raised)}"
+        await self.dialect.undo(session)
+        return fault
+
+    async def _row(self, session: Session) -> Optional[Key]:
+        """The key of a new row, or of any; None if no new one is taken, and none stands."""
+        dialect = self.dialect
+        key = _unused_key(dialect.key_type)
+        try:
+            await session.execute(dialect.insert, key)
+            return key
+        except Exception:
+            # The role adds no rows, or they have columns of their own.
+            await dialect.undo(session)
+        await dialect.start(session)
+        k, t = dialect.quoted(dialect.key_name), dialect.table
+        found = await session.execute(dialect.alone(f"SELECT {k} FROM {t} LIMIT 1"))
+        return found.rows[0][0] if found.rows else None
+
     async def _undone(
         self, session: Session, error: Exception, is_theirs: bool = False
     ) -> Undone:
@@ -226,3 +277,13 @@ def _record(rows: list[tuple[Any, ...]]) -> Copy:
     if record is not None and not isinstance(record, str):
         raise StoreFault(f"the record is no text, but {type(record).__name__}")
     return record
+
+
+def _unused_key(kind: type) -> Key:
+    number = uuid.uuid4()
+    if kind is uuid.UUID:
+        return number
+    # A column of two bytes holds it.
+    small = -1 - secrets.randbelow(30_000)
+    keys: dict[type, Key] = {str: number.hex[:16], int: small, bytes: number.bytes[:8]}
+    return keys[kind]

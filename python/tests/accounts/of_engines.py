@@ -66,28 +66,6 @@ class Operations:
                 else:
                     self.assertEqual(self.stands(), record)
 
-    def test_each_method(self):
-        """A login answers as a verify, and replaces a record of lower costs."""
-        low, high = self.accounts(), self.accounts(HIGH)
-        self.execute(self.dialect.insert, "ann")
-        for act, wanted, memory in (
-            (lambda: low.login("ann", "one"), Reply.ABSENT, None),
-            (lambda: low.verify("a\0b", "one"), Reply.NO_ACCOUNT, None),
-            (lambda: low.login("bob", "one"), Reply.NO_ACCOUNT, None),
-            (lambda: low.enrol("ann", "one"), Reply.ENROLLED, "m=64,"),
-            (lambda: low.enrol("ann", "one"), Reply.EXISTS, "m=64,"),
-            (lambda: low.verify("ann", "one"), Reply.YES, "m=64,"),
-            (lambda: low.change("ann", "one", "two"), Reply.REPLACED, "m=64,"),
-            (lambda: high.login("ann", "one"), Reply.NO, "m=64,"),
-            (lambda: high.login("ann", "two"), Reply.YES, "m=128,"),
-            (lambda: high.upgrade("ann", "two"), Reply.KEPT, "m=128,"),
-            (lambda: low.login("ann", "two"), Reply.YES, "m=128,"),
-            (lambda: low.reset("ann", "three"), Reply.REPLACED, "m=64,"),
-            (lambda: low.remove("ann", "three"), Reply.REMOVED, None),
-        ):
-            self.assertIs(act(), wanted)
-            self.assertIn(memory or "None", str(self.stands()))
-
     def test_a_slow_login_never_undoes_a_change(self):
         """The race: a login with the stolen password, begun before the change."""
         self.put(LOW.hash("stolen"))
@@ -125,14 +103,6 @@ class Operations:
             self.execute("DELETE FROM users")
             answer = accounts.commit(worked)
             self.assertEqual((answer.reply, answer.after), (Reply.NO_ACCOUNT, NO_ROW))
-
-    def test_threads(self):
-        """Of eight logins one upgrades, and all are let in."""
-        for turn in range(3):
-            self.put(LOW.hash("one"))
-            said = in_threads(lambda n: self.accounts(HIGH).login("ann", "one"), 8)
-            self.assertEqual(said, [Reply.YES] * 8)
-            self.assertIn("m=128,", self.stands())
 
 
 class Connections:
@@ -242,12 +212,18 @@ class Connections:
         self.assertEqual(self.said(confirming), "")
 
     def test_changes_at_any_level(self):
-        """Of eight changes of one record one is made, whatever the session's level is."""
+        """Of eight changes of one record one is made, whatever the session's level is; of eight
+        logins all are let in, and the record has the higher costs."""
         for setting in self.levels:
+            connect = self.setting(setting)
             self.put(LOW.hash("one"))
-            accounts = self.accounts(connect=self.setting(setting))
+            accounts = self.accounts(connect=connect)
             said = in_threads(lambda n: accounts.change("ann", "one", f"new{n}").value, 8)
             self.assertEqual(sorted(said), ["replaced"] + ["wrong"] * 7, setting)
+            self.put(LOW.hash("one"))
+            accounts = self.accounts(HIGH, connect=connect)
+            self.assertEqual(in_threads(lambda n: accounts.login("ann", "one"), 8), [Reply.YES] * 8)
+            self.assertIn("m=128,", self.stands())
 
     def test_rows_as_dictionaries(self):
         for conn in self.as_dictionaries():
@@ -407,6 +383,22 @@ class LostAnswers:
             with self.assertRaises(OutcomeUnknown):
                 accounts.change("ann", "one", "two")
             self.assertTrue(self.is_right("another"))
+
+    def test_what_its_owner_has_removed_since(self):
+        """It stays removed, and its outcome is unknown."""
+        self.put(None)
+        accounts, looks = self.losing(before=False), []
+        look = accounts._table.look
+
+        def removed(*given):
+            looks.append(1)
+            if len(looks) == 2:
+                self.put(None)
+            return look(*given)
+
+        accounts._table.look = removed
+        self.assertRaises(OutcomeUnknown, accounts.enrol, "ann", "new")
+        self.assertIsNone(self.stands())
 
     def test_what_was_done_is_put_over_itself(self):
         """What stands may not be on the disk."""
@@ -656,28 +648,21 @@ class OnServers:
         timer.start()
         self.addCleanup(timer.join)
 
-    def test_waits_for_a_lock(self):
-        """A wait for a lock that is given up leaves nothing open."""
-        self.put(LOW.hash("one"))
-        made, connect = [], self.setting(self.lock_timeout)
-        accounts = self.accounts(connect=lambda: made.append(connect()) or made[-1])
-        begun = time.monotonic()
-        self.held(2.5)
-        self.assertIs(accounts.change("ann", "one", "two"), Reply.REPLACED)
-        self.assertGreater(time.monotonic() - begun, 2)
-        self.assertEqual(len(made), 1)
-
-    def test_a_statement_that_took_too_long(self):
-        """It is undone, so it is tried again within patience; then nothing was done."""
-        connect = self.setting(self.statement_timeout)
-        for record in (LOW.hash("one"), None):
-            self.put(record)
-            self.held(1.6)
-            with self.assertRaises(Unavailable):
-                self.accounts(connect=connect, patience=0.8).reset("ann", "two")
-            self.assertEqual(self.stands(), record)
-            wanted = Reply.ENROLLED if record is None else Reply.REPLACED
-            self.assertIs(self.accounts(connect=connect, patience=20.0).reset("ann", "two"), wanted)
+    def test_waits_that_the_server_ends(self):
+        """Of a lock, and of a statement that takes too long: what was sent is undone, so it is
+        tried again within patience, on the same connection; then nothing was done."""
+        for setting in (self.lock_timeout, self.statement_timeout):
+            connect, made = self.setting(setting), []
+            patient = self.accounts(connect=lambda: made.append(1) or connect(), patience=20.0)
+            for record in (LOW.hash("one"), None):
+                self.put(record)
+                self.held(1.6)
+                with self.assertRaises(Unavailable):
+                    self.accounts(connect=connect, patience=0.8).reset("ann", "two")
+                self.assertEqual(self.stands(), record)
+                wanted = Reply.ENROLLED if record is None else Reply.REPLACED
+                self.assertIs(patient.reset("ann", "two"), wanted)
+                self.assertEqual(len(made), 1)
 
     def test_restart(self):
         """The pool's connection is gone after a restart: another is made."""

@@ -1,13 +1,12 @@
 """Servers that fail, that are busy, and connections that break."""
 
-import contextlib
 import sqlite3
 import unittest
 from unittest import mock
 
-from support import HIGH, LOW, Base, counted, losing, sent
+from support import HIGH, LOW, Base, counted, sent
 import rigzumal
-from rigzumal.accounts import Accounts, MariaDB, OutcomeUnknown, Reply, StoreFault, Unavailable
+from rigzumal.accounts import MariaDB, Reply, StoreFault, Unavailable
 from rigzumal.accounts import _connections
 from rigzumal.accounts.parts import Kind
 
@@ -50,20 +49,6 @@ class Faulty(Base):
         table.compare = once
         self.assertIs(accounts.change("ann", "one", "two"), Reply.REPLACED)
         self.assertEqual(len(made), 2)
-
-    def test_a_pool_that_fails_after_a_lost_answer(self):
-        self.put(LOW.hash("one"))
-        uses = []
-
-        def broken():
-            uses.append(1)
-            if len(uses) > 2:
-                raise RuntimeError("the pool is shut")
-            return contextlib.nullcontext(self.conn)
-
-        accounts = Accounts(broken, losing(self.dialect, before=False), LOW, patience=0.5)
-        with self.assertRaises(OutcomeUnknown):
-            accounts.change("ann", "one", "two")
 
     def test_a_constraint_that_is_judged_at_commit(self):
         """SQLite leaves the transaction open: it is rolled back, and said at once."""

@@ -2,14 +2,16 @@
 
 import asyncio
 import contextlib
+import itertools
 import os
 import sqlite3
 import unittest
 
+import engines
+import of_engines
 from engines import Awaited
-from support import LOW, OLDER, Awaiting, Base, Session, after_hash, losing, sent
-from rigzumal.accounts import Accounts, AsyncAccounts, OutcomeUnknown, PerThread, Reply, StoreFault
-from rigzumal.accounts._session import AsyncSession
+from support import LOW, OLDER, Awaiting, Base, after_hash
+from rigzumal.accounts import Accounts, AsyncAccounts, PerThread, Reply, StoreFault
 from rigzumal.accounts.pools import PerUse
 
 BUSY = sqlite3.OperationalError("database is locked")
@@ -77,85 +79,62 @@ def rolls_back(conn):
     conn.rollback()
 
 
-WAYS = (raises_another, raises_at_any_end, raises_a_base_exception, swallows, rolls_back)
+WAYS = (raises_another, raises_at_any_end, swallows, rolls_back)
 
 
-class LostAnswers:
-    """A COMMIT without an answer, and a pool that does as it likes afterwards."""
+class OfThreads(engines.OnSqlite):
+    """Accounts over a pool of some way."""
 
-    def each(self, dialect, wanted):
-        """Accounts over a pool of each way; what a use of it is to answer or to raise."""
-        for way in WAYS:
-            self.pool = Pool(way, self.conn)
-            with self.subTest(pool=way.__name__):
-                is_alarm = way is raises_a_base_exception
-                yield self.over(self.pool, dialect()), Alarm if is_alarm else wanted
+    way = staticmethod(rolls_back)
 
-    def assert_answer(self, wanted, act):
-        if isinstance(wanted, Reply):
-            self.assertIs(act(), wanted)
-        else:
-            self.assertRaises(wanted, act)
+    def over(self, pool, dialect=None, hasher=LOW, **more):
+        return Accounts(pool, dialect or self.dialect, hasher, **{"patience": 5.0, **more})
 
-    def test_changes(self):
-        """Each is made once, and a removal isn't known."""
-        for kind, before, reply, right, after_alarm in (
-            ("change", False, Reply.REPLACED, "new", "new"),
-            ("change", True, Reply.REPLACED, "new", "old"),
-            ("remove", False, OutcomeUnknown, None, None),
-        ):
-            lost = lambda: losing(self.another_dialect(), before)
-            for accounts, wanted in self.each(lost, reply):
+    def accounts(self, hasher=LOW, dialect=None, **more):
+        self.pool = Pool(self.way, self.conn)
+        return self.over(self.pool, dialect, hasher, **more)
+
+
+class OfTasks(OfThreads):
+    def over(self, pool, dialect=None, hasher=LOW, **more):
+        given = {"patience": 5.0, **more}
+        return Awaited(AsyncAccounts(pool, dialect or self.dialect, hasher, **given))
+
+
+class Endings:
+    """What a pool does at its end changes nothing of what its caller is told."""
+
+    def each(self):
+        for self.way in (*WAYS, raises_a_base_exception):
+            with self.subTest(pool=self.way.__name__):
                 self.put(LOW.hash("old"))
-                given = ("ann", "old", "new") if kind == "change" else ("ann", "old")
-                with sent(self.session) as found:
-                    self.assert_answer(wanted, lambda: getattr(accounts, kind)(*given))
-                password = after_alarm if wanted is Alarm else right
-                if password is None:
-                    self.assertIsNone(self.stands())
-                else:
-                    self.assertTrue(self.is_right(password))
-                if kind == "change":
-                    self.assertEqual(found.count("UPDATE"), 1 if wanted is Alarm else 2)
-
-    def test_an_enrolment_that_its_owner_has_removed_since(self):
-        """It stays removed, and its outcome is unknown."""
-
-        def removing():
-            dialect = losing(self.another_dialect(), before=False)
-            commit = dialect.commit
-
-            async def removed(session):
-                try:
-                    await commit(session)
-                finally:
-                    dialect.commit = commit
-                    self.conn.execute("UPDATE users SET record = NULL")
-
-            dialect.commit = removed
-            return dialect
-
-        for accounts, wanted in self.each(removing, OutcomeUnknown):
-            self.put(None)
-            self.assert_answer(wanted, lambda: accounts.enrol("ann", "new"))
-            self.assertIsNone(self.stands())
+                yield Alarm if self.way is raises_a_base_exception else StoreFault
 
     def test_a_fault_is_said(self):
-        """What a job raised is what its caller is told."""
-        for accounts, wanted in self.each(self.another_dialect, StoreFault):
+        """What a job raised is what its caller is told, and an interrupt above it."""
+        for wanted in self.each():
+            accounts = self.accounts()
             self.conn.execute("ALTER TABLE users RENAME TO gone")
-            self.assert_answer(wanted, lambda: accounts.verify("ann", "old"))
+            self.assertRaises(wanted, accounts.verify, "ann", "old")
             self.assertEqual(self.pool.uses, 1)
             self.conn.execute("ALTER TABLE gone RENAME TO users")
 
     def test_an_interrupt_is_no_lost_connection(self):
         """It comes through, whatever the pool makes of it; nothing is sent again."""
-        for accounts, _ in self.each(self.another_dialect, Alarm):
-            self.put(LOW.hash("old"))
+        for _ in self.each():
+            accounts = self.accounts()
             accounts._table.before_commit = interrupted
             self.assertRaises(Alarm, accounts.change, "ann", "old", "new")
             self.assertEqual(self.pool.uses, 2)
             self.assertTrue(self.is_right("old"))
+
+    def test_an_interrupt_after_a_lost_answer(self):
+        """The change is settled by nobody."""
+        self.way = raises_a_base_exception
+        for before in (True, False):
+            self.put(LOW.hash("old"))
+            self.assertRaises(Alarm, self.losing(before).change, "ann", "old", "new")
+            self.assertTrue(self.is_right("old" if before else "new"))
 
     def test_a_pool_that_gives_nothing(self):
         """What it raises before a job was begun comes through, and nothing was done."""
@@ -170,29 +149,27 @@ class LostAnswers:
             def __exit__(self, *given):
                 raise AssertionError("it never was entered")
 
-        accounts = self.over(Shut(rolls_back, None), self.dialect)
+        accounts = self.over(Shut(rolls_back, None))
         with self.assertRaisesRegex(RuntimeError, "the pool is shut"):
             accounts.verify("ann", "old")
 
     def test_what_examine_says_is_not_swallowed(self):
-        accounts = self.over(Pool(swallows, self.conn), self.dialect)
+        accounts = self.over(Pool(swallows, self.conn))
         self.assertEqual(accounts.examine(), [])
         self.dialect.examine = None
         self.assertRaises(TypeError, accounts.examine)
 
 
-class LostAnswersOfThreads(LostAnswers, Base):
-    session = Session
-
-    def over(self, pool, dialect):
-        return Accounts(pool, dialect, LOW, patience=0.5)
+def made(suite, engine, **more):
+    name = "".join(it.__name__ for it in (suite, engine, *more.values()))
+    return name, type(name, (engine, suite, Base), {it: staticmethod(more[it]) for it in more})
 
 
-class LostAnswersOfTasks(LostAnswers, Base):
-    session = AsyncSession
-
-    def over(self, pool, dialect):
-        return Awaited(AsyncAccounts(pool, dialect, LOW, patience=0.5))
+globals().update(made(Endings, engine) for engine in (OfThreads, OfTasks))
+globals().update(
+    made(of_engines.LostAnswers, engine, way=way)
+    for engine, way in itertools.product((OfThreads, OfTasks), WAYS)
+)
 
 
 class Cancellations(Base):
@@ -346,14 +323,6 @@ class OnePerThread(Base):
                 self.assertIsNot(conn, made[0])
                 self.assertFalse(conn.in_transaction)
             pool.close()
-
-    def test_an_operation_after_an_interrupt(self):
-        self.put(LOW.hash("one"))
-        accounts = self.accounts()
-        accounts._table.before_commit = interrupted
-        self.assertRaises(Alarm, accounts.change, "ann", "one", "two")
-        accounts._table.before_commit = lambda worked: None
-        self.assertIs(accounts.change("ann", "one", "two"), Reply.REPLACED)
 
     def test_a_connection_for_each_use_is_closed(self):
         """Of a task, after a fault too."""

@@ -246,15 +246,6 @@ class OnPostgres(engines.OnPostgres, Base):
 
     # ---- psycopg
 
-    def test_no_handler_is_left(self):
-        """Of a COMMIT's warnings, on a connection that is kept."""
-        self.put(LOW.hash("one"))
-        conn = self.another()
-        accounts = self.kept(conn=conn)
-        self.assertIs(accounts.change("ann", "one", "two"), Reply.REPLACED)
-        self.assertIs(accounts.remove("ann", "two"), Reply.REMOVED)
-        self.assertEqual(list(conn._notice_handlers), [])
-
     def test_psycopgs_pool_of_asyncio(self):
         try:
             from psycopg_pool import AsyncConnectionPool

@@ -4,6 +4,7 @@ from __future__ import annotations
 
 import enum
 import functools
+import re
 from collections.abc import Container, Iterable, Iterator, Sequence
 from dataclasses import dataclass
 from typing import Any, ClassVar, Final, NamedTuple
@@ -11,15 +12,18 @@ from typing import Any, ClassVar, Final, NamedTuple
 from rigzumal.accounts._session import Result, Session
 from rigzumal.accounts.parts import Copy, Key, StoreFault
 
-LONGEST_RECORD: Final = 512
-"""Bytes of the longest record."""
-
+LONGEST_RECORD: Final = 512  # bytes
 TOO_SHORT: Final = f"a record has up to {LONGEST_RECORD} bytes"
 CRASH_LOSES: Final = "a crash loses acknowledged changes"
 POWER_CUT_LOSES: Final = "a power cut loses acknowledged changes"
 ANOTHER_RECORD: Final = "the row has another record than the one that was written"
 NO_TRANSACTION: Final = "no transaction is open on the connection"
+LEFT_OPEN: Final = (
+    "a transaction is open on the connection: after any exception, a pool closes what it"
+    " gave out, or rolls it back"
+)
 _BIGINT: Final = 2**63
+_IN_NO_COLUMN: Final = re.compile("[\0\ud800-\udfff]")
 
 
 class Verdict(enum.Enum):
@@ -82,16 +86,11 @@ not_durable: Final = functools.partial(error, "not-durable")
 
 @dataclass(frozen=True)
 class Findings:
-    """The findings in an engine's catalogue and settings.
-
-    Attributes:
-        faults: the faults.
-        is_usable: whether a trial is possible there, and can be undone.
-        unless_confirmed: no fault if looks are confirmed by a COMMIT that writes.
-    """
+    """The findings in an engine's catalogue and settings."""
 
     faults: list[Fault]
-    is_usable: bool = True
+    is_usable: bool = True  # a trial is possible there, and can be undone
+    # No faults if looks are confirmed by a COMMIT that writes.
     unless_confirmed: tuple[Fault, ...] = ()
 
 
@@ -125,17 +124,13 @@ class Dialect:
         returns: whether the UPDATE answers with the record that it wrote.
     """
 
-    mark: ClassVar[str] = "%s"
-    quote: ClassVar[str] = '"'
-    begin: ClassVar[str] = "START TRANSACTION"
-    commit_sql: ClassVar[str] = "COMMIT"
+    mark, quote = "%s", '"'
+    begin, commit_sql = "START TRANSACTION", "COMMIT"
     key_types: ClassVar[tuple[type, ...]] = (str, int, bytes)
-    key_sql: ClassVar[str] = "VARCHAR(255)"
-    bytes_sql: ClassVar[str] = "VARBINARY(255)"
-    returns: ClassVar[bool] = False
-    # The clause that keeps a record until the transaction's end.
-    _share: ClassVar[str] = ""
-    _same: ClassVar[str] = ""
+    key_sql, bytes_sql = "VARCHAR(255)", "VARBINARY(255)"
+    returns = False
+    # The comparison, and the clause that keeps a record until the transaction's end.
+    _same, _share = "", ""
 
     def __init__(self, table: str, key: str, record: str, key_type: type = str) -> None:
         if key_type not in self.key_types:
@@ -184,9 +179,7 @@ class Dialect:
     def can_stand(self, key: object) -> bool:
         """Whether a column can hold the key; otherwise no such account exists."""
         if isinstance(key, str):
-            return "\0" not in key and (
-                key.isascii() or not any("\ud800" <= it <= "\udfff" for it in key)
-            )
+            return not _IN_NO_COLUMN.search(key)
         return not isinstance(key, int) or -_BIGINT <= key < _BIGINT
 
     # ---- connections
@@ -207,10 +200,7 @@ class Dialect:
         """
         mode = self.mode(conn)
         if mode.has_transaction:
-            raise StoreFault(
-                "a transaction is open on the connection: after any exception, a pool"
-                " closes what it gave out, or rolls it back"
-            )
+            raise StoreFault(LEFT_OPEN)
         if not mode.is_autocommit:
             raise StoreFault("the connections of the pool have to be in autocommit")
 

@@ -35,50 +35,33 @@ RISK = 0.01
 
 @dataclasses.dataclass
 class Torture:
-    """What is done to a database.
-
-    Attributes:
-        url: the database.
-        table: a table that isn't there yet; it is dropped again if the history is
-            legal.
-        processes: how many, each with a connection.
-        seconds: for how long.
-        accounts: on how many rows.
-        kill: ends processes by SIGKILL, and starts others: now and then, and between
-            an UPDATE and its COMMIT or a COMMIT and its answer. One at least is killed
-            if any tries a change.
-        folder: of the logs; one is made if it is left out.
-        replica: another database for the copies, which may lag.
-        end_url: the database at which one reads what stands at the end.
-        mix: how often each operation is done; a login is one too.
-        ways: how it is done: as a whole, with a statement of its own, in its three
-            parts, or within a transaction of the caller's.
-        tasks: on PostgreSQL, how many of asyncio every fourth process has; they are
-            cancelled now and then.
-        patience: for how many seconds a lost connection is made anew.
-        confirm: looks are confirmed by a COMMIT that writes.
-        alter: changes what a process uses, so that a test may break it.
-        settings: SQL for each connection to begin with.
-        killed: how many processes were killed.
-    """
+    """What is done to a database: as the command does it, or as tests alter it."""
 
     url: str
-    table: str = "rigzumal_torture"
-    processes: int = 8
+    table: str = "rigzumal_torture"  # made, and dropped again if the history is legal
+    processes: int = 8  # with a connection each
     seconds: float = 60.0
-    accounts: int = 4
+    accounts: int = 4  # rows
+    # By SIGKILL now and then, and between an UPDATE and its COMMIT or a COMMIT and its
+    # answer; others are started. One at least is killed if any tries a change.
     kill: bool = False
-    folder: Optional[pathlib.Path] = None
-    replica: Optional[str] = None
-    end_url: Optional[str] = None
+    folder: Optional[pathlib.Path] = None  # of the logs; one is made if it is left out
+    replica: Optional[str] = None  # another database for the copies, which may lag
+    end_url: Optional[
+        str
+    ] = None  # the database at which one reads what stands at the end
     mix: Mapping[str, int] = dataclasses.field(default_factory=lambda: dict(MIX))
-    ways: tuple[str, ...] = WAYS
-    tasks: int = 4
+    ways: tuple[str, ...] = WAYS  # of doing an operation; a login has its own
+    tasks: int = (
+        4  # of asyncio, in every fourth process on PostgreSQL; some are cancelled
+    )
     patience: float = 30.0
     confirm: bool = False
-    alter: Callable[[Any], None] = lambda accounts: None
-    settings: tuple[str, ...] = ()
-    killed: int = 0
+    alter: Callable[
+        [Any], None
+    ] = lambda accounts: None  # a test may break what is used
+    settings: tuple[str, ...] = ()  # SQL for each connection to begin with
+    killed: int = 0  # how many processes were killed
 
     def run(self) -> dict[Any, history.Account]:
         """Runs it, and returns what was logged.
@@ -114,8 +97,7 @@ class Torture:
     def made(self, kind: Any, pool: Any, memory: int, replica: Any = None) -> Any:
         """Accounts of a process or of a task."""
         given = {"patience": self.patience, "confirm": self.confirm, "tries": 50}
-        cheap = hasher(memory)
-        return kind(pool, self.dialect(), cheap, replica=replica, **given)
+        return kind(pool, self.dialect(), hasher(memory), replica=replica, **given)
 
     def is_awaited(self, number: int) -> bool:
         """Whether a process is one of asyncio: every fourth one, on PostgreSQL."""
@@ -177,12 +159,10 @@ class Torture:
         self, number: int, names: list[str], end: float, risk: float
     ) -> BaseProcess:
         """A process by fork, so that it begins at once; no connection is open here."""
-        given = number, names, end, risk
-        made = multiprocessing.get_context("fork").Process(
-            target=self._work, args=given
-        )
-        made.start()
-        return made
 
-    def _work(self, number: int, names: list[str], end: float, risk: float) -> None:
-        asyncio.run(Worker(self, number, risk).work(names, end))
+        def work() -> None:
+            asyncio.run(Worker(self, number, risk).work(names, end))
+
+        process = multiprocessing.get_context("fork").Process(target=work)
+        process.start()
+        return process
