@@ -134,13 +134,16 @@ class Runtime:
         """Does a job on a connection of a pool."""
         ending: Ending[T] = Ending()
         try:
-            with pool() as conn:
-                await ending.note(job, self.session(conn))
+            await self._enter(pool, job, ending)
         except Exception:
             # What a pool raises after a job has ended changes nothing of how it ended.
             if not ending.has_begun:
                 raise
         return ending.answer()
+
+    async def _enter(self, pool: Any, job: Job[T], ending: Ending[T]) -> None:
+        with pool() as conn:
+            await ending.note(job, self.session(conn))
 
     async def pause(self, seconds: float) -> None:
         """Waits so long."""
@@ -156,15 +159,9 @@ class AsyncRuntime(Runtime):
 
     session = AsyncSession
 
-    async def use(self, pool: Any, job: Job[T]) -> T:
-        ending: Ending[T] = Ending()
-        try:
-            async with pool() as conn:
-                await ending.note(job, self.session(conn))
-        except Exception:
-            if not ending.has_begun:
-                raise
-        return ending.answer()
+    async def _enter(self, pool: Any, job: Job[T], ending: Ending[T]) -> None:
+        async with pool() as conn:
+            await ending.note(job, self.session(conn))
 
     async def pause(self, seconds: float) -> None:
         await asyncio.sleep(seconds)

@@ -113,19 +113,21 @@ class Request:
     can_be_right: bool = field(default=True, init=False, repr=False)
 
     def __post_init__(self) -> None:
-        if isinstance(self.key, str):
-            # As a driver sees it, whatever the subclass makes of itself.
-            object.__setattr__(self, "key", str.__str__(self.key))
-        object.__setattr__(self, "new_password", bytes_of_password(self.new_password))
-        password = b""
+        new_password, password = bytes_of_password(self.new_password), b""
+        can_be_right, key = True, self.key
         try:
             password = bytes_of_password(self.password)
         except ValueError:
             # Anybody may try a password, and gets an answer.
             if self.kind is Kind.ENROL:
                 raise
-            object.__setattr__(self, "can_be_right", False)
-        object.__setattr__(self, "password", password)
+            can_be_right = False
+        if isinstance(key, str):
+            key = str.__str__(
+                key
+            )  # as a driver sees it, whatever its class makes of it
+        given = {"password": password, "new_password": new_password}
+        self.__dict__.update(given, key=key, can_be_right=can_be_right)
 
 
 @dataclass(frozen=True)

@@ -157,8 +157,9 @@ def table(engine, url, rows, counts, seconds, turns):
 
 
 def statements(load):
-    """What a login and a change send, with the medians of the times that it takes, in ms."""
-    execute, lines = Session.execute, []
+    """What a login and a change send, and how long each takes: the medians, in ms; and the share of
+    a change under 64 MiB that isn't a hash, in percent."""
+    execute, lines, dear, shares = Session.execute, [], load.over(DEAR), []
 
     async def timed(session, sql, *values):
         begun = time.perf_counter()
@@ -178,29 +179,21 @@ def statements(load):
         often = ((word, it) for (_, word), it in sorted(took.items()) if len(it) > 150)
         said = ", ".join(f"{word} {statistics.median(it):.2f}" for word, it in often)
         lines.append(f"{row}: {said}")
-    Session.execute = execute
-    return "; ".join(lines)
+    Session.execute, work = execute, dear._judge.work
 
-
-def share(load):
-    """The database's share of a change under 64 MiB, in percent."""
-    accounts, shares = load.over(DEAR), []
-    accounts.reset("user0", "pw")
-    work = accounts._judge.work
-
-    def timed(ticket):
+    def hashed(ticket):
         begun = time.perf_counter()
         worked = work(ticket)
-        hashed.append(time.perf_counter() - begun)
+        found.append(time.perf_counter() - begun)
         return worked
 
-    accounts._judge.work = timed
+    dear._judge.work = hashed
+    dear.reset("user0", "pw")
     for _ in range(20):
-        hashed, begun = [], time.perf_counter()
-        accounts.change("user0", "pw", "pw")
-        took = time.perf_counter() - begun
-        shares.append(100 * (took - sum(hashed)) / took)
-    return f"change {statistics.median(shares):.2f} %"
+        found, begun = [], time.perf_counter()
+        dear.change("user0", "pw", "pw")
+        shares.append(100 * (1 - sum(found) / (time.perf_counter() - begun)))
+    return f"{'; '.join(lines)} | change {statistics.median(shares):.2f} %"
 
 
 def times():
@@ -253,7 +246,7 @@ def main():
         rows = (LOOK, LOGIN) if given.logins else ROWS
         table(engine, url, rows, counts, given.seconds, given.turns)
         if not given.logins:
-            ends.append(f"| {engine} | {statements(load)} | {share(load)} |")
+            ends.append(f"| {engine} | {statements(load)} |")
     if ends:
         print("\n| Engine | Statements, with ms | The database's share under 64 MiB |")
         print("|---|---|---|", *ends, sep="\n")

@@ -1,8 +1,9 @@
 """What is altered in the accounts of a torture, to see that it is legal or refused."""
 
 import dataclasses
-import os
+import functools
 import random
+import sqlite3
 import threading
 import time
 from contextlib import asynccontextmanager, contextmanager, suppress
@@ -102,8 +103,9 @@ class Queue:
     As its connection is broken, the rollback raises in place of what was raised.
     """
 
-    def __init__(self, connect, way):
-        self._connect, self.way, self.idle = connect, way, []
+    def __init__(self, connect):
+        self._connect, self.idle = connect, []
+        self.way = random.choice(("raises", "swallows", "interrupted", "rolls back"))
 
     @contextmanager
     def __call__(self):
@@ -130,12 +132,9 @@ class Queue:
 OWN = ("whole", "parts")
 
 
-WAYS = ("raises", "swallows", "interrupted", "rolls back")
-
-
 def queued(accounts):
     """Answers of COMMITs are lost, and each process has a pool of another way."""
-    lossy(accounts, lambda connect: Queue(connect, random.choice(WAYS)))
+    lossy(accounts, Queue)
     for name in ("_perform", "_commit"):
         setattr(accounts, name, unknown_if_left(getattr(accounts, name)))
 
@@ -155,49 +154,44 @@ def lossy(accounts, pool=LeavesOpen):
 
     A pool that rolls back leaves none of them to come: there the connection breaks.
     """
-    dialect, connect = accounts._dialect, accounts._connections.primary._connect
-    if isinstance(dialect, Sqlite):
-        import sqlite3
-
+    connect = accounts._connections.primary._connect
+    if isinstance(accounts._dialect, Sqlite):
+        # A thread of its own may send what is still to come.
         path = connect().execute("PRAGMA database_list").fetchone()[2]
-
-        def connect():
-            given = {"isolation_level": None, "check_same_thread": False}
-            return sqlite3.connect(path, timeout=20, **given)
-
+        given = {"isolation_level": None, "check_same_thread": False, "timeout": 20}
+        connect = functools.partial(sqlite3.connect, path, **given)
     take_pool(accounts, pool(connect))
-    for name in ("commit", "put_at_once"):
-        setattr(dialect, name, sometimes(getattr(dialect, name), pool is LeavesOpen))
+    losing(accounts._dialect, lambda conn: conn.close(), may_be_late=pool is LeavesOpen)
 
 
-def sometimes(commit, leaves_open):
-    """What commits, with an answer that is lost at times."""
-    rng = random.Random(os.urandom(8))
+def losing(dialect, breaks, may_be_late=False):
+    """What commits loses its answer at times."""
 
-    def late(session, *given):
-        time.sleep(rng.uniform(0, 0.1))
-        try:
+    def late(commit, session, *given):
+        time.sleep(random.uniform(0, 0.1))
+        with suppress(Exception):
             run(commit(session, *given))
             session.conn.close()
-        except Exception:
-            pass
 
-    async def committed(session, *given):
-        fate = rng.random()
-        if fate < 0.1:
-            session.conn.close()
-        elif fate < 0.3 and not leaves_open:
-            await commit(session, *given)
-            session.conn.close()
-        elif fate < 0.2:
-            await commit(session, *given)
-        elif fate < 0.3:
-            threading.Thread(target=late, args=(session, *given)).start()
-        else:
-            return await commit(session, *given)
-        raise ConnectionError("planted")
+    def sometimes(commit):
+        async def committed(session, *given):
+            fate = random.random()
+            if fate < 0.1:
+                breaks(session.conn)
+            elif fate < 0.2 or (fate < 0.3 and not may_be_late):
+                await commit(session, *given)
+                if not may_be_late:
+                    breaks(session.conn)
+            elif fate < 0.3:
+                threading.Thread(target=late, args=(commit, session, *given)).start()
+            else:
+                return await commit(session, *given)
+            raise ConnectionError("planted")
 
-    return committed
+        return committed
+
+    for name in ("commit", "put_at_once"):
+        setattr(dialect, name, sometimes(getattr(dialect, name)))
 
 
 def queued_tasks(accounts):
@@ -221,22 +215,7 @@ def queued_tasks(accounts):
                 raise
 
     take_pool(accounts, pool)
-    dialect = accounts._dialect
-
-    def losing(commit):
-        async def committed(session, *given):
-            fate, done = random.random(), None
-            if 0.1 < fate:
-                done = await commit(session, *given)
-            if fate < 0.2:
-                session.conn.pgconn.finish()
-                raise ConnectionError("planted")
-            return done
-
-        return committed
-
-    for name in ("commit", "put_at_once"):
-        setattr(dialect, name, losing(getattr(dialect, name)))
+    losing(accounts._dialect, lambda conn: conn.pgconn.finish())
 
 
 def resent(accounts):

@@ -10,7 +10,7 @@ import threading
 import time
 from unittest import mock
 
-from support import HIGH, LOW, READS, after_hash, in_threads, losing, sent
+from support import HIGH, LOW, after_hash, in_threads, losing, sent
 from rigzumal.accounts import Accounts, OutcomeUnknown, Reply, StoreFault, Unavailable
 from rigzumal.accounts.parts import NO_ROW, Kind, Request, Ticket
 
@@ -20,51 +20,66 @@ CHANGES = (
     (Kind.REMOVE, ("one", "")),
     (Kind.RESET, ("", "two")),
 )
+# What stands, what is called, and what is answered: under the record's costs, and under higher ones.
+EACH = (
+    ("one", "verify ann one", "yes"),
+    ("one", "verify ann two", "no"),
+    ("one", "login ann one", "yes"),
+    ("one", "login ann two", "no"),
+    ("one", "upgrade ann one", "kept"),
+    ("one", "upgrade ann two", "wrong"),
+    ("one", "change ann one x", "replaced"),
+    ("one", "change ann two x", "wrong"),
+    ("one", "reset ann x", "replaced"),
+    ("one", "remove ann one", "removed"),
+    ("one", "remove ann two", "wrong"),
+    ("one", "enrol ann x", "exists"),
+    (None, "enrol ann x", "enrolled"),
+    (None, "reset ann x", "enrolled"),
+    *((None, f"{it} ann one", "absent") for it in ("verify", "login", "upgrade", "remove")),
+    (None, "change ann one x", "absent"),
+    *((None, f"{it} bob one", "noaccount") for it in ("verify", "login", "upgrade", "remove")),
+    *((None, f"{it} bob one", "noaccount") for it in ("enrol", "reset")),
+    (None, "change bob one x", "noaccount"),
+)
+DEARER = (
+    ("one", "upgrade ann one", "upgraded"),
+    ("one", "login ann one", "yes"),
+    ("one", "login ann two", "no"),
+)
+CALLS = [(LOW, *it) for it in EACH] + [(HIGH, *it) for it in DEARER]
+
+
+def called(accounts, text, **more):
+    """The reply's value."""
+    name, *given = text.split()
+    return getattr(accounts, name)(*given, **more).value
 
 
 class Operations:
     """Each operation, for threads and for asyncio."""
 
     def test_replies_and_records(self):
-        """Each operation at no account, no record and a record, with each password."""
-        accounts, table = self.accounts(HIGH), []
-        self.assertEqual(accounts.examine(), [])
-        for kind in READS:
-            table += [(kind, NO_ROW, "one", Reply.NO_ACCOUNT)]
-            table += [(kind, None, "one", Reply.ABSENT)]
-            wrong = Reply.NO if kind is Kind.VERIFY else Reply.WRONG
-            table += [(kind, "one", "two", wrong), (kind, "one", "", wrong)]
-        table += [
-            (Kind.VERIFY, "one", "one", Reply.YES),
-            (Kind.CHANGE, "one", "one", Reply.REPLACED),
-            (Kind.UPGRADE, "one", "one", Reply.UPGRADED),
-            (Kind.REMOVE, "one", "one", Reply.REMOVED),
-            (Kind.ENROL, NO_ROW, "one", Reply.NO_ACCOUNT),
-            (Kind.ENROL, None, "one", Reply.ENROLLED),
-            (Kind.ENROL, "one", "one", Reply.EXISTS),
-            (Kind.RESET, NO_ROW, "", Reply.NO_ACCOUNT),
-            (Kind.RESET, None, "", Reply.ENROLLED),
-            (Kind.RESET, "one", "", Reply.REPLACED),
-        ]
-        passwords = {Kind.CHANGE: "new", Kind.RESET: "new"}
-        for kind, copy, password, reply in table:
-            with self.subTest(kind=kind, copy=copy, password=password):
-                name = "nobody" if copy is NO_ROW else "ann"
-                record = LOW.hash(copy) if isinstance(copy, str) else None
+        """By its method, and with the records before and after it."""
+        for hasher, stands, text, reply in CALLS:
+            accounts, record = self.accounts(hasher), stands and LOW.hash(stands)
+            name, key, *given = text.split()
+            with self.subTest(text=text, stands=stands):
                 self.put(record)
-                answer = accounts.perform(Request(kind, name, password, "new"))
-                self.assertIs(answer.reply, reply)
-                self.assertEqual(answer.before, copy if copy is NO_ROW else record)
-                if copy is not NO_ROW:
-                    self.assertEqual(answer.after, self.stands())
-                if reply is Reply.REMOVED:
-                    self.assertIsNone(self.stands())
-                elif reply.makes_change:
-                    self.assertNotEqual(self.stands(), record)
-                    self.assertTrue(self.is_right(passwords.get(kind, password)))
-                    self.assertIn("m=128,", self.stands())
-                else:
-                    self.assertEqual(self.stands(), record)
+                self.assertEqual(called(accounts, text), reply)
+                if name == "login":
+                    continue
+                self.put(record)
+                given = ["", *given] if name == "reset" else given
+                answer = accounts.perform(Request(Kind(name), key, *given))
+                self.assertIs(answer.reply, Reply(reply))
+                self.assertEqual(answer.before, NO_ROW if key == "bob" else record)
+                self.assertEqual(answer.after, NO_ROW if key == "bob" else self.stands())
+                self.assertEqual(self.stands() != record, answer.reply.makes_change)
+                if answer.reply.makes_change and name != "remove":
+                    self.assertTrue(self.is_right(given[-1]))
+                    self.assertIn(f"m={hasher.memory_cost},", self.stands())
+        self.assertEqual(accounts.examine(), [])
 
     def test_a_slow_login_never_undoes_a_change(self):
         """The race: a login with the stolen password, begun before the change."""
@@ -168,47 +183,26 @@ class Connections:
     def test_what_is_sent(self):
         """No statement too many: docs/SCALE.md has these lists. Of none to a record, and of a
         record to none, what stands wouldn't tell enough for one statement."""
-        conn = self.another()
-        low, high = self.kept(conn=conn), self.kept(HIGH, conn)
-        confirming = self.kept(conn=conn, confirm=True)
-        one, several, confirmed = self.one, self.several, self.confirmed
+        conn, one, several = self.another(), self.one, self.several
         looked = f"{self.dialect.begin.split()[0]} SELECT COMMIT"
         own = {"also": lambda conn, reply: None}
-        for stands, act, reply, words in (
-            ("one", lambda: low.verify("ann", "one"), "yes", ""),
-            ("one", lambda: low.verify("ann", "two"), "no", ""),
-            ("one", lambda: low.login("ann", "one"), "yes", ""),
-            ("one", lambda: low.login("bob", "one"), "noaccount", ""),
-            ("one", lambda: low.enrol("ann", "one"), "exists", ""),
-            ("one", lambda: low.change("ann", "two", "x"), "wrong", ""),
-            ("one", lambda: low.change("ann", "one", "two"), "replaced", one),
-            ("one", lambda: low.reset("ann", "two"), "replaced", one),
-            ("one", lambda: high.upgrade("ann", "one"), "upgraded", one),
-            ("one", lambda: high.login("ann", "one"), "yes", one),
-            ("one", lambda: low.remove("ann", "one"), "removed", several),
-            (None, lambda: low.enrol("ann", "one"), "enrolled", several),
-            (None, lambda: low.reset("ann", "one"), "enrolled", several),
-            ("one", lambda: low.change("ann", "one", "two", **own), "replaced", several),
-            ("one", lambda: low.login("ann", "one", **own), "yes", looked),
-            ("one", lambda: confirming.verify("ann", "one"), "yes", confirmed),
-            ("one", lambda: confirming.verify("ann", "two"), "no", confirmed),
-            ("one", lambda: confirming.login("ann", "one"), "yes", confirmed),
-            ("one", lambda: confirming.login("ann", "two"), "no", confirmed),
-            ("one", lambda: confirming.upgrade("ann", "one"), "kept", confirmed),
-            ("one", lambda: confirming.change("ann", "two", "x"), "wrong", confirmed),
-            ("one", lambda: confirming.remove("ann", "two"), "wrong", confirmed),
-            ("one", lambda: confirming.enrol("ann", "x"), "exists", confirmed),
-            (None, lambda: confirming.verify("ann", "one"), "absent", confirmed),
-            (None, lambda: confirming.login("ann", "one"), "absent", confirmed),
-            ("one", lambda: confirming.verify("bob", "one"), "noaccount", ""),
-        ):
-            record = stands and LOW.hash(stands)
-            self.put(record)
-            with self.subTest(reply=reply, stands=stands), sent() as found:
-                self.assertEqual(act().value, reply)
-                self.assertEqual(" ".join(found), f"SELECT {words}".rstrip())
-            if words in ("", confirmed) and words != several:
-                self.assertEqual(self.stands(), record)
+        for hasher, stands, text, reply in CALLS:
+            plain, confirming = (self.kept(hasher, conn, confirm=it) for it in (False, True))
+            changes = Reply(reply).makes_change or (hasher is HIGH and reply == "yes")
+            at_once = one if stands and "remove" not in text else several
+            confirmed = "" if reply == "noaccount" else self.confirmed
+            for accounts, more, words in (
+                (plain, {}, at_once if changes else ""),
+                (plain, own, several if changes else looked),
+                (confirming, {}, at_once if changes else confirmed),
+            ):
+                record = stands and LOW.hash(stands)
+                self.put(record)
+                with self.subTest(text=text, words=words), sent() as found:
+                    self.assertEqual(called(accounts, text, **more), reply)
+                    self.assertEqual(" ".join(found), f"SELECT {words}".rstrip())
+                if not changes:
+                    self.assertEqual(self.stands(), record)
         self.assertEqual(self.said(confirming), "")
 
     def test_changes_at_any_level(self):
@@ -521,32 +515,14 @@ class RowsOfOnesOwn:
 
     def test_each_reply(self):
         """It is told what its caller is, and its row is committed."""
-        accounts, dearer = self.accounts(), self.accounts(HIGH)
-        one, also = LOW.hash("one"), self.also
-        for stands, act, reply in (
-            (one, lambda: accounts.verify("ann", "one", also=also), Reply.YES),
-            (one, lambda: accounts.verify("ann", "two", also=also), Reply.NO),
-            (one, lambda: accounts.login("ann", "one", also=also), Reply.YES),
-            (one, lambda: dearer.login("ann", "one", also=also), Reply.YES),
-            (one, lambda: dearer.login("ann", "two", also=also), Reply.NO),
-            (one, lambda: accounts.change("ann", "one", "x", also=also), Reply.REPLACED),
-            (one, lambda: accounts.change("ann", "two", "x", also=also), Reply.WRONG),
-            (one, lambda: accounts.reset("ann", "x", also=also), Reply.REPLACED),
-            (one, lambda: dearer.upgrade("ann", "one", also=also), Reply.UPGRADED),
-            (one, lambda: accounts.remove("ann", "one", also=also), Reply.REMOVED),
-            (one, lambda: accounts.enrol("ann", "one", also=also), Reply.EXISTS),
-            (None, lambda: accounts.enrol("ann", "one", also=also), Reply.ENROLLED),
-            (None, lambda: accounts.login("ann", "one", also=also), Reply.ABSENT),
-            (None, lambda: accounts.login("bob", "one", also=also), Reply.NO_ACCOUNT),
-            (None, lambda: accounts.login("b\0b", "one", also=also), Reply.NO_ACCOUNT),
-        ):
-            self.put(stands)
+        for hasher, stands, text, reply in (*CALLS, (LOW, None, "login b\0b one", "noaccount")):
+            self.put(stands and LOW.hash(stands))
             self.execute("DELETE FROM sessions")
             self.calls.clear()
-            with self.subTest(reply=reply, stands=stands):
-                self.assertIs(act(), reply)
-                self.assertEqual(self.calls, [reply])
-                self.assertEqual(self.rows(), [reply.value])
+            with self.subTest(text=text):
+                self.assertEqual(called(self.accounts(hasher), text, also=self.also), reply)
+                self.assertEqual(self.calls, [Reply(reply)])
+                self.assertEqual(self.rows(), [reply])
 
     def test_an_exception_undoes_all(self):
         """It comes through as it is, be it a driver's, and nothing stands."""

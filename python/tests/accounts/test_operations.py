@@ -112,27 +112,35 @@ class Operations(Base):
                 yield stale
 
         accounts = self.accounts(dialect=dialect, replica=replica)
-        self.assertIs(accounts.verify("ann", "old"), Reply.NO)
-        self.assertIs(accounts.verify("ann", "new"), Reply.YES)
-        self.assertIs(accounts.change("ann", "old", "x"), Reply.WRONG)
-        self.assertIs(accounts.change("ann", "new", "newer"), Reply.REPLACED)
+        one, none, gone = (
+            f"UPDATE old.users SET record = '{LOW.hash('old')}'",
+            "UPDATE old.users SET record = NULL",
+            "DELETE FROM old.users",
+        )
         # What has no record there, or no row, may have one by now.
-        self.put(LOW.hash("new"))
-        for sql in ("UPDATE old.users SET record = NULL", "DELETE FROM old.users"):
+        for sql, password, *calls in (
+            (one, "new", ("verify old", "no"), ("verify new", "yes")),
+            (one, "new", ("change old x", "wrong"), ("change new newer", "replaced")),
+            (
+                one,
+                None,
+                ("verify old", "absent"),
+                ("remove old", "absent"),
+                ("enrol x", "enrolled"),
+            ),
+            (none, "new", ("verify new", "yes"), ("login old", "no"), ("enrol x", "exists")),
+            (gone, "new", ("login new", "yes"), ("verify old", "no"), ("reset x", "replaced")),
+        ):
             stale.execute(sql)
-            for act in (accounts.verify, accounts.login):
-                self.assertIs(act("ann", "new"), Reply.YES)
-                self.assertIs(act("ann", "old"), Reply.NO)
-            self.assertIs(accounts.enrol("ann", "x"), Reply.EXISTS)
-            self.assertIs(accounts.reset("ann", "new"), Reply.REPLACED)
-        stale.execute("INSERT INTO old.users VALUES ('ann', ?)", (LOW.hash("old"),))
-        self.put(None)
-        self.assertIs(accounts.verify("ann", "old"), Reply.ABSENT)
-        self.assertIs(accounts.remove("ann", "old"), Reply.ABSENT)
-        self.assertIs(accounts.enrol("ann", "new"), Reply.ENROLLED)
+            self.put(password and LOW.hash(password))
+            for call, reply in calls:
+                name, *given = call.split()
+                self.assertEqual(getattr(accounts, name)("ann", *given).value, reply, (sql, call))
         self.conn.execute("DELETE FROM users")
         self.assertIs(accounts.verify("ann", "old"), Reply.NO_ACCOUNT)
+        stale.execute("INSERT INTO old.users VALUES ('ann', ?)", (LOW.hash("old"),))
         self.assertIs(accounts.enrol("ann", "old"), Reply.NO_ACCOUNT)
+        self.assertIs(accounts.verify("ann", "old"), Reply.NO_ACCOUNT)
 
     def test_copies_are_read_from_the_replica(self):
         """One look each, and everything else at the primary."""

@@ -3,7 +3,7 @@
 from __future__ import annotations
 
 import sqlite3
-from collections.abc import Container, Iterator
+from collections.abc import Iterator
 from typing import Any, Final
 
 from rigzumal.accounts._session import Session
@@ -11,8 +11,6 @@ from rigzumal.accounts.parts import StoreFault
 from rigzumal.accounts.dialects._dialect import NO_TRANSACTION, POWER_CUT_LOSES, Dialect
 from rigzumal.accounts.dialects._dialect import Fault, Findings, Mode, Verdict, error
 from rigzumal.accounts.dialects._dialect import not_durable, other_driver, warning
-
-_UNCOMMITTED: Final = "read_uncommitted is on: uncommitted records are read"
 
 
 class Sqlite(Dialect):
@@ -87,11 +85,11 @@ class Sqlite(Dialect):
             t,
         )
         faults += self.after_triggers(triggers.rows)
-        for name, good, fault in _PRAGMAS:
-            ((value,),) = (await session.execute(f"PRAGMA {name}")).rows
-            if value not in good:
-                faults.append(fault)
-        return Findings(faults + await self.folded_names(session))
+        seen = {}
+        for name in _PRAGMAS:
+            ((seen[name],),) = (await session.execute(f"PRAGMA {name}")).rows
+        faults += [*of_connection(seen), *await self.folded_names(session)]
+        return Findings(faults)
 
     async def _has_index(self, session: Session, *of: str) -> bool:
         """Whether a unique index is of the key alone, and of all rows."""
@@ -121,25 +119,17 @@ class Sqlite(Dialect):
         yield from self.key_faults(declared, holds in fits.get(self.key_type, (holds,)))
 
 
-_PRAGMAS: Final[tuple[tuple[str, Container[object], Fault], ...]] = (
-    (
-        "synchronous",
-        (2, 3),
-        not_durable(f"synchronous is below FULL: {POWER_CUT_LOSES}"),
-    ),
-    (
-        "busy_timeout",
-        range(1000, 2**31),
-        warning("busy-timeout", "the busy timeout is below a second"),
-    ),
-    (
-        "journal_mode",
-        ("wal",),
-        warning("no-wal", "it isn't in WAL: logins fail while another writes"),
-    ),
-    (
-        "read_uncommitted",
-        (0,),
-        error("read-uncommitted", _UNCOMMITTED),
-    ),
-)
+_PRAGMAS: Final = ("synchronous", "busy_timeout", "journal_mode", "read_uncommitted")
+
+
+def of_connection(seen: dict[str, Any]) -> Iterator[Fault]:
+    """What is wrong with a connection of SQLite, by its pragmas."""
+    if seen["synchronous"] < 2:
+        yield not_durable(f"synchronous is below FULL: {POWER_CUT_LOSES}")
+    if seen["busy_timeout"] < 1000:
+        yield warning("busy-timeout", "the busy timeout is below a second")
+    if seen["journal_mode"] != "wal":
+        yield warning("no-wal", "it isn't in WAL: logins fail while another writes")
+    if seen["read_uncommitted"]:
+        text = "read_uncommitted is on: uncommitted records are read"
+        yield error("read-uncommitted", text)

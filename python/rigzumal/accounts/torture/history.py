@@ -131,8 +131,8 @@ class _Lost:
         Nobody was told of what stood between, so the moment of its last call is all by
         which one way is better than another.
         """
-        best: list[Operation] = []
-        ways = [(record, maker, best)]
+        found: list[list[Operation]] = []
+        ways = [(record, maker, list[Operation]())]
         while ways:
             at, maker, way = ways.pop()
             for it in self._at.get(at, ()):
@@ -142,13 +142,9 @@ class _Lost:
                 longer = [*way, it]
                 if last.after is not None:
                     ways.append((last.after, it, longer))
-                elif not best or _last_call(longer) < _last_call(best):
-                    best = longer
-        return best
-
-
-def _last_call(way: Iterable[Operation]) -> float:
-    return max(it.called for it in way)
+                else:
+                    found.append(longer)
+        return min(found, key=lambda way: max(it.called for it in way), default=[])
 
 
 def _unreplaced(account: Account) -> dict[Record, Operation]:

@@ -48,10 +48,10 @@ class Log:
         """Writes a call; the answer is its name."""
         self._count += 1
         name = f"{self._name}-{self._count}"
-        said: dict[str, Any] = {"kind": request.kind.value, "key": request.key}
-        for word in ("password", "new_password"):
-            said[word] = getattr(request, word).decode()
-        self.write("call", id=name, time=time.monotonic_ns(), costs=memory, **said)
+        words = ("password", "new_password")
+        said: dict[str, Any] = {it: getattr(request, it).decode() for it in words}
+        said |= {"kind": request.kind.value, "key": request.key, "costs": memory}
+        self.write("call", id=name, time=time.monotonic_ns(), **said)
         return name
 
     def tried(self, name: str, worked: Worked) -> None:
