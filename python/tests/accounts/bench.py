@@ -15,6 +15,7 @@ three minutes for three engines with one and four processes.
 
 import argparse
 import collections
+import multiprocessing
 import os
 import random
 import statistics
@@ -106,36 +107,26 @@ class Load:
         self.pool.close()
 
 
+def rate(url, row, number, seconds):
+    """Operations a second of one process."""
+    load = Load(url, number)
+    load.act(row)
+    count, begun = 0, time.monotonic()
+    while time.monotonic() < begun + seconds:
+        try:
+            load.act(row)
+            count += 1
+        except Exception:  # a deadlock of the plain UPDATE
+            if row not in (PLAIN, BRACED):
+                raise
+    return count / (time.monotonic() - begun)
+
+
 def measured(url, row, processes, seconds):
     """Operations a second of all processes together."""
-    read, write = os.pipe()
-    pids = []
-    for number in range(processes):
-        pids.append(os.fork())
-        if pids[-1] == 0:
-            try:
-                load = Load(url, number)
-                load.act(row)
-                count, begun = 0, time.monotonic()
-                while time.monotonic() < begun + seconds:
-                    try:
-                        load.act(row)
-                    except Exception:  # a deadlock of the plain UPDATE
-                        if row not in (PLAIN, BRACED):
-                            raise
-                        continue
-                    count += 1
-                os.write(write, f"{count / (time.monotonic() - begun)}\n".encode())
-            finally:
-                os._exit(0)
-    for pid in pids:
-        os.waitpid(pid, 0)
-    os.close(write)
-    found = os.read(read, 65536).split()
-    os.close(read)
-    if len(found) != processes:
-        raise RuntimeError(f"{processes - len(found)} processes ended by an exception")
-    return sum(map(float, found))
+    with multiprocessing.get_context("fork").Pool(processes) as pool:
+        given = [(url, row, number, seconds) for number in range(processes)]
+        return sum(pool.starmap(rate, given, chunksize=1))
 
 
 def table(engine, url, rows, counts, seconds, turns):

@@ -9,7 +9,6 @@ import pty
 import sqlite3
 import subprocess
 import sys
-import unittest
 from unittest import mock
 
 from support import LOW, Base
@@ -339,7 +338,3 @@ class Commands(Base):
     def test_logs_that_are_none(self):
         for line in ("x", "[]", "{}", '{"event": "answer", "id": "1"}', '{"event": "seed"}'):
             self.run_command("history", self.file(line), status=6)
-
-
-if __name__ == "__main__":
-    unittest.main()

@@ -42,11 +42,6 @@ class Patience(unittest.TestCase):
         table = Table(Sqlite("users", "name", "record"), False, lambda worked: None)
         return runtime, Connections(runtime, "primary", replica, table, patience)
 
-    def test_what_is_done_is_done_once(self):
-        runtime, connections = self.connections()
-        self.assertEqual(run(connections.patiently(None)), "done")
-        self.assertEqual((runtime.used, runtime.pauses), (["primary"], []))
-
     def test_pauses_double_up_to_half_a_second(self):
         """Of a server that can't be reached, and of one that undoes what is sent."""
         for answer in (BUSY, Undone(BUSY)):
@@ -108,7 +103,8 @@ class Patience(unittest.TestCase):
                 run(connections.at_replica(None))
         runtime, connections = self.connections()
         self.assertIsInstance(run(connections.at_replica(None)), Undone)
-        self.assertEqual(runtime.used, [])
+        self.assertEqual(run(connections.patiently(None)), "done")
+        self.assertEqual((runtime.used, runtime.pauses), (["primary"], []))
 
 
 class Spread(unittest.TestCase):
@@ -117,7 +113,3 @@ class Spread(unittest.TestCase):
         pauses = {Waits(1.0).next() for _ in range(20)}
         self.assertGreater(len(pauses), 1)
         self.assertTrue(all(0.001 <= it <= 0.003 for it in pauses))
-
-
-if __name__ == "__main__":
-    unittest.main()

@@ -121,7 +121,3 @@ class SQLite(unittest.TestCase):
                 conn.close()
             found = sqlite3.connect(path).execute("SELECT count(*) FROM here").fetchone()
             self.assertEqual(found, (2,))
-
-
-if __name__ == "__main__":
-    unittest.main()

@@ -248,7 +248,3 @@ class Pooler(unittest.TestCase):
         support.in_threads(act, 4)
         counts = {Reply.ENROLLED: 48 + 4, Reply.REPLACED: 48 - 4 + 48}
         self.assertEqual(said, {**counts, Reply.YES: 48, Reply.REMOVED: 48})
-
-
-if __name__ == "__main__":
-    unittest.main()

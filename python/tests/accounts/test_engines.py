@@ -2,7 +2,6 @@
 
 import contextlib
 import io
-import unittest
 
 import engines
 import of_engines
@@ -46,7 +45,3 @@ class TheCommandOnMySQL(engines.OnMySQL, Base):
             self.assertEqual(cli.main([*given, *words]), 0)
         self.assertIn("legal: ", said.getvalue())
         self.execute("DROP TABLE made")
-
-
-if __name__ == "__main__":
-    unittest.main()

@@ -1,6 +1,5 @@
 """What `examine` says: each table, role and setting that won't do by itself."""
 
-import unittest
 
 import engines
 import support
@@ -307,7 +306,3 @@ class OnMariaDB(OnServer, engines.OnMariaDB, support.Base):
             self.server.as_root(f"SET GLOBAL {name} = {value}")
             with self.subTest(value=value):
                 self.assert_faults([] if value == 1 else [f"{name} is {value}"])
-
-
-if __name__ == "__main__":
-    unittest.main()

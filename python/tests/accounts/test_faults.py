@@ -1,7 +1,6 @@
 """Servers that fail, that are busy, and connections that break."""
 
 import sqlite3
-import unittest
 from unittest import mock
 
 from support import HIGH, LOW, Base, counted, sent
@@ -115,7 +114,3 @@ class Faulty(Base):
             with counted() as hashes, self.assertRaisesRegex(StoreFault, r"see examine\(\)"):
                 getattr(self.accounts(), act)("ann", "one")
             self.assertEqual(hashes, [])
-
-
-if __name__ == "__main__":
-    unittest.main()

@@ -420,7 +420,3 @@ class Logs(unittest.TestCase):
             for some in ((*lines[1:], end % "b"), (end % "b",), lines[:1]):
                 with self.assertRaises(ValueError):
                     read(*some, "")
-
-
-if __name__ == "__main__":
-    unittest.main()

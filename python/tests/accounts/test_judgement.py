@@ -184,7 +184,3 @@ class Steps(unittest.TestCase):
         for kind, copy in ((Kind.ENROL, None), (Kind.CHANGE, LOW.hash("x"))):
             with self.assertRaises(bad):
                 _judgement.step(kind, copy, "x", "y", "$argon2id$v=19$m=1,t=1,p=1$c29t")
-
-
-if __name__ == "__main__":
-    unittest.main()

@@ -7,7 +7,6 @@ import subprocess
 import sys
 import tempfile
 import threading
-import unittest
 from unittest import mock
 
 import engines
@@ -242,7 +241,3 @@ class OnMariaDB(engines.OnMariaDB, Base):
         (_, (other, _, copy)), (_, values) = session.statements
         self.assertEqual((other[:9], copy), ("$argon2id", None))
         self.assertEqual(values, (None, "ann", other))
-
-
-if __name__ == "__main__":
-    unittest.main()

@@ -5,7 +5,6 @@ import base64
 import contextlib
 import os
 import threading
-import unittest
 from unittest import mock
 
 from support import HIGH, LOW, Awaiting, Base, Scripted, after_hash
@@ -283,7 +282,3 @@ class Awaited(Base):
         rows = [row for (row,) in self.conn.execute("SELECT reply FROM sessions")]
         self.assertEqual(rows, ["replaced", "yes"] * 2)
         self.assertEqual(told, [Reply.REPLACED, Reply.YES] * 2 + [Reply.REPLACED])
-
-
-if __name__ == "__main__":
-    unittest.main()

@@ -5,7 +5,6 @@ import contextlib
 import itertools
 import os
 import sqlite3
-import unittest
 
 import engines
 import of_engines
@@ -339,7 +338,3 @@ class OnePerThread(Base):
         self.assertEqual(len(made), 2)
         for conn in made:
             self.assertRaises(sqlite3.ProgrammingError, conn.execute, "SELECT 1")
-
-
-if __name__ == "__main__":
-    unittest.main()

@@ -8,7 +8,6 @@ import pathlib
 import tempfile
 import threading
 import time
-import unittest
 from unittest import mock
 
 import engines
@@ -324,7 +323,3 @@ class OnPostgres(engines.OnPostgres, Base):
             seconds *= 2
             self.assertLess(seconds, 40)
         self.assertTrue(all(it.id.startswith("3-") for it in silent))
-
-
-if __name__ == "__main__":
-    unittest.main()

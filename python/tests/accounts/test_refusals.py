@@ -368,7 +368,3 @@ class Errors(Base):
         for it in (request, ticket, accounts.work(ticket), accounts.perform(request)):
             self.assertNotIn("secret", repr(it))
             self.assertNotIn("$argon2", repr(it))
-
-
-if __name__ == "__main__":
-    unittest.main()

@@ -110,7 +110,3 @@ class ThreeServers(unittest.TestCase):
             conn.execute("ALTER TABLE users ALTER COLUMN email TYPE char(20)")
         with self.assertRaisesRegex(SystemExit, "blanks"):
             self.store.Store(self.server.url)
-
-
-if __name__ == "__main__":
-    unittest.main()

@@ -7,7 +7,6 @@ import os
 import pathlib
 import re
 import sqlite3
-import unittest
 from unittest import mock
 
 from support import Base, losing
@@ -206,7 +205,3 @@ class Tortures(Base):
         self.assertTrue(said.startswith("illegal: account"))
         self.conn.execute("SELECT * FROM rigzumal_torture")
         self.assertTrue(os.listdir(self.logs))
-
-
-if __name__ == "__main__":
-    unittest.main()
