@@ -96,7 +96,7 @@ class OnPostgres(OnServer):
     def end_sessions(self):
         self.execute(
             "SELECT pg_terminate_backend(pid) FROM pg_stat_activity"
-            " WHERE pid <> pg_backend_pid() AND datname = 'store'"
+            " WHERE pid <> pg_backend_pid() AND datname = 'postgres'"
         )
 
     def as_dictionaries(self):

@@ -95,28 +95,21 @@ class Operations:
         """What was worked out at a record that is gone is put by no operation, and answered by
         none."""
         accounts = self.accounts(HIGH)
-        for kind, given in (*CHANGES, (Kind.VERIFY, ("one", ""))):
-            self.put(LOW.hash("one"))
+        none = ((None, Kind.ENROL, ("x", "")), (None, Kind.RESET, ("", "x")))
+        some = [("one", kind, given) for kind, given in (*CHANGES, (Kind.VERIFY, ("one", "")))]
+        for stood, kind, given in (*none, *some):
+            self.put(stood and LOW.hash(stood))
             slow = self.worked(accounts, kind, *given)
             self.assertEqual(slow.reply.makes_change, kind is not Kind.VERIFY)
-            for stands in (LOW.hash("another"), LOW.hash("one"), None):
+            for stands in (LOW.hash("another"), LOW.hash("one"), *[None][: stood is not None]):
                 self.put(stands)
                 with self.subTest(kind=kind, stands=stands):
                     answer = accounts.commit(slow)
                     self.assertIs(answer.reply, Reply.CHANGED)
                     self.assertEqual((answer.before, answer.after), (stands, stands))
                     self.assertEqual(self.stands(), stands)
-        for kind, given in ((Kind.ENROL, ("x", "")), (Kind.RESET, ("", "x"))):
-            self.put(None)
-            slow = self.worked(accounts, kind, *given)
-            self.put(LOW.hash("another"))
-            self.assertIs(accounts.commit(slow).reply, Reply.CHANGED)
-            self.assertTrue(self.is_right("another"))
-        for kind in (Kind.VERIFY, Kind.CHANGE, Kind.RESET):
-            self.put(LOW.hash("one"))
-            worked = self.worked(accounts, kind, "one", "two")
             self.execute("DELETE FROM users")
-            answer = accounts.commit(worked)
+            answer = accounts.commit(slow)
             self.assertEqual((answer.reply, answer.after), (Reply.NO_ACCOUNT, NO_ROW))
 
 

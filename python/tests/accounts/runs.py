@@ -147,7 +147,7 @@ class Pair:
         ports = f"{self.primary.port},{self.standby.port}"
         hosts = "127.0.0.1,127.0.0.1"
         return (
-            f"postgresql:///store?user=store&host={hosts}&port={ports}"
+            f"postgresql:///postgres?user=store&host={hosts}&port={ports}"
             "&target_session_attrs=read-write"
         )
 

@@ -161,11 +161,11 @@ class SqliteFile:
 class OfPostgres(Server):
     """What speaks PostgreSQL's protocol on `port`."""
 
-    user, database, stop = "postgres", "store", signal.SIGINT
+    user, stop = "postgres", signal.SIGINT
 
     @property
     def url(self):
-        return f"postgresql://store@127.0.0.1:{self.port}/{self.database}"
+        return f"postgresql://store@127.0.0.1:{self.port}/postgres"
 
     def connect(self, **more):
         return psycopg.connect(self.url, **{"autocommit": True, "connect_timeout": 5, **more})
@@ -179,7 +179,7 @@ class OfPostgres(Server):
 
 
 class PostgresServer(OfPostgres):
-    """One node of PostgreSQL; its user `store` owns the database `store`."""
+    """One node of PostgreSQL, of the user `store`."""
 
     def __init__(self, name, of=None):
         need(psycopg, "python3-psycopg")
@@ -215,17 +215,6 @@ class PostgresServer(OfPostgres):
     def words(self):
         return [self.bin / "postgres", "-D", self.folder]
 
-    def start(self, *more, wait=120.0):
-        self.database = "postgres"  # which a copy has too, and a new server at first
-        super().start(*more, wait=wait)
-        if not (self.folder / "standby.signal").exists():
-            with self.connect() as conn:
-                found = conn.execute("SELECT 1 FROM pg_database WHERE datname = 'store'")
-                if not found.fetchone():
-                    conn.execute("CREATE DATABASE store")
-        self.database = "store"
-        return self
-
     def set(self, **settings):
         """Changes settings of the server while it runs."""
         with self.connect() as conn:
@@ -249,7 +238,7 @@ class PgBouncer(OfPostgres):
 
     def words(self):
         self.file.write_text(
-            f"[databases]\nstore = host=127.0.0.1 port={self.of.port} dbname=store user=store\n"
+            f"[databases]\npostgres = host=127.0.0.1 port={self.of.port} user=store\n"
             f"[pgbouncer]\nlisten_addr = 127.0.0.1\nlisten_port = {self.port}\n"
             "auth_type = any\npool_mode = transaction\ndefault_pool_size = 3\n"
             f"unix_socket_dir =\nlogfile = {self.folder}.bouncer.log\n"

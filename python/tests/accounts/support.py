@@ -249,31 +249,23 @@ def counted():
 
 
 class Awaiting:
-    """sqlite3's connection as an asynchronous driver has one."""
+    """sqlite3's connection, and its cursors, as an asynchronous driver has them."""
 
-    def __init__(self, conn):
-        self.conn = conn
+    def __init__(self, of):
+        self.of = of
 
     def __getattr__(self, name):
-        return getattr(self.conn, name)
+        return getattr(self.of, name)
 
     @contextlib.asynccontextmanager
     async def cursor(self):
-        yield AwaitingCursor(self.conn.cursor())
+        yield Awaiting(self.of.cursor())
 
     async def close(self):
-        self.conn.close()
-
-
-class AwaitingCursor:
-    def __init__(self, cursor):
-        self.cursor = cursor
-
-    def __getattr__(self, name):
-        return getattr(self.cursor, name)
+        self.of.close()
 
     async def execute(self, *given):
-        self.cursor.execute(*given)
+        return self.of.execute(*given)
 
     async def fetchall(self):
-        return self.cursor.fetchall()
+        return self.of.fetchall()

@@ -168,16 +168,7 @@ def bend(rng, account):
         account.end.before = account.end.after = rng.choice(records + tries)
     elif how == 6:
         op.password = "one" if op.password == "two" else "two"
-    elif how == 8:
-        # Something that was tried, and perhaps never took place.
-        kind = rng.choice(["enrol", "change", "remove"])
-        reply = {"enrol": "enrolled", "change": "replaced", "remove": "removed"}[kind]
-        never = Operation(f"n{rng.random()}", kind, "one", op.called, "two", 1)
-        put = None if kind == "remove" else never.id
-        stood = None if kind == "enrol" else rng.choice(records)
-        never.attempts = [Attempt(stood, put, reply)]
-        account.operations.append(never)
-    elif how >= 9:
+    elif how >= 8:
         add_lost_ones(rng, account, rng.choice(records))
     elif how == 7 and op.makes_change and op.reply:
         record = rng.choice(records)
@@ -186,14 +177,15 @@ def bend(rng, account):
 
 
 def add_lost_ones(rng, account, record):
-    """Some without answers, one at what the one before was to put; a way out at times."""
+    """Some without answers, which perhaps never took place, one at what the one before was to put;
+    a way out at times."""
     for _ in range(rng.randint(1, 3)):
-        kind = rng.choice(["change", "change", "remove"])
+        kind = rng.choice(["change", "change", "remove"] if record else ["enrol", "change"])
         word = rng.choice(["one", "one", "two"])
         called = float(rng.randint(-9, 40))
         lost = Operation(f"l{rng.random()}", kind, word, called, "one", 1)
-        put = lost.id if kind == "change" else None
-        reply = "replaced" if put else "removed"
+        put = None if kind == "remove" else lost.id
+        reply = {"enrol": "enrolled", "change": "replaced", "remove": "removed"}[kind]
         lost.attempts = [Attempt(record, put, reply)]
         account.operations.append(lost)
         record = put or record

@@ -2,7 +2,6 @@
 
 import contextlib
 import io
-import os
 import subprocess
 import sys
 import tempfile
@@ -132,12 +131,9 @@ class OnMariaDB(engines.OnMariaDB, Base):
             file.write(f"{'n' * 300} {LOW.hash('x')}\n")
             file.flush()
             for words in (("add", "m" * 300), ("import", file.name)):
-                done = subprocess.run(
-                    [sys.executable, "-m", "rigzumal", "accounts", *words],
-                    input=b"pw",
-                    capture_output=True,
-                    env={**os.environ, "RIGZUMAL_DATABASE": self.server.url},
-                )
+                command = [sys.executable, "-m", "rigzumal", "accounts"]
+                words = [*command, "--database", self.server.url, *words]
+                done = subprocess.run(words, input=b"pw", capture_output=True)
                 self.assertEqual(done.returncode, 5, done)
                 self.assertIn(b"the server keeps another name", done.stderr)
                 self.assertEqual(self.execute("SELECT * FROM accounts"), [])

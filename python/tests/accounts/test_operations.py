@@ -262,7 +262,7 @@ class Awaited(Base):
 
         def plain(conn, reply):
             told.append(reply)
-            conn.execute("INSERT INTO sessions VALUES (?)", (reply.value,))
+            conn.of.execute("INSERT INTO sessions VALUES (?)", (reply.value,))
 
         async def awaited(conn, reply):
             await asyncio.sleep(0)
