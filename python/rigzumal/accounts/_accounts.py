@@ -25,8 +25,7 @@ class Accounts(Operations[Pool]):
             the connection or rolls it back before it gives it out again.
         dialect: of the database, with the names of the table and its columns.
         hasher: PasswordHasher or ScryptHasher, for the costs of new records. Its tags
-            have 32 bytes, and it has no secret. An operation hashes on its own thread
-            alone, whatever the hasher's threads.
+            have 32 bytes, and it has no secret. Its threads don't matter.
         replica: a pool for the copies. It may lag, since an answer rests on a look at the
             primary, and it may be down, since the primary is then asked for copies too.
         foreign: judges texts of other schemes, as (text, password) -> bool or None.
@@ -34,8 +33,7 @@ class Accounts(Operations[Pool]):
             replaces even if its own aren't higher.
         tries: how often to try an operation whose commit finds another record; 1 or more.
         patience: seconds for a new connection, a busy server, and a lost answer; 0 or
-            more. It ends no statement that hangs: connections need their own time limits
-            (docs/SCALE.md).
+            more. It ends no statement that hangs: connections need their own limits.
         confirm: confirm an answer without a change, such as a verify's, by writing the
             record over itself. It is for servers that show a change before it is safe
             (MariaDB without a binary log), and makes a login cost as much as a change.
@@ -48,7 +46,7 @@ class Accounts(Operations[Pool]):
     `also`, of each operation, is a function of the driver's connection and the reply. It
     is called in the operation's transaction before COMMIT, so that your own rows, such as
     a session, are committed with the reply or not at all. If the transaction is undone,
-    it is called again in the next. It isn't called for CHANGED. Its exceptions undo all
+    it is called again in the next; for CHANGED it isn't called. Its exceptions undo all
     and reach the caller, but for errors that mean "again".
 
     Every operation may raise:
@@ -57,8 +55,7 @@ class Accounts(Operations[Pool]):
         ValueError: a new password has over 256 bytes, or no UTF-8; no row was read.
             As a present password it is a wrong one, after one hash.
         StoreFault: the table, the server or the connection has a fault.
-        InvalidRecordError: the account's record is of another scheme, and no hook judges
-            it.
+        InvalidRecordError: the record is of another scheme, and no hook judges it.
         Unavailable: no server did it in time, and no change was made.
         OutcomeUnknown: of a change, or with `also`: COMMIT had no answer, and the row
             doesn't show whether the change was made.

@@ -13,12 +13,8 @@ from rigzumal.accounts._table import Lost, Table, Undone
 from rigzumal.accounts.parts import Unavailable
 from rigzumal.accounts.dialects._dialect import Verdict, is_of_driver
 
-_AT_ONCE: Final = 0.5
-"""Seconds in which dead connections of a pool are taken one after another."""
-
-_LONGEST: Final = 400
-"""Letters of a reason."""
-
+_AT_ONCE: Final = 0.5  # seconds in which a pool's dead connections are worked through
+_LONGEST: Final = 400  # letters of a reason
 _DSN_PASSWORD: Final = re.compile(
     r"""((?:password|passwd|pwd)\s*=\s*|//[^/@\s:]*:)('[^']*'|"[^"]*"|[^\s@;,]+)""",
     re.I,

@@ -19,24 +19,18 @@ from rigzumal.accounts.dialects._dialect import Dialect
 from rigzumal.accounts.parts import Kind, Request, Ticket, Worked
 from rigzumal.accounts.pools import Pool
 
-BATCH = 500
-"""Lines of an import that are committed together."""
-
+BATCH = 500  # lines of an import that are committed together
 Line = tuple[Key, str]
 
 
 @dataclass
 class Import:
-    """Adds accounts with their records, in transactions of a batch each.
-
-    Args:
-        takes_foreign: records of other schemes too, for a hook to judge.
-    """
+    """Adds accounts with their records, in transactions of a batch each."""
 
     accounts: Accounts
     dialect: Dialect
     pool: Pool
-    takes_foreign: bool = False
+    takes_foreign: bool = False  # records of other schemes, for a hook to judge
 
     def take(self, file: pathlib.Path, key_of: Callable[[str], Key]) -> dict[str, int]:
         """Adds the accounts of lines "NAME RECORD", and counts what became of them."""
@@ -72,7 +66,9 @@ class Import:
         try:
             parts(record)
         except InvalidRecordError as fault:
-            if not (self.takes_foreign and _is_foreign(record)):
+            # A column of ours holds 1 to 512 letters of ASCII without blanks.
+            is_held = 0 < len(record) <= 512 and all("!" <= it <= "~" for it in record)
+            if not (self.takes_foreign and is_held):
                 raise Refusal(why(record, fault)) from None
         return key, record
 
@@ -106,14 +102,8 @@ def shown(name: object) -> str:
     return text if text.isprintable() else ascii(text)
 
 
-def _is_foreign(record: str) -> bool:
-    """Whether a column of ours holds it: 1 to 512 letters of ASCII without blanks."""
-    return 0 < len(record) <= 512 and all("!" <= it <= "~" for it in record)
-
-
 def costs_of(record: Optional[str]) -> Optional[str]:
-    """The scheme and the costs, as "$argon2id$v=19$m=65536,t=3,p=4"; None of no record
-    and of another scheme's."""
+    """As "$argon2id$v=19$m=65536,t=3,p=4"; None of no record and of another scheme's."""
     try:
         found = parts(record or "")
     except InvalidRecordError:
@@ -123,14 +113,6 @@ def costs_of(record: Optional[str]) -> Optional[str]:
     numbers = ",".join(f"{name}={value}" for name, value in zip(names, values))
     version = f"v={found.version}$" if found.version else ""
     return f"${found.scheme}${version}{numbers}"
-
-
-def made_by(record: Optional[str]) -> str:
-    """The costs for people, or why they aren't known."""
-    if record is None:
-        return "no record"
-    costs = costs_of(record)
-    return costs[1:].replace("$", " ") if costs else "another scheme"
 
 
 def why(record: object, fault: InvalidRecordError) -> str:

@@ -134,17 +134,14 @@ class Judge:
         """Whether an upgrade replaces a record of these numbers.
 
         No way up leads back: of one scheme, neither version, memory nor work is lower,
-        and one of them is higher. So two versions of a service don't flip records to
-        and fro.
+        and one is higher. So two versions of a service don't flip records to and fro.
         """
         if found.costs in self._old:
             return True
+        if found.scheme != self._parts.scheme:
+            return False
         old, new = _dearness(found), _dearness(self._parts)
-        return (
-            found.scheme == self._parts.scheme
-            and old != new
-            and all(one <= two for one, two in zip(old, new))
-        )
+        return old != new and all(one <= two for one, two in zip(old, new))
 
 
 def _wrong(request: Request) -> Reply:
@@ -175,21 +172,15 @@ def step(
     It is rigzumal_step, whose answer is proved; it resets none. The setting is costs
     with a fresh salt, for a new record.
     """
-    text = ctypes.create_string_buffer(_library.TEXT_SIZE)
-    reply = ctypes.c_uint32()
-    given, new = bytes_of(password), bytes_of(new_password)
-    fault = _library._library.rigzumal_step(
-        text,
-        ctypes.c_size_t(_library.TEXT_SIZE),
-        ctypes.byref(reply),
-        ctypes.c_uint32(_OPERATIONS[kind]),
-        None if copy is None else text_bytes(copy),
-        given,
-        ctypes.c_size_t(len(given)),
-        new,
-        ctypes.c_size_t(len(new)),
-        text_bytes(setting),
+    text, reply = ctypes.create_string_buffer(_library.TEXT_SIZE), ctypes.c_uint32()
+    made = text, ctypes.c_size_t(_library.TEXT_SIZE), ctypes.byref(reply)
+    asked = ctypes.c_uint32(_OPERATIONS[kind]), copy if copy is None else text_bytes(
+        copy
     )
+    given, new = bytes_of(password), bytes_of(new_password)
+    words = given, ctypes.c_size_t(len(given)), new, ctypes.c_size_t(len(new))
+    rigzumal_step = _library._library.rigzumal_step
+    fault = rigzumal_step(*made, *asked, *words, text_bytes(setting))
     if fault == _COPY_FAULT and copy is not None:
         parts(copy)
     _library.raise_fault(fault)

@@ -169,10 +169,9 @@ class Operations(Generic[AnyPool]):
         put. It may not have come to the disk or to the standby, so it is put over
         itself: that COMMIT waits for both, where a look wouldn't.
 
-        If the copy stands, the change wasn't made so far, and the same is sent again:
-        once is all that both can do, since a record that was replaced never stands
-        again. That isn't so of NULL. To enrol again might bring back what another has
-        removed since.
+        If the copy stands, the change wasn't made so far, and the same is sent again: a
+        record that was replaced never stands again. That isn't so of NULL. To enrol
+        again might bring back what another has removed since.
         """
         waits, why = Waits(self._connections.patience, 0.01), ""
         while worked.reply.makes_change:

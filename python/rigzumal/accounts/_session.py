@@ -37,12 +37,12 @@ class Session:
     async def execute(self, sql: str, *values: object) -> Result:
         """Does a statement to its end: a cursor that isn't keeps SQLite's snapshot."""
         with closing(self.conn.cursor()) as cursor:
-            cursor.execute(*_given(sql, values))
+            # Without values no driver looks for marks in it.
+            cursor.execute(sql, *([values] if values else []))
             return _result(cursor, cursor.fetchall() if cursor.description else ())
 
-    async def tell(self, hook: Callable[[Any, Reply], Any], reply: Reply) -> None:
-        """Calls a caller's own function with a reply, and waits for it."""
-        said = hook(self.conn, reply)
+    async def wait(self, said: Any) -> None:
+        """Waits for a caller's own function, which answered so."""
         if isinstance(said, Coroutine):
             said.close()
         if isinstance(said, Awaitable):
@@ -54,19 +54,13 @@ class AsyncSession(Session):
 
     async def execute(self, sql: str, *values: object) -> Result:
         async with self.conn.cursor() as cursor:
-            await cursor.execute(*_given(sql, values))
+            await cursor.execute(sql, *([values] if values else []))
             fetched = await cursor.fetchall() if cursor.description else ()
             return _result(cursor, fetched)
 
-    async def tell(self, hook: Callable[[Any, Reply], Any], reply: Reply) -> None:
-        said = hook(self.conn, reply)
+    async def wait(self, said: Any) -> None:
         if isinstance(said, Awaitable):
             await said
-
-
-def _given(sql: str, values: tuple[object, ...]) -> tuple[Any, ...]:
-    """A statement without values has none: no driver looks for marks in it then."""
-    return (sql, values) if values else (sql,)
 
 
 def _result(cursor: Any, fetched: Any) -> Result:
@@ -88,11 +82,10 @@ Job = Callable[[Session], Coroutine[Any, Any, T]]
 
 
 class Ending(Generic[T]):
-    """How a job ended, whatever its pool does afterwards.
+    """How a job ended, whatever its pool raises or swallows afterwards.
 
     A pool that rolls back a broken connection raises in place of what the job raised,
-    and "COMMIT had no answer" would be taken for "nothing was done". So what a job ended
-    by is kept here, and what its pool raises is dropped.
+    and "COMMIT had no answer" would be taken for "nothing was done".
     """
 
     has_begun = False  # the pool gave a connection
@@ -136,7 +129,6 @@ class Runtime:
         try:
             await self._enter(pool, job, ending)
         except Exception:
-            # What a pool raises after a job has ended changes nothing of how it ended.
             if not ending.has_begun:
                 raise
         return ending.answer()

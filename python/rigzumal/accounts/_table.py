@@ -30,15 +30,10 @@ class Broken(Exception):
 
 @dataclass(frozen=True)
 class Undone:
-    """Nothing was done, and it may be tried again.
-
-    Attributes:
-        cause: the error, or how the connection was lost.
-        reason: why there is no connection, in words that have no row.
-    """
+    """Nothing was done, and it may be tried again."""
 
     cause: Optional[BaseException]
-    reason: str = ""
+    reason: str = ""  # why there is no connection, in words that have no row
 
 
 @dataclass
@@ -120,10 +115,10 @@ class Table:
         try:
             await dialect.prepare(session)
             await dialect.start(session)
-            answer = await self._answer(session, worked)
+            answer = await self.compare(session, worked)
             if also is not None and answer.reply is not Reply.CHANGED:
                 is_theirs = True
-                await session.tell(also, answer.reply)
+                await session.wait(also(session.conn, answer.reply))
                 is_theirs = False
             if answer.reply.makes_change:
                 self.before_commit(worked)
@@ -141,17 +136,14 @@ class Table:
         """The same within a transaction that another has begun, and ends."""
         self.dialect.check_key(worked.ticket.request.key)
         await self.dialect.within(session)
-        return await self._answer(session, worked)
-
-    async def _answer(self, session: Session, worked: Worked) -> Answer:
-        if not self.dialect.can_stand(worked.ticket.request.key):
-            return Answer(Reply.NO_ACCOUNT, NO_ROW, NO_ROW)
         return await self.compare(session, worked)
 
     async def compare(self, session: Session, worked: Worked) -> Answer:
         """Compares and puts, within a transaction that is open."""
         key, copy = worked.ticket.request.key, worked.ticket.copy
         dialect = self.dialect
+        if not dialect.can_stand(key):
+            return Answer(Reply.NO_ACCOUNT, NO_ROW, NO_ROW)
         if not self.writes(worked):
             return judged(worked, await self.one(session, dialect.share, key))
         rows, count, _ = await dialect.put(session, worked.after, key, copy)
@@ -176,11 +168,8 @@ class Table:
         return answer
 
     async def examine(self, session: Session, record: str) -> list[Fault]:
-        """What is wrong with the table and the server: what the engine shows, and a trial.
-
-        The catalogues don't show all of it: a role that may not update, a rule that does
-        nothing, a CHECK that no record passes. So the record is put, and rolled back.
-        """
+        """What the engine shows to be wrong, and a trial: no catalogue shows a role that may
+        not update, a rule that does nothing, or a CHECK that no record passes."""
         self.dialect.fresh(session.conn)
         found = await self.dialect.examine(session)
         faults = [*found.faults, *(() if self.confirm else found.unless_confirmed)]

@@ -38,9 +38,9 @@ from rigzumal._library import InvalidRecordError, bytes_of
 from rigzumal._newline import hint
 from rigzumal._statuses import Refusal, Status, Words, status_of
 from rigzumal.accounts._accounts import Accounts
-from rigzumal.accounts._import import Import, costs_of, made_by, shown, why
+from rigzumal.accounts._import import Import, costs_of, shown, why
 from rigzumal.accounts._session import Session, run
-from rigzumal.accounts.parts import LONGEST_PASSWORD, AccountsError, Key, Reply
+from rigzumal.accounts.parts import LONGEST_PASSWORD, NO_ROW, AccountsError, Key, Reply
 from rigzumal.accounts.database import Database
 from rigzumal.accounts.dialects import Dialect
 from rigzumal.accounts.parts import Kind, Request
@@ -130,9 +130,9 @@ class _Command:
         except ValueError:
             raise Refusal(f"{name!r} is no whole number", Status.WORDS) from None
 
-    def execute(self, sql: str, *values: object) -> list[tuple[Any, ...]]:
+    def execute(self, sql: str) -> None:
         with self.pool() as conn:
-            return run(Session(conn).execute(sql, *values)).rows
+            run(Session(conn).execute(sql))
 
     def init(self) -> int:
         if self.database.kind == "sqlite":
@@ -169,7 +169,7 @@ class _Command:
 
     def reset(self) -> int:
         accounts, key = self.accounts(), self.key(self.given.name)
-        if not self.execute(self.dialect.select, key):
+        if accounts.begin(Request(Kind.RESET, key)).copy is NO_ROW:
             return self.say(Reply.NO_ACCOUNT)
         reply = accounts.reset(key, _password(twice=True))
         return self.say(reply, Reply.REPLACED, Reply.ENROLLED)
@@ -199,10 +199,12 @@ class _Command:
             cursor.execute(self.dialect.every)
             rows: Iterator[tuple[Any, Any]] = iter(cursor.fetchone, None)
             for name, record in rows:
-                fields = {"name": name, "costs": costs_of(record)}
-                if record is not None and fields["costs"] is None:
-                    fields["foreign"] = True
-                self.write(f"{shown(name)} {made_by(record)}", **fields)
+                costs = costs_of(record)
+                fields = {"name": name, "costs": costs}
+                text = costs[1:].replace("$", " ") if costs else "no record"
+                if record is not None and costs is None:
+                    text, fields["foreign"] = "another scheme", True
+                self.write(f"{shown(name)} {text}", **fields)
             cursor.close()
         return Status.DONE
 
@@ -326,12 +328,7 @@ def _password(twice: bool = False) -> bytes:
             raise Refusal("the two passwords differ")
         given = bytes_of(password)
     else:
-        given = sys.stdin.buffer.read()
-        given = given[:-1] if given.endswith(b"\n") else given
+        given = sys.stdin.buffer.read().removesuffix(b"\n")
     if not given:
         raise Refusal("no password: the input is empty")
     return given
-
-
-if __name__ == "__main__":
-    sys.exit(main())

@@ -10,6 +10,7 @@ hosts are tried in turn; without a password in the URL, MYSQL_PWD has it.
 
 from __future__ import annotations
 
+import contextlib
 import importlib
 import os
 import re
@@ -25,18 +26,14 @@ _MYSQL = re.compile(r"(?:([^:@/]*)(?::([^@/]*))?@)?([^/]*)/(.*)")
 
 @dataclass
 class Database:
-    """A database, and how to connect to it.
-
-    Args:
-        url: as above.
-        turn: which of several MySQL hosts is the first.
+    """A database by its URL, and how to connect to it.
 
     Raises:
         ValueError: the URL is of none of the kinds, or names no file.
     """
 
     url: str = field(repr=False)
-    turn: int = 0
+    turn: int = 0  # which of several MySQL hosts is the first
 
     def __post_init__(self) -> None:
         kind, colon, self._rest = self.url.partition("://")
@@ -56,20 +53,13 @@ class Database:
 
     def dialect_kind(self) -> type[Dialect]:
         """The dialect of its engine: of MariaDB and MySQL the server says which it is."""
-        if self.kind == "mysql":
-            conn = self.connect()
-            name = conn.get_server_info()
-            conn.close()
-            return MariaDB if "MariaDB" in name else MySQL
-        return Sqlite if self.kind == "sqlite" else Postgres
+        if self.kind != "mysql":
+            return Sqlite if self.kind == "sqlite" else Postgres
+        with contextlib.closing(self.connect()) as conn:
+            return MariaDB if "MariaDB" in conn.get_server_info() else MySQL
 
     def connect(self) -> Any:
-        """A connection in autocommit.
-
-        Raises:
-            ImportError: the driver isn't installed.
-            Exception: whatever the driver raises.
-        """
+        """A connection in autocommit; raises ImportError without the driver."""
         if self.kind == "mysql":
             return self._mysql()
         if self.kind == "postgresql":

@@ -19,8 +19,7 @@ from rigzumal._library import Secret, bytes_of
 Key = Union[int, str, bytes, uuid.UUID]
 """The name of an account, of its column's type."""
 
-LONGEST_PASSWORD: Final = 256
-"""Bytes of the longest password. A longer one is refused, and never cut off."""
+LONGEST_PASSWORD: Final = 256  # bytes; a longer one is refused, and never cut off
 
 
 class Reply(enum.Enum):
@@ -77,12 +76,7 @@ Copy = Union[str, None, NoRow]
 
 
 def bytes_of_password(password: Secret) -> bytes:
-    """The bytes of a password that an account may have.
-
-    Raises:
-        TypeError: the password is neither bytes nor text.
-        ValueError: the password has over 256 bytes, or is text without UTF-8.
-    """
+    """The bytes of a password that an account may have; raises as `new_record` does."""
     given = bytes_of(password)
     if len(given) > LONGEST_PASSWORD:
         raise ValueError(f"a password has up to {LONGEST_PASSWORD} bytes")
@@ -93,14 +87,6 @@ def bytes_of_password(password: Secret) -> bytes:
 class Request:
     """An operation to be done on an account.
 
-    Attributes:
-        kind: which.
-        key: the account's name, of its column's type, or a subclass of str.
-        password: bytes or text; not of a reset.
-        new_password: bytes or text, of a change and of a reset.
-        can_be_right: False if no account can have the password, over 256 bytes or text
-            without UTF-8. It is then empty, and a wrong password.
-
     Raises:
         TypeError: a password is neither bytes nor text.
         ValueError: a new password has over 256 bytes, or is text without UTF-8.
@@ -108,8 +94,9 @@ class Request:
 
     kind: Kind
     key: Key
-    password: Secret = field(default=b"", repr=False)
-    new_password: Secret = field(default=b"", repr=False)
+    password: Secret = field(default=b"", repr=False)  # not of a reset
+    new_password: Secret = field(default=b"", repr=False)  # of a change and of a reset
+    # False of what no account can have; the password is then empty, and a wrong one.
     can_be_right: bool = field(default=True, init=False, repr=False)
 
     def __post_init__(self) -> None:
@@ -123,9 +110,8 @@ class Request:
                 raise
             can_be_right = False
         if isinstance(key, str):
-            key = str.__str__(
-                key
-            )  # as a driver sees it, whatever its class makes of it
+            # As a driver sees it, whatever its class makes of it.
+            key = str.__str__(key)
         given = {"password": password, "new_password": new_password}
         self.__dict__.update(given, key=key, can_be_right=can_be_right)
 

@@ -1,8 +1,6 @@
 """The smallest pools, and SQLAlchemy's. psycopg_pool's `connection` is one too.
 
-A pool is a callable that returns a context manager of a connection in autocommit. Your
-own pool closes a connection, or rolls it back, after any exception, BaseException too:
-interrupts and cancelled tasks.
+Your own closes a connection, or rolls it back, after any exception, BaseException too:
 
     @contextmanager
     def pool():
@@ -28,48 +26,38 @@ from typing import Any, Optional
 
 Pool = Callable[[], AbstractContextManager[Any]]
 AsyncPool = Callable[[], AbstractAsyncContextManager[Any]]
+_MAKERS = "PerThread(connect), of_engine(engine) or ConnectionPool(..).connection"
 
 
 def check_pool(pool: object) -> None:
-    """Refuses a connection or an engine where a pool is wanted.
-
-    Raises:
-        TypeError: the object can't be called for a connection.
-    """
+    """Raises TypeError at a connection or an engine where a pool is wanted."""
     if not callable(pool) or hasattr(type(pool), "cursor"):
-        kind = type(pool).__name__
-        makers = (
-            "PerThread(connect), of_engine(engine) or ConnectionPool(..).connection"
-        )
-        raise TypeError(f"a pool is wanted, not a {kind}: {makers}")
+        raise TypeError(f"a pool is wanted, not a {type(pool).__name__}: {_MAKERS}")
 
 
 class _Held:
     """A connection that is closed with its thread, in the process that made it."""
 
     def __init__(self, conn: Any) -> None:
-        self.conn, self.pid = conn, os.getpid()
+        self.conn, self._pid = conn, os.getpid()
 
-    @property
     def is_mine(self) -> bool:
-        return self.pid == os.getpid()
+        return self._pid == os.getpid()
 
     def close(self) -> None:
         with suppress(Exception):
             self.conn.close()
 
     def __del__(self) -> None:
-        if self.is_mine:
+        if self.is_mine():
             self.close()
 
 
 class PerThread:
     """One connection for each thread, closed after any exception and with its thread.
 
-    After a fork the child makes its own connections, and leaves its parent's alone.
-
-    Args:
-        connect: makes a connection in autocommit.
+    `connect` makes a connection in autocommit. After a fork the child makes its own, and
+    leaves its parent's alone.
     """
 
     def __init__(self, connect: Callable[[], Any]) -> None:
@@ -97,7 +85,7 @@ class PerThread:
     def _mine(self) -> Optional[_Held]:
         """This thread's connection, if this process made it."""
         held: Optional[_Held] = getattr(self._local, "held", None)
-        if held is not None and not held.is_mine:
+        if held is not None and not held.is_mine():
             # Closing it here, or dropping it, would end the parent's session at the server.
             self._parents.append(held)
             return None
@@ -111,11 +99,7 @@ class PerThread:
 
 
 class PerUse:
-    """A connection for each use, for AsyncAccounts.
-
-    Args:
-        connect: makes an asynchronous connection in autocommit.
-    """
+    """A connection for each use, for AsyncAccounts; `connect` makes one in autocommit."""
 
     def __init__(self, connect: Callable[[], Awaitable[Any]]) -> None:
         self._connect = connect

@@ -3,14 +3,11 @@
     python3 python/tests/accounts/bench.py [sqlite] [postgres] [mariadb] [galera] [--logins]
                                            [--seconds 10] [--turns 10] [--processes 1,4,8,16]
 
-Prints the tables of docs/SCALE.md in Markdown, in some half an hour for all engines:
-operations a second under costs that are next to nothing (64 KiB), so that what is seen
-is the database; the statements of an operation, with the time of each; and the
-database's share of a change under 64 MiB. A thousand accounts, a connection for each
-process. The rows of a table take turns, ten times each, so that what else the machine
-does is in all of them. "change in a transaction" is a change as of an engine that has no
-statement for all of it. With --logins there are a login and a plain one alone, in some
-three minutes for three engines with one and four processes.
+Prints the tables of docs/SCALE.md in Markdown, in some half an hour for all engines, and with
+--logins those of a login and a plain one alone, in some three minutes for three engines. Under
+costs that are next to nothing (64 KiB) what is seen is the database. A thousand accounts, a
+connection for each process. The rows of a table take turns, so that what else the machine does is
+in all of them. "change in a transaction" is a change as of an engine with no statement for it.
 """
 
 import argparse

@@ -244,9 +244,7 @@ def resent_at_none(accounts):
                 return await settled(worked, also)
             if now == worked.after:
                 return Answer(worked.reply, None, worked.after)
-            try:
+            with suppress(Exception):
                 await accounts._change(worked, also)
-            except Exception:
-                pass
 
     accounts._settled = again

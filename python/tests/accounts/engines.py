@@ -1,6 +1,7 @@
 """The engines, each with what is its own: settings, errors, and what an operation sends."""
 
 import asyncio
+import itertools
 import sqlite3
 import uuid
 
@@ -11,6 +12,7 @@ from rigzumal.accounts.pools import PerUse
 
 DISK = sqlite3.OperationalError("disk I/O error")
 DISK.sqlite_errorcode, DISK.sqlite_errorname = 10, "SQLITE_IOERR"
+NUMBERS = itertools.count()
 IGNORING = "CREATE TRIGGER tr BEFORE UPDATE ON users"
 
 
@@ -106,14 +108,10 @@ class OnPostgres(OnServer):
 
     def of_role(self, grants):
         """What connects as a role that may do this alone."""
-        for sql in ("DROP OWNED BY looker", "DROP ROLE looker"):
-            try:
-                self.execute(sql)
-            except servers.psycopg.errors.UndefinedObject:
-                pass
-        self.execute("CREATE ROLE looker LOGIN")
-        self.execute(f"GRANT {grants} ON users TO looker")
-        url = self.server.url.replace("store@", "looker@")
+        name = f"looker{next(NUMBERS)}"
+        self.execute(f"CREATE ROLE {name} LOGIN")
+        self.execute(f"GRANT {grants} ON users TO {name}")
+        url = self.server.url.replace("store@", f"{name}@")
         return lambda: servers.psycopg.connect(url, autocommit=True)
 
 

@@ -134,8 +134,8 @@ class Connections:
                 self.execute(begin, conn=conn)
                 with self.assertRaisesRegex(StoreFault, said):
                     act(self.accounts(connect=lambda: conn))
+        manual = self.another(autocommit=False)
         with self.assertRaisesRegex(StoreFault, "the connections of the pool have to be in"):
-            manual = self.another(autocommit=False)
             self.accounts(connect=lambda: manual).verify("ann", "one")
         with self.assertRaisesRegex(StoreFault, "no transaction is open"):
             self.accounts().commit_in(self.conn, worked)
@@ -328,24 +328,24 @@ class LostAnswers:
         """Whether a record was put; of none nothing is known, so nothing is sent again."""
         unknown = OutcomeUnknown
         # What is answered, and whether a record stands, if it wasn't done and if it was.
-        for stands, act, *wanted in (
-            ("one", lambda it: it.change("ann", "one", "two"), *[(Reply.REPLACED, True)] * 2),
-            ("one", lambda it: it.reset("ann", "two"), *[(Reply.REPLACED, True)] * 2),
-            ("one", lambda it: it.upgrade("ann", "one"), *[(Reply.UPGRADED, True)] * 2),
-            (None, lambda it: it.enrol("ann", "x"), (unknown, False), (Reply.ENROLLED, True)),
-            (None, lambda it: it.reset("ann", "x"), (unknown, False), (Reply.ENROLLED, True)),
-            ("one", lambda it: it.remove("ann", "one"), (Reply.REMOVED, False), (unknown, False)),
+        for stands, text, *wanted in (
+            ("one", "change ann one two", *[("replaced", True)] * 2),
+            ("one", "reset ann two", *[("replaced", True)] * 2),
+            ("one", "upgrade ann one", *[("upgraded", True)] * 2),
+            (None, "enrol ann x", (unknown, False), ("enrolled", True)),
+            (None, "reset ann x", (unknown, False), ("enrolled", True)),
+            ("one", "remove ann one", ("removed", False), (unknown, False)),
         ):
             for is_done, error, times in itertools.product((0, 1), self.unknown, (1, 3)):
                 reply, is_record = wanted[is_done]
                 record = stands and LOW.hash(stands)
                 self.put(record)
                 accounts = self.losing(not is_done, times, error, hasher=HIGH, patience=5.0)
-                with self.subTest(reply=reply, stands=stands, done=is_done, times=times):
+                with self.subTest(text=text, done=is_done, times=times):
                     if reply is unknown:
-                        self.assertRaises(unknown, act, accounts)
+                        self.assertRaises(unknown, called, accounts, text)
                     else:
-                        self.assertIs(act(accounts), reply)
+                        self.assertEqual(called(accounts, text), reply)
                         self.assertNotEqual(self.stands(), record)
                     self.assertEqual(self.stands() is not None, is_record)
 
@@ -533,15 +533,11 @@ class RowsOfOnesOwn:
 
         for error in (KeyError("mine"), FileNotFoundError("mine"), RuntimeError("mine"), None):
             also = raising(error)
-            for act in (
-                lambda: accounts.change("ann", "one", "two", also=also),
-                lambda: accounts.login("ann", "one", also=also),
-                lambda: accounts.remove("ann", "one", also=also),
-            ):
+            for text in ("change ann one two", "login ann one", "remove ann one"):
                 self.put(record)
                 self.calls.clear()
                 with self.assertRaises(Exception) as raised:
-                    act()
+                    called(accounts, text, also=also)
                 self.assertNotIsInstance(raised.exception, (StoreFault, Unavailable))
                 self.assertIs(raised.exception, error or raised.exception)
                 self.assertEqual(len(self.calls), 1)
@@ -551,15 +547,12 @@ class RowsOfOnesOwn:
     def test_it_is_called_again_at_each_turn(self):
         """Another record stands at the first commit: its row was undone with it."""
         accounts, owner = self.accounts(HIGH), self.accounts()
-        for act, reply in (
-            (lambda: accounts.login("ann", "one", also=self.also), Reply.NO),
-            (lambda: accounts.change("ann", "one", "x", also=self.also), Reply.WRONG),
-        ):
+        for text, reply in (("login ann one", "no"), ("change ann one x", "wrong")):
             self.put(LOW.hash("one"))
             self.execute("DELETE FROM sessions")
             after_hash(accounts, lambda: owner.reset("ann", "two"))
-            self.assertIs(act(), reply)
-            self.assertEqual(self.rows(), [reply.value])
+            self.assertEqual(called(accounts, text, also=self.also), reply)
+            self.assertEqual(self.rows(), [reply])
 
     def test_what_may_pass_is_done_again(self):
         """From its BEGIN: what the server undid, and what broke with its connection."""
@@ -679,13 +672,13 @@ class OnServers:
             raise ConnectionRefusedError("nobody there")
 
         accounts = self.accounts(replica=away, patience=0.0)
-        for act, reply in (
-            (lambda: accounts.login("ann", "one"), Reply.YES),
-            (lambda: accounts.verify("ann", "two"), Reply.NO),
-            (lambda: accounts.change("ann", "one", "two"), Reply.REPLACED),
-            (lambda: accounts.reset("ann", "one"), Reply.REPLACED),
+        for text, reply in (
+            ("login ann one", "yes"),
+            ("verify ann two", "no"),
+            ("change ann one two", "replaced"),
+            ("reset ann one", "replaced"),
         ):
-            self.assertIs(act(), reply)
+            self.assertEqual(called(accounts, text), reply)
         self.assertEqual(len(asked), 4)
 
     def test_a_fault_of_a_program_comes_through(self):

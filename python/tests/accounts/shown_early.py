@@ -1,5 +1,6 @@
 """A server that is killed as soon as it has shown a change that had no answer yet."""
 
+import contextlib
 import multiprocessing
 import os
 import random
@@ -16,10 +17,8 @@ CHEAP = hasher(LOW)
 class Crashes:
     """One changes a password again and again, one looks, others keep the disk busy.
 
-    Attributes:
-        kills: how often the server was killed, just after a login was answered YES by a
-            change that had no answer.
-        lost: after how many of them that password was wrong, and the old one right.
+    The server is killed just after a login was answered YES by a change that had no answer; of
+    these kills some are lost: that password is wrong afterwards, and the old one right.
     """
 
     def __init__(self, server, confirm=False):
@@ -39,22 +38,19 @@ class Crashes:
 
     def noise(self, number):
         while True:
-            try:
-                with self.server.connect() as conn, conn.cursor() as cursor:
-                    while True:
-                        text = "x" * random.randint(1, 20000)
-                        sql = "UPDATE noise SET v = %s WHERE id = %s"
-                        cursor.execute(sql, (text, number))
-            except Exception:
-                time.sleep(0.2)
+            with contextlib.suppress(Exception), self.server.connect() as conn:
+                cursor = conn.cursor()
+                while True:
+                    text = "x" * random.randint(1, 20000)
+                    cursor.execute("UPDATE noise SET v = %s WHERE id = %s", (text, number))
+            time.sleep(0.2)
 
     def change(self, answered):
         accounts = self.accounts()
         while True:
             now = answered.value
             said = accounts.change("ann", f"p{now}", f"p{now + 1}")
-            if said is Reply.REPLACED:
-                answered.value = now + 1
+            answered.value = now + (said is Reply.REPLACED)
 
     def run(self, turns, until_lost=False):
         """So many turns, each up to a kill; at once to the end of the first loss."""

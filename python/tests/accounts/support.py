@@ -1,11 +1,11 @@
 """What the tests share: a table on an engine, accounts over it, and what goes wrong on purpose."""
 
+import concurrent.futures
 import contextlib
 import os
 import pathlib
 import sqlite3
 import sys
-import threading
 import traceback
 import unittest
 import warnings
@@ -195,13 +195,8 @@ def after_hash(accounts, act, times=1):
 
 def in_threads(act, count):
     """What `act` answers to each number, at the same time."""
-    answers = []
-    threads = [threading.Thread(target=lambda n=n: answers.append(act(n))) for n in range(count)]
-    for thread in threads:
-        thread.start()
-    for thread in threads:
-        thread.join()
-    return answers
+    with concurrent.futures.ThreadPoolExecutor(count) as pool:
+        return [*pool.map(act, range(count))]
 
 
 @contextlib.contextmanager

@@ -256,23 +256,6 @@ class Commands(Base):
             self.assertIn(hint, error)
             self.assertEqual(bool(hint), bool(error))
 
-    def test_the_hashers_command(self):
-        """It hints at the same, and names this one."""
-
-        def shell(*words, given, status=0):
-            command = [sys.executable, "-m", "rigzumal", *words]
-            done = subprocess.run(command, input=given, capture_output=True)
-            self.assertEqual(done.returncode, status, done)
-            return done.stdout.decode(), done.stderr.decode()
-
-        record, _ = shell("hash", *COSTS, given=b"one")
-        self.assertEqual(shell("verify", record.strip(), given=b"one")[0], "yes\n")
-        for given, hint in ((b"one\n", "without the newline at its end"), (b"two", "")):
-            said, error = shell("verify", record.strip(), given=given, status=4)
-            self.assertEqual((said, bool(error)), ("no\n", bool(hint)))
-            self.assertIn(hint, error)
-        self.assertIn("accounts", shell("--help", given=b"")[0])
-
     def test_the_first_line_of_a_drivers_text_alone(self):
         """Further ones may have a row."""
         error = sqlite3.OperationalError("it failed\nDETAIL: (ann, $argon2id$x)")

@@ -75,10 +75,9 @@ class MySQL(unittest.TestCase):
         with self.assertRaisesRegex(Refused, "two"):
             database.connect()
         self.assertEqual([it for it, _ in self.tried[5:]], ["three", "one", "two"])
-
-    def test_the_first_of_the_hosts_may_be_another(self):
+        self.dead.clear()
         Database("mysql://one,two,three/d", 4).connect()
-        self.assertEqual(self.tried, [("two", 3306)])
+        self.assertEqual(self.tried[8:], [("two", 3306)])
 
     def test_what_is_no_url(self):
         with self.assertRaises(ValueError):

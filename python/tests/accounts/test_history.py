@@ -307,6 +307,14 @@ ILLEGAL = (
     ("X", None, "a remove 1 X>.", f"X is gone, {GONE}", "seed end"),
     ("x", "x", "a change 1-2 replaced x>y", "a replaced x, which stands at the end", "a end"),
     ("x", "x", "a change 1-2 replaced x>x", "a was answered replaced, and put x", "a"),
+    # Wrong judgements.
+    ("x", "x", "a verify 1-2 no x>x", "a (verify) was answered no at x", "seed a"),
+    ("x", "x", "a change 1-2 wrong x>x", "a (change) was answered wrong at x", "seed a"),
+    ("x", "x", "a upgrade 1-2 kept x>x", "a (upgrade) was answered kept at x", "seed a"),
+    ("x", "y", "a enrol 1-2 enrolled x>y", "a (enrol) was answered enrolled at x", "a"),
+    ("x", "x", "a remove 1-2 absent x>x", "a (remove) was answered absent at x", "a"),
+    ("x", "y", "a remove 1-2 removed x>y", "a was answered removed, and put y", "a"),
+    ("x", "x", "a verify 1-2 noaccount x>x", "a (verify) was answered noaccount at x", "a"),
     # A login with the old password, whose upgrade writes over a change.
     (
         *(
@@ -352,19 +360,12 @@ class Said(unittest.TestCase):
                 self.assertIn(words, str(raised.exception))
                 self.assertEqual([it.id for it in raised.exception.part], part.split())
 
-    def test_wrong_judgements(self):
-        for kind, reply, put in (
-            ("verify", "no", "old"),
-            ("change", "wrong", "old"),
-            ("upgrade", "upgraded", "up"),
-            ("enrol", "enrolled", "new"),
-            ("remove", "absent", "old"),
-            ("remove", "removed", "new"),
-            ("verify", "noaccount", "old"),
-        ):
-            of = account("old", put, f"a {kind} 1-2 {reply} old>{put}")
-            of.operations[0].costs = 1
-            self.assertRaises(Illegal, history.check, of)
+    def test_every_account_is_judged(self):
+        good, bad = account("x", "x", ""), account("x", "y", "")
+        for names in ("good bad", "bad good", "good1 good2 bad"):
+            found = history.verdict({it: bad if it == "bad" else good for it in names.split()})
+            self.assertIn("'bad'", found.reason)
+        self.assertIsNone(history.verdict({"good": good}))
 
     def test_time_in_proportion(self):
         """A long history of one account takes as long as many short ones."""

@@ -105,15 +105,6 @@ class Foreign(Base):
         self.assertIs(accounts.remove("ann", "one"), Reply.REMOVED)
         self.assertIsNone(self.stands())
 
-    def test_the_upgrade_compares_too(self):
-        self.put("$2b$one")
-        accounts, owner = self.accounts(foreign=self.hook), self.accounts()
-        slow = self.worked(accounts, Kind.UPGRADE, "one")
-        self.assertIs(slow.reply, Reply.UPGRADED)
-        self.assertIs(owner.reset("ann", "new"), Reply.REPLACED)
-        self.assertIs(accounts.commit(slow).reply, Reply.CHANGED)
-        self.assertTrue(self.is_right("new"))
-
     def test_a_login_that_was_shut(self):
         self.put("!shut")
         accounts = self.accounts(foreign=self.hook)

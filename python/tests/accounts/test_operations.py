@@ -11,7 +11,7 @@ from support import HIGH, LOW, Awaiting, Base, Scripted, after_hash
 from rigzumal import ScryptHasher
 from rigzumal.accounts import Accounts, AsyncAccounts, Reply, Sqlite, StoreFault
 from rigzumal.accounts._session import Result, run
-from rigzumal.accounts.parts import Kind, NO_ROW, Request, Ticket, Worked
+from rigzumal.accounts.parts import Kind, Request, Ticket, Worked
 
 
 class Operations(Base):
@@ -201,25 +201,6 @@ class Operations(Base):
             self.assertIn("m=128,", record)
             self.assertIs(accounts.login("ann", "one"), Reply.YES)
             self.assertEqual(self.stands(), record)
-
-    def test_names_that_no_column_holds(self):
-        """They are asked of no server, whatever their copy is said to be."""
-        accounts, record = self.accounts(connect=self.no_connection), LOW.hash("one")
-        for name in ("a\0b", "\ud800"):
-            ticket = Ticket(Request(Kind.RESET, name, "", "x"), record)
-            worked = Worked(ticket, Reply.REPLACED, LOW.hash("two"))
-            self.conn.execute("BEGIN IMMEDIATE")
-            for answer in (accounts.commit(worked), accounts.commit_in(self.conn, worked)):
-                self.assertIs(answer.reply, Reply.NO_ACCOUNT)
-                self.assertEqual((answer.before, answer.after), (NO_ROW, NO_ROW))
-            self.conn.execute("ROLLBACK")
-
-    def test_keys_of_another_type(self):
-        worked = Worked(Ticket(Request(Kind.RESET, 7, "", "x"), None), Reply.ENROLLED, "x")
-        self.conn.execute("BEGIN IMMEDIATE")
-        with self.assertRaises(TypeError):
-            self.accounts().commit_in(self.conn, worked)
-        self.assertTrue(self.conn.in_transaction)
 
 
 class Awaited(Base):

@@ -283,8 +283,7 @@ class OnPostgres(engines.OnPostgres, Base):
                 with self.assertRaises(StoreFault):
                     await low.commit_in(conn, worked)
             async with await connect(autocommit=False) as conn:
-                answer = await low.commit_in(conn, worked)
-                self.assertIs(answer.reply, Reply.REPLACED)
+                self.assertIs((await low.commit_in(conn, worked)).reply, Reply.REPLACED)
                 await conn.rollback()
             self.assertIs((await low.commit(worked)).reply, Reply.REPLACED)
             for connects, error in (

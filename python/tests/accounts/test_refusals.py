@@ -14,7 +14,7 @@ import support
 from support import HIGH, LOW, Base, counted
 from rigzumal.accounts import Accounts, AsyncAccounts, MariaDB, OutcomeUnknown, Postgres, Reply
 from rigzumal.accounts import StoreFault, Unavailable
-from rigzumal.accounts.parts import Kind, Request
+from rigzumal.accounts.parts import NO_ROW, Answer, Kind, Request, Ticket, Worked
 from rigzumal.accounts._session import Result, run
 from rigzumal.accounts.dialects import MySQL, Verdict
 from rigzumal.accounts.dialects._dialect import is_of_driver
@@ -47,15 +47,22 @@ class Arguments(Base):
         ):
             accounts = self.accounts(dialect=dialect, connect=self.no_connection)
             for key in keys:
-                for act in (accounts.verify, accounts.login, accounts.enrol):
+                worked = Worked(Ticket(Request(Kind.RESET, key), None), Reply.ENROLLED, "x")
+                for act in (
+                    lambda: accounts.verify(key, "x"),
+                    lambda: accounts.login(key, "x"),
+                    lambda: accounts.enrol(key, "x"),
+                    lambda: accounts.commit_in(self.conn, worked),
+                ):
                     with counted() as hashes, self.assertRaisesRegex(TypeError, "the keys are"):
-                        act(key, "x")
+                        act()
                     self.assertEqual(hashes, [])
         for kind in (float, list, bool):
             with self.assertRaises(TypeError):
                 self.another_dialect(key_type=kind)
 
     def test_keys_that_no_column_holds(self):
+        """They are asked of no server, whatever their copy is said to be."""
         numbers = self.another_dialect(key_type=int)
         for dialect, keys in (
             (self.dialect, ("a\0", "\ud800")),
@@ -65,6 +72,12 @@ class Arguments(Base):
             for key in keys:
                 self.assertIs(accounts.login(key, "x"), Reply.NO_ACCOUNT)
                 self.assertIs(accounts.reset(key, "x"), Reply.NO_ACCOUNT)
+                ticket = Ticket(Request(Kind.RESET, key, "", "x"), LOW.hash("one"))
+                worked = Worked(ticket, Reply.REPLACED, LOW.hash("two"))
+                self.conn.execute("BEGIN IMMEDIATE")
+                for answer in (accounts.commit(worked), accounts.commit_in(self.conn, worked)):
+                    self.assertEqual(answer, Answer(Reply.NO_ACCOUNT, NO_ROW, NO_ROW))
+                self.conn.execute("ROLLBACK")
 
     def test_names_of_subclasses_of_str(self):
         class Safe(str):
@@ -344,27 +357,29 @@ class Errors(Base):
             if kind is StoreFault:
                 self.assertIsNone(raised.exception.__context__)
 
+    def assert_no_secret(self, *texts):
+        for text in texts:
+            self.assertNotIn("secret", text)
+            self.assertNotIn("$argon2", text)
+
     def test_no_secret_in_an_unknown_outcome(self):
-        for act in (
-            lambda accounts: accounts.change("ann", "secret one", "secret two"),
-            lambda accounts: accounts.remove("ann", "secret one"),
-            lambda accounts: accounts.reset("ann", "secret two"),
+        for name, given in (
+            ("change", ("secret one", "secret two")),
+            ("remove", ("secret one",)),
+            ("reset", ("secret two",)),
         ):
             self.put(LOW.hash("secret one"))
             accounts = self.losing(before=False)
             accounts._put_again = mock.Mock(side_effect=RuntimeError("x"))
             with self.assertRaisesRegex(OutcomeUnknown, "'ann'") as raised:
-                act(accounts)
+                getattr(accounts, name)("ann", *given)
             error = raised.exception
-            for text in (str(error), repr(error), repr(error.args)):
-                self.assertNotIn("secret", text)
-                self.assertNotIn("$argon2", text)
+            self.assert_no_secret(str(error), repr(error), repr(error.args))
 
     def test_no_secret_in_a_repr(self):
         self.put(LOW.hash("one"))
         accounts = self.accounts()
         request = Request(Kind.CHANGE, "ann", "secret one", "secret two")
         ticket = accounts.begin(request)
-        for it in (request, ticket, accounts.work(ticket), accounts.perform(request)):
-            self.assertNotIn("secret", repr(it))
-            self.assertNotIn("$argon2", repr(it))
+        shown = (request, ticket, accounts.work(ticket), accounts.perform(request))
+        self.assert_no_secret(*map(repr, shown))

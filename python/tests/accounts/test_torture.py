@@ -14,9 +14,7 @@ from rigzumal.accounts import Reply, StoreFault, cli, torture
 from rigzumal.accounts._table import Table
 from rigzumal.accounts.parts import Answer, Kind
 from rigzumal.accounts.torture import _torture
-from rigzumal.accounts.torture._order import Operation
 from rigzumal.accounts.torture.logs import Log
-from rigzumal.accounts.torture.history import Account
 
 
 class Tortures(Base):
@@ -168,18 +166,6 @@ class Tortures(Base):
         accounts = self.run_one(end_url=f"sqlite:///{end}", **given)
         self.assertEqual([it.end.before for it in accounts.values()], ["x", "y"])
         self.assertIn("nobody put", str(torture.verdict(accounts)))
-
-    def test_every_account_is_judged(self):
-        def account(end):
-            return Account(Operation.seed("x", "one"), Operation.end(end, 9.0))
-
-        for names in (["good", "bad"], ["bad", "good"], ["good", "good", "bad"]):
-            accounts = {
-                f"{number} {name}": account("x" if name == "good" else "y")
-                for number, name in enumerate(names)
-            }
-            self.assertIn("bad'", str(torture.verdict(accounts).reason))
-        self.assertIsNone(torture.verdict({"good": account("x")}))
 
     def test_one_that_shows_nothing(self):
         for words in ("--processes=0", "--seconds=0", "--accounts=-1", "--seconds=x"):

@@ -50,7 +50,8 @@ def other_driver(conn: Any, wanted: str) -> StoreFault:
 
 
 class Severity(enum.Enum):
-    """How much a fault matters."""
+    """An error loses acknowledged changes, answers wrongly or refuses a good operation; a
+    warning is good to know."""
 
     ERROR = "error"
     WARNING = "warning"
@@ -58,18 +59,11 @@ class Severity(enum.Enum):
 
 @dataclass(frozen=True)
 class Fault:
-    """A finding of `examine`.
-
-    Attributes:
-        severity: an error loses acknowledged changes, answers wrongly or refuses a good
-            operation; a warning is good to know.
-        code: its name in a word or two, such as "key-not-unique".
-        text: for people.
-    """
+    """A finding of `examine`."""
 
     severity: Severity
-    code: str
-    text: str
+    code: str  # its name in a word or two, such as "key-not-unique"
+    text: str  # for people
 
     @property
     def is_error(self) -> bool:
@@ -165,12 +159,9 @@ class Dialect:
         return sql.replace("%%", "%") if self.mark == "%s" else sql
 
     def check_key(self, key: object) -> None:
-        """Refuses a key of another type, since a database may compare it as another's.
+        """Raises TypeError at a key that isn't of the column's type.
 
         MariaDB's `name = 0` finds every name that begins with no digit.
-
-        Raises:
-            TypeError: the key isn't of the column's type.
         """
         if type(key) is not self.key_type:
             wanted = self.key_type.__name__
@@ -185,19 +176,12 @@ class Dialect:
     # ---- connections
 
     def mode(self, conn: Any) -> Mode:
-        """Whether a connection is in autocommit, and whether a transaction is open on it.
-
-        Raises:
-            StoreFault: it is of another driver.
-            ConnectionError: it is closed.
-        """
+        """The mode of a connection; raises StoreFault if it is of another driver, and
+        ConnectionError if it is closed."""
         raise NotImplementedError
 
     def fresh(self, conn: Any) -> None:
-        """Refuses a connection that isn't in autocommit or has a transaction open.
-
-        Nothing is done about it: switching to autocommit would commit what is open.
-        """
+        """Refuses a connection that isn't in autocommit or has a transaction open."""
         mode = self.mode(conn)
         if mode.has_transaction:
             raise StoreFault(LEFT_OPEN)
@@ -205,12 +189,8 @@ class Dialect:
             raise StoreFault("the connections of the pool have to be in autocommit")
 
     async def within(self, session: Session) -> None:
-        """Refuses a caller's connection on which each statement would be by itself.
-
-        Raises:
-            StoreFault: it is in autocommit, and no transaction is open on it; or the
-                transaction is of a level that won't do.
-        """
+        """Refuses a caller's connection on which each statement would be by itself, and a
+        transaction of a level that won't do."""
         mode = self.mode(session.conn)
         if mode.is_autocommit and not mode.has_transaction:
             raise StoreFault(NO_TRANSACTION)
@@ -249,10 +229,7 @@ class Dialect:
         raise NotImplementedError
 
     def gave_up(self, raised: BaseException) -> bool:
-        """Whether an answer to what commits says that the server undid it.
-
-        Of any other error nobody knows what was done.
-        """
+        """Whether an answer to what commits says that the server undid it."""
         return self.verdict(raised) is Verdict.AGAIN
 
     def refuses_at_once(self, raised: BaseException) -> bool:
@@ -313,10 +290,9 @@ class Dialect:
         return error("record-type", f"{self.record_name} is {said}")
 
     async def folded_names(self, session: Session) -> list[Fault]:
-        """Names that are one account by the key's column, and differ elsewhere.
+        """Names that are one account by the key's column, and differ in a limit of attempts.
 
-        As in a service's own limit of attempts, which would count them apart. The column
-        of a union has the collation of its first part, so no row is needed.
+        The column of a union has the collation of its first part, so no row is needed.
         """
         faults: list[Fault] = []
         k, t = self.quoted(self.key_name), self.table

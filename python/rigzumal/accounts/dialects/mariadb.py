@@ -16,25 +16,19 @@ from rigzumal.accounts.dialects._dialect import Mode, Verdict, error, not_durabl
 from rigzumal.accounts.dialects._dialect import other_driver, warning
 
 UNCOMMITTED: Final = "READ UNCOMMITTED: uncommitted records are read"
-NOBODYS_RECORD: Final = (
-    "$argon2id$v=19$m=8,t=1,p=1$bm9ib2R5J3M$"
-    "AAAAAAAAAAAAAAAAAAAAAAAAAAAAAAAAAAAAAAAAAAA"
-)
+NOBODYS_RECORD: Final = f"$argon2id$v=19$m=8,t=1,p=1$bm9ib2R5J3M${'A' * 43}"
 """Stands within a transaction alone, in the place of no record."""
 
 # 1213: a deadlock, or of Galera a certification that failed; 1205: a lock was waited
 # for in vain; 1020: changed since it was read; 3024: MySQL's max_execution_time.
 _AGAIN: Final = frozenset({1213, 1205, 1020, 3024})
-# max_statement_time is over. At a COMMIT it tells nothing of what was done.
-_TIME_IS_OVER: Final = 1969
+_TIME_IS_OVER: Final = 1969  # max_statement_time: at a COMMIT it tells nothing
 _NOTHING_DONE: Final = 1205
 # 1290, 1836: it is read only; 1040, 1203: too many clients, or too many of this user.
 _ELSEWHERE: Final = frozenset({1290, 1836, 1040, 1203})
 # 0 and 2xxx: the connection; 4031: it was idle for too long; 1047: a Galera node outside
 # of the majority; 1053, 1317, 1927: the server stops, or the thread was killed.
-_LOST: Final = frozenset(
-    {0, 2002, 2003, 2006, 2013, 2055, 4031, 1047, 1053, 1317, 1927}
-)
+_LOST: Final = {0, 2002, 2003, 2006, 2013, 2055, 4031, 1047, 1053, 1317, 1927}
 _BROKEN: Final = (ConnectionError, TimeoutError, socket.timeout)
 # What a COMMIT may answer though it is in the log: 1180, 1181: an error during COMMIT or
 # ROLLBACK; 1021, 1026, 1030: a full disk, an error of writing, an error of the engine.
@@ -50,8 +44,7 @@ class MariaDB(Dialect):
 
     A column's collation may hold 'a' = 'A' and 'a' = 'a ', so bytes are compared. An
     UPDATE that changes nothing counts no row, unless the client asks for FOUND_ROWS:
-    fresh salts make both right. Others read a change before it is on the disk, unless
-    there is a binary log: `confirm` of Accounts is against that.
+    fresh salts make both right.
     """
 
     quote = "`"
@@ -112,9 +105,8 @@ class MariaDB(Dialect):
             raise StatementTimeout(_NOTHING_DONE, "max_statement_time is over")
         if stands == [(after,)]:
             return 1
-        raise ConnectionError(
-            "max_statement_time was over, and the row has another record"
-        )
+        fault = "max_statement_time was over, and the row has another record"
+        raise ConnectionError(fault)
 
     def refuses_at_once(self, raised: BaseException) -> bool:
         if _number(raised) == 1064:
@@ -158,31 +150,16 @@ class MariaDB(Dialect):
 
     async def examine(self, session: Session) -> Findings:
         schema, _, t = self.table_name.rpartition(".")
-        of = "table_schema = COALESCE(NULLIF(%s, ''), DATABASE()) AND table_name = %s"
-        found = await session.execute(
-            "SELECT column_name, data_type, character_maximum_length,"
-            " character_set_name, is_nullable"
-            f" FROM information_schema.columns WHERE {of}",
-            schema,
-            t,
-        )
+        found = await session.execute(_COLUMNS, schema, t)
         columns = {name: more for name, *more in found.rows}
         missing = self.missing(columns)
         if missing:
             return Findings(missing, is_usable=False)
-        unique = await session.execute(
-            "SELECT index_name FROM information_schema.statistics"
-            f" WHERE {of} AND non_unique = 0 GROUP BY index_name HAVING COUNT(*) = 1"
-            " AND MAX(column_name) = %s AND MAX(sub_part) IS NULL",
-            schema,
-            t,
-            self.key_name,
-        )
+        unique = await session.execute(_UNIQUE, schema, t, self.key_name)
         *record, nullable = columns[self.record_name]
         faults = [*self.common_faults(nullable == "YES", bool(unique.rows))]
         faults += self._type_faults(columns[self.key_name][0], *record)
-        sql = f"SELECT engine FROM information_schema.tables WHERE {of}"
-        ((engine,),) = (await session.execute(sql, schema, t)).rows
+        ((engine,),) = (await session.execute(_ENGINE, schema, t)).rows
         if engine != "InnoDB":
             text = f"{t} is of {engine}, which has no transactions"
             faults.append(error("no-transactions", text))
@@ -240,3 +217,16 @@ def of_server(seen: dict[str, str]) -> Iterator[Fault]:
 def _number(raised: BaseException) -> Optional[int]:
     first = raised.args[0] if raised.args else None
     return first if isinstance(first, int) else None
+
+
+_OF: Final = "table_schema = COALESCE(NULLIF(%s, ''), DATABASE()) AND table_name = %s"
+_COLUMNS: Final = (
+    "SELECT column_name, data_type, character_maximum_length, character_set_name,"
+    f" is_nullable FROM information_schema.columns WHERE {_OF}"
+)
+_UNIQUE: Final = (
+    f"SELECT index_name FROM information_schema.statistics WHERE {_OF} AND non_unique = 0"
+    " GROUP BY index_name HAVING COUNT(*) = 1 AND MAX(column_name) = %s"
+    " AND MAX(sub_part) IS NULL"
+)
+_ENGINE: Final = f"SELECT engine FROM information_schema.tables WHERE {_OF}"

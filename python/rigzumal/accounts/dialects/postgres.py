@@ -7,19 +7,11 @@ from collections.abc import Iterator
 from typing import Any, Final
 
 from rigzumal.accounts._session import Result, Session
-from rigzumal.accounts.parts import Copy, Key, StoreFault
 from rigzumal.accounts.dialects._dialect import CRASH_LOSES, LONGEST_RECORD, TOO_SHORT
 from rigzumal.accounts.dialects._dialect import Dialect, Fault, Findings, Mode, Verdict
-from rigzumal.accounts.dialects._dialect import (
-    error,
-    not_durable,
-    other_driver,
-    warning,
-)
-
-SNAPSHOT: Final = (
-    "the transaction is of REPEATABLE READ: begin by READ COMMITTED or SERIALIZABLE"
-)
+from rigzumal.accounts.dialects._dialect import error, not_durable, other_driver
+from rigzumal.accounts.dialects._dialect import warning
+from rigzumal.accounts.parts import Copy, Key, StoreFault
 
 # 40001: serialization; 40P01: a deadlock; 55P03: lock_timeout; 57014: statement_timeout.
 _AGAIN: Final = frozenset({"40001", "40P01", "55P03", "57014"})
@@ -28,15 +20,13 @@ _ELSEWHERE: Final = frozenset({"25006", "53300"})
 # 08: the connection; 57P0x: the server stops, has crashed or starts; 25P03: the
 # transaction was idle for too long. Whatever was sent then may have been done.
 _LOST: Final = ("08", "57P0", "25P03")
-# The server doesn't know whether what was sent was done.
-_UNKNOWN: Final = "40003"
+_UNKNOWN: Final = "40003"  # the server doesn't know whether what was sent was done
 
 
 class Postgres(Dialect):
     """PostgreSQL by psycopg 3, blocking or asynchronous.
 
-    Bytes are compared as text under "C", whatever the column's collation or type. The
-    UPDATE answers with the record that it put, which spares the reading back; what an
+    The UPDATE answers with the record that it put, which spares the reading back; what an
     AFTER trigger makes of it isn't seen so.
     """
 
@@ -67,17 +57,16 @@ class Postgres(Dialect):
         # A change whose snapshot is older than a session's row doesn't see it to end it.
         found = await session.execute("SHOW transaction_isolation")
         if found.rows == [("repeatable read",)]:
-            raise StoreFault(SNAPSHOT)
+            said = "the transaction is of REPEATABLE READ"
+            raise StoreFault(f"{said}: begin by READ COMMITTED or SERIALIZABLE")
 
     async def start(self, session: Session) -> None:
         try:
-            await super().start(session)
+            return await super().start(session)
         except Exception as raised:
-            if _state(raised) != "0A000":
+            if self.number(raised) != "0A000":
                 raise
             caught = raised
-        else:
-            return
         # A standby never writes, and says so in its own way; it may be promoted.
         raise ConnectionError("the server is a standby") from caught
 
@@ -98,7 +87,7 @@ class Postgres(Dialect):
     def refuses_at_once(self, raised: BaseException) -> bool:
         # 25: the session only reads, and a transaction of ours doesn't; 42 and 0A: the
         # server doesn't take the statement; 22012: what stands isn't what was put.
-        state = _state(raised)
+        state = self.number(raised)
         return state[:2] in ("25", "42", "0A") or state == "22012"
 
     async def commit(self, session: Session) -> None:
@@ -127,7 +116,7 @@ class Postgres(Dialect):
         return done
 
     def verdict(self, raised: BaseException) -> Verdict:
-        state = _state(raised)
+        state = self.number(raised)
         if state in _AGAIN:
             return Verdict.AGAIN
         if state in _ELSEWHERE:
@@ -141,14 +130,14 @@ class Postgres(Dialect):
     def gave_up(self, raised: BaseException) -> bool:
         # What the server answers as an ERROR it has rolled back. After FATAL and PANIC
         # it answers no more, and a commit may be in its log.
-        state = _state(raised)
+        state = self.number(raised)
         severity = getattr(getattr(raised, "diag", None), "severity_nonlocalized", None)
         if not state or state == _UNKNOWN or severity not in (None, "ERROR"):
             return False
         return self.verdict(raised) is not Verdict.LOST
 
     def number(self, raised: BaseException) -> str:
-        return _state(raised)
+        return getattr(raised, "sqlstate", None) or ""
 
     async def examine(self, session: Session) -> Findings:
         t = self.table.replace("%%", "%")
@@ -192,10 +181,6 @@ class Postgres(Dialect):
             uuid.UUID: ("uuid",),
         }
         yield from self.key_faults(key, key.startswith(kinds[self.key_type]))
-
-
-def _state(raised: BaseException) -> str:
-    return getattr(raised, "sqlstate", None) or ""
 
 
 _COLUMNS: Final = (

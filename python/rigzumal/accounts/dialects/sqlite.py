@@ -74,10 +74,10 @@ class Sqlite(Dialect):
         kind, _, _ = columns[self.key_name]
         nullable = not columns[self.record_name][1]
         unique = [name for name, row in columns.items() if row[2]] == [self.key_name]
+        sql = _UNIQUE.format(*(", ?", ", ?") if schema else ("", ""))
+        keys = await session.execute(sql, *of, self.key_name.lower(), *of[1:])
         faults = [*self._type_faults(kind)]
-        faults += self.common_faults(
-            nullable, unique or await self._has_index(session, *of)
-        )
+        faults += self.common_faults(nullable, unique or bool(keys.rows))
         master = self.quoted(schema or "main")
         triggers = await session.execute(
             f"SELECT name FROM {master}.sqlite_master WHERE type = 'trigger'"
@@ -90,20 +90,6 @@ class Sqlite(Dialect):
             ((seen[name],),) = (await session.execute(f"PRAGMA {name}")).rows
         faults += [*of_connection(seen), *await self.folded_names(session)]
         return Findings(faults)
-
-    async def _has_index(self, session: Session, *of: str) -> bool:
-        """Whether a unique index is of the key alone, and of all rows."""
-        marks = ", ".join("?" * len(of))
-        indexes = await session.execute(
-            f'SELECT name, "unique", partial FROM pragma_index_list({marks})', *of
-        )
-        for index, is_unique, partial in indexes.rows:
-            sql = f"SELECT lower(name) FROM pragma_index_xinfo({marks}) WHERE key = 1"
-            columns = await session.execute(sql, index, *of[1:])
-            is_of_key = columns.rows == [(self.key_name.lower(),)]
-            if is_unique and not partial and is_of_key:
-                return True
-        return False
 
     def _type_faults(self, declared: str) -> Iterator[Fault]:
         """SQLite takes '07' for 7, or 7 for '7', as the column's type has it."""
@@ -119,6 +105,12 @@ class Sqlite(Dialect):
         yield from self.key_faults(declared, holds in fits.get(self.key_type, (holds,)))
 
 
+# An index of the key alone, and of all rows; a part of it that is an expression has no name.
+_UNIQUE: Final = (
+    'SELECT 1 FROM pragma_index_list(?{}) AS i WHERE i."unique" AND NOT i.partial AND'
+    " (SELECT count(*) = 1 AND max(lower(name)) = ? FROM pragma_index_xinfo(i.name{})"
+    " WHERE key = 1)"
+)
 _PRAGMAS: Final = ("synchronous", "busy_timeout", "journal_mode", "read_uncommitted")
 
 

@@ -23,10 +23,8 @@ class Attempt(NamedTuple):
 
 @dataclass(eq=False)
 class Operation:
-    """An operation with the times of its call and its answer, in any unit.
-
-    What stands at first and at the end are two more, of the kinds "seed" and "end".
-    """
+    """An operation with the times of its call and its answer, in any unit; and what
+    stands at first and at the end, of the kinds "seed" and "end"."""
 
     id: str
     kind: str
@@ -47,16 +45,14 @@ class Operation:
     ) -> Operation:
         """What stood at first."""
         first = -math.inf
-        made = cls("seed", "seed", password, first, costs=costs, answered=first)
-        made.reply, made.after = "seed", record
+        made = cls("seed", "seed", password, first, None, costs, first, "seed")
+        made.after = record
         return made
 
     @classmethod
     def end(cls, record: Record, time: float) -> Operation:
         """What stands when all is over."""
-        made = cls("end", "end", None, time, reply="end")
-        made.before = made.after = record
-        return made
+        return cls("end", "end", None, time, reply="end", before=record, after=record)
 
     @property
     def makes_change(self) -> bool:
@@ -96,37 +92,31 @@ def conflict(events: Sequence[Operation]) -> Optional[str]:
     return None
 
 
-def possible(
-    it: Operation, record: Record, maker: Optional[Operation]
-) -> frozenset[str]:
+def possible(it: Operation, record: Record, maker: Optional[Operation]) -> set[str]:
     """The replies that an operation may have at a record that the maker put."""
     if record is None:
-        return frozenset({"enrolled" if it.kind in ("enrol", "reset") else "absent"})
-    if it.kind == "enrol":
-        return frozenset({"exists"})
-    if it.kind == "reset":
-        return frozenset({"replaced"})
-    rights = {"verify": {"yes"}, "change": {"replaced"}, "remove": {"removed"}}
-    right = rights.get(it.kind, {"kept", "upgraded"})
-    wrong = {"no"} if it.kind == "verify" else {"wrong"}
+        return {"enrolled" if it.kind in ("enrol", "reset") else "absent"}
+    if it.kind in ("enrol", "reset"):
+        return {"exists" if it.kind == "enrol" else "replaced"}
+    wrong = "no" if it.kind == "verify" else "wrong"
+    rights = {"verify": "yes", "change": "replaced", "remove": "removed"}
+    right = rights.get(it.kind)
     if maker is None:
-        return frozenset(right | wrong)
+        return {wrong, right} if right else {wrong, "kept", "upgraded"}
     if maker.password_after != it.password:
-        return frozenset(wrong)
-    if it.kind == "upgrade":
-        right = {"upgraded"} if it.costs > maker.costs else {"kept"}
-    return frozenset(right)
+        return {wrong}
+    return {right or ("upgraded" if it.costs > maker.costs else "kept")}
 
 
 class _Span(NamedTuple):
-    """The first answer and the last call of a chain, or of an operation at no record.
+    """A chain, or an operation at no record.
 
     Of two spans one can come before the other if its last call isn't after the other's
     first answer.
     """
 
-    first: float
-    last: float
+    first: float  # answer
+    last: float  # call
     name: str
 
 
@@ -195,30 +185,25 @@ class _Records:
         current: Record = record
         while current is not None:
             length += 1
-            looks, by = self.looks.get(current, ()), self.replacer.get(current)
-            for it in looks:
-                if it.answered < moment:
-                    raise _Conflict(_too_early(it, late))
-            for it in (*looks, *([by] if by else ())):
-                first, latest = min(first, it.answered), max(latest, it.called)
-                if it.called > moment:
-                    moment, late = it.called, it
-            if by is not None and by.answered < moment:
-                raise _Conflict(_too_early(by, late))
+            by = self.replacer.get(current)
+            for group in (self.looks.get(current, ()), [by] if by else []):
+                for it in group:
+                    if it.answered < moment:
+                        name = late.id if late else "another"
+                        said = f"{it.id} was answered before {name} was called"
+                        raise _Conflict(f"{said}, and can come after it alone")
+                for it in group:
+                    first, latest = min(first, it.answered), max(latest, it.called)
+                    if it.called > moment:
+                        moment, late = it.called, it
             current = by.after if by else None
         return _Span(first, latest, f"the chain from {start}"), length
-
-
-def _too_early(it: Operation, late: Optional[Operation]) -> str:
-    name = late.id if late else "another"
-    return f"{it.id} was answered before {name} was called, and can come after it alone"
 
 
 def _one_after_another(spans: list[_Span]) -> None:
     """Refuses two spans of which neither can come before the other.
 
-    If each two have an order, that of their middles is one of all: of two that can come
-    in one order alone, the later one's middle is later too.
+    If each two have an order, that of their middles is one of all.
     """
     spans.sort(key=lambda it: it.first + it.last)
     latest = _Span(-math.inf, -math.inf, "")

@@ -29,7 +29,6 @@ MIX = {
     **{"upgrade": 2, "remove": 1, "reset": 1},
 }
 WAYS = ("whole", "also", "parts", "within")
-KEY, RECORD = "name", "record"
 RISK = 0.01
 
 
@@ -60,7 +59,7 @@ class Torture:
     alter: Callable[
         [Any], None
     ] = lambda accounts: None  # a test may break what is used
-    settings: tuple[str, ...] = ()  # SQL for each connection to begin with
+    settings: tuple[str, ...] = ()  # SQL for each blocking connection to begin with
     killed: int = 0  # how many processes were killed
 
     def run(self) -> dict[Any, history.Account]:
@@ -88,7 +87,7 @@ class Torture:
 
     def dialect(self) -> Dialect:
         """A dialect for the table, of whatever engine is there."""
-        return self._kind(self.table, KEY, RECORD, str)
+        return self._kind(self.table, "name", "record", str)
 
     @functools.cached_property
     def _kind(self) -> type[Dialect]:
@@ -116,7 +115,6 @@ class Torture:
             record = hasher(LOW).hash("one") if number % 2 else None
             cursor.execute(dialect.update, (record, name, None))
             top.write("seed", key=name, record=record, password="one", costs=LOW)
-        cursor.close()
         conn.close()
 
     def _read_ends(self, names: list[str], top: logs.Log) -> None:
@@ -132,11 +130,10 @@ class Torture:
         If they are killed, the first of them is so at its first change.
         """
         end, faults = time.monotonic() + self.seconds, 0
-        risks = [1.0, *[RISK] * self.processes] if self.kill else [0.0] * self.processes
-        running = {
-            number: self._start(number, names, end, risks[number])
-            for number in range(self.processes)
-        }
+        running = {}
+        for number in range(self.processes):
+            risk = (1.0 if number == 0 else RISK) if self.kill else 0.0
+            running[number] = self._start(number, names, end, risk)
         while running:
             time.sleep(0.02)
             if self.kill and random.random() < 0.05:

@@ -16,7 +16,7 @@ from typing import TYPE_CHECKING, Any, Optional, Union
 from rigzumal._hashers import PasswordHasher
 from rigzumal.accounts._accounts import Accounts, AsyncAccounts
 from rigzumal.accounts._operations import Operations
-from rigzumal.accounts._session import AsyncSession, Hook, Session, run
+from rigzumal.accounts._session import Hook, Session, run
 from rigzumal.accounts.parts import AccountsError, Answer, Kind, OutcomeUnknown, Reply
 from rigzumal.accounts.parts import Request, Unavailable, Worked
 from rigzumal.accounts.database import Database
@@ -27,11 +27,9 @@ from rigzumal.accounts.torture.logs import Log
 if TYPE_CHECKING:
     from rigzumal.accounts.torture._torture import Torture
 
-LOW, HIGH = 64, 72
-"""KiB of the two costs between which upgrades go."""
+LOW, HIGH = 64, 72  # KiB of the two costs between which upgrades go
 PASSWORDS = ("one", "two")
-PATIENT, HASTY = 60.0, 0.02
-"""Seconds after which a task of asyncio is cancelled."""
+PATIENT, HASTY = 60.0, 0.02  # seconds after which a task of asyncio is cancelled
 
 
 def hasher(memory: int) -> PasswordHasher:
@@ -45,17 +43,11 @@ async def done(said: Any) -> Any:
 
 
 class Logged(Operations[Any]):
-    """Operations that are written down.
-
-    Attributes:
-        log: where.
-        memory: the costs of new records.
-        last: what was answered last.
-    """
+    """Operations that are written down."""
 
     log: Log
-    memory: int
-    last: Answer
+    memory: int  # the costs of new records
+    last: Answer  # what was answered last
     _name = ""
 
     def _before_commit(self, worked: Worked) -> None:
@@ -136,10 +128,8 @@ class Worker:
     # ---- the ways of doing an operation
 
     async def _login(self, accounts: AnyAccounts, request: Request) -> None:
-        """Logged as an upgrade, perhaps a verify after it, and what its caller is told.
-
-        That is what a verify answers, at the record which it leaves.
-        """
+        """Logged as an upgrade, perhaps a verify after it, and what its caller is told: as
+        of a verify, at the record which it leaves."""
         with accounts.call(request) as said:
             reply = await done(accounts.login(request.key, request.password))
             stands = accounts.last.after
@@ -212,10 +202,7 @@ class Worker:
 
     async def _connect_awaited(self) -> Any:
         psycopg = importlib.import_module("psycopg")
-        conn = await psycopg.AsyncConnection.connect(self.torture.url, autocommit=True)
-        for sql in self.torture.settings:
-            await AsyncSession(conn).execute(sql)
-        return conn
+        return await psycopg.AsyncConnection.connect(self.torture.url, autocommit=True)
 
 
 def _looks(conn: Any, reply: Reply) -> Any:

@@ -44,12 +44,10 @@ class Account:
 
 
 class Illegal(Exception):
-    """There is no legal history.
+    """There is no legal history, and the reason.
 
-    Attributes:
-        reason: what contradicts what.
-        part: operations that have no legal order, whatever others were done beside
-            them; without any one of them the rest has one.
+    The part has no legal order, whatever others were done beside it; without any one of
+    its operations the rest has one.
     """
 
     def __init__(self, reason: str, part: Sequence[Operation]) -> None:
@@ -69,11 +67,8 @@ def verdict(accounts: Mapping[Any, Account]) -> Optional[Illegal]:
 
 
 def check(account: Account) -> None:
-    """Returns if the account's history is legal; notes which lost changes were made.
-
-    Raises:
-        Illegal: there is none; the exception has the smallest part that shows it.
-    """
+    """Raises Illegal unless the account's history is legal; notes which lost changes were
+    made."""
     account.operations.sort(key=lambda operation: operation.called)
     _settle(account)
     events = [account.seed, *_effective(account.operations), account.end]
@@ -91,12 +86,11 @@ def _effective(operations: Iterable[Operation]) -> list[Operation]:
 
 
 def _settle(account: Account) -> None:
-    """Notes which operations without an answer took place.
+    """Notes which operations without an answer took place, by their last attempts.
 
-    Only the last attempt can have taken place unseen, since it was made when the one
-    before was known not to. A record that an answer names was put, and so was the one
-    that it replaced. A record that is gone, and that nothing so far replaced, was led
-    to a removal by others without an answer.
+    A record that an answer names was put, and so was the one that it replaced. A record
+    that is gone, and that nothing so far replaced, was led to a removal by others
+    without an answer.
     """
     end, lost = account.end.called, _Lost(account.operations)
     seen = {account.end.before, *(it.before for it in _effective(account.operations))}
@@ -126,11 +120,8 @@ class _Lost:
                     self.putting[it.attempts[-1].after] = it
 
     def way_out(self, record: Record, maker: Operation) -> list[Operation]:
-        """What led from a record to none; of several ways the one that ends first.
-
-        Nobody was told of what stood between, so the moment of its last call is all by
-        which one way is better than another.
-        """
+        """What led from a record to none; of several ways the one whose last call is first,
+        since nobody was told of what stood between."""
         found: list[list[Operation]] = []
         ways = [(record, maker, list[Operation]())]
         while ways:
@@ -155,7 +146,7 @@ def _unreplaced(account: Account) -> dict[Record, Operation]:
 
 
 def _complete(account: Account, events: Sequence[Operation]) -> None:
-    """Nothing is missing: each record was put, and each that is gone was replaced."""
+    """Refuses a record that nobody put, and one that is gone and wasn't replaced."""
     put = {it.after for it in events if it.makes_change}
     for it in events:
         if it.before is not None and it.before not in put:

@@ -35,9 +35,8 @@ from rigzumal.accounts.torture.history import Account, verdict
 class Log:
     """What one process writes down.
 
-    Attributes:
-        risk: how often it kills itself at its own worst moments, between an UPDATE and
-            its COMMIT, and between a COMMIT and its answer.
+    At this risk it kills itself at its own worst moments: between an UPDATE and its
+    COMMIT, and between a COMMIT and its answer.
     """
 
     def __init__(self, path: Any, name: str = "", risk: float = 0.0) -> None:
@@ -86,9 +85,8 @@ class Log:
 def read(paths: Iterable[str]) -> dict[Any, Account]:
     """The accounts' histories out of the logs of all processes.
 
-    Raises:
-        ValueError: a line, but the last of a file, which a killed process may have left
-            unfinished, is none of the format.
+    The last line of a file may be unfinished, as by a killed process; of any other that
+    is none of the format it raises ValueError.
     """
     try:
         return _read(line for path in paths for line in _lines(path))
