@@ -86,11 +86,8 @@ class LeavesOpen(PerThread):
             yield held.conn
         except BaseException:
             self._local.held = None
-            LEFT.append(held)
+            self._parents.append(held)
             raise
-
-
-LEFT = []
 
 
 class Left(BaseException):

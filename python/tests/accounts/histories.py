@@ -2,8 +2,7 @@
 
     /usr/bin/python3 python/tests/accounts/histories.py [-k NAME..]
 
-RIGZUMAL_SECONDS is how long each runs. It is plain unittest, and no test_*.py: all of it takes
-some ten minutes. docs/SCALE.md says of each what it does.
+RIGZUMAL_SECONDS is how long each runs; all take some ten minutes. docs/SCALE.md says what each does.
 """
 
 import time

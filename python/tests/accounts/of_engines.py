@@ -14,12 +14,6 @@ from support import HIGH, LOW, after_hash, in_threads, losing, sent
 from rigzumal.accounts import Accounts, OutcomeUnknown, Reply, StoreFault, Unavailable
 from rigzumal.accounts.parts import NO_ROW, Kind, Request, Ticket
 
-CHANGES = (
-    (Kind.CHANGE, ("one", "two")),
-    (Kind.UPGRADE, ("one", "")),
-    (Kind.REMOVE, ("one", "")),
-    (Kind.RESET, ("", "two")),
-)
 # What stands, what is called, and what is answered: under the record's costs, and under higher ones.
 EACH = (
     ("one", "verify ann one", "yes"),
@@ -96,7 +90,8 @@ class Operations:
         none."""
         accounts = self.accounts(HIGH)
         none = ((None, Kind.ENROL, ("x", "")), (None, Kind.RESET, ("", "x")))
-        some = [("one", kind, given) for kind, given in (*CHANGES, (Kind.VERIFY, ("one", "")))]
+        old = (Kind.CHANGE, Kind.UPGRADE, Kind.REMOVE, Kind.VERIFY)
+        some = [("one", Kind.RESET, ("", "two")), *(("one", it, ("one", "two")) for it in old)]
         for stood, kind, given in (*none, *some):
             self.put(stood and LOW.hash(stood))
             slow = self.worked(accounts, kind, *given)

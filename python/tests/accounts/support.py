@@ -22,7 +22,6 @@ from rigzumal.accounts import Accounts, PerThread, Sqlite, _judgement
 from rigzumal.accounts._session import Session, run  # noqa: F401: of each test
 from rigzumal.accounts.parts import Kind, Request
 
-
 LOW = PasswordHasher(time_cost=1, memory_cost=64, parallelism=1)
 HIGH = PasswordHasher(time_cost=1, memory_cost=128, parallelism=1)
 # Made by the reference program, of the older version.

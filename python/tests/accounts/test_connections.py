@@ -5,8 +5,7 @@ import unittest
 from unittest import mock
 
 from support import run
-from rigzumal.accounts import Sqlite, StoreFault, Unavailable
-from rigzumal.accounts import _connections
+from rigzumal.accounts import Sqlite, StoreFault, Unavailable, _connections
 from rigzumal.accounts._connections import Connections, Waits
 from rigzumal.accounts._table import Lost, Table, Undone
 

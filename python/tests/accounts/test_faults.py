@@ -5,8 +5,7 @@ from unittest import mock
 
 from support import HIGH, LOW, Base, counted, sent
 import rigzumal
-from rigzumal.accounts import MariaDB, Reply, StoreFault, Unavailable
-from rigzumal.accounts import _connections
+from rigzumal.accounts import MariaDB, Reply, StoreFault, Unavailable, _connections
 from rigzumal.accounts.parts import Kind
 
 

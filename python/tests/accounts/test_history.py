@@ -307,6 +307,7 @@ ILLEGAL = (
     ("X", None, "a remove 1 X>.", f"X is gone, {GONE}", "seed end"),
     ("x", "x", "a change 1-2 replaced x>y", "a replaced x, which stands at the end", "a end"),
     ("x", "x", "a change 1-2 replaced x>x", "a was answered replaced, and put x", "a"),
+    ("x", "y", "a change 1-2 replaced x>y; b change 1-2 replaced z>y", "both put y", "a b"),
     # Wrong judgements.
     ("x", "x", "a verify 1-2 no x>x", "a (verify) was answered no at x", "seed a"),
     ("x", "x", "a change 1-2 wrong x>x", "a (change) was answered wrong at x", "seed a"),

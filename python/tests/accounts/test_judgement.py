@@ -1,6 +1,5 @@
 """What a whole operation does at a copy, and what it costs."""
 
-import random
 import unittest
 from unittest import mock
 
@@ -12,34 +11,14 @@ from rigzumal.accounts.parts import Kind, NO_ROW, Request, Ticket
 
 
 class Upgrades(Base):
-    def test_only_up(self):
-        """No pair of costs is above each other, whatever they are."""
-        rng, ways = random.Random(1), {0: 0, 1: 0}
-        for _ in range(300):
-            hashers = [
-                PasswordHasher(
-                    time_cost=rng.randint(1, 4),
-                    memory_cost=rng.choice([64, 96, 128, 192]),
-                    parallelism=rng.randint(1, 3),
-                    type=rng.choice(list(rigzumal.Type)),
-                )
-                for _ in range(2)
-            ]
-            judges = [_judgement.Judge(it) for it in hashers]
-            found = [rigzumal.parts(it.sample) for it in judges]
-            up = judges[1]._goes_up(found[0]), judges[0]._goes_up(found[1])
-            self.assertFalse(all(up))
-            self.assertFalse(judges[0]._goes_up(found[0]))
-            ways[sum(up)] += 1
-        self.assertGreater(min(ways.values()), 30)
-
     def test_what_goes_up(self):
-        """More memory for as much work, and more work in as much memory."""
+        """More memory for as much work, and more work in as much memory; and no way leads back."""
         ways = (
             (PasswordHasher(4, 64, 1), PasswordHasher(1, 256, 1), True),
             (PasswordHasher(4, 64, 1), PasswordHasher(1, 128, 1), False),
             (PasswordHasher(1, 64, 1), PasswordHasher(2, 64, 1), True),
             (PasswordHasher(1, 64, 1), PasswordHasher(1, 64, 4), False),
+            (PasswordHasher(1, 64, 1), PasswordHasher(9, 64, 1, type=rigzumal.Type.I), False),
             (ScryptHasher(4, 8, 1), ScryptHasher(4, 8, 2), True),
             (ScryptHasher(4, 8, 2), ScryptHasher(5, 8, 1), True),
             (ScryptHasher(4, 8, 4), ScryptHasher(5, 8, 1), False),
@@ -55,6 +34,9 @@ class Upgrades(Base):
                 self.assertIs(reply, Reply.UPGRADED if up else Reply.KEPT)
                 self.assertEqual(self.stands() == record, not up)
                 self.assertIs(accounts.login("ann", "x"), Reply.YES)
+                self.put(two.hash("x"))
+                back = self.accounts(one).upgrade("ann", "x")
+                self.assertIs(back, Reply.KEPT)
 
     def test_the_older_version(self):
         self.put(OLDER)

@@ -153,8 +153,8 @@ class Operations(Base):
 
         @contextlib.asynccontextmanager
         async def awaited(name):
-            uses.append(name)
-            yield Awaiting(self.conn)
+            with used(name) as conn:
+                yield Awaiting(conn)
 
         def over(kind, pool):
             more = {"replica": lambda: pool("replica")}

@@ -166,11 +166,8 @@ class Replies(Base):
         code = (
             "from rigzumal.accounts import Accounts, Reply\n"
             "def let_in(accounts: Accounts) -> bool:\n"
-            "    if accounts.login('ann', 'x') is Reply.YES:\n"
-            "        return True\n"
-            "    if accounts.login('ann', 'x'):\n"
-            "        return True\n"
-            "    return False\n"
+            "    if accounts.login('ann', 'x') is Reply.YES: return True\n"
+            "    return True if accounts.login('ann', 'x') else False\n"
         )
         with tempfile.NamedTemporaryFile("w", suffix=".py") as file:
             file.write(code)
@@ -183,7 +180,7 @@ class Replies(Base):
             )
         found = [line for line in done.stdout.splitlines() if "[truthy-bool]" in line]
         self.assertEqual(len(found), 1, done.stdout + done.stderr)
-        self.assertIn(":5: error:", found[0])
+        self.assertIn(":4: error:", found[0])
 
 
 class Error(Exception):

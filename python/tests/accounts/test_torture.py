@@ -20,13 +20,12 @@ from rigzumal.accounts.torture.logs import Log
 class Tortures(Base):
     def setUp(self):
         super().setUp()
-        self.url = self.server.url
         self.logs = pathlib.Path(f"{self.server.path}.logs")
 
     def command(self, *words, status=0):
         """What the command prints on both streams."""
         said = io.StringIO()
-        given = ["--database", self.url, "torture", "--seconds=1", "--accounts=2"]
+        given = ["--database", self.server.url, "torture", "--seconds=1", "--accounts=2"]
         with contextlib.redirect_stdout(said), contextlib.redirect_stderr(said):
             self.assertEqual(cli.main([*given, *words]), status, said.getvalue())
         return said.getvalue()
@@ -34,7 +33,7 @@ class Tortures(Base):
     def run_one(self, **given):
         """The logs of a short run of two processes, as read."""
         given = {"processes": 2, "seconds": 1.0, "folder": self.logs, **given}
-        self.torture = torture.Torture(self.url, **given)
+        self.torture = torture.Torture(self.server.url, **given)
         with contextlib.redirect_stderr(io.StringIO()):
             return self.torture.run()
 
