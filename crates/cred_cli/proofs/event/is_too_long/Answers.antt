@@ -1,6 +1,0 @@
--- Written out, so that a body that doesn't meet this is refused here, without a long search.
-use Rattle.std.proofs.Common.{rules}
-use Rattle.cred_cli.proofs.event.is_too_long.Goals as goal
-
-pub returns : goal.returns
-returns c = search rules
