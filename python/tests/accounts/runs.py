@@ -53,9 +53,9 @@ def legal(run):
     if reason:
         raise AssertionError(f"{reason}: {part}; {summary}")
     with open(f"{run.folder}.err") as file:
-        faults = {line.strip() for line in file if line.startswith("StoreFault")}
-    # A replica may not have the table yet.
-    faults = {it for it in faults if "42P01" not in it}
+        # A replica may not have the table yet.
+        lines = {line.strip() for line in file if "42P01" not in line}
+    faults = [it for it in lines if it.startswith("StoreFault")]
     if faults:
         raise AssertionError(f"the history is legal, but {faults}")
     return summary

@@ -13,8 +13,7 @@ from unittest import mock
 
 PACKAGE = pathlib.Path(__file__).resolve().parents[2]
 sys.path.insert(0, str(PACKAGE))
-_PATHS = (str(PACKAGE), os.environ.get("PYTHONPATH"))
-os.environ["PYTHONPATH"] = os.pathsep.join(filter(None, _PATHS))
+os.environ["PYTHONPATH"] = f"{PACKAGE}:{os.environ.get('PYTHONPATH', '')}".rstrip(":")
 
 import servers
 from rigzumal import PasswordHasher, VerifyMismatchError

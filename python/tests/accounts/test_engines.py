@@ -6,6 +6,7 @@ import io
 import engines
 import of_engines
 from support import Base
+from rigzumal.accounts import cli
 
 SERVERS = (engines.OnPostgres, engines.OnMariaDB, engines.OnMySQL)
 ENGINES = (engines.OnSqlite, *SERVERS)
@@ -35,8 +36,6 @@ globals().update(
 class TheCommandOnMySQL(engines.OnMySQL, Base):
     def test_a_table_and_a_torture(self):
         """It makes a table, and a torture of it is legal."""
-        from rigzumal.accounts import cli
-
         given = ["--database", self.server.url]
         said = io.StringIO()
         with contextlib.redirect_stdout(said):

@@ -21,7 +21,7 @@ class Said:
         faults = (accounts or self.accounts()).examine()
         self.assertEqual(len(faults), len(words), faults)
         for word in words:
-            self.assertIn(word, "; ".join(map(str, faults)))
+            self.assertIn(word, "; ".join(f"{it.code}: {it}" for it in faults))
 
     def each_table(self, *cases):
         """A case is a table's columns, statements after them, and what is said."""
@@ -113,13 +113,13 @@ class OnSqlite(Said, engines.OnSqlite, support.Base):
             self.assertEqual(said[: len(words)] if words else said, words, column)
 
     def test_settings(self):
-        power = "a power cut loses acknowledged changes"
+        power, busy = "not-durable: synchronous is below FULL", "busy-timeout: the busy timeout"
         for pragma, *words in (
             ("synchronous = 0", power),
             ("synchronous = 1", power),
             ("synchronous = 3",),
-            ("busy_timeout = 0", "busy timeout"),
-            ("busy_timeout = 999", "busy timeout"),
+            ("busy_timeout = 0", busy),
+            ("busy_timeout = 999", busy),
             ("busy_timeout = 1000",),
             ("query_only = 1", f"{PUT}OperationalError"),
         ):
@@ -128,14 +128,16 @@ class OnSqlite(Said, engines.OnSqlite, support.Base):
                 self.assert_faults(words, self.accounts(connect=connect))
         self.server.path = f"file:{self.server.path}?cache=shared"
         connect = self.setting("PRAGMA read_uncommitted = 1", uri=True)
-        self.assert_faults(["read_uncommitted is on"], self.accounts(connect=connect))
+        self.assert_faults(
+            ["read-uncommitted: read_uncommitted is on"], self.accounts(connect=connect)
+        )
 
     def test_journals(self):
         for mode in ("delete", "truncate", "persist", "memory", "off"):
             self.conn.execute(f"PRAGMA journal_mode = {mode}")
             with self.subTest(mode=mode):
                 accounts = self.accounts(connect=self.setting(f"PRAGMA journal_mode = {mode}"))
-                self.assert_faults(["it isn't in WAL"], accounts)
+                self.assert_faults(["no-wal: it isn't in WAL"], accounts)
                 accounts._connections.primary.close()
 
     def test_it_leaves_no_transaction_open(self):
@@ -225,25 +227,27 @@ class OnPostgres(OnServer, engines.OnPostgres, support.Base):
             (f"{table}; {alter} ADD {SHORT} NOT VALID", refused),
             (f"{table} CHECK (record LIKE '$argon2%')",),
             (f"{table}; {nothing}", f"{PUT}FeatureNotSupported"),
-            (f"{table}; {alter} SET UNLOGGED", "unlogged"),
-            (f"{table}; {alter} ENABLE ROW LEVEL SECURITY", "row security"),
+            (f"{table}; {alter} SET UNLOGGED", "not-durable: users is unlogged"),
+            (f"{table}; {alter} ENABLE ROW LEVEL SECURITY", "row-security: row security"),
         )
         self.execute("CREATE VIEW people AS SELECT * FROM users")
         self.addCleanup(self.execute, "DROP VIEW people")
         dialect = self.another_dialect(table="people")
-        self.assert_faults(["no unique", "no table"], self.accounts(dialect=dialect))
+        self.assert_faults(
+            ["no unique", "not-a-table: people is no table"], self.accounts(dialect=dialect)
+        )
 
     def test_settings(self):
         name = "synchronous_commit"
         for value in ("off", "local", "remote_write", "remote_apply", "on"):
-            words = [] if value in ("remote_apply", "on") else [f"{name} is {value}"]
+            words = [] if value in ("remote_apply", "on") else [f"not-durable: {name} is {value}"]
             with self.subTest(value=value):
                 connect = self.setting(f"SET {name} = {value}")
                 self.assert_faults(words, self.accounts(connect=connect))
         for name in ("fsync", "full_page_writes"):
             self.server.set(**{name: "off"})
             try:
-                self.assert_faults([f"{name} is off"])
+                self.assert_faults([f"not-durable: {name} is off"])
             finally:
                 self.server.set(**{name: "on"})
             self.assert_faults([])
@@ -298,7 +302,7 @@ class OnMariaDB(OnServer, engines.OnMariaDB, support.Base):
         table = "name VARCHAR(90) PRIMARY KEY, record VARCHAR(600); ALTER TABLE users ENGINE={0};"
         insert = " INSERT INTO users VALUES ('ann', 'old')"
         for engine in ("MyISAM", "Aria", "MEMORY"):
-            said = f"is of {engine}, which has no transactions"
+            said = f"no-transactions: users is of {engine}"
             self.each_table((table.format(engine) + insert, said))
             self.assertEqual(self.stands(), "old")
 

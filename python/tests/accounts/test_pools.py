@@ -9,7 +9,7 @@ import sqlite3
 import engines
 import of_engines
 from engines import Awaited
-from support import LOW, OLDER, Awaiting, Base, after_hash
+from support import LOW, OLDER, Awaiting, Base
 from rigzumal.accounts import Accounts, AsyncAccounts, PerThread, Reply, StoreFault
 from rigzumal.accounts.pools import PerUse
 
@@ -237,13 +237,6 @@ class OpenTransactions(Base):
                 accounts.change("ann", "password", "new")
             self.assertFalse(self.conn.in_transaction)
         self.assertIs(accounts.verify("ann", "password"), Reply.YES)
-
-    def test_after_another_record_was_found(self):
-        self.put(LOW.hash("one"))
-        accounts = self.kept(conn=self.conn)
-        after_hash(accounts, lambda: self.put(LOW.hash("another")))
-        self.assertIs(accounts.change("ann", "one", "two"), Reply.WRONG)
-        self.assertFalse(self.conn.in_transaction)
 
     def test_what_is_left_open_is_said(self):
         """After an interrupt it is the pool that rolls back."""

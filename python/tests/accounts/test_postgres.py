@@ -191,8 +191,7 @@ class OnPostgres(engines.OnPostgres, Base):
 
     @contextlib.contextmanager
     def cancelled_waits(self, times=math.inf):
-        """Each wait for a standby is cancelled soon, as by an administrator, at most so often;
-        then there is no standby to wait for."""
+        """So many waits for a standby are cancelled, as by an administrator; then none is needed."""
         stop, cancelled, killer = threading.Event(), [], self.another()
         self.server.set(synchronous_standby_names="nobody")
 

@@ -273,6 +273,13 @@ class Errors(Base):
             ],
         )
 
+    def test_modes_of_sqlite(self):
+        """From Python 3.12 on there is an attribute; -1 stands for the older way."""
+        cases = {(True, ""): True, (False, None): False, (-1, None): True, (-1, ""): False}
+        for (autocommit, level), wanted in cases.items():
+            conn = mock.Mock(in_transaction=False, autocommit=autocommit, isolation_level=level)
+            self.assertEqual(self.dialect.mode(conn).is_autocommit, wanted)
+
     def test_what_a_transaction_does_better(self):
         """Of one statement's errors: those that say nothing of what another server does."""
         maria = MariaDB("t", "k", "r")
