@@ -2,7 +2,7 @@
 
     /usr/bin/python3 python/tests/accounts/histories.py [-k NAME..]
 
-RIGZUMAL_SECONDS is how long each runs; all take some ten minutes. docs/SCALE.md says what each does.
+RIGZUMAL_SECONDS is how long each runs; all take ten minutes. docs/SCALE.md says what each does.
 """
 
 import time

@@ -14,7 +14,7 @@ from support import HIGH, LOW, after_hash, in_threads, losing, sent
 from rigzumal.accounts import Accounts, OutcomeUnknown, Reply, StoreFault, Unavailable
 from rigzumal.accounts.parts import NO_ROW, Kind, Request, Ticket
 
-# What stands, what is called, and what is answered: under the record's costs, and under higher ones.
+# What stands, what is called, and what is answered: under the record's costs, and higher ones.
 EACH = (
     ("one", "verify ann one", "yes"),
     ("one", "verify ann two", "no"),

@@ -1,4 +1,4 @@
-"""The command: its words, answers and exit statuses, which are credkeep's, and its lines of JSON."""
+"""The command: its words, answers and statuses, which are credkeep's, and its lines of JSON."""
 
 import contextlib
 import io

@@ -191,7 +191,7 @@ class OnPostgres(engines.OnPostgres, Base):
 
     @contextlib.contextmanager
     def cancelled_waits(self, times=math.inf):
-        """So many waits for a standby are cancelled, as by an administrator; then none is needed."""
+        """So many waits for a standby are cancelled, as by a person; then none is needed."""
         stop, cancelled, killer = threading.Event(), [], self.another()
         self.server.set(synchronous_standby_names="nobody")
 
