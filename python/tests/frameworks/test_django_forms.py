@@ -46,8 +46,8 @@ class Forms(Cheap, TestCase):
         return found
 
     def test_each(self):
-        """It sets the password, but over no other's, of which it was validated too early. With a
-        model that compares, Django's own raise an exception."""
+        """It sets the password, unless another was set after the form was validated. With a model
+        that compares, Django's own forms raise an exception."""
         for form, given, code in (
             (forms.PasswordChangeForm, GIVEN, "password_incorrect"),
             (forms.AdminOwnPasswordChangeForm, GIVEN, "password_incorrect"),

@@ -1,4 +1,4 @@
-"""The mixin's saves, which compare, however the user was got and whatever is rolled back."""
+"""The mixin's saves compare, however the user was read and whatever is rolled back."""
 
 import copy
 import itertools
