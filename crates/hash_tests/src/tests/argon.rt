@@ -9,33 +9,24 @@ use std::alloc::Global;
 use std::thread::Threads;
 
 /// Kind, version, memory, passes and lanes; the lengths of password, salt, secret and associated
-/// data; their seed, which is 1 more from each to the next, and their step; and the tag.
-struct Row(Kind, Version, [u32; 3], [usize; 4], (u8, u8), &'static str);
+/// data; and their seed, which is 1 more from each to the next, and their step.
+struct Case(Kind, Version, [u32; 3], [usize; 4], (u8, u8));
+
+/// A case, and its tag.
+type Row = (Case, &'static str);
 
 /// RFC 9106, sections 5.1 to 5.3.
 static STANDARD: [Row; 3] = [
-    Row(
-        D,
-        V13,
-        [32, 3, 4],
-        [32, 16, 8, 12],
-        (1, 0),
+    (
+        Case(D, V13, [32, 3, 4], [32, 16, 8, 12], (1, 0)),
         "512b391b6f1162975371d30919734294f868e3be3984f3c1a13a4db9fabe4acb",
     ),
-    Row(
-        I,
-        V13,
-        [32, 3, 4],
-        [32, 16, 8, 12],
-        (1, 0),
+    (
+        Case(I, V13, [32, 3, 4], [32, 16, 8, 12], (1, 0)),
         "c814d9d1dc7f37aa13f0d77f2494bda1c8de6b016dd388d29952a4c4672b6ce8",
     ),
-    Row(
-        Id,
-        V13,
-        [32, 3, 4],
-        [32, 16, 8, 12],
-        (1, 0),
+    (
+        Case(Id, V13, [32, 3, 4], [32, 16, 8, 12], (1, 0)),
         "0d640df58d78766c08c037a34a8b53c9d01ef0452d75b65eb52520e96b01e659",
     ),
 ];
@@ -44,64 +35,39 @@ static STANDARD: [Row; 3] = [
 /// version, memory that isn't a multiple of 4p, 1 to 8 lanes, 1 to 4 passes, and tags of 5 to 64
 /// bytes. c/tests/against_libargon2.py compares thousands.
 static LIBRARY: [Row; 8] = [
-    Row(
-        D,
-        V13,
-        [47, 1, 3],
-        [256, 41, 8, 1],
-        (48, 7),
+    (
+        Case(D, V13, [47, 1, 3], [256, 41, 8, 1], (48, 7)),
         "19987db1f929d492240bb8a1eb1eea1cb30cf79407c556804adca589297d74b1\
             e26844d097c2f2081402d27469164744f7682a919a",
     ),
-    Row(
-        D,
-        V13,
-        [120, 3, 8],
-        [129, 14, 0, 100],
-        (120, 7),
+    (
+        Case(D, V13, [120, 3, 8], [129, 14, 0, 100], (120, 7)),
         "fa157c275bd87d00518b64f8855d815bb8411120ef0937f55659e4748492c16b3a3c872b1a0c8088cb",
     ),
-    Row(
-        Id,
-        V13,
-        [134, 3, 2],
-        [127, 24, 0, 1],
-        (150, 7),
+    (
+        Case(Id, V13, [134, 3, 2], [127, 24, 0, 1], (150, 7)),
         "26f768823095c4af435e95a469120541470aeb13b3fd526752503438eea48712\
             4285eeb73b73ff5f7319713d79f192301a110f9326d8a5cce04f18ede7525b6a",
     ),
-    Row(
-        I,
-        V13,
-        [155, 4, 2],
-        [0, 34, 0, 300],
-        (148, 7),
+    (
+        Case(I, V13, [155, 4, 2], [0, 34, 0, 300], (148, 7)),
         "ed12f308890b69692b104755b8c7af3d600c517eff9b4139f7c601",
     ),
-    Row(I, V13, [131, 2, 7], [8, 31, 200, 1], (109, 7), "ddc2d8b575"),
-    Row(
-        D,
-        V10,
-        [170, 4, 6],
-        [0, 18, 300, 0],
-        (46, 7),
+    (
+        Case(I, V13, [131, 2, 7], [8, 31, 200, 1], (109, 7)),
+        "ddc2d8b575",
+    ),
+    (
+        Case(D, V10, [170, 4, 6], [0, 18, 300, 0], (46, 7)),
         "73fa13eb31c6dd3a071af4facdf3d497154f15f0b3c1c8cc7208ced77528b25a\
             f668bef555947a55199960c82740a0bce26408a66a5d01",
     ),
-    Row(
-        I,
-        V10,
-        [165, 3, 1],
-        [8, 42, 200, 100],
-        (65, 7),
+    (
+        Case(I, V10, [165, 3, 1], [8, 42, 200, 100], (65, 7)),
         "2fd5ea41ce6525ae0a8d35c0be0c3b63bd56298ea14515c9ebaeb02b260f308a20511607",
     ),
-    Row(
-        Id,
-        V10,
-        [109, 2, 2],
-        [64, 12, 0, 1],
-        (15, 7),
+    (
+        Case(Id, V10, [109, 2, 2], [64, 12, 0, 1], (15, 7)),
         "a88bf038cfeb030468369ca76e309ed234780f3929be95f69f5a593de8b7c56d\
             4d929c3ceafb3597b5d96d0e96f31beda0b58e50054ad6a644",
     ),
@@ -111,11 +77,11 @@ fn tag_of<R: Threads + Sync>(
     rt: &R,
     alloc: Global,
     workers: u8,
-    row: &Row,
+    case: &Case,
+    len: u32,
 ) -> Result<Vec<u8>, ArgonError> {
-    let Row(kind, version, [memory, passes, lanes], [pw, salt, secret, assoc], (seed, step), tag) =
-        row;
-    let len = byte_len(tag);
+    let Case(kind, version, [memory, passes, lanes], [pw, salt, secret, assoc], (seed, step)) =
+        case;
     let params = Params::with_version(*version, *kind, *memory, *passes, *lanes, len)?;
     argon2(
         rt,
@@ -132,8 +98,8 @@ fn tag_of<R: Threads + Sync>(
 
 /// The first row with another tag, or none.
 fn other_row<R: Threads + Sync>(rt: &R, alloc: Global, workers: u8, rows: &[Row]) -> Option<usize> {
-    for (i, row) in rows.iter().enumerate() {
-        if !is_made(tag_of(rt, alloc, workers, row), row.5) {
+    for (i, (case, tag)) in rows.iter().enumerate() {
+        if !is_made(tag_of(rt, alloc, workers, case, byte_len(tag)), tag) {
             return Some(i);
         }
     }
@@ -154,8 +120,9 @@ fn library_tags(rt: HostRuntime) {
 }
 
 fn is_standard<R: Threads + Sync>(rt: &R, alloc: Global) -> Result<bool, ArgonError> {
-    let tag = tag_of(rt, alloc, 2, &STANDARD[1])?;
-    Ok(is_hex(&tag, STANDARD[1].5))
+    let (case, wanted) = &STANDARD[1];
+    let tag = tag_of(rt, alloc, 2, case, 32)?;
+    Ok(is_hex(&tag, wanted))
 }
 
 /// With ample memory this is one more vector. By tools/refuse_memory.py it shows that each refused

@@ -1,7 +1,7 @@
 //! Tags that are made one after another in memory that is kept.
 
 use super::strings::LARGE;
-use cred_phc::{Record, Scratch, TagError, parse_record, tag_in};
+use cred_phc::{Password, Record, Scratch, TagError, parse_record, tag_in};
 use cred_pool::NoGate;
 use std::alloc::Global;
 use test_samples::{A, B, OLD, SCRYPT};
@@ -38,11 +38,11 @@ fn made_again(
     scratch: &mut Scratch,
     alloc: Global,
     stored: &Record,
-    pw: &[u8],
+    pw: &Password,
 ) -> Result<Record, TagError> {
     let setting = stored.setting();
     let length = stored.tag().bytes().len() as u8;
-    let made = tag_in(scratch, alloc, &NoGate, &setting, length, pw)?;
+    let made = tag_in(scratch, alloc, &NoGate, &setting, length, pw.bytes())?;
     Ok(Record::with_tag(setting, made))
 }
 
@@ -50,7 +50,8 @@ fn made_again(
 /// it.
 fn is_made(scratch: &mut Scratch, alloc: Global, row: &Row) -> Option<bool> {
     let stored = parse_record(row.0.as_bytes()).ok()?;
-    match made_again(scratch, alloc, &stored, row.1) {
+    let pw = Password::new(row.1)?;
+    match made_again(scratch, alloc, &stored, &pw) {
         Ok(made) if made == stored && scratch.kept() == row.2 => Some(true),
         Err(TagError::Memory) => Some(false),
         Ok(_) => None,
