@@ -46,29 +46,27 @@ fn made_again(
     Ok(Record::with_tag(setting, made))
 }
 
-/// Whether the tag of the row found memory; none if it is another, or other memory is kept after
-/// it.
+/// Whether the tag of the row found memory; none if it is another.
 fn is_made(scratch: &mut Scratch, alloc: Global, row: &Row) -> Option<bool> {
     let stored = parse_record(row.0.as_bytes()).ok()?;
     let pw = Password::new(row.1)?;
     match made_again(scratch, alloc, &stored, &pw) {
-        Ok(made) if made == stored && scratch.kept() == row.2 => Some(true),
+        Ok(made) if made == stored => Some(true),
         Err(TagError::Memory) => Some(false),
         Ok(_) => None,
     }
 }
 
-/// How many rows found no memory in a scratch that keeps at most so many KiB; none if a row is
-/// otherwise.
-fn refused(alloc: Global, most: u32, rows: &[Row]) -> Option<u32> {
+/// The first row whose tag isn't made, or after which other memory is kept, in a scratch that keeps
+/// at most so many KiB.
+fn other_row(alloc: Global, most: u32, rows: &[Row]) -> Option<usize> {
     let mut scratch = Scratch::new(alloc, most);
-    let mut count: u32 = 0;
-    for row in rows {
-        if !is_made(&mut scratch, alloc, row)? {
-            count = count.saturating_add(1);
+    for (i, row) in rows.iter().enumerate() {
+        if is_made(&mut scratch, alloc, row) != Some(true) || scratch.kept() != row.2 {
+            return Some(i);
         }
     }
-    Some(count)
+    None
 }
 
 /// Argon2 on one lane and on two and scrypt, in turn. What one function took is given back before
@@ -86,7 +84,7 @@ fn in_turn() -> [Row; 6] {
 
 #[test]
 fn tags_in_one_scratch(rt: HostRuntime) {
-    assert_eq!(rt; refused(rt.alloc(), 1024, &in_turn()), Some(0));
+    assert_eq!(rt; other_row(rt.alloc(), 1024, &in_turn()), None);
 }
 
 /// What fits is kept; a hash that takes more gives all back.
@@ -101,41 +99,50 @@ fn small_large_small(rt: HostRuntime) {
     ];
     let fits = [small_table(2), large_table(16384), small_table(16384)];
     let is_too_large = [small_table(2), large_table(0), small_table(2)];
-    let counts = [
-        refused(rt.alloc(), 300, &lanes),
-        refused(rt.alloc(), 16384, &fits),
-        refused(rt.alloc(), 16383, &is_too_large),
-        refused(
+    let others = [
+        other_row(rt.alloc(), 300, &lanes),
+        other_row(rt.alloc(), 16384, &fits),
+        other_row(rt.alloc(), 16383, &is_too_large),
+        other_row(
             rt.alloc(),
             0,
             &[of_password(B, 0), of_password(A, 0), small_table(0)],
         ),
     ];
-    assert_eq!(rt; counts, [Some(0); 4]);
+    assert_eq!(rt; others, [None; 4]);
 }
 
 /// tools/peak_memory.py looks that memory is asked for once.
 #[test]
 fn memory_taken_once(rt: HostRuntime) {
-    assert_eq!(rt;
-        refused(rt.alloc(), 256, &[of_password(A, 256); 4]),
-        Some(0)
-    );
+    assert_eq!(rt; other_row(rt.alloc(), 256, &[of_password(A, 256); 4]), None);
 }
 
 /// The same of a table.
 #[test]
 fn table_taken_once(rt: HostRuntime) {
     assert_eq!(rt;
-        refused(rt.alloc(), 16384, &[large_table(16384); 3]),
-        Some(0)
+        other_row(rt.alloc(), 16384, &[large_table(16384); 3]),
+        None
     );
+}
+
+/// How many rows found no memory; none if a tag is another.
+fn refused(alloc: Global, rows: &[Row]) -> Option<u32> {
+    let mut scratch = Scratch::new(alloc, 1024);
+    let mut count: u32 = 0;
+    for row in rows {
+        if !is_made(&mut scratch, alloc, row)? {
+            count = count.saturating_add(1);
+        }
+    }
+    Some(count)
 }
 
 /// Holds whichever request is refused: tools/refuse_memory.py refuses each in turn. A refusal
 /// leaves the scratch good for the tags after it.
 #[test]
 fn refused_memory_leaves_the_scratch(rt: HostRuntime) {
-    let count = refused(rt.alloc(), 1024, &in_turn());
+    let count = refused(rt.alloc(), &in_turn());
     assert!(rt; count == Some(0) || count == Some(1), "{count:?}");
 }
