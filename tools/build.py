@@ -80,7 +80,8 @@ class Progress:
 
     def tell(self):
         while not self.ended.wait(EVERY):
-            self.say(f"{', '.join(self.running)}: at work", "\r" if sys.stderr.isatty() else "\n")
+            if working := ", ".join(self.running):
+                self.say(f"{working}: at work", "\r" if sys.stderr.isatty() else "\n")
 
     @contextlib.contextmanager
     def of(self, name, what):
@@ -101,7 +102,9 @@ class Progress:
         left = round((whole - done - running / 2) * pace / 60)
         rest = f", about {left or 1} minute{'s' if left > 1 else ''} left" if len(self.done) < len(self.names) else ""
         clear = "\033[K" if sys.stderr.isatty() else ""
-        print(f"{clear}{what}; {len(self.done)} of {len(self.names)} done{rest}", end=end, file=sys.stderr, flush=True)
+        # in one piece, since two threads tell
+        sys.stderr.write(f"{clear}{what}; {len(self.done)} of {len(self.names)} done{rest}{end}")
+        sys.stderr.flush()
 
 
 def build(name, free, alone, progress):

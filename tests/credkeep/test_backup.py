@@ -45,14 +45,14 @@ class BackupTest(CopyTest):
             self.assertEqual(book("backup", str(copy.path)), counted(count, 0))
             self.assertWhole(copy, accounts)
             self.assertTrue(copy.accounts() == accounts)
-            after = contents(self.room)
-            self.assertTrue(after == {**before, "copy.db": copy.path.read_bytes()})
+            self.assertTrue(contents(self.room) == before | {"copy.db": copy.path.read_bytes()})
             copy.remove()
 
     def test_service(self) -> None:
         """While a service adds accounts one by one, each copy has the first so many, and all that
         were answered before."""
-        answered, copies = [0], []
+        answered = [0]
+        copies: list[tuple[int, int, Ended, Book]] = []
 
         def add() -> None:
             while answered[0] < 1500 and service.ask(f"account n{answered[0]:05}") == "ok":
