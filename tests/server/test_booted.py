@@ -179,6 +179,8 @@ ExecStopPost=/bin/systemctl poweroff --force --force
 
 
 class Booted(Case):
+    seconds = 1500
+
     def test_under_systemd(self) -> None:
         """The units start, hand over their sockets, are restarted after kills, and end in order, in their whole sandbox."""
         need_root()

@@ -115,7 +115,8 @@ def base(room: pathlib.Path) -> None:
     if "BOOT" in os.environ:
         shell(f"cp -a {os.environ['BOOT']}/. {room}")
     else:
-        words = f"debootstrap --variant=minbase --include={INCLUDED} bookworm {room} {MIRROR}"
+        words = "unshare --mount --pid --fork --kill-child --mount-proc debootstrap"
+        words += f" --variant=minbase --include={INCLUDED} bookworm {room} {MIRROR}"
         done = subprocess.run(words.split(), capture_output=True, text=True, timeout=1200)
         if done.returncode:
             raise unittest.SkipTest(f"debootstrap can't: {(done.stdout + done.stderr)[-400:]}")
@@ -125,6 +126,8 @@ def base(room: pathlib.Path) -> None:
 
 
 class Units(Case):
+    seconds = 1500  # of which a debootstrap may take most
+
     def units(self) -> list[str]:
         """The units, with the repository's program in place of the installed one."""
         need("systemd-analyze")
