@@ -3,8 +3,9 @@
 ghost use Rattle.std.specs.Prelude.{◌≡◌, true};
 ghost use Rattle.cred_desk.specs.Naming.{IsNamed, StartsAt};
 
+use super::ending::Left;
 use super::floor::{Answer, Step, begin};
-use super::scene::{DONE, Scene, judge, replied, show};
+use super::scene::{DONE, Line, Scene, Slip, judge, replied, show};
 use super::{ONE_STANDS, book_of, deletion, entry, name, stored, upgrade};
 use cred_book::{Book, Keeper, Reply, Ticket, Worked};
 use cred_desk::{Committer, DeskError, Naming, Opened, Session};
@@ -113,6 +114,25 @@ fn refused_committer(rt: HostRuntime) {
     assert_eq!(rt; book.show(&name(&rt, "a")), Ok(Some(stored(&rt, A))));
 }
 
+/// The first session's upgrade of `a`.
+fn upgraded_to<R: Abort>(rt: &R, setting: &str) -> Line {
+    let step = Step::Operate(upgrade(rt, "a", setting));
+    (0, step, replied(Reply::Upgraded))
+}
+
+/// What a desk with one session leaves, each of whose refused steps is taken once more.
+fn shown_again<R: Threads + Wait + Sync>(
+    rt: &R,
+    alloc: Global,
+    book: &Book,
+    lines: &[Line],
+) -> Option<(Left, Option<Slip>)> {
+    let acts = [lines];
+    let mut scene = Scene::new(1, &acts);
+    scene.again = true;
+    show(rt, alloc, book, &scene)
+}
+
 /// Names come and go at a kept desk, and a record is upgraded to and fro, each call a second time
 /// if it was refused. So a refused one did nothing.
 #[test]
@@ -121,16 +141,15 @@ fn refused_desk(rt: HostRuntime) {
         return;
     };
     let (c, d) = (name(&rt, "c"), name(&rt, "d"));
-    let upgraded = replied(Reply::Upgraded);
     let lines = [
         (0, Step::Admit(c), DONE),
         (0, Step::Admit(d), DONE),
         (0, Step::Load(c, stored(&rt, A)), DONE),
         (0, Step::Delete(d), DONE),
         (0, Step::Delete(c), DONE),
-        (0, Step::Operate(upgrade(&rt, "a", B_SETTING)), upgraded),
-        (0, Step::Operate(upgrade(&rt, "a", A_SETTING)), upgraded),
-        (0, Step::Operate(upgrade(&rt, "a", B_SETTING)), upgraded),
+        upgraded_to(&rt, B_SETTING),
+        upgraded_to(&rt, A_SETTING),
+        upgraded_to(&rt, B_SETTING),
     ];
     let journal = [
         entry(&rt, "c", None),
@@ -142,12 +161,7 @@ fn refused_desk(rt: HostRuntime) {
         entry(&rt, "a", Some(A)),
         entry(&rt, "a", Some(B)),
     ];
-    let acts = [lines.as_slice()];
-    let scene = Scene {
-        again: true,
-        ..Scene::new(1, &acts)
-    };
-    let Some((left, slip)) = show(&rt, rt.alloc(), &book, &scene) else {
+    let Some((left, slip)) = shown_again(&rt, rt.alloc(), &book, &lines) else {
         return;
     };
     if slip.is_none() {
