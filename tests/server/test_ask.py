@@ -95,8 +95,11 @@ class CredkeepAsk(Case):
             preexec_fn=lambda: fcntl.ioctl(0, termios.TIOCSCTTY, 0),
         )
         ended, rest, end = Ended(-1, b""), list(typed), time.monotonic() + 30
+        sent, again = 0, end
         try:
             while process.poll() is None:
+                if time.monotonic() > again:  # dash reads on if one came just before its read
+                    process.send_signal(sent)
                 self.assertLess(time.monotonic(), end, f"it hangs: {ended.shown!r}")
                 ended.shown += read(terminal, 0.05)
                 if ended.shown.endswith(PROMPT):
@@ -104,7 +107,8 @@ class CredkeepAsk(Case):
                     ended.echoes.append(does_echo(terminal))
                     ended.shown += b"|"
                     if isinstance(next_one := rest.pop(0), int):
-                        process.send_signal(next_one)
+                        sent, again = next_one, time.monotonic() + 1
+                        process.send_signal(sent)
                     else:
                         os.write(terminal, next_one)
             ended.status, ended.echoes_after = process.returncode, does_echo(terminal)

@@ -216,7 +216,8 @@ class Systemd(Case):
             words = ["systemd-socket-activate", f"--fdname={':'.join(order)}"]
             words += [word for name in order for word in ("-l", f"{room}/{name}.handed")]
             service = self.serving(before=tuple(words), folder=room, waits=False)
-            until(lambda: is_listening(room / "login.handed"), "it listens")
+            for name in order:
+                until(lambda: is_listening(room / f"{name}.handed"), "it listens")
             with Client(room / "login.handed") as login, Client(room / "admin.handed") as admin:
                 login.talk("list - 1 -> denied")
                 admin.talk("list - 1 -> names")
