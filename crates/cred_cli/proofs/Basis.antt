@@ -1,12 +1,11 @@
 -- What is read and written, on either basis.
 use Rattle.std.proofs.Common.{◌≡◌, ℕ, ◌<◌, List, [], ◌∷◌, ◌++◌, length, take, drop, map, Option, Some, Bool, true, false, Result, Ok, Err, OnOk, IfErr, IfOk, IfSome, subst, refl, sym, ap, ◌∙◌, ap₂, append_assoc, append-nil}
-use Rattle.std.proofs.KnownBytes.{Appends-nil, Appends-trans, Consumes-kept, Consumes-nil, Consumes-trans}
-use Rattle.std.proofs.Math.Seq.{drop-append_seam}
+use Rattle.std.proofs.{KnownBytes.Appends-nil, KnownBytes.Appends-trans, KnownBytes.Consumes-nil, KnownBytes.Consumes-trans, Math.Seq.drop-append_seam}
 use Rattle.std.specs.Io.KnownBytes.{Consumes, IsAtEnd, Keeps}
 use Rattle.cred_book.specs.Accounts.{Accounts}
-use Rattle.cred_cli.specs.{Calls.Call, Outcome.HasCause, Outcome.IsAnsweredAs, Script.out, Script.script_start, declared.script.End.End, Steps.WriteFails}
+use Rattle.cred_cli.specs.{Calls.Call, Feeding.standing, Outcome.HasCause, Outcome.IsAnsweredAs, Script.out, Script.script_start, Steps.WriteFails}
 use Rattle.cred_cli.specs.Watched.{Basis, Contract, Transcript, Fits, GivesAsContracted, IsWritten, Reading, TakesAsContracted, call_on, ended_of, failed_of, transcript_reading, given_of, held_on, inner_of, left_on, log_on, log_of, name_of, reading_on, taken_of}
-use Rattle.cred_cli.specs.{declared.fault.ScriptFault.ScriptFault, declared.watched.Watched.Watched, declared.run.Run.Run, Feeding.standing}
+use Rattle.cred_cli.specs.{declared.fault.ScriptFault.ScriptFault, declared.run.Run.Run, declared.script.End.End, declared.watched.Watched.Watched}
 use Rattle.cred_cli.proofs.{Prompts.Finds, Writes.taken_later}
 
 -- ---- what a writer took
@@ -38,21 +37,14 @@ module _ {R : Type 0} (remaining : R → Option (List ℕ)) where
   pub gives_more : (old mid new : Watched R) (bytes : List ℕ) → GivesAsContracted remaining old mid → given_of new ≡ given_of mid ++ bytes → Consumes (remaining (inner_of mid)) (remaining (inner_of new)) bytes → GivesAsContracted remaining old new
   gives_more old mid new bytes (front, given, consumed) later more = (front ++ bytes, taken_later _ _ _ _ _ given later, Consumes-trans _ _ _ _ _ consumed more)
 
-  -- a read that failed gave nothing
-  pub gives_no_more : (old mid new : Watched R) → GivesAsContracted remaining old mid → given_of new ≡ given_of mid → Keeps (remaining (inner_of mid)) (remaining (inner_of new)) → GivesAsContracted remaining old new
-  gives_no_more old mid new (front, given, consumed) same kept = (front, same ∙ given, Consumes-kept _ _ _ _ consumed kept)
-
 -- ---- what a reader has left
-
-never : false ≡ true → ⊥
-never e = cc
 
 module _ {R : Type 0} (remaining : R → Option (List ℕ)) (old new : Watched R) where
   -- what fits a reader fitted it before it gave these
   pub fits_before : (basis : Basis) (bytes : List ℕ) → given_of new ≡ given_of old ++ bytes → ended_of old ≡ false → Fits basis new → Fits basis old
   fits_before Contract bytes more open_ fits = tt
   fits_before (Transcript all) bytes more open_ (rest, cut, last) =
-      (bytes ++ rest, cut ∙ ap (λ xs. xs ++ rest) more ∙ append_assoc (given_of old) bytes rest, λ e. absurd (never (sym open_ ∙ e)))
+      (bytes ++ rest, cut ∙ ap (λ xs. xs ++ rest) more ∙ append_assoc (given_of old) bytes rest, λ e. cc (sym open_ ∙ e))
 
   pub gave_on : (basis : Basis) (n : ℕ) (buf : List ℕ) → Consumes (remaining (inner_of old)) (remaining (inner_of new)) (take n buf) × (n ≡ 0 → 0 < length buf → IsAtEnd (remaining (inner_of new))) →
       given_of new ≡ given_of old ++ take n buf → (n ≡ 0 → 0 < length buf → ended_of new ≡ true) → Fits basis new →

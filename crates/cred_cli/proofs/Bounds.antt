@@ -6,7 +6,7 @@ use Rattle.cred_book.specs.Accounts.{Accounts}
 use Rattle.cred_book.specs.declared.request.Request.TheVariants.{Enrol, Verify, Change, Upgrade, Remove}
 use Rattle.cred_cli.specs.{declared.costs.CostBounds.CostBounds, declared.event.Event.Event}
 use Rattle.cred_cli.specs.declared.event.Event.TheVariants.{Account, Load, Show, Begin, Commit, Bad}
-use Rattle.cred_cli.specs.{declared.refusal.Refusal.TheVariants.Costly, Costs.events_within, Costs.is_costly, Costs.no_bounds, Costs.within}
+use Rattle.cred_cli.specs.{declared.refusal.Refusal.Refusal, declared.refusal.Refusal.TheVariants.Costly, Costs.events_within, Costs.is_costly, Costs.no_bounds, Costs.within}
 use Rattle.cred_cli.specs.History.{after, answer_at, answer_of, book_at, deed_of, deeds_before, names_at, open_after, open_at}
 use Rattle.cred_cli.specs.{Script.events_of, Starving.events_by, Starving.unended, declared.mode.Mode.TheVariants.Script, Texts.line_of}
 use Rattle.cred_cli.proofs.{Names.book_at-suc, Openings.open_at-suc, Unended.unended_same}
@@ -28,12 +28,9 @@ map_unbounded : (events : List Event) → map (within no_bounds) events ≡ even
 map_unbounded [] = refl
 map_unbounded (e ∷ es) = rw (cheap e) (ap (λ rest. e ∷ rest) (map_unbounded es))
 
-all_done : (event : Event) → unended Script event ≡ event
-all_done event = refl
-
 -- without bounds each line of a script comes to what it asks for
 pub unbounded : (bytes : List ℕ) → events_by Script no_bounds bytes ≡ events_of bytes
-unbounded bytes = unended_same (unended Script) bytes (events_within no_bounds bytes) all_done ∙ map_unbounded (events_of bytes)
+unbounded bytes = unended_same (unended Script) bytes (events_within no_bounds bytes) (λ event. refl) ∙ map_unbounded (events_of bytes)
 
 -- there are as many
 pub length-within : (most : CostBounds) (bytes : List ℕ) → length (events_within most bytes) ≡ length (events_of bytes)
@@ -56,13 +53,13 @@ brings_no_more most event = by_test (is_costly most event) refl
 pub costly_refused : (most : CostBounds) (event : Event) → is_costly most event ≡ true → within most event ≡ Bad Costly
 costly_refused most event costly = ap (λ test. if test then Bad Costly else event) costly
 
--- a line that is refused as too costly changes nothing
-pub costly-book : (capacity : ℕ) (book : Accounts) (events : List Event) (i : ℕ) → slice_get events i ≡ Some (Bad Costly) → book_at capacity book events (suc i) ≡ book_at capacity book events i
-costly-book capacity book events i refused =
+-- a line that is refused changes nothing
+pub refused-book : (capacity : ℕ) (book : Accounts) (events : List Event) (i : ℕ) (why : Refusal) → slice_get events i ≡ Some (Bad why) → book_at capacity book events (suc i) ≡ book_at capacity book events i
+refused-book capacity book events i why refused =
     book_at-suc capacity book events i ∙ ap (λ e. after (book_at capacity book events i) (deed_of capacity book events i (deeds_before capacity book events i) e)) refused
 
-pub costly-open : (capacity : ℕ) (book : Accounts) (events : List Event) (i key : ℕ) → slice_get events i ≡ Some (Bad Costly) → open_at capacity book events (suc i) key ≡ open_at capacity book events i key
-costly-open capacity book events i key refused =
+pub refused-open : (capacity : ℕ) (book : Accounts) (events : List Event) (i key : ℕ) (why : Refusal) → slice_get events i ≡ Some (Bad why) → open_at capacity book events (suc i) key ≡ open_at capacity book events i key
+refused-open capacity book events i key why refused =
     open_at-suc capacity book events i key ∙ ap (open_after (names_at capacity book events i) i key (open_at capacity book events i key)) refused
 
 pub costly-answer : (capacity : ℕ) (book : Accounts) (events : List Event) (i : ℕ) → slice_get events i ≡ Some (Bad Costly) → line_of (answer_at capacity book events i) ≡ codes "bad 18 costly" ++ 10 ∷ []

@@ -1,26 +1,19 @@
 -- What a begin and a commit do, step by step.
 use Rattle.std.specs.Bool.{Decides}
-use Rattle.std.proofs.Common.{◌≡◌, Bool, ℕ, zero, suc, ◌-◌, List, [], ◌∷◌, Option, Some, None, Result, Ok, Err, IfOk, true, false, is_some, set, get_or, refl, sym, ap, ◌∙◌}
-use Rattle.std.specs.FinMap as map
+use Rattle.std.proofs.Common.{◌≡◌, Bool, ℕ, ◌-◌, List, Option, Some, None, Ok, true, false, is_some, set, get_or, refl, sym, ap, ◌∙◌}
+use Rattle.std.proofs.lemmas.List.{set-get_or, set-set}
 use Rattle.cred_phc.specs.Values.{RecordValue}
 use Rattle.cred_book.specs.{Accounts.Accounts, Commits.Begins, Commits.Commits, Commits.commit_outcome, Works.Task, Works.name_of, Works.same}
-use Rattle.cred_book.specs.declared.error.BookError.TheVariants as error
-use Rattle.cred_book.specs.declared.reply.Reply.{Reply}
-use Rattle.cred_book.specs.declared.reply.Reply.TheVariants as reply
-use Rattle.cred_book.specs.declared.request.Request.{Request}
-use Rattle.cred_cli.specs.declared.answer.AnswerLine.{AnswerLine}
-use Rattle.cred_cli.specs.declared.refusal.Refusal.TheVariants.{Book, Busy, Idle}
+use Rattle.cred_book.specs.{declared.reply.Reply.Reply, declared.request.Request.Request}
 use Rattle.cred_cli.specs.{Answers.IsDone, Answers.line_bytes, History.Answer, History.Begun, History.Refused}
 use Rattle.cred_cli.specs.Steps.{Step, stay, slot, begin_step, begin_step_at, commit_step, reply_answer}
-use Rattle.cred_cli.specs.Texts.{line_of, reply_line}
-use Rattle.std.proofs.lemmas.List.{set-get_or, set-set}
+use Rattle.cred_cli.specs.{Texts.line_of, Texts.reply_line, declared.answer.AnswerLine.AnswerLine}
+use Rattle.cred_cli.specs.declared.refusal.Refusal.TheVariants.{Book, Busy, Idle}
 use Rattle.cred_book.proofs.{Commitments.committed_found, Equality.same-Decides}
 use Rattle.cred_cli.proofs.Simulation.{begun-at, committing-at}
-
--- what a result tells is as much as this
-pub ok_then : {T E : Type 0} (r : Result T E) (P Q : T → Type 0) → IfOk r P → ((t : T) → P t → Q t) → IfOk r Q
-ok_then (Ok t) P Q h each = each t h
-ok_then (Err e) P Q h each = tt
+use Rattle.std.specs.FinMap as map
+use Rattle.cred_book.specs.declared.error.BookError.TheVariants as error
+use Rattle.cred_book.specs.declared.reply.Reply.TheVariants as reply
 
 -- an answer that leaves all as it is
 pub stays_done : (line : AnswerLine) (step : Step) (answer : Answer) (book : Accounts) (slots : List (Option Task)) → step ≡ stay answer book slots →
@@ -54,9 +47,7 @@ begun_fresh book slots key request ticket free begins =
 -- ---- commits
 
 set_none : (slots : List (Option Task)) (i : ℕ) → get_or slots i None ≡ None → set slots i None ≡ slots
-set_none [] i none = refl
-set_none (t ∷ ts) zero none = ap (λ s. s ∷ ts) (sym none)
-set_none (t ∷ ts) (suc i) none = ap (λ s. t ∷ s) (set_none ts i none)
+set_none slots i none = ap (set slots i) (sym none) ∙ set-get_or slots i None
 
 pub commits_idle : (book : Accounts) (slots left : List (Option Task)) (key : ℕ) → None ≡ slot slots key → left ≡ set slots (key - 1) None → commit_step book slots key ≡ stay (Refused Idle) book left
 commits_idle book slots left key none closed =

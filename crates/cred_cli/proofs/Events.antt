@@ -2,9 +2,8 @@
 use Rattle.std.proofs.Common.{◌≡◌, ℕ, List, [], ◌∷◌, ◌++◌, length, take, false, nat_lt, if◌then◌else◌, Result, arith, refl, ap, ◌∙◌}
 use Rattle.std.proofs.lemmas.List.{take-append-le, take_all}
 use Rattle.cred_phc.specs.Pieces.{pieces}
-use Rattle.cred_cli.specs.{declared.event.Event.Event, declared.event.Event.TheVariants.Bad, declared.refusal.Refusal.Refusal}
-use Rattle.cred_cli.specs.declared.refusal.Refusal.TheVariants.{Long}
-use Rattle.cred_cli.specs.Events.{event_of, event_of_pieces, longest_line, most_pieces, or_bad}
+use Rattle.cred_cli.specs.{Events.event_of, Events.event_of_pieces, Events.longest_line, Events.most_pieces, Events.or_bad, declared.event.Event.Event}
+use Rattle.cred_cli.specs.{declared.event.Event.TheVariants.Bad, declared.refusal.Refusal.Refusal, declared.refusal.Refusal.TheVariants.Long}
 
 first_pieces_tell : (line : List (List ℕ)) → event_of_pieces (take most_pieces line) ≡ event_of_pieces line
 first_pieces_tell [] = refl

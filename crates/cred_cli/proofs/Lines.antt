@@ -1,5 +1,5 @@
 -- The lines of bytes that come in pieces.
-use Rattle.std.proofs.Common.{◌≡◌, ℕ, suc, ◌<◌, ◌≤◌, ◌≢◌, List, [], ◌∷◌, ◌++◌, length, take, true, if◌then◌else◌, nat_lt, refl, sym, ap, ◌∙◌, arith, append-nil, inl, inr}
+use Rattle.std.proofs.Common.{◌≡◌, ℕ, suc, ◌+◌, ◌<◌, ◌≤◌, ◌≢◌, List, [], ◌∷◌, ◌++◌, length, take, true, if◌then◌else◌, nat_lt, refl, sym, ap, ◌∙◌, arith, append-nil, inl, inr}
 use Rattle.std.proofs.{lemmas.Bool.Decides.eqb_tells, lemmas.Bool.Decides.nat_tests, lemmas.Bool.cases_lt, lemmas.List.length-take, lemmas.List.take_all}
 use Rattle.std.specs.Bool.{◌==◌}
 use Rattle.cred_phc.specs.Pieces.{pieces}
@@ -77,24 +77,34 @@ unfinished_from-more start (c ∷ cs) b ne = elim (eqb_tells c 10) [
   | inr w ↦ rw w.0 (unfinished_from-more (start ++ c ∷ []) cs b ne)
 ]
 
+-- ---- how many lines end
+
+pub line_ends-append : (xs ys : List ℕ) → line_ends (xs ++ ys) ≡ line_ends xs + line_ends ys
+line_ends-append [] ys = omega arith
+line_ends-append (c ∷ cs) ys = elim (eqb_tells c 10) [
+  | inl w ↦ rw w.0 (let r = line_ends-append cs ys in omega (arith, r))
+  | inr w ↦ rw w.0 (line_ends-append cs ys)
+]
+
 pub line_ends-end : (front : List ℕ) → line_ends (front ++ 10 ∷ []) ≡ suc (line_ends front)
-line_ends-end [] = refl
-line_ends-end (c ∷ cs) = elim (eqb_tells c 10) [
-  | inl w ↦ rw w.0 (ap suc (line_ends-end cs))
-  | inr w ↦ rw w.0 (line_ends-end cs)
+line_ends-end front = let r : line_ends (front ++ 10 ∷ []) ≡ line_ends front + 1 = line_ends-append front (10 ∷ []) in omega (arith, r)
+
+pub no_end : (b : ℕ) → b ≢ 10 → line_ends (b ∷ []) ≡ 0
+no_end b other = elim (eqb_tells b 10) [
+  | inl w ↦ absurd (other w.1)
+  | inr w ↦ rw w.0 refl
 ]
 
 pub line_ends-more : (front : List ℕ) (b : ℕ) → b ≢ 10 → line_ends (front ++ b ∷ []) ≡ line_ends front
-line_ends-more [] b ne = elim (eqb_tells b 10) [
-  | inl w ↦ absurd (ne w.1)
-  | inr w ↦ rw w.0 refl
-]
-line_ends-more (c ∷ cs) b ne = elim (eqb_tells c 10) [
-  | inl w ↦ rw w.0 (ap suc (line_ends-more cs b ne))
-  | inr w ↦ rw w.0 (line_ends-more cs b ne)
-]
+line_ends-more front b ne = let r = line_ends-append front (b ∷ []) in let none = no_end b ne in omega (arith, r, none)
 
-longer : (line : List ℕ) → longest_line < length line → nat_lt longest_line (length line) ≡ true
+-- a longer front has no fewer
+pub line_ends_longer : (front more : List ℕ) → line_ends front ≤ line_ends (front ++ more)
+line_ends_longer front more = let r = line_ends-append front more in omega (arith, r)
+
+-- ---- lines that are too long
+
+pub longer : (line : List ℕ) → longest_line < length line → nat_lt longest_line (length line) ≡ true
 longer line long = grind (arith, nat_tests)
 
 -- a line that is too long is refused whatever it says
@@ -107,12 +117,4 @@ pub event_of-kept : (line : List ℕ) → event_of (take most_kept line) ≡ eve
 event_of-kept line = elim (cases_lt longest_line (length line)) [
   | inl long ↦ too_long (take most_kept line) (rw length-take (omega (arith, long))) ∙ sym (too_long line long)
   | inr short ↦ ap event_of (take_all most_kept line (omega (arith, short)))
-]
-
--- a longer front has no fewer
-pub line_ends_longer : (front more : List ℕ) → line_ends front ≤ line_ends (front ++ more)
-line_ends_longer [] more = omega arith
-line_ends_longer (c ∷ cs) more = elim (eqb_tells c 10) [
-  | inl w ↦ rw w.0 (omega (arith, line_ends_longer cs more))
-  | inr w ↦ rw w.0 (line_ends_longer cs more)
 ]

@@ -46,10 +46,7 @@ later capacity book events i opened known = record {
 }
 
 some_is : (opened : Opened) (now : Option Opened) → now ≡ Some opened → is_none now ≡ true → ⊥
-some_is opened now e none = none_some (ap is_none (sym e) ∙ none)
-  where
-    none_some : false ≡ true → ⊥
-    none_some e = cc
+some_is opened now e none = cc (ap is_none (sym e) ∙ none)
 
 second : (a b : Bool) → a && b ≡ true → b ≡ true
 second true b e = e

@@ -1,7 +1,7 @@
 -- How the program ends.
-use Rattle.std.proofs.Common.{◌≡◌, ℕ, List, [], Option, Some, None, Bool, Ok, Err, IfSome, inl, inr, refl, sym}
+use Rattle.std.proofs.Common.{◌≡◌, ℕ, List, [], Option, Some, Bool, Ok, Err, IfSome, inl, inr, refl, sym}
 use Rattle.std.specs.FinMap as map
-use Rattle.std.proofs.KnownBytes.{Appends-nil}
+use Rattle.std.proofs.{KnownBytes.Appends-nil, lemmas.Option.IfSome_then}
 use Rattle.cred_book.specs.Accounts.{Accounts, most_accounts}
 use Rattle.cred_cli.specs.{declared.fault.ScriptFault.ScriptFault, declared.fault.ScriptFault.TheVariants.Memory, Statuses.status_number, Statuses.status_of}
 use Rattle.cred_cli.specs.{Commands.Runs, declared.exit_status.ExitStatus.TheVariants.Done, declared.script.End.End, Calls.Call}
@@ -48,11 +48,7 @@ pub run_fails : (book : Accounts) (r : Reading) (w : Writing) (accounts : Accoun
     book ≡ map.empty → status ≡ status_number (status_of fault) → IfSome r.input (λ bs. ScriptFails most_accounts book bs r.left w.before w.now accounts fault) → HasCause r.failed w.failed fault →
     IfSome r.input (λ bs. IsPrompt most_accounts (script_start book bs w.before) w.name r.log) → Runs r w status
 run_fails book r w accounts fault status empty is fails cause prompt =
-    inr (fault, is, record { stands = known r.input fails; cause = cause; prompt = rw empty at prompt })
-  where
-    known : (bytes : Option (List ℕ)) → IfSome bytes (λ bs. ScriptFails most_accounts book bs r.left w.before w.now accounts fault) → IfSome bytes (λ bs. (accounts : Accounts) × ScriptFails most_accounts map.empty bs r.left w.before w.now accounts fault)
-    known None fails = tt
-    known (Some bs) fails = (accounts, rw empty at fails)
+    inr (fault, is, record { stands = IfSome_then r.input fails (λ bs h. (accounts, rw empty at h)); cause = cause; prompt = rw empty at prompt })
 
 -- the script was answered whole
 pub runs_whole : (book new : Accounts) (bytes : List ℕ) (left : Option (List ℕ)) (failed : Bool) (log : List Call) (w : Writing) (end_ : End) (status : ℕ) → book ≡ map.empty → status ≡ status_number Done →

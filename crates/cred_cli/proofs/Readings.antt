@@ -1,21 +1,16 @@
 -- What a read makes of a script: its start, the bytes that came, and its end.
-use Rattle.std.proofs.Common.{◌≡◌, ℕ, zero, suc, get_or, ◌-◌, replicate, List, [], ◌++◌, take, Option, Some, None, IfSome, Result, Ok, Err, IfOk, IfErr, OnOk, MatchResult, refl, sym, ap, ◌∙◌, append_assoc}
-use Rattle.std.proofs.{KnownBytes.Appends-nil, lemmas.List.length-replicate}
+use Rattle.std.proofs.Common.{◌≡◌, ℕ, ◌-◌, replicate, List, [], ◌++◌, take, Option, Some, None, IfSome, refl, sym, ap, ◌∙◌, append_assoc, arith}
+use Rattle.std.proofs.{KnownBytes.Appends-nil, lemmas.List.get_or-replicate, lemmas.List.length-replicate}
 use Rattle.std.specs.Io.KnownBytes.{Consumes, IsAtEnd, Keeps}
 use Rattle.cred_book.specs.{Accounts.Accounts, Works.Task}
 use Rattle.cred_cli.specs.{declared.progress.Progress.Progress, declared.event.Event.Event, Feeding.IsAt, Tickets.HoldTickets, Script.start_as}
 use Rattle.cred_cli.specs.{Starving.events_by, declared.policy.Policy.Policy}
 use Rattle.cred_cli.proofs.{Openings.open_at-zero, Names.book_at-zero, Answered.answers_before-zero, Starvings.history_asked}
 
-no_task : (n k : ℕ) → get_or (replicate {A = Option Task} n None) k None ≡ None
-no_task zero k = refl
-no_task (suc n) zero = refl
-no_task (suc n) (suc k) = no_task n k
-
 no_tickets : (capacity : ℕ) (book : Accounts) (events : List Event) (slots : List (Option Task)) → slots ≡ replicate 64 None → HoldTickets capacity book events 0 slots
 no_tickets capacity book events slots empty = record {
   size = rw empty (length-replicate {A = Option Task} 64 None);
-  each = λ key low high. rw (open_at-zero capacity book events key, empty, no_task 64 (key - 1)) tt;
+  each = λ key low high. rw (open_at-zero capacity book events key, empty, get_or-replicate {A = Option Task} 64 (key - 1) None None (omega (arith, low, high))) tt;
 }
 
 -- no byte was taken
@@ -65,13 +60,6 @@ kept_left (Some xs) (Some ys) bytes front rest known kept cut =
 pub if_known : (known : Option (List ℕ)) (P : List ℕ → Type 0) → ((all : List ℕ) → known ≡ Some all → P all) → IfSome known P
 if_known None P h = tt
 if_known (Some all) P h = h all refl
-
--- so may what a result is, by cases
-pub known_cases : {T E : Type 0} (known : Option (List ℕ)) (result : Result T E) (P : T → List ℕ → Type 0) (Q : List ℕ → Type 0) (F : List ℕ → E → Type 0)
-    → ((all : List ℕ) → known ≡ Some all → MatchResult result (λ t. P t all × Q all) (F all))
-    → IfOk result (λ t. IfSome known (P t)) × OnOk result (IfSome known Q) × IfErr result (λ e. IfSome known (λ all. F all e))
-known_cases known (Ok t) P Q F each = (if_known known (P t) (λ all is. (each all is).0), if_known known Q (λ all is. (each all is).1), tt)
-known_cases known (Err e) P Q F each = (tt, tt, if_known known (λ all. F all e) each)
 
 -- the cut moves behind the bytes that came
 pub cut_behind : (all front rest bytes left : List ℕ) → all ≡ front ++ rest → rest ≡ bytes ++ left → all ≡ (front ++ bytes) ++ left

@@ -1,26 +1,21 @@
 -- One event, done on the book that stands with the tickets that are open, is what the history says
 -- of its place.
-use Rattle.std.proofs.Common.{◌≡◌, ◌≢◌, ℕ, suc, ◌-◌, ◌≤◌, List, take, Option, Some, None, Bool, true, false, not, ◌&&◌, if◌then◌else◌, is_none, is_some, nat_lt, refl, sym, ap, ◌∙◌, slice_get, set, arith, inl, inr}
-use Rattle.std.specs.FinMap as map
-use Rattle.std.proofs.{lemmas.Bool.Decides.eqb_tells, Common.eq-eqb, lemmas.Bool.ne_eqb, lemmas.List.get_or-set_same, lemmas.List.get_or-set_other}
-use Rattle.std.proofs.Math.ListN.{length-set}
+use Rattle.std.proofs.Common.{◌≡◌, ◌≢◌, ℕ, suc, ◌-◌, ◌≤◌, List, take, Option, Some, None, Bool, true, false, not, ◌&&◌, if◌then◌else◌, is_none, is_some, nat_lt, refl, sym, ap, ◌∙◌, slice_get, set, arith, inl, inr, eq-eqb}
+use Rattle.std.proofs.{Math.ListN.length-set, lemmas.Bool.ne_eqb, lemmas.Bool.Decides.eqb_tells, lemmas.List.get_or-set_same, lemmas.List.get_or-set_other}
 use Rattle.cred_phc.specs.Values.{RecordValue}
-use Rattle.cred_book.specs.{Accounts.Accounts, Commits.commit_outcome, Commits.commit_outcome_at}
+use Rattle.cred_book.specs.{Accounts.Accounts, Commits.commit_outcome, Commits.commit_outcome_at, declared.reply.Reply.Reply, declared.request.Request.Request}
 use Rattle.cred_book.specs.Works.{Task, name_of, right, same, same_scheme, seq, seq_at, whole}
 use Rattle.cred_book.specs.declared.error.BookError.TheVariants.{Exists, Full, NoAccount}
-use Rattle.cred_book.specs.declared.reply.Reply.{Reply}
-use Rattle.cred_book.specs.declared.reply.Reply.TheVariants as reply
-use Rattle.cred_book.specs.declared.request.Request.{Request}
-use Rattle.cred_book.specs.declared.request.Request.TheVariants as request
 use Rattle.cred_book.proofs.Commitments.{committed_found}
-use Rattle.cred_cli.specs.declared.event.Event.{Event}
-use Rattle.cred_cli.specs.declared.event.Event.TheVariants.{Account, Load, Show, Begin, Commit, Bad}
-use Rattle.cred_cli.specs.declared.refusal.Refusal.TheVariants.{Book, Busy, Idle}
-use Rattle.cred_cli.specs.Events.{IsSound}
+use Rattle.cred_cli.specs.{Events.IsSound, Tickets.HoldTickets, Tickets.IsTicketOf, declared.event.Event.Event}
 use Rattle.cred_cli.specs.History.{Answer, Done, Replied, Refused, Deed, Admission, Loading, Whole, Opened, open_after, open_at, answer_of, answer_at, book_at, book_after, names_at, deed_of, deeds_before, after, commit_deed, commit_answer, is_stale, is_among, same_entry}
 use Rattle.cred_cli.specs.Steps.{Step, step, stay, slot, begin_step, begin_step_at, commit_step, commit_step_at, reply_answer}
-use Rattle.cred_cli.specs.Tickets.{HoldTickets, IsTicketOf}
+use Rattle.cred_cli.specs.declared.event.Event.TheVariants.{Account, Load, Show, Begin, Commit, Bad}
+use Rattle.cred_cli.specs.declared.refusal.Refusal.TheVariants.{Book, Busy, Idle}
 use Rattle.cred_cli.proofs.{Names.same_names, Names.book_at-suc, Names.take-done, Openings.IsKnown, Openings.known_at, Openings.open_at-suc}
+use Rattle.std.specs.FinMap as map
+use Rattle.cred_book.specs.declared.reply.Reply.TheVariants as reply
+use Rattle.cred_book.specs.declared.request.Request.TheVariants as request
 
 -- a step at place i of a history
 pub record IsStep (capacity : ℕ) (book : Accounts) (events : List Event) (i : ℕ) (step : Step) : Type 0 where
@@ -30,14 +25,14 @@ pub record IsStep (capacity : ℕ) (book : Accounts) (events : List Event) (i : 
 
 -- ---- a whole operation never answers that it was changed
 
-abbrev IsReplied : Reply × Option RecordValue → Type 0
+abbrev pub IsReplied : Reply × Option RecordValue → Type 0
 IsReplied outcome = reply_answer outcome.0 ≡ Replied outcome.0
 
 either : (b : Bool) (x y : Reply × Option RecordValue) → IsReplied x → IsReplied y → IsReplied (if b then x else y)
 either true x y h k = h
 either false x y h k = k
 
-whole_replies : (request : Request) (now : Option RecordValue) → IsReplied (whole request now)
+pub whole_replies : (request : Request) (now : Option RecordValue) → IsReplied (whole request now)
 whole_replies (request.Enrol name pw setting) None = refl
 whole_replies (request.Enrol name pw setting) (Some stored) = refl
 whole_replies (request.Verify name pw) None = refl

@@ -1,29 +1,22 @@
 -- A commit that is starved, and the history that it leaves.
-use Rattle.std.proofs.Common.{◌≡◌, ℕ, suc, ◌≤◌, ◌<◌, List, Option, Some, None, Bool, true, not, refl, sym, ap, ◌∙◌, arith, slice_get, set, length, inl, inr, ◌⊎◌, Result, Ok, Err, IfOk, OnOk, IfErr, IfSome, codes, ◌++◌, ◌∷◌, []}
-use Rattle.std.specs.Fmt.{digits}
-use Rattle.std.specs.FinMap as map
-use Rattle.std.specs.Io.KnownBytes.{Appends}
-use Rattle.std.proofs.{lemmas.Bool.cases_lt, lemmas.Option.slice_get_within, Math.ListN.length-set}
-use Rattle.cred_phc.specs.Values.{RecordValue}
+use Rattle.std.proofs.Common.{◌≡◌, ℕ, suc, ◌≤◌, ◌<◌, List, Option, Some, None, Bool, not, refl, sym, ap, ◌∙◌, arith, slice_get, set, length, inl, inr, ◌⊎◌, Result, Ok, Err, IfOk, OnOk, IfErr, IfSome, codes, ◌++◌, ◌∷◌, []}
+use Rattle.std.proofs.{Math.ListN.length-set, lemmas.Bool.cases_lt, lemmas.Option.slice_get_within}
+use Rattle.std.specs.{Fmt.digits, Io.KnownBytes.Appends}
 use Rattle.cred_book.specs.{Accounts.Accounts, Works.Task, Works.name_of, Works.same}
 use Rattle.cred_book.proofs.Equality.{same-Decides}
+use Rattle.cred_cli.specs.{Answers.IsDoneOrStarved, Answers.MayStarve, Answers.line_bytes, Costs.no_bounds, Events.IsSound, declared.script.End.End}
+use Rattle.cred_cli.specs.Feeding.{IsAt, Standing, TakesLineAs, between}
+use Rattle.cred_cli.specs.History.{Opened, after, answer_at, answer_of, book_at, open_at}
+use Rattle.cred_cli.specs.{Outcome.FailsAs, Outcome.IsAnswered, Outcome.StandsAfter, Prompt.IsPrompt}
+use Rattle.cred_cli.specs.Script.{ScriptStart, script_start, start_as, with_events}
+use Rattle.cred_cli.specs.Starving.{Becomes, EndsAs, GoesOn, IsHistory, IsSameBefore, IsServed, IsStarved, NeedsHash, events_by, starved}
+use Rattle.cred_cli.specs.{Steps.WriteFails, Steps.slot, Texts.line_of, Tickets.HoldTickets, Tickets.IsTicketOf, Watched.Reading, Watched.Writing}
 use Rattle.cred_cli.specs.{declared.answer.AnswerLine.AnswerLine, declared.event.Event.Event, declared.event.Event.TheVariants.Commit}
 use Rattle.cred_cli.specs.{declared.fault.ScriptFault.ScriptFault, declared.mode.Mode.Mode}
-use Rattle.cred_cli.specs.declared.mode.Mode.TheVariants.{Script, Service}
-use Rattle.cred_cli.specs.{Answers.IsDoneOrStarved, Answers.MayStarve, Answers.line_bytes, Events.IsSound}
-use Rattle.cred_cli.specs.History.{Opened, after, answer_at, answer_of, book_at, deed_of, deeds_before, names_at, open_after, open_at}
-use Rattle.cred_cli.specs.{Texts.line_of, Outcome.FailsAs, Outcome.IsAnswered, Outcome.StandsAfter, Prompt.IsPrompt, Watched.Reading, Watched.Writing}
-use Rattle.cred_cli.specs.{declared.script.End.End, Feeding.IsAt, Feeding.Standing, Feeding.TakesLineAs, Feeding.between, Costs.no_bounds}
-use Rattle.cred_cli.specs.{declared.policy.Policy.Policy, Script.ScriptStart, Script.script_start, Script.start_as, Script.with_events}
-use Rattle.cred_cli.specs.Starving.{Becomes, EndsAs, GoesOn, IsHistory, IsSameBefore, IsServed, IsStarved, NeedsHash, events_by, starved}
-use Rattle.cred_cli.specs.{Steps.WriteFails, Steps.slot, Tickets.HoldTickets, Tickets.IsTicketOf}
-use Rattle.cred_cli.proofs.{Names.book_at-suc, Openings.open_at-suc, Bounds.unbounded}
+use Rattle.cred_cli.specs.{declared.mode.Mode.TheVariants.Script, declared.mode.Mode.TheVariants.Service, declared.policy.Policy.Policy}
+use Rattle.cred_cli.proofs.{Bounds.unbounded, Runs.line_ended, Simulation.stale}
 use Rattle.cred_cli.proofs.Fronts.{needs_front, set_before, set_elsewhere, set_here, stands_front, tickets_front}
-use Rattle.cred_cli.proofs.{Runs.line_ended, Simulation.stale}
-
--- a record is the same as itself
-same_again : (stored : Option RecordValue) → same stored stored ≡ true
-same_again stored = (same-Decides stored stored).1 refl
+use Rattle.std.specs.FinMap as map
 
 module _ (capacity : ℕ) (book : Accounts) (events : List Event) (i : ℕ) (slots : List (Option Task)) (held : HoldTickets capacity book events i slots) where
   -- a ticket whose record stands is that of a begin that isn't stale
@@ -44,7 +37,7 @@ module _ (capacity : ℕ) (book : Accounts) (events : List Event) (i : ℕ) (slo
           record {
             opened = opened;
             is_open = is_some;
-            fresh = stale capacity book events i slots held key low high here opened may.task is_some asked copied may.task.1 found ∙ ap not (same_again may.task.1);
+            fresh = stale capacity book events i slots held key low high here opened may.task is_some asked copied may.task.1 found ∙ ap not ((same-Decides may.task.1 may.task.1).1 refl);
             stored = may.task.1;
             stands = found;
             hashed = rw asked at may.hashed;
@@ -133,14 +126,11 @@ pub record Grows (mode : Mode) (capacity : ℕ) (book : Accounts) (asked events 
   pub history : IsHistory mode capacity book asked now
   pub behind : IsBehind (suc i) asked now
 
-never : Script ≡ Service → ⊥
-never e = cc
-
 pub grows : (mode : Mode) (capacity : ℕ) (book : Accounts) (asked events now : List Event) (i : ℕ) → IsHistory mode capacity book asked events → IsBehind i asked events → Becomes mode capacity book events i now →
     Grows mode capacity book asked events now i
 grows mode capacity book asked events now i history behind (inl is) =
     rw is (record { same = λ j before. refl; history = history; behind = λ j after. behind j (omega (arith, after)) })
-grows Script capacity book asked events now i history behind (inr (answered, key, here, needs, is)) = absurd (never answered)
+grows Script capacity book asked events now i history behind (inr (answered, key, here, needs, is)) = cc answered
 grows Service capacity book asked events now i history behind (inr (answered, key, here, needs, is)) = rw is (record {
   same = set_before events i starved;
   history = set_served capacity book asked events i behind history key here needs;
@@ -187,32 +177,17 @@ module _ (longest capacity : ℕ) (r : Reading) (w : Writing) (old new : Account
   pub asked_alone : (bytes : List ℕ) (result : Result End ScriptFault) → Alone bytes result → Asked bytes result
   asked_alone bytes result (events, is, ended) = rw (is ∙ unbounded bytes) at ended
 
-  pub as_asked : (result : Result End ScriptFault) → IfSome r.input (λ bytes. Alone bytes result) →
-      IfOk result (λ end. IfSome r.input (λ bytes. IsAnswered capacity old bytes w.before w.now new end.lines))
-      × OnOk result (IfSome r.input (λ bytes. length bytes ≤ longest))
-      × IfErr result (λ fault. IfSome r.input (λ bytes. FailsAs longest capacity (script_start old bytes w.before) r.left w.now new fault))
-      × IfSome r.input (λ bytes. IsPrompt capacity (script_start old bytes w.before) w.name r.log)
-  as_asked result ended = by_input r.input result ended
-    where
-      by_input : (input : Option (List ℕ)) (result : Result End ScriptFault) → IfSome input (λ bytes. Alone bytes result) →
-          IfOk result (λ end. IfSome input (λ bytes. IsAnswered capacity old bytes w.before w.now new end.lines))
-          × OnOk result (IfSome input (λ bytes. length bytes ≤ longest))
-          × IfErr result (λ fault. IfSome input (λ bytes. FailsAs longest capacity (script_start old bytes w.before) r.left w.now new fault))
-          × IfSome input (λ bytes. IsPrompt capacity (script_start old bytes w.before) w.name r.log)
-      by_input None (Ok end) ended = (tt, tt, tt, tt)
-      by_input None (Err e) ended = (tt, tt, tt, tt)
-      by_input (Some bytes) (Ok end) ended = let alone = asked_alone bytes (Ok end) ended in (alone.done, alone.short, tt, alone.prompt)
-      by_input (Some bytes) (Err e) ended = let alone = asked_alone bytes (Err e) ended in (tt, tt, alone.fault, alone.prompt)
+  pub as_asked : (input : Option (List ℕ)) (result : Result End ScriptFault) → IfSome input (λ bytes. Alone bytes result) →
+      IfOk result (λ end. IfSome input (λ bytes. IsAnswered capacity old bytes w.before w.now new end.lines))
+      × OnOk result (IfSome input (λ bytes. length bytes ≤ longest))
+      × IfErr result (λ fault. IfSome input (λ bytes. FailsAs longest capacity (script_start old bytes w.before) r.left w.now new fault))
+      × IfSome input (λ bytes. IsPrompt capacity (script_start old bytes w.before) w.name r.log)
+  as_asked None (Ok end) ended = (tt, tt, tt, tt)
+  as_asked None (Err e) ended = (tt, tt, tt, tt)
+  as_asked (Some bytes) (Ok end) ended = let alone = asked_alone bytes (Ok end) ended in (alone.done, alone.short, tt, alone.prompt)
+  as_asked (Some bytes) (Err e) ended = let alone = asked_alone bytes (Err e) ended in (tt, tt, alone.fault, alone.prompt)
 
 -- ---- a starved commit changes nothing
-
-pub starved-book : (capacity : ℕ) (book : Accounts) (asked events : List Event) (i : ℕ) → IsStarved capacity book asked events i → book_at capacity book events (suc i) ≡ book_at capacity book events i
-starved-book capacity book asked events i was =
-    book_at-suc capacity book events i ∙ ap (λ e. after (book_at capacity book events i) (deed_of capacity book events i (deeds_before capacity book events i) e)) was.refused
-
-pub starved-open : (capacity : ℕ) (book : Accounts) (asked events : List Event) (i key : ℕ) → IsStarved capacity book asked events i → open_at capacity book events (suc i) key ≡ open_at capacity book events i key
-starved-open capacity book asked events i key was =
-    open_at-suc capacity book events i key ∙ ap (open_after (names_at capacity book events i) i key (open_at capacity book events i key)) was.refused
 
 pub starved-answer : (capacity : ℕ) (book : Accounts) (asked events : List Event) (i : ℕ) → IsStarved capacity book asked events i → line_of (answer_at capacity book events i) ≡ codes "bad 4 memory" ++ 10 ∷ []
 unfolding digits

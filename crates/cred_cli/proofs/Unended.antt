@@ -1,15 +1,12 @@
 -- Lines of which the last one may have no end.
-use Rattle.std.proofs.Common.{◌≡◌, ℕ, zero, suc, ◌<◌, ◌≤◌, List, [], ◌∷◌, ◌++◌, length, take, drop, map, option_map, refl, ap, arith, slice_get, inl, inr}
-use Rattle.std.proofs.{lemmas.Bool.Decides.eqb_tells, lemmas.List.length-map, lemmas.Option.slice_get-map}
+use Rattle.std.proofs.Common.{◌≡◌, ℕ, zero, suc, ◌+◌, ◌<◌, ◌≤◌, List, [], ◌∷◌, ◌++◌, length, take, drop, map, option_map, refl, ap, arith, slice_get}
+use Rattle.std.proofs.{lemmas.List.length-map, lemmas.Option.slice_get-map}
 use Rattle.cred_cli.specs.Script.{line_ends, with_unended}
+use Rattle.cred_cli.proofs.Lines.{line_ends-append}
 
 -- a line that ends later isn't counted yet
 pub ends_sooner : (front rest : List ℕ) → line_ends front < line_ends (front ++ 10 ∷ rest)
-ends_sooner [] rest = omega arith
-ends_sooner (c ∷ cs) rest = elim (eqb_tells c 10) [
-  | inl w ↦ rw w.0 (let r = ends_sooner cs rest in omega (arith, r))
-  | inr w ↦ rw w.0 (ends_sooner cs rest)
-]
+ends_sooner front rest = let r : line_ends (front ++ 10 ∷ rest) ≡ line_ends front + suc (line_ends rest) = line_ends-append front (10 ∷ rest) in omega (arith, r)
 
 module _ {A : Type 0} (f : A → A) where
   first_stay : (n : ℕ) (xs : List A) (i : ℕ) → i < n → slice_get (take n xs ++ map f (drop n xs)) i ≡ slice_get xs i

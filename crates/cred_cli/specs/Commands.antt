@@ -1,17 +1,15 @@
 -- What the program does, by its words.
+use Rattle.std.specs.{Io.KnownBytes.Appends, Io.KnownBytes.Keeps, Option.ok_or, Str.bytes_eq}
 use Rattle.std.specs.Prelude.{◌≡◌, ◌⊎◌, ℕ, ◌≤◌, Bool, true, false, if◌then◌else◌, Option, Some, None, IfSome, Result, Ok, List, [], ◌∷◌, ◌++◌, length, codes, MatchBool, MatchResult}
-use Rattle.std.specs.{Option.ok_or, Str.bytes_eq}
-use Rattle.std.specs.FinMap as map
-use Rattle.std.specs.Io.KnownBytes.{Appends, Keeps}
 use Rattle.clap.specs.Words.{Row, Text, first_of}
 use Rattle.cred_phc.specs.{Base64.bytes_of, Reading.◌>>=◌, Values.RecordValue, Values.SettingValue}
 use Rattle.cred_book.specs.{Accounts.Accounts, Accounts.most_accounts, Works.new_record, Works.right}
-use Rattle.cred_cli.specs.{declared.fault.ScriptFault.ScriptFault, declared.refusal.Refusal.Refusal, declared.refusal.Refusal.TheVariants.Password}
-use Rattle.cred_cli.specs.declared.exit_status.ExitStatus.{ExitStatus}
+use Rattle.cred_cli.specs.{Events.record_field, Events.setting_field, History.Shown, declared.exit_status.ExitStatus.ExitStatus}
+use Rattle.cred_cli.specs.{Outcome.FrontWritten, Outcome.HasCause, Outcome.ScriptFails, Outcome.longest_script, Prompt.IsPrompt}
+use Rattle.cred_cli.specs.{Script.out, Script.script_start, Statuses.status_number, Statuses.status_of, Texts.line_of, Watched.Reading, Watched.Writing}
 use Rattle.cred_cli.specs.declared.exit_status.ExitStatus.TheVariants.{Done, Refused, Failed, OutOfMemory, No}
-use Rattle.cred_cli.specs.{Statuses.status_number, Statuses.status_of, Events.record_field, Events.setting_field}
-use Rattle.cred_cli.specs.{Outcome.FrontWritten, Outcome.HasCause, Outcome.ScriptFails, Outcome.longest_script, History.Shown, Prompt.IsPrompt}
-use Rattle.cred_cli.specs.{Script.out, Script.script_start, Texts.line_of, Watched.Reading, Watched.Writing}
+use Rattle.cred_cli.specs.{declared.fault.ScriptFault.ScriptFault, declared.refusal.Refusal.Refusal, declared.refusal.Refusal.TheVariants.Password}
+use Rattle.std.specs.FinMap as map
 
 -- whenever more of a script on an empty book was asked for, what had come was answered
 abbrev pub RunsPrompt : Reading → Writing → Type 0

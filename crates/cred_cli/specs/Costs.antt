@@ -4,9 +4,8 @@ use Rattle.std.specs.Prelude.{ℕ, ◌+◌, ◌*◌, ◌/◌, ◌^◌, Bool, fal
 use Rattle.cred_phc.specs.{declared.scheme.Scheme.Scheme, declared.scheme.Scheme.TheVariants.Argon2, declared.scheme.Scheme.TheVariants.Scrypt}
 use Rattle.cred_book.specs.declared.request.Request.{Request}
 use Rattle.cred_book.specs.declared.request.Request.TheVariants.{Enrol, Verify, Change, Upgrade, Remove}
-use Rattle.cred_cli.specs.{declared.costs.CostBounds.CostBounds, declared.event.Event.Event}
+use Rattle.cred_cli.specs.{Script.events_of, declared.costs.CostBounds.CostBounds, declared.event.Event.Event, declared.refusal.Refusal.TheVariants.Costly}
 use Rattle.cred_cli.specs.declared.event.Event.TheVariants.{Load, Begin, Bad}
-use Rattle.cred_cli.specs.{declared.refusal.Refusal.TheVariants.Costly, Script.events_of}
 
 -- the KiB of so many tables of scrypt's, rounded up: each has 128 r 2^ln bytes (RFC 7914, section
 -- 5)

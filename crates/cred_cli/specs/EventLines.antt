@@ -2,9 +2,8 @@
 use Rattle.std.specs.Prelude.{◌≡◌, ℕ, List, [], ◌∷◌, Ok, codes}
 use Rattle.cred_book.specs.declared.request.Request.{Request}
 use Rattle.cred_book.specs.declared.request.Request.TheVariants.{Enrol, Verify, Change, Upgrade, Remove}
-use Rattle.cred_cli.specs.declared.event.Event.{Event}
+use Rattle.cred_cli.specs.{Events.key_field, Events.name_field, Events.password_field, Events.record_field, Events.setting_field, declared.event.Event.Event}
 use Rattle.cred_cli.specs.declared.event.Event.TheVariants.{Account, Load, Show, Begin, Commit, Bad}
-use Rattle.cred_cli.specs.Events.{key_field, name_field, password_field, record_field, setting_field}
 
 -- after the number of a `begin`: the operation's word and its fields
 abbrev pub IsRequestOf : Request → List (List ℕ) → Type 0

@@ -1,15 +1,12 @@
 -- What a line of a script asks for.
-use Rattle.std.specs.Prelude.{◌≡◌, ℕ, ◌+◌, ◌≤◌, List, [], ◌∷◌, length, nat_lt, if◌then◌else◌, Option, Some, None, Result, Ok, Err, true, codes}
 use Rattle.std.specs.{Option.ok_or, Str.bytes_eq}
+use Rattle.std.specs.Prelude.{◌≡◌, ℕ, ◌+◌, ◌≤◌, List, [], ◌∷◌, length, nat_lt, if◌then◌else◌, Option, Some, None, Result, Ok, Err, Bool, true, false, codes}
 use Rattle.cred_phc.specs.{Base64.bytes_of, Number.number_of, Pieces.pieces, Ranges.between, Reading.◌>>=◌, Reading.read_record, Reading.read_setting}
 use Rattle.cred_phc.specs.{Values.RecordValue, Values.SettingValue, declared.error.PhcError.PhcError}
 use Rattle.cred_book.specs.{Names.made_name, Works.is_for_current, declared.error.BookError.BookError, declared.request.Request.Request}
 use Rattle.cred_book.specs.declared.request.Request.TheVariants.{Enrol, Verify, Change, Upgrade, Remove}
-use Rattle.cred_cli.specs.declared.event.Event.{Event}
+use Rattle.cred_cli.specs.{declared.event.Event.Event, declared.refusal.Refusal.Refusal}
 use Rattle.cred_cli.specs.declared.event.Event.TheVariants.{Account, Load, Show, Begin, Commit, Bad}
-use Rattle.cred_cli.specs.declared.event.Operation.{Operation}
-use Rattle.cred_cli.specs.declared.event.Operation.TheVariants as operation
-use Rattle.cred_cli.specs.declared.refusal.Refusal.{Refusal}
 use Rattle.cred_cli.specs.declared.refusal.Refusal.TheVariants.{Long, Line, Key, Password, Text, Book}
 
 -- ---- the fields; the first from the left that stands for no value refuses the line
@@ -49,76 +46,91 @@ setting_field text = by_text (read_setting text)
 abbrev pub record_field : List ℕ → Result RecordValue Refusal
 record_field text = by_text (read_record text)
 
+-- ---- the fields behind a word; with another number of them a line asks for nothing
+
+-- `NAME`
+abbrev pub only_name : List (List ℕ) → Result (List ℕ) Refusal
+only_name (x ∷ []) = name_field x
+only_name _ = Err Line
+
+-- `NAME RECORD`
+abbrev pub name_and_record : List (List ℕ) → Result (List ℕ × RecordValue) Refusal
+name_and_record (x ∷ text ∷ []) =
+    name_field x >>= λ name. record_field text >>= λ stored. Ok (name, stored)
+name_and_record _ = Err Line
+
+-- `NAME PW`
+abbrev pub name_and_password : List (List ℕ) → Result (List ℕ × List ℕ) Refusal
+name_and_password (x ∷ p ∷ []) =
+    name_field x >>= λ name. password_field p >>= λ pw. Ok (name, pw)
+name_and_password _ = Err Line
+
+-- the setting that a line gives, or the one that is drawn; with more fields it is refused first
+abbrev pub own_setting : List (List ℕ) → Option SettingValue
+    → Result (Result SettingValue Refusal) Refusal
+own_setting [] (Some drawn) = Ok (Ok drawn)
+own_setting (text ∷ []) drawn = Ok (setting_field text)
+own_setting _ drawn = Err Line
+
+-- `NAME PW SETTING`, or without the setting if one is drawn
+abbrev pub name_password_setting : Option SettingValue → List (List ℕ)
+    → Result (List ℕ × List ℕ × SettingValue) Refusal
+name_password_setting drawn (x ∷ p ∷ own) =
+    own_setting own drawn >>= λ setting. name_field x >>= λ name. password_field p >>= λ pw.
+    setting >>= λ s. Ok (name, pw, s)
+name_password_setting drawn _ = Err Line
+
+-- `NAME PW NEW SETTING`, or without the setting if one is drawn
+abbrev pub change_request : Option SettingValue → List (List ℕ) → Result Request Refusal
+change_request drawn (x ∷ p ∷ q ∷ own) =
+    own_setting own drawn >>= λ setting. name_field x >>= λ name. password_field p >>= λ pw.
+    password_field q >>= λ new. setting >>= λ s. Ok (Change name pw new s)
+change_request drawn _ = Err Line
+
+-- an operation on an account's record, by its word and the fields behind it
+abbrev pub request_of : Option SettingValue → List ℕ → List (List ℕ) → Result Request Refusal
+request_of drawn word fields =
+    if bytes_eq word (codes "verify") then
+    (name_and_password fields >>= λ f. Ok (Verify f.0 f.1))
+    else if bytes_eq word (codes "remove") then
+    (name_and_password fields >>= λ f. Ok (Remove f.0 f.1))
+    else if bytes_eq word (codes "enrol") then
+    (name_password_setting drawn fields >>= λ f. Ok (Enrol f.0 f.1 f.2))
+    else if bytes_eq word (codes "upgrade") then
+    (name_password_setting drawn fields >>= λ f. Ok (Upgrade f.0 f.1 f.2))
+    else if bytes_eq word (codes "change") then change_request drawn fields
+    else Err Line
+
 -- ---- the lines, by their first words and the fields behind them
-
--- `account NAME`
-abbrev pub account_event : List (List ℕ) → Result Event Refusal
-account_event (x ∷ []) = name_field x >>= λ name. Ok (Account name)
-account_event _ = Err Line
-
--- `load NAME RECORD`
-abbrev pub load_event : List (List ℕ) → Result Event Refusal
-load_event (x ∷ text ∷ []) =
-    name_field x >>= λ name. record_field text >>= λ stored. Ok (Load name stored)
-load_event _ = Err Line
-
--- `show NAME`
-abbrev pub show_event : List (List ℕ) → Result Event Refusal
-show_event (x ∷ []) = name_field x >>= λ name. Ok (Show name)
-show_event _ = Err Line
 
 -- `commit K`
 abbrev pub commit_event : List (List ℕ) → Result Event Refusal
 commit_event (k ∷ []) = key_field k >>= λ key. Ok (Commit key)
 commit_event _ = Err Line
 
--- the operation of this word, if it has so many fields of its own after the password
-abbrev pub operation_of : List ℕ → List (List ℕ) → Result Operation Refusal
-operation_of word [] =
-    if bytes_eq word (codes "verify") then Ok operation.Verify
-    else if bytes_eq word (codes "remove") then Ok operation.Remove
-    else Err Line
-operation_of word (x ∷ []) =
-    if bytes_eq word (codes "enrol") then Ok operation.Enrol
-    else if bytes_eq word (codes "upgrade") then Ok operation.Upgrade
-    else Err Line
-operation_of word (x ∷ y ∷ []) =
-    if bytes_eq word (codes "change") then Ok operation.Change else Err Line
-operation_of word _ = Err Line
+-- it asks for nothing: its word or the number of its fields is another
+abbrev pub is_line : Refusal → Bool
+is_line Line = true
+is_line _ = false
 
-abbrev pub own_setting : List (List ℕ) → Result SettingValue Refusal
-own_setting (text ∷ []) = setting_field text
-own_setting _ = Err Line
-
-abbrev pub change_request : List ℕ → List ℕ → List (List ℕ) → Result Request Refusal
-change_request name pw (p ∷ own) =
-    password_field p >>= λ new. own_setting own >>= λ setting. Ok (Change name pw new setting)
-change_request name pw [] = Err Line
-
--- the request with the fields that are the operation's own
-abbrev pub request_of : Operation → List ℕ → List ℕ → List (List ℕ) → Result Request Refusal
-request_of operation.Verify name pw own = Ok (Verify name pw)
-request_of operation.Remove name pw own = Ok (Remove name pw)
-request_of operation.Enrol name pw own = own_setting own >>= λ setting. Ok (Enrol name pw setting)
-request_of operation.Upgrade name pw own =
-    own_setting own >>= λ setting. Ok (Upgrade name pw setting)
-request_of operation.Change name pw own = change_request name pw own
+-- such a line is refused before its number is read, and any other with its number first
+abbrev pub begun : List ℕ → Result Request Refusal → Result Event Refusal
+begun k (Ok request) = key_field k >>= λ key. Ok (Begin key request)
+begun k (Err why) = if is_line why then Err why else (key_field k >>= λ key. Err why)
 
 -- `begin K verify NAME PW`, `begin K remove NAME PW`, `begin K enrol NAME PW SETTING`,
 -- `begin K upgrade NAME PW SETTING` and `begin K change NAME PW PW SETTING`
 abbrev pub begin_event : List (List ℕ) → Result Event Refusal
-begin_event (k ∷ word ∷ x ∷ p ∷ own) =
-    operation_of word own >>= λ operation.
-    key_field k >>= λ key. name_field x >>= λ name. password_field p >>= λ pw.
-    request_of operation name pw own >>= λ request. Ok (Begin key request)
+begin_event (k ∷ word ∷ fields) = begun k (request_of None word fields)
 begin_event _ = Err Line
 
 abbrev pub event_of_pieces : List (List ℕ) → Result Event Refusal
 event_of_pieces [] = Err Line
 event_of_pieces (word ∷ fields) =
-    if bytes_eq word (codes "account") then account_event fields
-    else if bytes_eq word (codes "load") then load_event fields
-    else if bytes_eq word (codes "show") then show_event fields
+    if bytes_eq word (codes "account") then (only_name fields >>= λ name. Ok (Account name))
+    else if bytes_eq word (codes "load") then
+    (name_and_record fields >>= λ f. Ok (Load f.0 f.1))
+    else if bytes_eq word (codes "show") then (only_name fields >>= λ name. Ok (Show name))
     else if bytes_eq word (codes "begin") then begin_event fields
     else if bytes_eq word (codes "commit") then commit_event fields
     else Err Line

@@ -1,9 +1,8 @@
 -- Exit statuses.
 use Rattle.std.specs.Prelude.{ℕ}
-use Rattle.cred_cli.specs.declared.fault.ScriptFault.{ScriptFault}
-use Rattle.cred_cli.specs.declared.fault.ScriptFault.TheVariants.{Read, Write, Memory, TooLong}
-use Rattle.cred_cli.specs.declared.exit_status.ExitStatus.{ExitStatus}
+use Rattle.cred_cli.specs.{declared.exit_status.ExitStatus.ExitStatus, declared.fault.ScriptFault.ScriptFault}
 use Rattle.cred_cli.specs.declared.exit_status.ExitStatus.TheVariants.{Done, Refused, Failed, OutOfMemory, No}
+use Rattle.cred_cli.specs.declared.fault.ScriptFault.TheVariants.{Read, Write, Memory, TooLong}
 
 abbrev pub status_number : ExitStatus → ℕ
 status_number Done = 0

@@ -1,18 +1,15 @@
 -- How one event is done on the book that stands, with the tickets that are open.
 use Rattle.std.specs.Prelude.{◌≡◌, ℕ, ◌-◌, if◌then◌else◌, true, Bool, Option, Some, None, List, nat_lt, slice_index_or, slice_set}
-use Rattle.std.specs.FinMap as map
 use Rattle.cred_phc.specs.Values.{RecordValue}
-use Rattle.cred_book.specs.{Accounts.Accounts, Commits.commit_outcome, Works.Task, Works.name_of, declared.reply.Reply.Reply}
-use Rattle.cred_book.specs.declared.reply.Reply.TheVariants as reply
-use Rattle.cred_book.specs.declared.request.Request.{Request}
+use Rattle.cred_book.specs.{Accounts.Accounts, Commits.commit_outcome, Works.Task, Works.name_of, declared.reply.Reply.Reply, declared.request.Request.Request}
 use Rattle.cred_book.specs.declared.error.BookError.TheVariants.{Exists, Full, NoAccount}
-use Rattle.cred_cli.specs.declared.event.Event.{Event}
+use Rattle.cred_cli.specs.History.{Answer, Done, Begun, Changed, Replied, Refused, show_answer}
+use Rattle.cred_cli.specs.{Outcome.FrontWritten, Outcome.StandsAfter, Outcome.StopsIn, declared.event.Event.Event, declared.fault.ScriptFault.ScriptFault}
 use Rattle.cred_cli.specs.declared.event.Event.TheVariants.{Account, Load, Show, Begin, Commit, Bad}
-use Rattle.cred_cli.specs.declared.fault.ScriptFault.{ScriptFault}
 use Rattle.cred_cli.specs.declared.fault.ScriptFault.TheVariants.{Read, Write, Memory, TooLong}
 use Rattle.cred_cli.specs.declared.refusal.Refusal.TheVariants.{Book, Busy, Idle}
-use Rattle.cred_cli.specs.History.{Answer, Done, Begun, Changed, Replied, Refused, show_answer}
-use Rattle.cred_cli.specs.Outcome.{FrontWritten, StandsAfter, StopsIn}
+use Rattle.std.specs.FinMap as map
+use Rattle.cred_book.specs.declared.reply.Reply.TheVariants as reply
 
 -- the answer, the book after, and the open tickets after
 pub record Step : Type 0 where

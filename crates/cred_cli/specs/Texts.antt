@@ -1,11 +1,10 @@
 -- The text of each answer.
 use Rattle.std.specs.Prelude.{ℕ, List, [], ◌∷◌, ◌++◌, codes, decimal, Some, None}
 use Rattle.cred_phc.specs.Text.{record_text}
-use Rattle.cred_cli.specs.Refusals.{error_number, error_word}
+use Rattle.cred_cli.specs.History.{Answer, Done, Shown, Begun, Changed, Replied, Refused}
+use Rattle.cred_cli.specs.{Refusals.error_number, Refusals.error_word, declared.refusal.Refusal.Refusal}
 use Rattle.cred_book.specs.declared.reply.Reply.{Reply}
 use Rattle.cred_book.specs.declared.reply.Reply.TheVariants as reply
-use Rattle.cred_cli.specs.History.{Answer, Done, Shown, Begun, Changed, Replied, Refused}
-use Rattle.cred_cli.specs.declared.refusal.Refusal.{Refusal}
 
 -- `bad N WORD`
 abbrev pub refusal_text : Refusal → List ℕ

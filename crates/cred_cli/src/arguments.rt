@@ -1,6 +1,6 @@
 //! The command line of `credbook`.
 
-ghost use Rattle.std.specs.Prelude.{◌≡◌, IfOk, codes, false, map, option_map};
+ghost use Rattle.std.specs.Prelude.{◌≡◌, IfOk, false, map, option_map};
 ghost use Rattle.clap.specs.Words.{FailsBy, app_of, fault_of, first_of, found_of, rows_of, rule_of, subcommand_of, subcommand_rows_of, with_rule, with_subcommand};
 ghost use Rattle.clap.specs.declared.builder.command.Command.TheViews.{out-Command};
 ghost use Rattle.cred_cli.specs.Arguments.{credbook, needed_rule, one_app, password_rule, run_app, base_app, workers_rule};
@@ -27,6 +27,11 @@ static CHECK: HelpTexts = HelpTexts {
     about: "Says whether a password is the record's: yes, or no with status 4",
     usage: "credbook check [OPTIONS] <RECORD> [PASSWORD]",
 };
+
+const SETTING_HELP: &str =
+    "A scheme, its costs and a salt, as\n$argon2id$v=19$m=256,t=2,p=1$c29tZXNhbHQ";
+
+const RECORD_HELP: &str = "A setting with a tag behind it, as `hash` prints it";
 
 const AFTER_HELP: &str = "\
 Examples:
@@ -79,8 +84,16 @@ fn credbook<'a>(alloc: Global) -> Result<Command<'a>, AllocError>
     ensures app { IfOk result (λ c. app_of c ≡ credbook) }
     ensures local { IfOk result (λ c. (out-Command c).has_globals ≡ false) }
 {
-    let command = with_one(alloc, base_app(alloc)?, "hash", &HASH, setting(alloc))?;
-    with_one(alloc, command, "check", &CHECK, stored(alloc))
+    let command = base_app(alloc)?;
+    let what = needed(alloc, "setting", "SETTING", SETTING_HELP);
+    let command = with_one(alloc, command, "hash", &HASH, what)?;
+    with_one(
+        alloc,
+        command,
+        "check",
+        &CHECK,
+        needed(alloc, "record", "RECORD", RECORD_HELP),
+    )
 }
 
 /// The same with a subcommand on one setting or record. It is made here, so that no second command
@@ -155,23 +168,13 @@ fn with_arg<'a>(command: Command<'a>, arg: Arg<'a>) -> Result<Command<'a>, Alloc
     command.arg(arg)
 }
 
-fn setting<'a>(alloc: Global) -> Arg<'a>
-    ensures rule { rule_of result ≡ needed_rule (codes "setting") }
+fn needed<'a>(alloc: Global, name: &'a str, shown: &'a str, help: &'a str) -> Arg<'a>
+    ensures rule { rule_of result ≡ needed_rule name.entry.now }
     ensures local { result.global ≡ false }
 {
-    Arg::new(alloc, "setting")
-        .value_name("SETTING")
-        .help("A scheme, its costs and a salt, as\n$argon2id$v=19$m=256,t=2,p=1$c29tZXNhbHQ")
-        .required(true)
-}
-
-fn stored<'a>(alloc: Global) -> Arg<'a>
-    ensures rule { rule_of result ≡ needed_rule (codes "record") }
-    ensures local { result.global ≡ false }
-{
-    Arg::new(alloc, "record")
-        .value_name("RECORD")
-        .help("A setting with a tag behind it, as `hash` prints it")
+    Arg::new(alloc, name)
+        .value_name(shown)
+        .help(help)
         .required(true)
 }
 

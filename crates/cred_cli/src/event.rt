@@ -1,10 +1,10 @@
 //! What a line of a script asks for.
 
 ghost use Rattle.std.specs.Prelude.{◌≡◌, IfOk, length, map, nat_lt, take, true};
-ghost use Rattle.cred_phc.specs.{Pieces.pieces, Ranges.is_current};
+ghost use Rattle.cred_phc.specs.Pieces.{pieces};
 ghost use Rattle.cred_book.specs.Works.{is_for_current};
 ghost use Rattle.cred_cli.specs.Costs.{is_costly, within};
-ghost use Rattle.cred_cli.specs.Events.{IsSound, account_event, begin_event, change_request, commit_event, event_of, event_of_pieces, load_event, longest_line, most_pieces, operation_of, own_setting, request_of, show_event};
+ghost use Rattle.cred_cli.specs.Events.{IsSound, begin_event, begun, commit_event, event_of, event_of_pieces, is_line, longest_line, most_pieces};
 
 use crate::costs::{CostBounds, exceeds, request_exceeds};
 use crate::fields;
@@ -12,7 +12,7 @@ use crate::key::Key;
 use crate::refusal::Refusal;
 use arrayvec::ArrayVec;
 use cred_book::{Name, Request};
-use cred_phc::{Password, Pieces, Record, Setting};
+use cred_phc::{Pieces, Record};
 
 /// The longest line in bytes, its end not counted.
 pub(crate) const LONGEST_LINE: usize = 1024;
@@ -29,16 +29,6 @@ pub(crate) enum Event {
     Begin(Key, Request),
     Commit(Key),
     Bad(Refusal),
-}
-
-/// What `begin` may begin.
-#[derive(Clone, Copy)]
-enum Operation {
-    Enrol,
-    Verify,
-    Change,
-    Upgrade,
-    Remove,
 }
 
 impl Event {
@@ -109,51 +99,20 @@ fn event_of_pieces(line: &[&[u8]]) -> Result<Event, Refusal>
         return Err(Refusal::Line);
     };
     if *word == b"account".as_slice() {
-        account_event(fields)
+        let name = fields::only_name(fields)?;
+        Ok(Event::Account(name))
     } else if *word == b"load".as_slice() {
-        load_event(fields)
+        let (name, stored) = fields::name_and_record(fields)?;
+        Ok(Event::Load(name, stored))
     } else if *word == b"show".as_slice() {
-        show_event(fields)
+        let name = fields::only_name(fields)?;
+        Ok(Event::Show(name))
     } else if *word == b"begin".as_slice() {
         begin_event(fields)
     } else if *word == b"commit".as_slice() {
         commit_event(fields)
     } else {
         Err(Refusal::Line)
-    }
-}
-
-fn account_event(fields: &[&[u8]]) -> Result<Event, Refusal>
-    ensures event { result ≡ account_event (map (λ s. s.now) fields.now) }
-    ensures sound { IfOk result IsSound }
-{
-    match fields {
-        [name] => Ok(Event::Account(fields::name(name)?)),
-        _ => Err(Refusal::Line),
-    }
-}
-
-fn load_event(fields: &[&[u8]]) -> Result<Event, Refusal>
-    ensures event { result ≡ load_event (map (λ s. s.now) fields.now) }
-    ensures sound { IfOk result IsSound }
-{
-    match fields {
-        [name, stored] => {
-            let name = fields::name(name)?;
-            let stored = fields::stored(stored)?;
-            Ok(Event::Load(name, stored))
-        }
-        _ => Err(Refusal::Line),
-    }
-}
-
-fn show_event(fields: &[&[u8]]) -> Result<Event, Refusal>
-    ensures event { result ≡ show_event (map (λ s. s.now) fields.now) }
-    ensures sound { IfOk result IsSound }
-{
-    match fields {
-        [name] => Ok(Event::Show(fields::name(name)?)),
-        _ => Err(Refusal::Line),
     }
 }
 
@@ -171,79 +130,34 @@ fn begin_event(fields: &[&[u8]]) -> Result<Event, Refusal>
     ensures event { result ≡ begin_event (map (λ s. s.now) fields.now) }
     ensures sound { IfOk result IsSound }
 {
-    let [key, word, name, pw, own @ ..] = fields else {
-        return Err(Refusal::Line);
-    };
-    let operation = operation_of(word, own)?;
-    let key = fields::key(key)?;
-    let name = fields::name(name)?;
-    let pw = fields::password(pw)?;
-    let request = request_of(operation, name, pw, own)?;
-    Ok(Event::Begin(key, request))
-}
-
-/// The operation of this word, if it has so many fields of its own after the password.
-fn operation_of(word: &[u8], own: &[&[u8]]) -> Result<Operation, Refusal>
-    ensures { result ≡ operation_of word.now (map (λ s. s.now) own.now) }
-{
-    match own {
-        [] if word == b"verify".as_slice() => Ok(Operation::Verify),
-        [] if word == b"remove".as_slice() => Ok(Operation::Remove),
-        [_] if word == b"enrol".as_slice() => Ok(Operation::Enrol),
-        [_] if word == b"upgrade".as_slice() => Ok(Operation::Upgrade),
-        [_, _] if word == b"change".as_slice() => Ok(Operation::Change),
+    match fields {
+        [key, word, rest @ ..] => begun(key, fields::request(None, word, rest)),
         _ => Err(Refusal::Line),
     }
 }
 
-/// The request with the fields that are the operation's own.
-fn request_of(
-    operation: Operation,
-    name: Name,
-    pw: Password,
-    own: &[&[u8]],
-) -> Result<Request, Refusal>
-    ensures request { result ≡ request_of operation name pw (map (λ s. s.now) own.now) }
-    ensures current { IfOk result (λ request. is_for_current request ≡ true) }
+/// The event that begins a request under this number. A line whose word or number of fields is
+/// another is refused before its number is read, and any other with its number first.
+fn begun(key: &[u8], request: Result<Request, Refusal>) -> Result<Event, Refusal>
+    requires { IfOk request (λ request. is_for_current request ≡ true) }
+    ensures event { result ≡ begun key.now request }
+    ensures sound { IfOk result IsSound }
 {
-    match operation {
-        Operation::Verify => Ok(Request::Verify { name, pw }),
-        Operation::Remove => Ok(Request::Remove { name, pw }),
-        Operation::Enrol => {
-            let setting = own_setting(own)?;
-            Ok(Request::Enrol { name, pw, setting })
+    match request {
+        Ok(request) => {
+            let key = fields::key(key)?;
+            Ok(Event::Begin(key, request))
         }
-        Operation::Upgrade => {
-            let setting = own_setting(own)?;
-            Ok(Request::Upgrade { name, pw, setting })
-        }
-        Operation::Change => change_request(name, pw, own),
+        Err(why) if is_line(&why) => Err(why),
+        Err(why) => match fields::key(key) {
+            Ok(_) => Err(why),
+            Err(other) => Err(other),
+        },
     }
 }
 
-fn own_setting(own: &[&[u8]]) -> Result<Setting, Refusal>
-    ensures value { result ≡ own_setting (map (λ s. s.now) own.now) }
-    ensures current { IfOk result (λ setting. is_current setting.scheme ≡ true) }
+fn is_line(why: &Refusal) -> bool
+    ensures { result ≡ is_line why.now }
 {
-    match own {
-        [setting] => fields::setting(setting),
-        _ => Err(Refusal::Line),
-    }
-}
-
-fn change_request(name: Name, pw: Password, own: &[&[u8]]) -> Result<Request, Refusal>
-    ensures request { result ≡ change_request name pw (map (λ s. s.now) own.now) }
-    ensures current { IfOk result (λ request. is_for_current request ≡ true) }
-{
-    let [new_pw, rest @ ..] = own else {
-        return Err(Refusal::Line);
-    };
-    let new_pw = fields::password(new_pw)?;
-    let setting = own_setting(rest)?;
-    Ok(Request::Change {
-        name,
-        pw,
-        new_pw,
-        setting,
-    })
+    matches!(why, Refusal::Line)
 }

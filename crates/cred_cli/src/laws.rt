@@ -1,15 +1,14 @@
 //! Laws of the definitions of a history and of a line, which show that they say what they should.
 
-ghost use Rattle.std.specs.Prelude.{◌≡◌, ◌+◌, ◌≤◌, ◌++◌, ◌∷◌, [], ℕ, List, codes, Some, false, length, slice_get, suc, take, true};
 ghost use Rattle.std.specs.List.{join_with_byte};
-ghost use Rattle.std.specs.FinMap as map;
+ghost use Rattle.std.specs.Prelude.{◌≡◌, ◌+◌, ◌≤◌, ◌++◌, ◌∷◌, [], ℕ, List, codes, Some, false, length, slice_get, suc, take, true};
 ghost use Rattle.cred_book.specs.Accounts.{Accounts};
-ghost use Rattle.cred_cli.specs.{declared.costs.CostBounds.CostBounds, declared.event.Event.Event, declared.event.Event.TheVariants.Bad};
-ghost use Rattle.cred_cli.specs.{declared.refusal.Refusal.TheVariants.Costly, Calls.Call, Costs.is_costly, Costs.within, EventLines.IsLineOf, Events.event_of};
+ghost use Rattle.cred_cli.specs.{Calls.Call, Costs.is_costly, Costs.within, EventLines.IsLineOf, Events.event_of, Prompt.IsPrompt, Prompt.IsPromptAt};
 ghost use Rattle.cred_cli.specs.History.{answer_at, book_at, deeds_before, is_among, names_at, open_at};
-ghost use Rattle.cred_cli.specs.Prompt.{IsPrompt, IsPromptAt};
 ghost use Rattle.cred_cli.specs.{Script.ScriptStart, Script.answers_before, Script.events_of, Script.line_ends, Script.script_start, Starving.IsStarved};
-ghost use Rattle.cred_cli.specs.Texts.{line_of};
+ghost use Rattle.cred_cli.specs.{Texts.line_of, declared.costs.CostBounds.CostBounds, declared.event.Event.Event, declared.event.Event.TheVariants.Bad};
+ghost use Rattle.cred_cli.specs.declared.refusal.Refusal.TheVariants.{Costly};
+ghost use Rattle.std.specs.FinMap as map;
 
 /// The law that the names that a history counts are those of the book that it leaves, at every
 /// place.

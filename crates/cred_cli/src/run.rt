@@ -2,10 +2,9 @@
 //! answered.
 
 ghost use Rattle.std.specs.Prelude.{◌≡◌, ◌+◌, ◌≤◌, false, true, List, [], ◌∷◌, length, Some, IfErr, IfSome, OnOk};
-ghost use Rattle.cred_cli.specs.{Feeding.Finishes, Feeding.IsAt, Feeding.Plays, Feeding.Takes, Feeding.standing, Outcome.HasCause};
+ghost use Rattle.cred_cli.specs.{Feeding.Finishes, Feeding.IsAt, Feeding.Plays, Feeding.Takes, Feeding.standing, Outcome.HasCause, declared.event.Event.Event};
 ghost use Rattle.cred_cli.specs.{Script.ScriptStart, Script.start_as, Starving.EndsAs, Starving.IsHistory, Starving.events_by};
 ghost use Rattle.cred_cli.specs.Watched.{Basis, Fits, GivesAsContracted, IsNew, IsWritten, TakesAsContracted, calls_of, ended_of, failed_of, held_on, left_on, reading_on, writing_on};
-ghost use Rattle.cred_cli.specs.declared.event.Event.{Event};
 
 use crate::fault::ScriptFault;
 use crate::keeper_by::KeeperBy;

@@ -1,7 +1,7 @@
 //! A reader or a writer that counts the calls on it, and keeps in mind whether one failed. Proofs
 //! also see all the bytes that passed.
 
-ghost use Rattle.std.specs.Prelude.{◌≡◌, ◌||◌, ◌+◌, ◌-◌, ◌^◌, ◌<◌, ◌∷◌, min, true, length, IfOk, OnOk, OnErr};
+ghost use Rattle.std.specs.Prelude.{◌≡◌, ◌+◌, ◌-◌, ◌^◌, ◌<◌, ◌∷◌, min, true, length, IfOk, OnOk, OnErr};
 ghost use Rattle.std.specs.{Io.ReadsAtMost, Io.WritesAtMost, Io.KnownBytes.Keeps, Io.KnownBytes.ReadConsumes, Io.KnownBytes.WriteAppends};
 ghost use Rattle.cred_cli.specs.Watched.{IsNew, calls_of, failed_of, inner_of, name_of, Passes, ended_of, given_of, log_of, taken_of};
 
@@ -68,20 +68,6 @@ impl<X> Watched<X> {
         let Watched { inner, .. } = self;
         inner
     }
-
-    /// Counts a call, and keeps in mind whether it failed.
-    fn note(&mut self, failed: bool)
-        ensures inner { self.new.inner ≡ self.old.inner }
-        ensures ended { self.new.ended ≡ self.old.ended }
-        ensures log { self.new.log ≡ self.old.log }
-        ensures given { self.new.given ≡ self.old.given }
-        ensures taken { self.new.taken ≡ self.old.taken }
-        ensures calls { self.new.calls ≡ min (self.old.calls + 1) (2 ^ 64 - 1) }
-        ensures failed { self.new.failed ≡ (self.old.failed || failed) }
-    {
-        self.calls = self.calls.saturating_add(1);
-        self.failed |= failed;
-    }
 }
 
 impl<R: Read> Watched<R> {
@@ -113,7 +99,7 @@ impl<R: Read> Watched<R> {
         ensures nothing { OnOk result (length buf.new ≡ 0 → ended_of self.new ≡ ended_of self.old) }
         ensures broken { OnErr result (ended_of self.new ≡ ended_of self.old) }
     {
-        self.log = self.log.and(
+        let log = self.log.and(
             keeper,
             &self.inner,
             &self.given,
@@ -121,30 +107,8 @@ impl<R: Read> Watched<R> {
             &writer.inner,
             &writer.taken,
         );
-        self.read_on(buf)
-    }
-
-    /// Reads, and keeps what came.
-    fn read_on(&mut self, buf: &mut [u8]) -> io::Result<usize>
-        ensures bound { ReadsAtMost result buf.new }
-        ensures bytes { ReadConsumes (R.remaining self.old.inner)
-            (R.remaining self.new.inner) result buf.new }
-        ensures passed { Passes self.old.given.bytes self.new.given.bytes result buf.new }
-        ensures log { self.new.log ≡ self.old.log }
-        ensures calls { self.new.calls ≡ min (self.old.calls + 1) (2 ^ 64 - 1) }
-        ensures failed { OnErr result (self.new.failed ≡ true) }
-        ensures kept { OnOk result (self.new.failed ≡ self.old.failed) }
-        ensures end { IfOk result (λ n. n ≡ 0 → 0 < length buf.new → self.new.ended ≡ true) }
-        ensures goes_on { IfOk result (λ n. 0 < n → self.new.ended ≡ self.old.ended) }
-        ensures nothing { OnOk result (length buf.new ≡ 0 → self.new.ended ≡ self.old.ended) }
-        ensures broken { OnErr result (self.new.ended ≡ self.old.ended) }
-    {
-        let read = self.inner.read(buf);
-        if let Ok(n) = read {
-            self.given = self.given.and(&buf[..n]);
-            self.ended |= n == 0 && !buf.is_empty();
-        }
-        self.note(read.is_err());
+        let read = self.read(buf);
+        self.log = log;
         read
     }
 }
@@ -165,7 +129,14 @@ impl<R: Read> Read for Watched<R> {
         ensures nothing { OnOk result (length buf.new ≡ 0 → self.new.ended ≡ self.old.ended) }
         ensures broken { OnErr result (self.new.ended ≡ self.old.ended) }
     {
-        self.read_on(buf)
+        let read = self.inner.read(buf);
+        if let Ok(n) = read {
+            self.given = self.given.and(&buf[..n]);
+            self.ended |= n == 0 && !buf.is_empty();
+        }
+        self.calls = self.calls.saturating_add(1);
+        self.failed |= read.is_err();
+        read
     }
 }
 
@@ -192,7 +163,8 @@ impl<W: Write> Write for Watched<W> {
         if let Ok(n) = written {
             self.taken = self.taken.and(&buf[..n]);
         }
-        self.note(failed);
+        self.calls = self.calls.saturating_add(1);
+        self.failed |= failed;
         written
     }
 
@@ -205,7 +177,8 @@ impl<W: Write> Write for Watched<W> {
         ensures kept { OnOk result (self.new.failed ≡ self.old.failed) }
     {
         let flushed = self.inner.flush();
-        self.note(flushed.is_err());
+        self.calls = self.calls.saturating_add(1);
+        self.failed |= flushed.is_err();
         flushed
     }
 }

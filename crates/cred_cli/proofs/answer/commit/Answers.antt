@@ -1,5 +1,5 @@
-use Rattle.std.proofs.Common.{ap, Some, inl, refl, sym, ◌∙◌}
-use Rattle.cred_cli.proofs.Doing.{stays_done, commits_idle, commits_done, line_of_reply, ok_then}
+use Rattle.std.proofs.{Common.ap, Common.Some, Common.inl, Common.refl, Common.sym, Common.◌∙◌, lemmas.Result.IfOk-weaker}
+use Rattle.cred_cli.proofs.Doing.{stays_done, commits_idle, commits_done, line_of_reply}
 use Rattle.cred_cli.proofs.answer.commit.Goals as goal
 
 pub returns-in_default-clause-done : goal.returns-in_default-clause-done
@@ -8,7 +8,7 @@ returns-in_default-clause-done g c = inl (stays_done c.bad.result _ _ _ _ (commi
 -- there was no memory for the hash
 pub returns-in-Err-clause-done : goal.returns-in-Err-clause-done
 returns-in-Err-clause-done g c =
-    ok_then c.starve.result _ _ c.starve.ensures (λ line told. told c.args.tickets.now (sym c.in-Some.ensures.ticket ∙ ap Some (sym c.in-Err.ensures.back)) c.close.ensures.closed)
+    IfOk-weaker c.starve.result _ _ (λ line told. told c.args.tickets.now (sym c.in-Some.ensures.ticket ∙ ap Some (sym c.in-Err.ensures.back)) c.close.ensures.closed) c.starve.ensures
 
 pub returns-clause-done : goal.returns-clause-done
 returns-clause-done g c =

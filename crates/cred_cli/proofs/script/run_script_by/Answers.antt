@@ -4,16 +4,16 @@ use Rattle.cred_cli.specs.Watched.{Contract, Transcript, given_of, transcript_wr
 use Rattle.cred_cli.proofs.script.run_script_by.Goals as goal
 
 pub returns-clause-done : goal.returns-clause-done
-returns-clause-done g c = (as_asked _ _ _ _ _ _ _ (rw c.none.ensures at (c.answer_all.ensures.ended Contract tt))).0
+returns-clause-done g c = (as_asked _ _ _ _ _ _ _ _ (rw c.none.ensures at (c.answer_all.ensures.ended Contract tt))).0
 
 pub returns-clause-short : goal.returns-clause-short
-returns-clause-short g c = rw c.script.ensures at (as_asked _ _ _ _ _ _ _ (rw c.none.ensures at (c.answer_all.ensures.ended Contract tt))).1
+returns-clause-short g c = rw c.script.ensures at (as_asked _ _ _ _ _ _ _ _ (rw c.none.ensures at (c.answer_all.ensures.ended Contract tt))).1
 
 pub returns-clause-fault : goal.returns-clause-fault
-returns-clause-fault g c = rw c.script.ensures at (as_asked _ _ _ _ _ _ _ (rw c.none.ensures at (c.answer_all.ensures.ended Contract tt))).2
+returns-clause-fault g c = rw c.script.ensures at (as_asked _ _ _ _ _ _ _ _ (rw c.none.ensures at (c.answer_all.ensures.ended Contract tt))).2
 
 pub returns-clause-prompt : goal.returns-clause-prompt
-returns-clause-prompt g c = (as_asked _ _ _ _ _ _ _ (rw c.none.ensures at (c.answer_all.ensures.ended Contract tt))).3
+returns-clause-prompt g c = (as_asked _ _ _ _ _ _ _ _ (rw c.none.ensures at (c.answer_all.ensures.ended Contract tt))).3
 
 pub returns-clause-few : goal.returns-clause-few
 returns-clause-few g c = c.answer_all.ensures.few Contract tt

@@ -1,4 +1,4 @@
-use Rattle.std.proofs.Common.{rules, Some, refl, arith, ◌∙◌, ◌<◌, length, take, ◌++◌}
+use Rattle.std.proofs.Common.{Some, refl, arith, ◌∙◌, ◌<◌, length, take, ◌++◌}
 use Rattle.std.proofs.{lemmas.Bool.Decides.nat_tests, lemmas.List.take_rest, KnownBytes.Appends-trans, KnownBytes.Appends-kept}
 use Rattle.cred_cli.proofs.Writes.{front_written, cut_later, none_more, none_taken, taken_later}
 use Rattle.cred_cli.proofs.writing.write_whole.Goals as goal
@@ -47,9 +47,6 @@ returns-in-Err-clause-taken_in_part g c =
       c.in-Err.ensures.failed,
       front_written _ _ _ (Some c.args.writer.now.taken.bytes) (Some c.write.new.self.taken.bytes) c.loop-rest.invariant.1 left (c.in-Err.ensures.passed ∙ c.loop-rest.invariant.3),
     )
-
-pub returns-in-Ok-eq0-clause-done : goal.returns-in-Ok-eq0-clause-done
-returns-in-Ok-eq0-clause-done g c = search rules
 
 -- ---- as the writer's contract says
 

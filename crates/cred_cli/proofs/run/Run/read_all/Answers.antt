@@ -133,10 +133,6 @@ loop-call-preserved g c =
       size = omega (arith, c.loop-call.invariant.size, c.read_beside.auto.buf);
     }
 
--- written out, so that a body that doesn't meet it is refused here, without a long search
-pub returns-in-Ok-eq0-clause-cause : goal.returns-in-Ok-eq0-clause-cause
-returns-in-Ok-eq0-clause-cause g c = search rules
-
 -- each call gave a byte, and no more bytes than the limit were taken
 pub unreachable-requires : goal.unreachable-requires
 unreachable-requires g c =

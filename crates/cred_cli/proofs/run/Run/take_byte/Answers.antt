@@ -1,9 +1,8 @@
 use Rattle.std.proofs.Common.{◌≡◌, ◌≤◌, ◌<◌, arith, append_assoc, sym, ap, ◌∙◌, length, ◌∷◌, [], add-one, Some, slice_get}
 use Rattle.std.proofs.{lemmas.List.length-append, lemmas.Option.slice_get_within, lemmas.Result.err_from_is_err_and}
 use Rattle.cred_cli.specs.{Events.most_kept, Script.with_events, Starving.events_by}
-use Rattle.cred_cli.proofs.Feeds.{ended_event, take-kept, take_front}
+use Rattle.cred_cli.proofs.{Feeds.ended_event, Feeds.take-kept, Feeds.take_front, Starvings.goes_nowhere, Starvings.grows, Starvings.history-size}
 use Rattle.cred_cli.proofs.{Lines.line_ends-end, Lines.line_ends-more, Lines.unfinished_from-end, Lines.unfinished_from-more, Runs.fails_at}
-use Rattle.cred_cli.proofs.Starvings.{goes_nowhere, grows, history-size}
 use Rattle.cred_cli.proofs.run.Run.take_byte.Goals as goal
 
 -- a byte too many

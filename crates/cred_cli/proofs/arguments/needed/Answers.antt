@@ -1,7 +1,7 @@
 -- Written out, since a search for these takes long.
 use Rattle.std.proofs.Common.{◌∙◌, ap, true}
 use Rattle.clap.specs.Words.{Rule, rule_of}
-use Rattle.cred_cli.proofs.arguments.setting.Goals as goal
+use Rattle.cred_cli.proofs.arguments.needed.Goals as goal
 
 pub returns-clause-rule : goal.returns-clause-rule
 returns-clause-rule c =
