@@ -29,15 +29,9 @@ fits_now old new (Transcript all) (was, fits) = fits
 -- ---- whether a reader came to its end meanwhile
 
 pub still_open : (was now ended : Bool) → ended ≡ (not was && now) → ended ≡ false → was ≡ false → now ≡ false
-still_open true now ended is closed open_ = absurd (never open_)
-  where
-    never : true ≡ false → ⊥
-    never e = cc
+still_open true now ended is closed open_ = cc open_
 still_open false now ended is closed open_ = sym is ∙ closed
 
 pub came : (was now ended : Bool) → ended ≡ (not was && now) → ended ≡ true → (was ≡ false) × (now ≡ true)
-came true now ended is reached = absurd (never (sym is ∙ reached))
-  where
-    never : false ≡ true → ⊥
-    never e = cc
+came true now ended is reached = cc (sym is ∙ reached)
 came false now ended is reached = (refl, sym is ∙ reached)

@@ -1,31 +1,20 @@
 -- What the lines of an import come to, a name at a time.
-use Rattle.std.proofs.Common.{Bool, true, false, cond, if◌then◌else◌, is_some, ◌≡◌, ℕ, ◌+◌, refl, List, [], ◌∷◌, ◌++◌, Option, None, Some, Result, Ok, Err, Ordering, Less, Equal, Greater, sym, ap, ◌∙◌}
-use Rattle.std.specs.FinMap as map
-use Rattle.std.specs.{Ordering.eq_by_cmp, Ordering.is_eq, Cmp.eq_by_cmp_equiv, Cmp.Lexicographic.nat_list_cmp_total}
+use Rattle.std.proofs.Common.{Bool, true, false, cond, if◌then◌else◌, is_some, ◌≡◌, ℕ, ◌+◌, refl, List, [], ◌∷◌, ◌++◌, Option, None, Some, Result, Ok, Err, sym, ap, ◌∙◌}
+use Rattle.std.specs.{Cmp.eq_by_cmp_equiv, Cmp.Lexicographic.nat_list_cmp_total, Ordering.eq_by_cmp}
 use Rattle.cred_phc.specs.Values.{RecordValue}
 use Rattle.cred_book.specs.{Accounts.Accounts, Names.name_cmp}
-use Rattle.cred_book.specs.declared.error.BookError.TheVariants as error
-use Rattle.cred_admin.specs.declared.entry.LineFault.{LineFault}
-use Rattle.cred_admin.specs.declared.entry.LineFault.TheVariants.{Book, Costly, Locked as IsLocked}
-use Rattle.cred_admin.specs.declared.entry.Said.{Said}
-use Rattle.cred_admin.specs.declared.entry.Said.TheVariants.{Nothing, Account, Locked}
-use Rattle.cred_admin.specs.declared.import.Existing.{Existing}
-use Rattle.cred_admin.specs.declared.import.Existing.TheVariants.{Refused, Kept, Updated}
-use Rattle.cred_admin.specs.declared.import.LockedRecords.{LockedRecords}
-use Rattle.cred_admin.specs.declared.import.LockedRecords.TheVariants as locked
-use Rattle.cred_admin.specs.declared.import.Rules.{Rules}
+use Rattle.cred_file.proofs.TableLemmas.{same_name}
 use Rattle.cred_admin.specs.Import.{HasNone, Tally, entry_of, entry_with, is_costly, locked_entry, nothing_yet, said_of, tally_from, with_account, with_bad, with_change, with_entry, with_existing, with_kept, with_line, with_locked}
-use Rattle.cred_admin.specs.Listing.{Entry}
+use Rattle.cred_admin.specs.{Listing.Entry, declared.entry.LineFault.LineFault, declared.entry.Said.Said, declared.import.Existing.Existing}
+use Rattle.cred_admin.specs.declared.entry.LineFault.TheVariants.{Book, Costly, Locked as IsLocked}
+use Rattle.cred_admin.specs.declared.entry.Said.TheVariants.{Nothing, Account, Locked}
+use Rattle.cred_admin.specs.declared.import.Existing.TheVariants.{Refused, Kept, Updated}
+use Rattle.cred_admin.specs.{declared.import.LockedRecords.LockedRecords, declared.import.Rules.Rules}
+use Rattle.std.specs.FinMap as map
+use Rattle.cred_book.specs.declared.error.BookError.TheVariants as error
+use Rattle.cred_admin.specs.declared.import.LockedRecords.TheVariants as locked
 
 -- ---- a name of a map
-
-equal : (o : Ordering) → is_eq o ≡ true → o ≡ Equal
-equal Less e = cc
-equal Equal e = refl
-equal Greater e = cc
-
-same_name : (name other : List ℕ) → eq_by_cmp name_cmp name other ≡ true → name ≡ other
-same_name name other tie = map.slice_cmp-IsAntisymmetric map.nat_cmp-IsAntisymmetric name other (equal (name_cmp name other) tie)
 
 get_other : (m : Accounts) (key name : List ℕ) (v : Option RecordValue) → (name ≡ key → ⊥) → map.get (map.insert m key v) name ≡ map.get m name
 get_other m key name v other = map.get-insert nat_list_cmp_total m key v name ∙ by_tie (eq_by_cmp name_cmp name key) refl
@@ -39,10 +28,7 @@ get_here m key v = map.get-insert nat_list_cmp_total m key v key ∙ ap (λ b. c
 
 -- what is there isn't another that isn't
 apart : (m : Accounts) (name key : List ℕ) → map.contains_key m name ≡ true → map.contains_key m key ≡ false → name ≡ key → ⊥
-apart m name key there absent same = never (sym there ∙ ap (map.contains_key m) same ∙ absent)
-  where
-    never : true ≡ false → ⊥
-    never e = cc
+apart m name key there absent same = cc (sym there ∙ ap (map.contains_key m) same ∙ absent)
 
 -- ---- what holds through a line
 
@@ -56,7 +42,7 @@ module _ (P : Tally → Type 0) where
   by_locked rules book t n name locked.Refused is bad good = bad IsLocked
   by_locked rules book t n name locked.Disabled is bad good = good (name, None) (rw is refl)
 
-  by_line : (rules : Rules) (book : Accounts) (t : Tally) (n : ℕ) (r : Result Said LineFault) → P t → ((why : LineFault) → P (with_bad t n why))
+  pub by_line : (rules : Rules) (book : Accounts) (t : Tally) (n : ℕ) (r : Result Said LineFault) → P t → ((why : LineFault) → P (with_bad t n why))
       → ((e : Entry) → entry_with rules r ≡ Some e → P (with_entry rules.existing book t n e)) → P (with_line rules book t n r)
   by_line rules book t n (Ok Nothing) same bad good = same
   by_line rules book t n (Ok (Account name stored)) same bad good =
@@ -71,7 +57,7 @@ module _ (P : Tally → Type 0) where
   by_existing how Updated book t n e is bad kept change there =
       if_holds (with_bad t n (Book error.Exists)) (with_change t e) (map.contains_key t.changed e.0) (λ twice. bad (Book error.Exists)) (change is there)
 
-  by_entry : (how : Existing) (book : Accounts) (t : Tally) (n : ℕ) (e : Entry) → ((why : LineFault) → P (with_bad t n why)) → P (with_kept t)
+  pub by_entry : (how : Existing) (book : Accounts) (t : Tally) (n : ℕ) (e : Entry) → ((why : LineFault) → P (with_bad t n why)) → P (with_kept t)
       → (how ≡ Updated → map.contains_key book e.0 ≡ true → map.contains_key t.changed e.0 ≡ false → P (with_change t e))
       → (map.contains_key book e.0 ≡ false → map.contains_key t.accounts e.0 ≡ false → P (with_account t e)) → P (with_entry how book t n e)
   by_entry how book t n e bad kept change add =
@@ -133,17 +119,14 @@ stays_changed : (rules : Rules) (book : Accounts) (name : List ℕ) (v : Option 
 stays_changed rules book name v t n r holds = by_line (λ u. map.get u.changed name ≡ Some v) rules book t n r holds (λ why. holds)
     (λ e says. by_entry (λ u. map.get u.changed name ≡ Some v) rules.existing book t n e (λ why. holds) holds (λ how there new. get_other t.changed e.0 name e.1 (apart t.changed name e.0 (ap is_some holds) new) ∙ holds) (λ new here. holds))
 
-some_same : (x y : Entry) → Some x ≡ Some y → x ≡ y
-some_same x y same = cc
-
 cheap_entry : (rules : Rules) (book : Accounts) (t : Tally) (n : ℕ) (e f : Entry) (b : Bool) → (if b then None else Some f) ≡ Some e
     → (if b then with_bad t n Costly else with_entry rules.existing book t n f) ≡ with_entry rules.existing book t n e
 cheap_entry rules book t n e f true says = cc
-cheap_entry rules book t n e f false says = ap (with_entry rules.existing book t n) (some_same f e says)
+cheap_entry rules book t n e f false says = cc says
 
 locked_line : (rules : Rules) (book : Accounts) (t : Tally) (n : ℕ) (e : Entry) (name : List ℕ) (l : LockedRecords) → locked_entry name l ≡ Some e → with_locked rules book t n name l ≡ with_entry rules.existing book t n e
 locked_line rules book t n e name locked.Refused says = cc
-locked_line rules book t n e name locked.Disabled says = ap (with_entry rules.existing book t n) (some_same (name, None) e says)
+locked_line rules book t n e name locked.Disabled says = cc says
 
 line_of_entry : (rules : Rules) (book : Accounts) (t : Tally) (n : ℕ) (r : Result Said LineFault) (e : Entry) → entry_with rules r ≡ Some e → with_line rules book t n r ≡ with_entry rules.existing book t n e
 line_of_entry rules book t n (Ok Nothing) e says = cc

@@ -1,14 +1,11 @@
 -- Lines that aren't the passwords that are wanted.
-use Rattle.std.proofs.Common.{◌≡◌, ℕ, ◌<◌, List, length, Bool, Option, Some, None, IfSome, Result, Ok, Err, IfErr, inl, inr, sym, ◌∙◌}
+use Rattle.std.proofs.Common.{◌≡◌, ℕ, ◌<◌, List, length, Bool, Option, Some, None, IfSome, inl, inr, sym, ◌∙◌}
+use Rattle.std.proofs.lemmas.Option.{IfSome_then}
 use Rattle.cred_admin.specs.Lines.{HasEmptyLine, HasLongLine, HasNoLine, IsMisread, ReadFails, ReadsLine, ReadsLines, behind_line, of_second_line}
 use Rattle.cred_admin.specs.declared.fault.Fault.{Fault}
 use Rattle.cred_admin.specs.declared.fault.Fault.TheVariants as fault
 use Rattle.cred_admin.specs.{declared.new_password.EmptyPassword.EmptyPassword, declared.password.Passwords.TheVariants.Present, declared.password.Passwords.TheVariants.New, declared.password.Passwords.TheVariants.PresentAndNew}
 use Rattle.cred_cli.specs.Watched.{Reading}
-
-pub never_err : {A E : Type 0} (r : Result A E) (P Q : E → Type 0) → ((e : E) → P e → ⊥) → IfErr r P → IfErr r Q
-never_err (Ok x) P Q never p = tt
-never_err (Err e) P Q never p = absurd (never e p)
 
 -- the account's password isn't there where a new one is read
 pub as_new : (empty : EmptyPassword) (r : Reading) (e : Fault) → IsMisread Present r e → IsMisread (New empty) r e
@@ -22,19 +19,15 @@ as_new empty r fault.NoNewPassword h = h
 as_new empty r fault.Empty h = absurd h
 as_new empty r fault.Full h = absurd h
 
-so : (known : Option (List ℕ)) (P Q : List ℕ → Type 0) → ((bytes : List ℕ) → P bytes → Q bytes) → IfSome known P → IfSome known Q
-so None P Q f p = tt
-so (Some bytes) P Q f p = f bytes p
-
 -- the first of two lines
 pub as_first : (empty : EmptyPassword) (r : Reading) (e : Fault) → IsMisread Present r e → IsMisread (PresentAndNew empty) r e
 as_first empty r fault.Read h = h
 as_first empty r fault.Write h = absurd h
 as_first empty r fault.Memory h = h
 as_first empty r (fault.NoRecord made) h = absurd h
-as_first empty r fault.Password h = so r.input _ _ (λ bytes long. inl long) h
+as_first empty r fault.Password h = IfSome_then r.input h (λ bytes long. inl long)
 as_first empty r fault.NoPassword h = h
-as_first empty r fault.NoNewPassword h = so r.input _ _ (λ bytes none. absurd none) h
+as_first empty r fault.NoNewPassword h = IfSome_then r.input h (λ bytes none. absurd none)
 as_first empty r fault.Empty h = absurd h
 as_first empty r fault.Full h = absurd h
 
@@ -49,10 +42,10 @@ as_second empty r next pw same reads fault.Read h = sym same ∙ h
 as_second empty r next pw same reads fault.Write h = absurd h
 as_second empty r next pw same reads fault.Memory h = tt
 as_second empty r next pw same reads (fault.NoRecord made) h = absurd h
-as_second empty r next pw same reads fault.Password h = so r.input _ _ (λ bytes long. inr long.1) (behind r.input next.input pw HasLongLine reads h)
+as_second empty r next pw same reads fault.Password h = IfSome_then r.input (behind r.input next.input pw HasLongLine reads h) (λ bytes long. inr long.1)
 as_second empty r next pw same reads fault.NoPassword h = behind r.input next.input pw HasNoLine reads h
-as_second empty r next pw same reads fault.NoNewPassword h = so r.input _ _ (λ bytes none. absurd none.1) (behind r.input next.input pw (λ bytes. ⊥) reads h)
-as_second empty r next pw same reads fault.Empty h = (h.0, so r.input _ _ (λ bytes none. none.1) (behind r.input next.input pw HasEmptyLine reads h.1))
+as_second empty r next pw same reads fault.NoNewPassword h = IfSome_then r.input (behind r.input next.input pw (λ bytes. ⊥) reads h) (λ bytes none. absurd none.1)
+as_second empty r next pw same reads fault.Empty h = (h.0, IfSome_then r.input (behind r.input next.input pw HasEmptyLine reads h.1) (λ bytes none. none.1))
 as_second empty r next pw same reads fault.Full h = absurd h
 
 pub fails_so : (before now : Bool) (e : Fault) → ReadFails before now e → ReadFails before now (of_second_line e)

@@ -2,11 +2,10 @@
 use Rattle.std.proofs.Common.{◌≡◌, ℕ, List, subst, sym, Result, Ok, Err, IfErr}
 use Rattle.std.specs.Io.KnownBytes.{Keeps}
 use Rattle.cred_book.specs.declared.reply.Reply.{Reply}
-use Rattle.cred_admin.specs.Commands.{Asks, Obeys, Stays, Works, answer_of, passwords_of}
-use Rattle.cred_admin.specs.{Lines.IsMisread, Listing.Tells, Seen.Seen, declared.command.Asked.Asked, declared.command.Command.Command}
-use Rattle.cred_admin.specs.declared.fault.Fault.{Fault}
-use Rattle.cred_admin.specs.declared.fault.Fault.TheVariants as fault
+use Rattle.cred_admin.specs.{Commands.Asks, Commands.Obeys, Commands.Stays, Commands.Works, Commands.answer_of, Commands.passwords_of, Lines.IsMisread}
+use Rattle.cred_admin.specs.{Listing.Tells, Seen.Seen, declared.command.Asked.Asked, declared.command.Command.Command, declared.fault.Fault.Fault}
 use Rattle.cred_admin.specs.declared.status.Status.{Status}
+use Rattle.cred_admin.specs.declared.fault.Fault.TheVariants as fault
 
 module _ (capacity : ℕ) (name : List ℕ) (command : Command) (s : Seen) where
   pub misread : (e : Fault) → IsMisread (passwords_of command) s.reading e → Stays s → Obeys capacity name command s (Err e)

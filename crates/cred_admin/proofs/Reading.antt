@@ -101,10 +101,7 @@ on_ok (Err e) x = tt
 -- the input ends with the first line
 pub no_second : (known left : Option (List ℕ)) (line : List ℕ) → IfSome known (λ bytes. ReadsLine bytes left line) → IfSome known (λ bytes. left ≡ Some []) → IfSome known (λ bytes. (0 < length bytes) × (behind_line bytes ≡ []))
 no_second None left line reads end = tt
-no_second (Some bytes) left line reads end = (reads.there, same (behind_line bytes) (sym reads.left_is ∙ end))
-  where
-    same : (xs : List ℕ) → Some xs ≡ Some [] → xs ≡ []
-    same xs is = cc
+no_second (Some bytes) left line reads end = (reads.there, cc (sym reads.left_is ∙ end))
 
 -- the end before the first byte
 none_at : (bytes line rest : List ℕ) (now : Option (List ℕ)) → GoesOn bytes line rest → length line ≡ 0 → Takes rest now None → bytes ≡ []

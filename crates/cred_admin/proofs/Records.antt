@@ -1,21 +1,17 @@
 -- Whole operations done at once, and first records.
 use Rattle.std.proofs.Common.{◌≡◌, ℕ, List, Bool, true, false, cond, is_some, Option, Some, None, Err, refl, sym, ap, ◌∙◌}
-use Rattle.std.specs.FinMap as map
-use Rattle.std.specs.{Cmp.eq_by_cmp_equiv, Ordering.eq_by_cmp, Cmp.Lexicographic.nat_list_cmp_total}
+use Rattle.std.specs.{Cmp.Lexicographic.nat_list_cmp_total, Ordering.eq_by_cmp}
 use Rattle.cred_phc.specs.Values.{RecordValue}
-use Rattle.cred_book.specs.{Accounts.Accounts, Calls.Loads, Calls.Shows, Commits.commit_outcome, Commits.commit_outcome_at, Commits.commit_outcome_if, Names.name_cmp}
-use Rattle.cred_book.specs.{Works.Task, Works.name_of, Works.same, Works.seq, Works.seq_at, Works.whole, declared.error.BookError.BookError}
-use Rattle.cred_book.specs.declared.error.BookError.TheVariants as error
-use Rattle.cred_book.specs.declared.reply.Reply.{Reply}
-use Rattle.cred_book.specs.declared.reply.Reply.TheVariants as reply
+use Rattle.cred_book.specs.{Accounts.Accounts, Calls.Loads, Commits.commit_outcome, Commits.commit_outcome_at, Commits.commit_outcome_if, Names.name_cmp}
+use Rattle.cred_book.specs.{Works.Task, Works.name_of, Works.seq, Works.seq_at, Works.whole, declared.error.BookError.BookError, declared.reply.Reply.Reply}
 use Rattle.cred_book.specs.declared.request.Request.{Request}
 use Rattle.cred_book.proofs.Equality.{same-Decides}
 use Rattle.cred_admin.specs.Commands.{IsBare, enrolment}
+use Rattle.std.specs.FinMap as map
+use Rattle.cred_book.specs.declared.error.BookError.TheVariants as error
+use Rattle.cred_book.specs.declared.reply.Reply.TheVariants as reply
 
 -- ---- a whole operation
-
-same_self : (now : Option RecordValue) → same now now ≡ true
-same_self now = (same-Decides now now).1 refl
 
 pub no_account : (book : Accounts) (request : Request) → map.get book (name_of request) ≡ None → (reply.NoAccount, book) ≡ seq book request
 unfolding seq
@@ -24,7 +20,7 @@ no_account book request is = sym (ap (seq_at book request) is)
 committed_now : (book : Accounts) (work : Task) → map.get book (name_of work.0) ≡ Some work.1
     → commit_outcome book work ≡ ((whole work.0 work.1).0, map.insert book (name_of work.0) (whole work.0 work.1).1)
 unfolding commit_outcome
-committed_now book work is = ap (commit_outcome_at book work) is ∙ ap (commit_outcome_if book work work.1) (same_self work.1)
+committed_now book work is = ap (commit_outcome_at book work) is ∙ ap (commit_outcome_if book work work.1) ((same-Decides work.1 work.1).1 refl)
 
 seq_now : (book : Accounts) (request : Request) (now : Option RecordValue) → map.get book (name_of request) ≡ Some now
     → seq book request ≡ ((whole request now).0, map.insert book (name_of request) (whole request now).1)
@@ -50,17 +46,6 @@ insert_over book name u v = map.same_map nat_list_cmp_total (map.slice_cmp-IsAnt
     ∙ ap (cond (eq_by_cmp name_cmp q name) (Some v)) (map.get-insert nat_list_cmp_total book name u q)
     ∙ cond_twice (eq_by_cmp name_cmp q name) _ _ _
     ∙ sym (map.get-insert nat_list_cmp_total book name v q))
-
-pub there_now : (book : Accounts) (name : List ℕ) (v : Option RecordValue) → map.contains_key (map.insert book name v) name ≡ true
-there_now book name v = ap is_some (map.get-insert nat_list_cmp_total book name v name
-    ∙ ap (λ b. cond b (Some v) (map.get book name)) ((eq_by_cmp_equiv nat_list_cmp_total).refl name))
-
-pub not_there : (book : Accounts) (name : List ℕ) (e : BookError) → Shows book name (Err e) → map.get book name ≡ None
-not_there book name error.NoAccount h = h
-not_there book name error.Memory h = absurd h
-not_there book name error.Name h = absurd h
-not_there book name error.Exists h = absurd h
-not_there book name error.Full h = absurd h
 
 -- ---- what a keeper refuses
 

@@ -1,21 +1,13 @@
 -- What the lines of an import come to, a line at a time.
-use Rattle.std.proofs.Common.{Bool, true, false, cond, if◌then◌else◌, ◌≡◌, ℕ, ◌+◌, ◌≤◌, ◌<◌, ◌⊎◌, inl, inr, refl, List, [], ◌∷◌, None, Result, Ok, Err, sym, ap, ◌∙◌, arith}
-use Rattle.std.specs.FinMap as map
+use Rattle.std.proofs.Common.{Bool, true, false, cond, ◌≡◌, ℕ, ◌+◌, ◌≤◌, ◌<◌, ◌⊎◌, inl, inr, refl, List, [], ◌∷◌, Result, Err, sym, ap, ◌∙◌, arith}
 use Rattle.std.specs.Cmp.Lexicographic.{nat_list_cmp_total}
 use Rattle.cred_book.specs.Accounts.{Accounts, register_capacity}
-use Rattle.cred_book.specs.declared.error.BookError.TheVariants as error
-use Rattle.cred_admin.specs.declared.entry.LineFault.{LineFault}
-use Rattle.cred_admin.specs.declared.entry.LineFault.TheVariants.{Book, Costly, Locked as IsLocked}
-use Rattle.cred_admin.specs.declared.entry.Said.{Said}
-use Rattle.cred_admin.specs.declared.entry.Said.TheVariants.{Nothing, Account, Locked}
-use Rattle.cred_admin.specs.declared.import.Existing.{Existing}
-use Rattle.cred_admin.specs.declared.import.Existing.TheVariants.{Refused, Kept, Updated}
-use Rattle.cred_admin.specs.declared.import.LockedRecords.{LockedRecords}
-use Rattle.cred_admin.specs.declared.import.LockedRecords.TheVariants as locked
-use Rattle.cred_admin.specs.{declared.import.Rules.Rules, declared.import.ImportFault.ImportFault}
+use Rattle.cred_admin.specs.Import.{Comes, Tally, said_of, tally_from, with_account, with_bad, with_entry, with_line}
+use Rattle.cred_admin.specs.{Listing.Entry, declared.entry.LineFault.LineFault, declared.entry.Said.Said, declared.import.Existing.Existing}
+use Rattle.cred_admin.specs.{declared.import.ImportFault.ImportFault, declared.import.Rules.Rules}
+use Rattle.cred_admin.proofs.Imported.{by_entry, by_line}
+use Rattle.std.specs.FinMap as map
 use Rattle.cred_admin.specs.declared.import.ImportFault.TheVariants as fault
-use Rattle.cred_admin.specs.Import.{Comes, Tally, is_costly, said_of, tally_from, with_account, with_bad, with_entry, with_existing, with_line, with_locked}
-use Rattle.cred_admin.specs.Listing.{Entry}
 
 pub tally_more : (rules : Rules) (book : Accounts) (t next : Tally) (n : ℕ) (lines rest : List (List ℕ)) (line : List ℕ) (all : Tally) → tally_from rules book t n lines ≡ all → lines ≡ line ∷ rest
     → next ≡ with_line rules book t n (said_of line) → tally_from rules book next (n + 1) rest ≡ all
@@ -35,15 +27,6 @@ pub record Grows (t next : Tally) : Type 0 where
 grows_bad : (t : Tally) (n : ℕ) (why : LineFault) → Grows t (with_bad t n why)
 grows_bad t n why = record { more = omega arith; kept = omega arith }
 
-if_grows : (t x y : Tally) (a : Bool) → Grows t x → Grows t y → Grows t (if a then x else y)
-if_grows t x y true p q = p
-if_grows t x y false p q = q
-
-grows_existing : (how : Existing) (t : Tally) (n : ℕ) (e : Entry) → Grows t (with_existing how t n e)
-grows_existing Refused t n e = grows_bad t n (Book error.Exists)
-grows_existing Kept t n e = record { more = omega arith; kept = omega arith }
-grows_existing Updated t n e = if_grows t _ _ (map.contains_key t.changed e.0) (grows_bad t n (Book error.Exists)) (record { more = omega arith; kept = omega arith })
-
 at_least : (b : Bool) (n m : ℕ) → m ≡ cond b n (n + 1) → n ≤ m
 at_least true n m is = omega (arith, is)
 at_least false n m is = omega (arith, is)
@@ -52,20 +35,11 @@ grows_account : (t : Tally) (e : Entry) → Grows t (with_account t e)
 grows_account t e =
     record { more = at_least (map.contains_key t.accounts e.0) _ _ (map.len-insert nat_list_cmp_total t.accounts e.0 e.1); kept = omega arith }
 
-grows_entry : (how : Existing) (book : Accounts) (t : Tally) (n : ℕ) (e : Entry) → Grows t (with_entry how book t n e)
-grows_entry how book t n e =
-    if_grows t _ _ (map.contains_key book e.0) (grows_existing how t n e) (if_grows t _ _ (map.contains_key t.accounts e.0) (grows_bad t n (Book error.Exists)) (grows_account t e))
-
-grows_locked : (rules : Rules) (book : Accounts) (t : Tally) (n : ℕ) (name : List ℕ) (l : LockedRecords) → Grows t (with_locked rules book t n name l)
-grows_locked rules book t n name locked.Refused = grows_bad t n IsLocked
-grows_locked rules book t n name locked.Disabled = grows_entry rules.existing book t n (name, None)
-
 pub grows : (rules : Rules) (book : Accounts) (t : Tally) (n : ℕ) (r : Result Said LineFault) → Grows t (with_line rules book t n r)
-grows rules book t n (Ok Nothing) = record { more = omega arith; kept = omega arith }
-grows rules book t n (Ok (Account name stored)) =
-    if_grows t _ _ (is_costly rules.most stored) (grows_bad t n Costly) (grows_entry rules.existing book t n (name, stored))
-grows rules book t n (Ok (Locked name)) = grows_locked rules book t n name rules.locked
-grows rules book t n (Err why) = grows_bad t n why
+grows rules book t n r =
+    by_line (Grows t) rules book t n r (record { more = omega arith; kept = omega arith }) (grows_bad t n)
+    (λ e says. by_entry (Grows t) rules.existing book t n e (grows_bad t n) (record { more = omega arith; kept = omega arith })
+    (λ how there new. record { more = omega arith; kept = omega arith }) (λ new here. grows_account t e))
 
 -- no line takes an account away
 pub tally_keeps : (rules : Rules) (book : Accounts) (t : Tally) (n : ℕ) (lines : List (List ℕ)) → map.len t.accounts ≤ map.len (tally_from rules book t n lines).accounts

@@ -1,23 +1,20 @@
 -- What the commands on one account do.
-use Rattle.std.specs.Prelude.{◌≡◌, ℕ, ◌≤◌, List, Bool, Option, Some, None, Result, Ok, Err, true, false}
-use Rattle.std.specs.FinMap as map
 use Rattle.std.specs.Io.KnownBytes.{Keeps}
+use Rattle.std.specs.Prelude.{◌≡◌, ℕ, ◌≤◌, List, Bool, Option, Some, None, Result, Ok, Err, true, false}
 use Rattle.cred_phc.specs.Values.{RecordValue}
 use Rattle.cred_book.specs.{Accounts.Accounts, Works.is_for_current, Works.new_record, Works.seq, declared.reply.Reply.Reply}
+use Rattle.cred_admin.specs.{Lines.IsAdmitted, Lines.IsMisread, Lines.TakesLine, Lines.TakesLines, Listing.Tells, Seen.Seen}
+use Rattle.cred_admin.specs.{Statuses.hint_of, Statuses.status_of, declared.command.Asked.Asked, declared.command.Command.Command}
+use Rattle.cred_admin.specs.declared.command.Command.TheVariants.{Add, Check, Change, Reset, Upgrade, Remove}
+use Rattle.cred_admin.specs.{declared.fault.Fault.Fault, declared.new_password.NewPassword.NewPassword, declared.operation.Operation.Operation}
+use Rattle.cred_admin.specs.{declared.password.Passwords.Passwords, declared.status.Hint.Hint, declared.status.Status.Status}
+use Rattle.cred_admin.specs.declared.password.Passwords.TheVariants.{Present, New, PresentAndNew}
+use Rattle.cred_cli.specs.{Texts.reply_line, Watched.Reading}
+use Rattle.std.specs.FinMap as map
 use Rattle.cred_book.specs.declared.reply.Reply.TheVariants as reply
 use Rattle.cred_book.specs.declared.request.Request.TheVariants as request
-use Rattle.cred_admin.specs.declared.command.Asked.{Asked}
-use Rattle.cred_admin.specs.declared.command.Command.{Command}
-use Rattle.cred_admin.specs.declared.command.Command.TheVariants.{Add, Check, Change, Reset, Upgrade, Remove}
-use Rattle.cred_admin.specs.{declared.fault.Fault.Fault, declared.new_password.NewPassword.NewPassword}
 use Rattle.cred_admin.specs.declared.fault.Fault.TheVariants as fault
-use Rattle.cred_admin.specs.declared.operation.Operation.{Operation}
 use Rattle.cred_admin.specs.declared.operation.Operation.TheVariants as operation
-use Rattle.cred_admin.specs.declared.password.Passwords.{Passwords}
-use Rattle.cred_admin.specs.declared.password.Passwords.TheVariants.{Present, New, PresentAndNew}
-use Rattle.cred_admin.specs.{declared.status.Hint.Hint, declared.status.Status.Status, Lines.IsAdmitted, Lines.IsMisread, Lines.TakesLine, Lines.TakesLines}
-use Rattle.cred_admin.specs.{Listing.Tells, Seen.Seen, Statuses.hint_of, Statuses.status_of}
-use Rattle.cred_cli.specs.{Texts.reply_line, Watched.Reading}
 
 -- ---- what is asked
 

@@ -1,19 +1,17 @@
 -- What the orders do that change an account without its password.
-use Rattle.std.specs.Prelude.{◌≡◌, ◌⊎◌, ℕ, Bool, true, false, ◌&&◌, not, List, [], ◌∷◌, ◌++◌, codes, nat_lt, Option, Some, None, Result, Ok, Err}
-use Rattle.std.specs.FinMap as map
 use Rattle.std.specs.Io.KnownBytes.{Appends, Keeps}
+use Rattle.std.specs.Prelude.{◌≡◌, ◌⊎◌, ℕ, Bool, true, false, ◌&&◌, not, List, [], ◌∷◌, ◌++◌, codes, nat_lt, Option, Some, None, Result, Ok, Err}
 use Rattle.cred_phc.specs.Values.{RecordValue}
 use Rattle.cred_book.specs.{Accounts.Accounts, declared.error.BookError.BookError}
-use Rattle.cred_book.specs.declared.error.BookError.TheVariants as error
-use Rattle.cred_admin.specs.declared.edit_reply.EditReply.{EditReply}
-use Rattle.cred_admin.specs.declared.edit_reply.EditReply.TheVariants as reply
-use Rattle.cred_admin.specs.declared.edits.Edit.{Edit}
+use Rattle.cred_admin.specs.{Listing.Tells, Listing.passwd_line, declared.edit_reply.EditReply.EditReply, declared.edits.Edit.Edit}
 use Rattle.cred_admin.specs.declared.edits.Edit.TheVariants.{Disable, Delete, Rename}
-use Rattle.cred_admin.specs.declared.fault.Fault.{Fault}
-use Rattle.cred_admin.specs.declared.fault.Fault.TheVariants as fault
-use Rattle.cred_admin.specs.{declared.status.Status.Status, declared.status.Status.TheVariants.Done, declared.status.Status.TheVariants.No}
-use Rattle.cred_admin.specs.Listing.{Tells, passwd_line}
+use Rattle.cred_admin.specs.{declared.fault.Fault.Fault, declared.status.Status.Status}
+use Rattle.cred_admin.specs.declared.status.Status.TheVariants.{Done, No}
 use Rattle.cred_cli.specs.{Outcome.FrontWritten, Watched.Writing}
+use Rattle.std.specs.FinMap as map
+use Rattle.cred_book.specs.declared.error.BookError.TheVariants as error
+use Rattle.cred_admin.specs.declared.edit_reply.EditReply.TheVariants as reply
+use Rattle.cred_admin.specs.declared.fault.Fault.TheVariants as fault
 
 -- ---- what is answered
 

@@ -1,24 +1,21 @@
 -- What an import makes of its text.
-use Rattle.std.specs.Prelude.{◌≡◌, ℕ, ◌+◌, ◌-◌, ◌<◌, Bool, true, false, ◌||◌, ◌==◌, if◌then◌else◌, List, [], ◌∷◌, ◌++◌, length, take, drop, codes, Option, None, Some, IfSome, Result, Ok, Err, nat_eq, ⊤}
 use Rattle.std.specs.List.{ends_with, starts_with}
-use Rattle.std.specs.FinMap as map
+use Rattle.std.specs.Prelude.{◌≡◌, ℕ, ◌+◌, ◌-◌, ◌<◌, Bool, true, false, ◌||◌, ◌==◌, if◌then◌else◌, List, [], ◌∷◌, ◌++◌, length, take, drop, codes, Option, None, Some, IfSome, Result, Ok, Err, nat_eq, ⊤}
 use Rattle.cred_phc.specs.{Errors.error_number as fault_number, Errors.error_word as fault_word, Pieces.pieces, Reading.read_record, Values.RecordValue}
 use Rattle.cred_phc.specs.declared.error.PhcError.{PhcError}
-use Rattle.cred_book.specs.{Accounts.Accounts, Accounts.register_capacity, Names.made_name}
-use Rattle.cred_book.specs.{Errors.error_number as refusal_number, Errors.error_word as refusal_word, declared.error.BookError.BookError}
-use Rattle.cred_book.specs.declared.error.BookError.TheVariants as error
+use Rattle.cred_book.specs.{Accounts.Accounts, Accounts.register_capacity, Errors.error_number as refusal_number, Errors.error_word as refusal_word}
+use Rattle.cred_book.specs.{Names.made_name, declared.error.BookError.BookError}
 use Rattle.cred_cli.specs.{Costs.exceeds, declared.costs.CostBounds.CostBounds}
-use Rattle.cred_admin.specs.declared.entry.LineFault.{LineFault}
+use Rattle.cred_admin.specs.{Listing.Entry, declared.entry.LineFault.LineFault, declared.entry.Said.Said, declared.import.Rules.Rules}
 use Rattle.cred_admin.specs.declared.entry.LineFault.TheVariants.{Line, Text, Book, Costly, Locked as IsLocked}
-use Rattle.cred_admin.specs.declared.entry.Said.{Said}
 use Rattle.cred_admin.specs.declared.entry.Said.TheVariants.{Nothing, Account, Locked}
 use Rattle.cred_admin.specs.{declared.import.BadLine.BadLine, declared.import.Existing.Existing}
 use Rattle.cred_admin.specs.declared.import.Existing.TheVariants.{Refused, Kept, Updated}
-use Rattle.cred_admin.specs.{declared.import.Gathered.Gathered, declared.import.ImportFault.ImportFault}
+use Rattle.cred_admin.specs.{declared.import.Gathered.Gathered, declared.import.ImportFault.ImportFault, declared.import.LockedRecords.LockedRecords}
+use Rattle.std.specs.FinMap as map
+use Rattle.cred_book.specs.declared.error.BookError.TheVariants as error
 use Rattle.cred_admin.specs.declared.import.ImportFault.TheVariants as fault
-use Rattle.cred_admin.specs.declared.import.LockedRecords.{LockedRecords}
 use Rattle.cred_admin.specs.declared.import.LockedRecords.TheVariants as locked
-use Rattle.cred_admin.specs.{declared.import.Rules.Rules, Listing.Entry}
 
 abbrev pub line_number : LineFault → ℕ
 line_number Line = 11

@@ -1,13 +1,11 @@
 -- Passwords, a line each.
 use Rattle.std.specs.Prelude.{◌≡◌, ◌⊎◌, ℕ, ◌<◌, ◌==◌, if◌then◌else◌, List, [], ◌∷◌, length, Option, Some, None, IfSome, ⊤, Bool, true}
-use Rattle.cred_admin.specs.declared.new_password.EmptyPassword.{EmptyPassword}
+use Rattle.cred_admin.specs.{declared.fault.Fault.Fault, declared.new_password.EmptyPassword.EmptyPassword, declared.password.Passwords.Passwords}
 use Rattle.cred_admin.specs.declared.new_password.EmptyPassword.TheVariants.{Refused, Taken}
-use Rattle.cred_admin.specs.declared.fault.Fault.{Fault}
-use Rattle.cred_admin.specs.declared.fault.Fault.TheVariants as fault
-use Rattle.cred_admin.specs.declared.password.Passwords.{Passwords}
 use Rattle.cred_admin.specs.declared.password.Passwords.TheVariants.{Present, New, PresentAndNew}
 use Rattle.cred_cli.specs.Watched.{Reading}
 use Rattle.cred_phc.specs.declared.password.TheConstants.{MAX_PASSWORD}
+use Rattle.cred_admin.specs.declared.fault.Fault.TheVariants as fault
 
 -- the bytes before the first line end (byte 10)
 unfoldable pub line_before : List ℕ → List ℕ

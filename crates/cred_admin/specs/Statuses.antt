@@ -1,13 +1,12 @@
 -- The exit statuses, and when each is answered.
 use Rattle.std.specs.Prelude.{ℕ, ◌-◌, ◌==◌, if◌then◌else◌, List, length, Option, Some, None, slice_get}
-use Rattle.cred_book.specs.declared.error.BookError.{BookError}
-use Rattle.cred_book.specs.declared.error.BookError.TheVariants as error
-use Rattle.cred_book.specs.declared.reply.Reply.{Reply}
-use Rattle.cred_book.specs.declared.reply.Reply.TheVariants as reply
-use Rattle.cred_admin.specs.declared.fault.Fault.{Fault}
-use Rattle.cred_admin.specs.declared.fault.Fault.TheVariants as fault
-use Rattle.cred_admin.specs.{declared.status.Hint.Hint, declared.status.Hint.TheVariants.CarriageReturn, declared.status.Status.Status}
+use Rattle.cred_book.specs.{declared.error.BookError.BookError, declared.reply.Reply.Reply}
+use Rattle.cred_admin.specs.{declared.fault.Fault.Fault, declared.status.Hint.Hint, declared.status.Hint.TheVariants.CarriageReturn}
+use Rattle.cred_admin.specs.declared.status.Status.{Status}
 use Rattle.cred_admin.specs.declared.status.Status.TheVariants.{Done, Usage, Io, Memory, No, Database, Data}
+use Rattle.cred_book.specs.declared.error.BookError.TheVariants as error
+use Rattle.cred_book.specs.declared.reply.Reply.TheVariants as reply
+use Rattle.cred_admin.specs.declared.fault.Fault.TheVariants as fault
 
 abbrev pub number_of : Status → ℕ
 number_of Done = 0

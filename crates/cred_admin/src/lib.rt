@@ -30,7 +30,7 @@ pub use entry::LineFault;
 pub use fault::Fault;
 pub use import::{BadLine, Existing, Gathered, ImportFault, LockedRecords, Rules, gather};
 pub use laws::imports_are_of_their_lines;
-pub use listing::{Line, a_piece_has_64_kib, list};
+pub use listing::{Line, a_piece_has_64_kib, line_of, list};
 pub use new_password::{EmptyPassword, NewPassword};
 pub use part::Part;
 pub use password::Passwords;

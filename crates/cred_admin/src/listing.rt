@@ -1,10 +1,10 @@
 //! The commands that write the accounts, in the order of their names.
 
-ghost use Rattle.std.specs.Prelude.{◌≡◌, ◌++◌, ◌<◌, length, IfErr, IfOk, None, OnErr, OnOk, true};
+ghost use Rattle.std.specs.Prelude.{◌≡◌, ◌++◌, ◌<◌, length, IfErr, IfOk, OnErr, OnOk, true};
 ghost use Rattle.std.specs.FinMap as map;
 ghost use Rattle.cred_phc.specs.Values.{RecordValue};
 ghost use Rattle.cred_cli.specs.{Outcome.FrontWritten, Watched.Basis, Watched.failed_of, Watched.held_on, Watched.writing_on};
-ghost use Rattle.cred_admin.specs.Listing.{IsPiece, Prints, json_line, json_part, line_text, name_line, part_line, part_word};
+ghost use Rattle.cred_admin.specs.Listing.{IsPiece, Prints, json_part, line_text, part_word};
 ghost use Rattle.cred_admin.specs.declared.listing.TheConstants.{PIECE};
 
 use crate::fault::Fault;
@@ -76,7 +76,7 @@ fn write_piece<W: Write>(writer: &mut Watched<W>, text: &mut Vec<u8>) -> Result<
 }
 
 /// The line of one account.
-pub(crate) fn line_of(
+pub fn line_of(
     alloc: Global,
     line: Line,
     name: &Name,
@@ -100,58 +100,32 @@ fn push_line(
         (text.new.items ≡ text.old.items ++ line_text line (name.now, stored)) }
 {
     match line {
-        Line::Name => push_name(text, name),
-        Line::Passwd(part) => push_passwd(alloc, text, part, name, stored),
-        Line::Json(part) => push_json(alloc, text, part, name, stored),
+        Line::Name => {
+            text.extend_from_slice(name.bytes())?;
+            text.push(b'\n')?;
+            Ok(())
+        }
+        Line::Passwd(part) => {
+            text.extend_from_slice(name.bytes())?;
+            text.push(b':')?;
+            if let Some(stored) = stored {
+                let shown = part_text(alloc, &stored, part)?;
+                text.extend_from_slice(&shown)?;
+            }
+            text.push(b'\n')?;
+            Ok(())
+        }
+        Line::Json(part) => {
+            text.extend_from_slice(b"{\"name\":\"")?;
+            text.extend_from_slice(name.bytes())?;
+            text.extend_from_slice(b"\",\"")?;
+            text.extend_from_slice(part_word(part))?;
+            text.extend_from_slice(b"\":")?;
+            push_json_part(alloc, text, part, stored)?;
+            text.extend_from_slice(b"}\n")?;
+            Ok(())
+        }
     }
-}
-
-fn push_name(text: &mut Vec<u8>, name: &Name) -> Result<(), AllocError>
-    ensures { OnOk result (text.new.items ≡ text.old.items ++ name_line (name.now, None)) }
-{
-    text.extend_from_slice(name.bytes())?;
-    text.push(b'\n')?;
-    Ok(())
-}
-
-fn push_passwd(
-    alloc: Global,
-    text: &mut Vec<u8>,
-    part: Part,
-    name: &Name,
-    stored: Option<Record>,
-) -> Result<(), AllocError>
-    ensures { OnOk result
-        (text.new.items ≡ text.old.items ++ part_line part (name.now, stored)) }
-{
-    text.extend_from_slice(name.bytes())?;
-    text.push(b':')?;
-    if let Some(stored) = stored {
-        let shown = part_text(alloc, &stored, part)?;
-        text.extend_from_slice(&shown)?;
-    }
-    text.push(b'\n')?;
-    Ok(())
-}
-
-fn push_json(
-    alloc: Global,
-    text: &mut Vec<u8>,
-    part: Part,
-    name: &Name,
-    stored: Option<Record>,
-) -> Result<(), AllocError>
-    ensures { OnOk result
-        (text.new.items ≡ text.old.items ++ json_line part (name.now, stored)) }
-{
-    text.extend_from_slice(b"{\"name\":\"")?;
-    text.extend_from_slice(name.bytes())?;
-    text.extend_from_slice(b"\",\"")?;
-    text.extend_from_slice(part_word(part))?;
-    text.extend_from_slice(b"\":")?;
-    push_json_part(alloc, text, part, stored)?;
-    text.extend_from_slice(b"}\n")?;
-    Ok(())
 }
 
 fn part_word(part: Part) -> &'static [u8]
