@@ -1,32 +1,29 @@
 -- What an order makes of a kept book.
-use Rattle.std.specs.Prelude.{◌≡◌, ℕ, ◌≤◌, Bool, true, false, List, length, Option, Some, None, IfErr, IfSome, Result, Ok, Err}
-use Rattle.std.specs.FinMap as map
 use Rattle.std.specs.Io.KnownBytes.{Appends, Keeps}
+use Rattle.std.specs.Prelude.{◌≡◌, ℕ, ◌≤◌, Bool, true, false, List, length, Option, Some, None, IfErr, IfSome, Result, Ok, Err}
 use Rattle.cred_book.specs.Accounts.{register_capacity}
 use Rattle.cred_admin.specs.{Commands.Obeys, Edits.DisablesShown, Edits.Edits}
-use Rattle.cred_admin.specs.{Listing.Prints, Listing.Tells, Listing.json_at, Listing.line_text, Listing.shown_at, Seen.Seen, Seen.seen, Statuses.status_of_fault}
-use Rattle.cred_admin.specs.declared.fault.Fault.{Fault}
-use Rattle.cred_admin.specs.declared.fault.Fault.TheVariants as fault
-use Rattle.cred_admin.specs.declared.import.ImportFault.{ImportFault}
-use Rattle.cred_admin.specs.declared.import.ImportFault.TheVariants as import
-use Rattle.cred_admin.specs.declared.status.Status.{Status}
+use Rattle.cred_admin.specs.{Listing.Prints, Listing.Tells, Listing.json_at, Listing.line_text, Listing.shown_at, Seen.Seen, Seen.seen}
+use Rattle.cred_admin.specs.{Statuses.status_of_fault, declared.fault.Fault.Fault, declared.import.ImportFault.ImportFault, declared.status.Status.Status}
 use Rattle.cred_admin.specs.declared.status.Status.TheVariants.{Done, Io, Memory, Database, Data}
 use Rattle.cred_cli.specs.{Outcome.FailsAs, Outcome.FrontWritten, Outcome.HasCause, Outcome.IsAnswered, Outcome.longest_script, Prompt.IsPrompt}
-use Rattle.cred_cli.specs.{Script.script_start, Starving.Serves, declared.costs.CostBounds.CostBounds, declared.fault.ScriptFault.ScriptFault}
-use Rattle.cred_cli.specs.declared.fault.ScriptFault.TheVariants as script
-use Rattle.cred_cli.specs.{Watched.Reading, Watched.Writing, declared.script.End.End}
+use Rattle.cred_cli.specs.{Script.script_start, Starving.Serves, Watched.Reading, Watched.Writing, declared.costs.CostBounds.CostBounds}
+use Rattle.cred_cli.specs.{declared.fault.ScriptFault.ScriptFault, declared.script.End.End}
 use Rattle.cred_file.specs.{Keeps.Keeps as IsKept, Kept.Kept, Opening.IsFound, Opening.IsUnopened, declared.fault.Lost.Lost, declared.fault.OpenFault.OpenFault}
-use Rattle.cred_file.specs.declared.fault.OpenFault.TheVariants as open_fault
 use Rattle.sqlite.specs.{Held.Held, Held.state, State.HasCleanDisk, State.Survives, Store.Ghosts, declared.error.Error.Error}
-use Rattle.sqlite.specs.declared.error.Error.TheVariants as sqlite
 use Rattle.sqlite.specs.declared.error.ErrorCode.{ErrorCode}
-use Rattle.sqlite.specs.declared.error.ErrorCode.TheVariants as code
-use Rattle.cred_keep.specs.{Imports.Imports, declared.outcome.Ending.Ending}
-use Rattle.cred_keep.specs.declared.outcome.Ending.TheVariants as ending
-use Rattle.cred_keep.specs.{declared.import.Imported.Imported, declared.outcome.Failure.Failure}
-use Rattle.cred_keep.specs.declared.outcome.Failure.TheVariants as failure
-use Rattle.cred_keep.specs.declared.order.Order.{Order}
+use Rattle.cred_keep.specs.{Imports.Imports, declared.import.Imported.Imported, declared.order.Order.Order}
 use Rattle.cred_keep.specs.declared.order.Order.TheVariants.{Run, Serve, Account, Edit, DisableShown, Show, ShowJson, List as Lines, Import}
+use Rattle.cred_keep.specs.{declared.outcome.Ending.Ending, declared.outcome.Failure.Failure}
+use Rattle.std.specs.FinMap as map
+use Rattle.cred_admin.specs.declared.fault.Fault.TheVariants as fault
+use Rattle.cred_admin.specs.declared.import.ImportFault.TheVariants as import
+use Rattle.cred_cli.specs.declared.fault.ScriptFault.TheVariants as script
+use Rattle.cred_file.specs.declared.fault.OpenFault.TheVariants as open_fault
+use Rattle.sqlite.specs.declared.error.Error.TheVariants as sqlite
+use Rattle.sqlite.specs.declared.error.ErrorCode.TheVariants as code
+use Rattle.cred_keep.specs.declared.outcome.Ending.TheVariants as ending
+use Rattle.cred_keep.specs.declared.outcome.Failure.TheVariants as failure
 
 -- ---- how it ends
 
