@@ -42,6 +42,8 @@ If the database failed in a change, that change is named, and may be kept or
 not. Every change that was answered before is kept. docs/ERRORS.md says what to
 do about each text.";
 
+const FILE_HELP: &str = "The database file";
+
 const NAME_HELP: &str = "The account: 1 to 32 of a-z, 0-9, '.', '_', '-'";
 
 const NEW_NAME_HELP: &str = "The name that it has from then on";
@@ -99,9 +101,12 @@ const TO_HELP: &str = "The file of the copy, which replaces one that is there in
 
 const FROM_HELP: &str = "The file of the copy, which is only read";
 
-/// A word or an option of a command.
+/// A word or an option of the program, or of a command.
 #[derive(Clone, Copy)]
 pub(crate) enum Word {
+    File,
+    Wait,
+    Quiet,
     To,
     From,
     Name,
@@ -128,25 +133,21 @@ pub(crate) enum Word {
 
 /// The program, with all its commands.
 pub(crate) fn credkeep<'a>(alloc: Global) -> Result<Command<'a>, AllocError> {
-    let mut command = top(alloc)?;
-    for text in &COMMANDS {
-        let below = command_of(alloc, text)?;
-        command = command.subcommand(below)?;
-    }
-    Ok(command)
-}
-
-fn top<'a>(alloc: Global) -> Result<Command<'a>, AllocError> {
-    Command::new(alloc, "credkeep")
+    let mut command = Command::new(alloc, "credkeep")
         .version("0.2.0")
         .about(ABOUT)
         .after_help(AFTER_HELP)
         .subcommand_required(true)
         .disable_help_subcommand(true)
         .override_usage("credkeep [--wait <SECONDS>] <FILE> <COMMAND>")
-        .arg(option(alloc, "wait", "SECONDS", WAIT_HELP).default_value("0"))?
-        .arg(flag(alloc, "quiet", QUIET_HELP).global(true))?
-        .arg(positional(alloc, "file", "FILE", "The database file"))
+        .arg(arg_of(alloc, Word::Wait))?
+        .arg(arg_of(alloc, Word::Quiet).global(true))?
+        .arg(arg_of(alloc, Word::File))?;
+    for text in &COMMANDS {
+        let below = command_of(alloc, text)?;
+        command = command.subcommand(below)?;
+    }
+    Ok(command)
 }
 
 fn command_of<'a>(alloc: Global, text: &CommandText) -> Result<Command<'a>, AllocError> {
@@ -161,62 +162,50 @@ fn command_of<'a>(alloc: Global, text: &CommandText) -> Result<Command<'a>, Allo
 }
 
 fn arg_of<'a>(alloc: Global, word: Word) -> Arg<'a> {
-    match word {
-        Word::To => positional(alloc, "to", "TO", TO_HELP),
-        Word::From => positional(alloc, "from", "FROM", FROM_HELP),
-        Word::Name => positional(alloc, "name", "NAME", NAME_HELP),
-        Word::NewName => positional(alloc, "new", "NEW", NEW_NAME_HELP),
-        Word::Setting => option(alloc, "setting", "TEXT", SETTING_HELP),
-        Word::Workers => option(alloc, "workers", "N", WORKERS_HELP).default_value("1"),
-        Word::Tagged => flag(alloc, "tagged", TAGGED_HELP),
-        Word::AtOnce => option(alloc, "at-once", "N", AT_ONCE_HELP),
-        Word::Memory => option(alloc, "memory", "SIZE", MEMORY_HELP),
-        Word::MostMemory => option(alloc, "most-memory", "SIZE", MOST_MEMORY_HELP),
-        Word::MostWork => option(alloc, "most-work", "SIZE", MOST_WORK_HELP),
-        Word::EmptyPassword => flag(alloc, "empty-password", EMPTY_HELP),
-        Word::Echo => flag(alloc, "echo", ECHO_HELP),
-        Word::Show => flag(alloc, "show", SHOW_HELP),
-        Word::Record => flag(alloc, "record", RECORD_HELP),
-        Word::SkipExisting => flag(alloc, "skip-existing", SKIP_HELP),
-        Word::Update => flag(alloc, "update", UPDATE_HELP),
-        Word::SkipBad => flag(alloc, "skip-bad", SKIP_BAD_HELP),
-        Word::DisableLocked => flag(alloc, "disable-locked", DISABLE_LOCKED_HELP),
-        Word::DryRun => flag(alloc, "dry-run", DRY_RUN_HELP),
-        Word::Costs => flag(alloc, "costs", COSTS_HELP),
-        Word::Json => flag(alloc, "json", JSON_HELP),
-    }
+    let (arg, help) = match word {
+        Word::File => (operand(alloc, "file", "FILE"), FILE_HELP),
+        Word::Wait => (
+            option(alloc, "wait", "SECONDS").default_value("0"),
+            WAIT_HELP,
+        ),
+        Word::Quiet => (flag(alloc, "quiet"), QUIET_HELP),
+        Word::To => (operand(alloc, "to", "TO"), TO_HELP),
+        Word::From => (operand(alloc, "from", "FROM"), FROM_HELP),
+        Word::Name => (operand(alloc, "name", "NAME"), NAME_HELP),
+        Word::NewName => (operand(alloc, "new", "NEW"), NEW_NAME_HELP),
+        Word::Setting => (option(alloc, "setting", "TEXT"), SETTING_HELP),
+        Word::Workers => (
+            option(alloc, "workers", "N").default_value("1"),
+            WORKERS_HELP,
+        ),
+        Word::Tagged => (flag(alloc, "tagged"), TAGGED_HELP),
+        Word::AtOnce => (option(alloc, "at-once", "N"), AT_ONCE_HELP),
+        Word::Memory => (option(alloc, "memory", "SIZE"), MEMORY_HELP),
+        Word::MostMemory => (option(alloc, "most-memory", "SIZE"), MOST_MEMORY_HELP),
+        Word::MostWork => (option(alloc, "most-work", "SIZE"), MOST_WORK_HELP),
+        Word::EmptyPassword => (flag(alloc, "empty-password"), EMPTY_HELP),
+        Word::Echo => (flag(alloc, "echo"), ECHO_HELP),
+        Word::Show => (flag(alloc, "show"), SHOW_HELP),
+        Word::Record => (flag(alloc, "record"), RECORD_HELP),
+        Word::SkipExisting => (flag(alloc, "skip-existing"), SKIP_HELP),
+        Word::Update => (flag(alloc, "update"), UPDATE_HELP),
+        Word::SkipBad => (flag(alloc, "skip-bad"), SKIP_BAD_HELP),
+        Word::DisableLocked => (flag(alloc, "disable-locked"), DISABLE_LOCKED_HELP),
+        Word::DryRun => (flag(alloc, "dry-run"), DRY_RUN_HELP),
+        Word::Costs => (flag(alloc, "costs"), COSTS_HELP),
+        Word::Json => (flag(alloc, "json"), JSON_HELP),
+    };
+    arg.help(help).next_line_help(true)
 }
 
-fn positional<'a>(
-    alloc: Global,
-    word: &'static str,
-    value: &'static str,
-    help: &'static str,
-) -> Arg<'a> {
-    Arg::new(alloc, word)
-        .value_name(value)
-        .help(help)
-        .next_line_help(true)
-        .required(true)
+fn operand<'a>(alloc: Global, id: &'static str, value: &'static str) -> Arg<'a> {
+    Arg::new(alloc, id).value_name(value).required(true)
 }
 
-fn option<'a>(
-    alloc: Global,
-    word: &'static str,
-    value: &'static str,
-    help: &'static str,
-) -> Arg<'a> {
-    Arg::new(alloc, word)
-        .long(word)
-        .value_name(value)
-        .help(help)
-        .next_line_help(true)
+fn option<'a>(alloc: Global, id: &'static str, value: &'static str) -> Arg<'a> {
+    Arg::new(alloc, id).long(id).value_name(value)
 }
 
-fn flag<'a>(alloc: Global, word: &'static str, help: &'static str) -> Arg<'a> {
-    Arg::new(alloc, word)
-        .long(word)
-        .help(help)
-        .next_line_help(true)
-        .action(ArgAction::SetTrue)
+fn flag<'a>(alloc: Global, id: &'static str) -> Arg<'a> {
+    Arg::new(alloc, id).long(id).action(ArgAction::SetTrue)
 }

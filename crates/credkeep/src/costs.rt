@@ -15,44 +15,38 @@ const MAX_LANES: u64 = 255;
 const MAX_ROWS: u64 = 16777216;
 
 /// Names the number that is outside its range, with the range.
-pub(crate) fn tell_range<W: Write>(out: &mut W, text: &str) -> io::Result<()> {
-    if text.starts_with("$scrypt$") {
-        tell_scrypt(out, text)
+pub(crate) fn write_range<W: Write>(out: &mut W, text: &str) -> io::Result<()> {
+    let is_scrypt = text.starts_with("$scrypt$");
+    let ranges = if is_scrypt {
+        [("r=", MAX_LANES), ("p=", MAX_LANES)]
     } else {
-        tell_argon2(out, text)
+        [("p=", MAX_LANES), ("t=", MAX_PASSES)]
+    };
+    for (label, most) in ranges {
+        let number = number_at(text, label);
+        if !(1..=most).contains(&number) {
+            return write!(out, "{label}{number} is not from 1 to {most}");
+        }
+    }
+    if is_scrypt {
+        write_table(out, number_at(text, "ln="), number_at(text, "r="))
+    } else {
+        write_memory(out, number_at(text, "m="), number_at(text, "p="))
     }
 }
 
-fn tell_argon2<W: Write>(out: &mut W, text: &str) -> io::Result<()> {
-    let (memory, passes, lanes) = (
-        number_at(text, "m="),
-        number_at(text, "t="),
-        number_at(text, "p="),
-    );
+fn write_memory<W: Write>(out: &mut W, memory: u64, lanes: u64) -> io::Result<()> {
     let least = lanes.saturating_mul(8);
-    if !(1..=MAX_LANES).contains(&lanes) {
-        write!(out, "p={lanes} is not from 1 to {MAX_LANES}")
-    } else if !(1..=MAX_PASSES).contains(&passes) {
-        write!(out, "t={passes} is not from 1 to {MAX_PASSES}")
-    } else if memory < least {
+    if memory < least {
         write!(out, "m={memory} is under 8 p ({least} KiB)")
     } else {
         write!(out, "m={memory} is over {MAX_MEMORY} (KiB)")
     }
 }
 
-fn tell_scrypt<W: Write>(out: &mut W, text: &str) -> io::Result<()> {
-    let (cost, size, parallel) = (
-        number_at(text, "ln="),
-        number_at(text, "r="),
-        number_at(text, "p="),
-    );
+fn write_table<W: Write>(out: &mut W, cost: u64, size: u64) -> io::Result<()> {
     let above = size.saturating_mul(16);
-    if !(1..=MAX_LANES).contains(&size) {
-        write!(out, "r={size} is not from 1 to {MAX_LANES}")
-    } else if !(1..=MAX_LANES).contains(&parallel) {
-        write!(out, "p={parallel} is not from 1 to {MAX_LANES}")
-    } else if cost == 0 {
+    if cost == 0 {
         write!(out, "ln=0 is under 1")
     } else if cost >= above {
         write!(out, "ln={cost} is not under 16 r ({above})")

@@ -2,18 +2,21 @@
 
 ghost use Rattle.std.specs.Prelude.{◌≡◌, IfOk, false};
 
-use crate::log::{LogEnd, LogLook};
+use crate::fault::{BookFault, FileFault};
+use crate::log::{LogLook, fills};
+use crate::refusal::{accept, refuse_file};
+use crate::request::Remarks;
 use crate::sidecar::{
-    JOURNAL, LOG, has_changes_in_log, held_at, len_of, look_at_its_log, real_path, sidecar,
+    JOURNAL, LOG, has_changes_in_log, hold, if_there, len_of, look_at_its_log, real_path, sidecar,
 };
 use cred_admin::Status;
 use sqlite::{Connection, Error, ErrorCode, FileFrom, FileStore, Wary};
 use std::fs::{File, Metadata, OpenOptions};
-use std::io::{ErrorKind, Read};
+use std::io::Write;
 use std::os::unix::fs::{MetadataExt, OpenOptionsExt};
 use std::thread::sleep;
 use std::time::Duration;
-use std::{fmt, fs, io};
+use std::{fs, io};
 
 /// A connection to a file, of which nothing is supposed but that it was synced when it said so.
 pub(crate) type Database = Connection<FileStore<FileFrom<Wary>>>;
@@ -32,92 +35,6 @@ const TRIES_A_SECOND: u32 = 20;
 
 pub(crate) const PAUSE: u64 = 50;
 
-/// Why a file isn't opened: found before anything is written into it.
-#[derive(Drop)]
-pub(crate) enum FileFault {
-    /// `:memory:` isn't the name of a file.
-    NoFile,
-    /// Nothing has the name.
-    Absent,
-    /// It is a folder, a link or a device.
-    Irregular,
-    /// It is empty, and so is its log.
-    Empty,
-    /// It doesn't begin as a database does.
-    NoDatabase,
-    /// It has a rollback journal, which sqlite3 alone can play back.
-    Journal,
-    /// Another user owns it.
-    Owner,
-    /// Others can read or write it.
-    Mode,
-    /// It has another name, by a hard link.
-    Linked,
-    /// Another process has it open, or writes it.
-    Busy,
-    /// The two are one file.
-    Same,
-    /// There is a log with changes in it: of a book in use, or of a file that is gone.
-    OldLog,
-    /// Its log is damaged, behind so many changes.
-    DamagedLog { before: u64, lost: u64 },
-    /// It can be read and written, but wasn't opened: a sync of it failed.
-    Unsynced,
-    /// The system refused.
-    System(io::Error),
-}
-
-impl FileFault {
-    /// The exit status that tells of it.
-    pub(crate) fn status(&self) -> Status {
-        match self {
-            FileFault::NoFile => Status::Usage,
-            FileFault::System(error) if error.kind() == ErrorKind::OutOfMemory => Status::Memory,
-            _ => Status::Database,
-        }
-    }
-}
-
-impl From<io::Error> for FileFault {
-    fn from(error: io::Error) -> Self {
-        FileFault::System(error)
-    }
-}
-
-impl fmt::Display for FileFault {
-    fn fmt<W: fmt::Write>(&self, f: &mut fmt::Formatter<W>) -> fmt::Result {
-        match self {
-            FileFault::NoFile => f.write_str("it is no file; ./:memory: names one"),
-            FileFault::Absent => f.write_str("there is no such file; init makes one"),
-            FileFault::Irregular => f.write_str("it is a folder, a link or a device"),
-            FileFault::Empty => f.write_str("it is empty; init begins a book in it"),
-            FileFault::NoDatabase => f.write_str("it is no database"),
-            FileFault::Journal => f.write_str(
-                "another program was stopped in a change of it; open it with sqlite3 first",
-            ),
-            FileFault::Owner => f.write_str("another user owns it"),
-            FileFault::Mode => f.write_str("others can read or write it; chmod 600 first"),
-            FileFault::Linked => f.write_str("it has another name, by a hard link; remove one"),
-            FileFault::Busy => f.write_str("busy: another process has it open"),
-            FileFault::Same => f.write_str("it is the database itself"),
-            FileFault::OldLog => f.write_str(
-                "a log with changes lies beside it, at its name with -wal: it is in use, or it was \
-                 removed without its log; restore puts a copy there, and takes the log away",
-            ),
-            FileFault::DamagedLog { before, lost } => write!(
-                f,
-                "its log is damaged: {before} changes in it can be read, and {lost} can't; keep a \
-                 copy of both files, and then restore it from itself, with the first ones alone",
-            ),
-            FileFault::Unsynced => f.write_str(
-                "it wasn't opened, as the system didn't sync it, its log or its folder: look at \
-                 the disk",
-            ),
-            FileFault::System(error) => write!(f, "{error}"),
-        }
-    }
-}
-
 /// Where a book is begun.
 #[derive(Clone, Copy, PartialEq, Eq)]
 pub(crate) enum Beginning {
@@ -133,10 +50,9 @@ pub(crate) fn look_before_init(rt: &HostRuntime, path: &str) -> Result<Beginning
     if path == ":memory:" {
         return Err(FileFault::NoFile);
     }
-    let beginning = match fs::symlink_metadata(rt, path) {
-        Ok(found) => look_at_place(rt, path, &found)?,
-        Err(error) if error.kind() == ErrorKind::NotFound => Beginning::NewFile,
-        Err(error) => return Err(FileFault::System(error)),
+    let beginning = match if_there(fs::symlink_metadata(rt, path))? {
+        Some(found) => look_at_place(rt, path, &found)?,
+        None => Beginning::NewFile,
     };
     if beginning == Beginning::NewFile && has_changes_in_log(rt, path)? {
         return Err(FileFault::OldLog);
@@ -154,14 +70,19 @@ fn look_at_place(rt: &HostRuntime, path: &str, found: &Metadata) -> Result<Begin
     if found.mode() & OTHERS != 0 {
         return Err(FileFault::Mode);
     }
-    if found.nlink() != 1 {
-        return Err(FileFault::Linked);
-    }
+    see_single(found)?;
     if found.len() == 0 {
         return Ok(Beginning::NewFile);
     }
     look_inside(rt, path)?;
     Ok(Beginning::Database)
+}
+
+/// Who can read and write a file.
+#[derive(Clone, Copy, PartialEq, Eq)]
+pub(crate) enum Access {
+    OwnerAlone,
+    Others,
 }
 
 /// Sees that the file may hold a book, and says whether others can read or write it. Nothing is
@@ -170,20 +91,31 @@ pub(crate) fn look_at(rt: &HostRuntime, path: &str) -> Result<Access, FileFault>
     if path == ":memory:" {
         return Err(FileFault::NoFile);
     }
-    let found = match fs::metadata(rt, path) {
-        Ok(found) => found,
-        Err(error) if error.kind() == ErrorKind::NotFound => return Err(FileFault::Absent),
-        Err(error) => return Err(FileFault::System(error)),
+    let Some(found) = if_there(fs::metadata(rt, path))? else {
+        return Err(FileFault::Absent);
     };
     see_single(&found)?;
-    if found.len() == 0 {
-        if !has_bytes(rt, path, LOG)? {
-            return Err(FileFault::Empty);
-        }
-    } else {
+    if found.len() != 0 {
         look_inside(rt, path)?;
+    } else if !has_bytes(rt, path, LOG)? {
+        return Err(FileFault::Empty);
     }
-    access_of(rt, &found)
+    if found.mode() & OTHERS != 0 || found.uid() != own_user(rt)? {
+        return Ok(Access::Others);
+    }
+    Ok(Access::OwnerAlone)
+}
+
+/// Looks at a file as [`look_at`] does, and says what it finds.
+pub(crate) fn look(host: &HostRuntime, file: &str, remarks: Remarks) -> Result<(), Status> {
+    let access = accept(host, file, look_at(host, file))?;
+    if access == Access::Others && remarks == Remarks::Told {
+        let _ = writeln!(
+            host.stderr(),
+            "credkeep: warning: {file}: another user owns it, or others can read or write it"
+        );
+    }
+    Ok(())
 }
 
 /// Sees that a copy may be put at this place: nothing is there, or an empty file, or a database.
@@ -191,10 +123,8 @@ pub(crate) fn look_at_old(rt: &HostRuntime, path: &str) -> Result<(), FileFault>
     if path == ":memory:" {
         return Err(FileFault::NoFile);
     }
-    let found = match fs::symlink_metadata(rt, path) {
-        Ok(found) => found,
-        Err(error) if error.kind() == ErrorKind::NotFound => return Ok(()),
-        Err(error) => return Err(FileFault::System(error)),
+    let Some(found) = if_there(fs::symlink_metadata(rt, path))? else {
+        return Ok(());
     };
     see_single(&found)?;
     if found.len() == 0 {
@@ -214,30 +144,11 @@ fn see_single(found: &Metadata) -> Result<(), FileFault> {
     Ok(())
 }
 
-/// Who can read and write a file.
-#[derive(Clone, Copy, PartialEq, Eq)]
-pub(crate) enum Access {
-    OwnerAlone,
-    Others,
-}
-
-fn access_of(rt: &HostRuntime, found: &Metadata) -> Result<Access, FileFault> {
-    if found.mode() & OTHERS != 0 || found.uid() != own_user(rt)? {
-        return Ok(Access::Others);
-    }
-    Ok(Access::OwnerAlone)
-}
-
 fn look_inside(rt: &HostRuntime, path: &str) -> Result<(), FileFault> {
     let mut start = [0; 16];
     let mut file = File::open(rt, path)?;
-    match file.read_exact(&mut start) {
-        Ok(()) if start == *HEADER => {}
-        Ok(()) => return Err(FileFault::NoDatabase),
-        Err(error) if error.kind() == ErrorKind::UnexpectedEof => {
-            return Err(FileFault::NoDatabase);
-        }
-        Err(error) => return Err(FileFault::System(error)),
+    if !fills(&mut file, &mut start)? || start != *HEADER {
+        return Err(FileFault::NoDatabase);
     }
     if has_bytes(rt, path, JOURNAL)? {
         return Err(FileFault::Journal);
@@ -257,21 +168,6 @@ pub(crate) fn own_user(rt: &HostRuntime) -> io::Result<u32> {
     Ok(fs::metadata(rt, "/proc/self")?.uid())
 }
 
-/// Why a file wasn't opened.
-#[derive(Drop)]
-pub(crate) enum Unopened {
-    /// Something stands against it.
-    File(FileFault),
-    /// The database failed, or is none.
-    Database(Error),
-}
-
-impl From<FileFault> for Unopened {
-    fn from(why: FileFault) -> Self {
-        Unopened::File(why)
-    }
-}
-
 /// What is done with the changes behind a damaged one in the log.
 #[derive(Clone, Copy, PartialEq, Eq)]
 pub(crate) enum DamagedLog {
@@ -287,27 +183,54 @@ pub(crate) fn open_file(
     path: &str,
     wait: u16,
     damaged: DamagedLog,
-) -> Result<Database, Unopened>
+) -> Result<Database, BookFault>
     ensures { IfOk result (λ conn. conn.in_transaction ≡ false) }
 {
     for _ in 0..tries_in(wait) {
         match open_once(rt, path, damaged) {
-            Err(Unopened::File(FileFault::Busy)) => sleep(rt, Duration::from_millis(PAUSE)),
+            Err(why) if why.is_busy() => sleep(rt, Duration::from_millis(PAUSE)),
             opened => return opened,
         }
     }
     open_once(rt, path, damaged)
 }
 
+/// Opens a file as [`open_file`] does, or says why not of the book at `file`.
+pub(crate) fn open_database(
+    host: &HostRuntime,
+    file: &str,
+    path: &str,
+    wait: u16,
+    damaged: DamagedLog,
+) -> Result<Database, Status>
+    ensures { IfOk result (λ conn. conn.in_transaction ≡ false) }
+{
+    match open_file(host, path, wait, damaged) {
+        Ok(conn) => Ok(conn),
+        Err(why) => Err(refuse_file(host, file, why)),
+    }
+}
+
+/// Copies the log into the file and closes both. If that fails nothing is lost: the log stays.
+pub(crate) fn close(host: &HostRuntime, conn: Database, status: Status) -> Status {
+    if let Err(error) = conn.close() {
+        let _ = writeln!(
+            host.stderr(),
+            "credkeep: the log stays beside the file: {error}"
+        );
+    }
+    status
+}
+
 /// Whether another process has the file open, and still has it after so many seconds.
 pub(crate) fn is_busy(rt: &HostRuntime, path: &str, wait: u16) -> bool {
     for _ in 0..tries_in(wait) {
-        if !matches!(held_at(rt, path), Err(FileFault::Busy)) {
+        if !matches!(hold(rt, path), Err(FileFault::Busy)) {
             return false;
         }
         sleep(rt, Duration::from_millis(PAUSE));
     }
-    matches!(held_at(rt, path), Err(FileFault::Busy))
+    matches!(hold(rt, path), Err(FileFault::Busy))
 }
 
 /// How often a busy file is tried in so many seconds, before it is tried a last time.
@@ -315,7 +238,7 @@ pub(crate) fn tries_in(wait: u16) -> u32 {
     u32::from(wait) * TRIES_A_SECOND
 }
 
-fn open_once(rt: &HostRuntime, path: &str, damaged: DamagedLog) -> Result<Database, Unopened>
+fn open_once(rt: &HostRuntime, path: &str, damaged: DamagedLog) -> Result<Database, BookFault>
     ensures { IfOk result (λ conn. conn.in_transaction ≡ false) }
 {
     if damaged == DamagedLog::Refused {
@@ -329,55 +252,49 @@ fn open_once(rt: &HostRuntime, path: &str, damaged: DamagedLog) -> Result<Databa
 
 /// Sees that no change in the log is damaged: such a one and all behind it would be given up by
 /// the opening, without a word. The file is held meanwhile; if it can't be, the opening says why.
-fn see_log_whole(rt: &HostRuntime, path: &str) -> Result<(), FileFault> {
+fn see_log_whole(rt: &HostRuntime, path: &str) -> Result<(), BookFault> {
     let real = real_path(rt, path)?;
     if len_of(rt, real.as_str())?.is_none() {
         return Ok(());
     }
-    let _held = match held_at(rt, real.as_str()) {
+    let _held = match hold(rt, real.as_str()) {
         Err(FileFault::System(_)) => return Ok(()),
+        Err(FileFault::Busy) => return Err(BookFault::BUSY),
         held => held?,
     };
-    is_whole(look_at_its_log(rt, real.as_str())?)
+    Ok(see_whole(look_at_its_log(rt, real.as_str())?)?)
 }
 
 /// Refuses a log that is damaged.
-pub(crate) fn is_whole(look: LogLook) -> Result<(), FileFault> {
-    match look.end {
-        LogEnd::Whole => Ok(()),
-        LogEnd::Damaged { lost } => Err(FileFault::DamagedLog {
-            before: look.commits,
-            lost,
-        }),
+pub(crate) fn see_whole(look: LogLook) -> Result<(), FileFault> {
+    if look.lost == 0 {
+        return Ok(());
     }
+    Err(FileFault::DamagedLog {
+        before: look.commits,
+        lost: look.lost,
+    })
 }
 
 /// Finds what stands behind an opening that failed: the library says only that it did.
-fn why_unopened(rt: &HostRuntime, path: &str, error: Error) -> Unopened {
+fn why_unopened(rt: &HostRuntime, path: &str, error: Error) -> BookFault {
     match error {
-        Error::SqliteFailure(ErrorCode::DatabaseBusy) => Unopened::File(FileFault::Busy),
-        Error::SqliteFailure(ErrorCode::CannotOpen) => match can_be_written(rt, path) {
-            Ok(()) => Unopened::File(FileFault::Unsynced),
-            Err(error) => Unopened::File(FileFault::System(error)),
+        Error::SqliteFailure(ErrorCode::CannotOpen) => match see_writable(rt, path) {
+            Ok(()) => BookFault::File(FileFault::Unsynced),
+            Err(error) => BookFault::File(FileFault::System(error)),
         },
-        _ => Unopened::Database(error),
+        _ => BookFault::Database(error),
     }
 }
 
-/// Whether the file and its log can be opened and written by this user.
-fn can_be_written(rt: &HostRuntime, path: &str) -> io::Result<()> {
+/// Sees that the file and its log can be opened and written by this user.
+fn see_writable(rt: &HostRuntime, path: &str) -> io::Result<()> {
     let real = real_path(rt, path)?;
-    let _file = OpenOptions::new()
-        .read(true)
-        .write(true)
-        .open(rt, real.as_str())?;
-    let log = sidecar(rt, real.as_str(), LOG)?;
     let mut options = OpenOptions::new();
-    options
-        .read(true)
-        .write(true)
-        .create(true)
-        .mode(OWNER_ALONE);
+    options.read(true).write(true);
+    let _file = options.open(rt, real.as_str())?;
+    let log = sidecar(rt, real.as_str(), LOG)?;
+    options.create(true).mode(OWNER_ALONE);
     let _log = options.open(rt, log.as_str())?;
     Ok(())
 }

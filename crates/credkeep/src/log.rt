@@ -6,35 +6,27 @@ use std::io;
 use std::io::{ErrorKind, Read};
 
 /// The bytes of the log's header, and of a frame's, which a page follows.
-const LOG_HEADER: usize = 32;
+pub(crate) const LOG_HEADER: usize = 32;
 
 const FRAME_HEADER: usize = 24;
 
 /// What the log's header begins with, but for the lowest bit, which says how its sums are made.
 const MAGIC: [u8; 3] = [0x37, 0x7f, 0x06];
 
-/// What a log holds.
+/// The commits that a log holds.
 #[derive(Clone, Copy, Debug, PartialEq, Eq)]
 pub(crate) struct LogLook {
-    /// How many commits can be read, from the first one on.
+    /// How many can be read, from the first one on.
     pub(crate) commits: u64,
-    pub(crate) end: LogEnd,
-}
-
-/// Where the commits of a log end.
-#[derive(Clone, Copy, Debug, PartialEq, Eq)]
-pub(crate) enum LogEnd {
-    /// As the last writer left them, even if it was stopped.
-    Whole,
-    /// At bytes that no writer left so: as many commits stand there or behind it.
-    Damaged { lost: u64 },
+    /// How many stand at or behind bytes that no writer left so, even one that was stopped.
+    pub(crate) lost: u64,
 }
 
 impl LogLook {
     /// What no log holds.
     pub(crate) const EMPTY: LogLook = LogLook {
         commits: 0,
-        end: LogEnd::Whole,
+        lost: 0,
     };
 }
 
@@ -45,33 +37,18 @@ pub(crate) fn look_at_log<R: Read>(alloc: Global, log: &mut R) -> io::Result<Log
         return Ok(LogLook::EMPTY);
     }
     let page_size = be32(&head, 8);
-    if !is_signed(&head) || !is_page_size(page_size) {
-        return look_behind_head(alloc, log, &head);
-    }
-    let mut frames = Frames::new(alloc, head, page_size)?;
-    frames.count(log)
-}
-
-/// A header that is damaged: what stands behind it is counted by the header's salt.
-fn look_behind_head<R: Read>(alloc: Global, log: &mut R, head: &[u8; 32]) -> io::Result<LogLook> {
-    let page_size = be32(head, 8);
     if !is_page_size(page_size) {
         let mut first = [0; FRAME_HEADER];
-        let end = if fills(log, &mut first)? {
-            LogEnd::Damaged { lost: 1 }
-        } else {
-            LogEnd::Whole
-        };
-        return Ok(LogLook { commits: 0, end });
+        let lost = u64::from(fills(log, &mut first)?);
+        return Ok(LogLook { commits: 0, lost });
     }
-    let mut frames = Frames::new(alloc, *head, page_size)?;
+    let mut frames = Frames::new(alloc, head, page_size)?;
+    if is_signed(&head) {
+        return frames.count(log);
+    }
+    // Behind a header that is damaged its salt still tells which frames are of this log.
     let lost = frames.count_behind(log)?;
-    let end = if lost == 0 {
-        LogEnd::Whole
-    } else {
-        LogEnd::Damaged { lost }
-    };
-    Ok(LogLook { commits: 0, end })
+    Ok(LogLook { commits: 0, lost })
 }
 
 /// The frames of a log, one at a time.
@@ -87,12 +64,12 @@ struct Frames {
 /// What a frame is to the ones before it.
 #[derive(Clone, Copy, PartialEq, Eq)]
 enum Frame {
-    /// It goes on with them, and may end a commit.
-    Next { ends: bool },
+    /// It goes on with them.
+    Next,
     /// It isn't of this log, or not yet.
     Other,
     /// It is of this log, and its bytes aren't those that were written.
-    Damaged { ends: bool },
+    Damaged,
 }
 
 impl Frames {
@@ -110,22 +87,18 @@ impl Frames {
             if !fills(log, &mut self.frame)? {
                 break;
             }
+            let ended = u64::from(self.ends_commit());
             match self.read() {
-                Frame::Next { ends: true } => commits = commits.saturating_add(1),
-                Frame::Next { ends: false } => {}
+                Frame::Next => commits = commits.saturating_add(ended),
                 Frame::Other => break,
-                Frame::Damaged { ends } => {
+                Frame::Damaged => {
                     let behind = self.count_behind(log)?;
-                    let lost = behind.saturating_add(u64::from(ends)).max(1);
-                    let end = LogEnd::Damaged { lost };
-                    return Ok(LogLook { commits, end });
+                    let lost = behind.saturating_add(ended).max(1);
+                    return Ok(LogLook { commits, lost });
                 }
             }
         }
-        Ok(LogLook {
-            commits,
-            end: LogEnd::Whole,
-        })
+        Ok(LogLook { commits, lost: 0 })
     }
 
     /// Counts the commits of this log in what is left, whatever their sums.
@@ -143,21 +116,20 @@ impl Frames {
     }
 
     fn read(&mut self) -> Frame {
-        let ends = self.ends_commit();
         if !self.has_salt() {
             return Frame::Other;
         }
         if self.frame.len() < FRAME_HEADER || be32(&self.frame, 0) == 0 {
-            return Frame::Damaged { ends };
+            return Frame::Damaged;
         }
         let is_big = self.head[3] == 0x83;
         let front = checksum_of(is_big, self.sums, &self.frame[..8]);
         let sums = checksum_of(is_big, front, &self.frame[FRAME_HEADER..]);
         if sums != (be32(&self.frame, 16), be32(&self.frame, 20)) {
-            return Frame::Damaged { ends };
+            return Frame::Damaged;
         }
         self.sums = sums;
-        Frame::Next { ends }
+        Frame::Next
     }
 
     /// Whether it has the header's salt, which a new header changes.
@@ -191,7 +163,7 @@ fn be32(bytes: &[u8], at: usize) -> u32 {
 }
 
 /// Whether there are bytes enough to fill the buffer.
-fn fills<R: Read>(reader: &mut R, buf: &mut [u8]) -> io::Result<bool> {
+pub(crate) fn fills<R: Read>(reader: &mut R, buf: &mut [u8]) -> io::Result<bool> {
     match reader.read_exact(buf) {
         Ok(()) => Ok(true),
         Err(error) if error.kind() == ErrorKind::UnexpectedEof => Ok(false),

@@ -2,7 +2,7 @@
 
 ghost use Rattle.std.specs.{Io.ReadsAtMost, Io.KnownBytes.ReadConsumes, Prelude.◌≡◌};
 
-use crate::order::Remarks;
+use crate::request::Remarks;
 use std::io;
 use std::io::{IsTerminal, Read, Write};
 use std::time::Instant;
@@ -26,12 +26,10 @@ pub(crate) struct Progress<'a> {
 
 impl<'a> Progress<'a> {
     pub(crate) fn new(host: &'a HostRuntime, remarks: Remarks) -> Progress<'a> {
-        let is_seen = remarks == Remarks::Told && host.stderr().is_terminal();
-        let last = if is_seen {
-            Instant::now(host).ok()
-        } else {
-            None
-        };
+        let mut last = None;
+        if remarks == Remarks::Told && host.stderr().is_terminal() {
+            last = Instant::now(host).ok();
+        }
         Progress {
             host,
             last,
@@ -45,10 +43,9 @@ impl<'a> Progress<'a> {
             return;
         };
         match last.elapsed(self.host) {
-            Ok(passed) if passed.as_secs() >= PAUSE => {}
-            _ => return,
+            Ok(passed) if passed.as_secs() >= PAUSE => self.write(done, what),
+            _ => {}
         }
-        self.write(done, what);
     }
 
     /// Says so at once.
@@ -86,9 +83,7 @@ impl<'a, R> Counted<'a, R> {
             progress,
         }
     }
-}
 
-impl<R> Counted<'_, R> {
     /// Says how many lines were read before a read of so many bytes.
     fn tell(&mut self, count: usize)
         ensures same_reader { self.new.inner ≡ self.old.inner }

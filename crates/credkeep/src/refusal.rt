@@ -1,76 +1,106 @@
-//! What is said if nothing was opened, and the exit status that goes with it.
+//! What is said of words and files that are refused, and the exit status that goes with it.
 
-use crate::commands::{CommandText, write_commands};
-use crate::costs::tell_range;
-use crate::files::{FileFault, Unopened};
-use crate::order::Refusal;
-use crate::terminal::TypingFault;
+use crate::commands::{CommandText, command_in, write_commands};
+use crate::costs::write_range;
+use crate::fault::BookFault;
 use clap::Error;
-use clap::error::ErrorKind as WordsKind;
+use clap::error::ErrorKind;
 use cred_admin::Status;
 use cred_book::BookError;
 use cred_file::OpenFault;
 use cred_keep::{NAME_RULE, refuse};
 use cred_phc::PhcError;
-use sqlite::{Error as DatabaseError, ErrorCode};
 use std::io;
 use std::io::Write;
 
-/// Help and the version are written on standard output, and done.
-pub(crate) fn answer_refusal(host: &HostRuntime, refusal: &Refusal<'_>) -> Status {
-    match refusal {
-        Refusal::Words(error) => return answer_words(host, error),
-        Refusal::Memory => return say(host, "out of memory", Status::Memory),
-        Refusal::Salt => return say(host, "the system has no random bytes", Status::Io),
-        _ => {}
-    }
-    let _ = tell_refusal(&mut host.stderr(), refusal);
-    Status::Usage
+/// Why the words of the command line ask for nothing.
+#[derive(Drop)]
+pub(crate) enum Refusal<'a> {
+    /// They don't parse, or ask for help or the version.
+    Words(Error),
+    /// There is a word or an option too many for this command, or for any.
+    Unknown(Option<&'static CommandText>),
+    /// No account can have this name.
+    Name { text: &'a str, why: BookError },
+    /// The text of the setting has this fault.
+    Setting { text: &'a str, why: PhcError },
+    /// The text of this option is no size.
+    Size(&'static str),
+    /// The text of this option is no number from the one to the other.
+    Number(&'static str, u16, u16),
+    /// The setting asks for more memory than the bound on the lines.
+    Costly,
+    /// Existing accounts can't both stay as they are and be updated.
+    Existing,
+    /// The system has no random bytes for a salt.
+    Salt,
+    /// There is no memory.
+    Memory,
 }
 
-fn answer_words(host: &HostRuntime, error: &Error) -> Status {
+impl<'a> Refusal<'a> {
+    /// Why the words don't parse. A word too many isn't repeated: it may be a password.
+    pub(crate) fn of_words(words: &[String], error: Error) -> Refusal<'a> {
+        match error.kind() {
+            ErrorKind::UnknownArgument | ErrorKind::InvalidSubcommand => {
+                Refusal::Unknown(command_in(words))
+            }
+            ErrorKind::OutOfMemory => Refusal::Memory,
+            _ => Refusal::Words(error),
+        }
+    }
+
+    /// Says why, on standard error. Help and the version are written on standard output, and done.
+    pub(crate) fn tell(&self, host: &HostRuntime) -> Status {
+        match self {
+            Refusal::Words(error) => return tell_words(host, error),
+            Refusal::Memory => return say(host, "out of memory", Status::Memory),
+            Refusal::Salt => return say(host, "the system has no random bytes", Status::Io),
+            _ => {}
+        }
+        let _ = self.write(&mut host.stderr());
+        Status::Usage
+    }
+
+    fn write<W: Write>(&self, out: &mut W) -> io::Result<()> {
+        match self {
+            Refusal::Unknown(command) => write_unknown(out, *command),
+            Refusal::Name { text, why } => write_name(out, text, *why),
+            Refusal::Setting { text, why } => write_setting(out, text, *why),
+            Refusal::Size(option) => writeln!(
+                out,
+                "credkeep: --{option}: a size is a number of KiB, or one with K, M or G behind it"
+            ),
+            Refusal::Number(option, low, high) => writeln!(
+                out,
+                "credkeep: --{option}: it is a number from {low} to {high}"
+            ),
+            Refusal::Costly => writeln!(
+                out,
+                "credkeep: --setting: it asks for more than --most-memory or --most-work \
+                 (18 costly)"
+            ),
+            Refusal::Existing => writeln!(
+                out,
+                "credkeep: --skip-existing and --update: an account that exists is left, or updated"
+            ),
+            _ => Ok(()),
+        }
+    }
+}
+
+fn tell_words(host: &HostRuntime, error: &Error) -> Status {
+    let written = error.print(host);
     match error.kind() {
-        WordsKind::DisplayHelp | WordsKind::DisplayVersion => match error.print(host) {
+        ErrorKind::DisplayHelp | ErrorKind::DisplayVersion => match written {
             Ok(()) => Status::Done,
             Err(_) => say(host, "writing failed", Status::Io),
         },
-        WordsKind::OutOfMemory => say(host, "out of memory", Status::Memory),
-        _ => {
-            let _ = error.print(host);
-            Status::Usage
-        }
+        _ => Status::Usage,
     }
 }
 
-fn tell_refusal<W: Write>(out: &mut W, refusal: &Refusal<'_>) -> io::Result<()> {
-    match refusal {
-        Refusal::Unknown(command) => tell_unknown(out, *command),
-        Refusal::Name { text, why } => tell_name(out, text, *why),
-        Refusal::Setting { text, why } => tell_setting(out, text, *why),
-        Refusal::Size(option) => writeln!(
-            out,
-            "credkeep: {option}: a size is a number of KiB, or one with K, M or G behind it"
-        ),
-        Refusal::Number { option, low, high } => {
-            writeln!(
-                out,
-                "credkeep: --{option}: it is a number from {low} to {high}"
-            )
-        }
-        Refusal::Costly => writeln!(
-            out,
-            "credkeep: --setting: it asks for more than --most-memory or --most-work (18 costly)"
-        ),
-        Refusal::Existing => writeln!(
-            out,
-            "credkeep: --skip-existing and --update: an account that exists is left, or updated"
-        ),
-        _ => Ok(()),
-    }
-}
-
-/// A word too many isn't repeated.
-fn tell_unknown<W: Write>(out: &mut W, command: Option<&'static CommandText>) -> io::Result<()> {
+fn write_unknown<W: Write>(out: &mut W, command: Option<&'static CommandText>) -> io::Result<()> {
     match command {
         Some(text) => {
             writeln!(
@@ -88,23 +118,18 @@ fn tell_unknown<W: Write>(out: &mut W, command: Option<&'static CommandText>) ->
     writeln!(out, "\nFor more information, try '--help'.")
 }
 
-fn tell_name<W: Write>(out: &mut W, text: &str, why: BookError) -> io::Result<()> {
+fn write_name<W: Write>(out: &mut W, text: &str, why: BookError) -> io::Result<()> {
     let (number, word) = (why.number(), why.word());
     write!(out, "credkeep: {NAME_RULE}; this ")?;
-    tell_name_cause(out, text.as_bytes())?;
-    writeln!(out, " ({number} {word})")
-}
-
-/// Why bytes are no name.
-fn tell_name_cause<W: Write>(out: &mut W, bytes: &[u8]) -> io::Result<()> {
-    let bad = bytes.iter().find(|byte| !is_name_byte(**byte));
+    let bad = text.as_bytes().iter().find(|byte| !is_name_byte(**byte));
     match bad {
-        Some(b'\r') => write!(out, "has a carriage return"),
-        Some(b'A'..=b'Z') => write!(out, "has a capital letter"),
-        Some(byte @ 32..=126) => write!(out, "has '{}'", char::from(*byte)),
-        Some(byte) => write!(out, "has the byte {byte}"),
-        None => write!(out, "has {}", bytes.len()),
+        Some(b'\r') => write!(out, "has a carriage return")?,
+        Some(b'A'..=b'Z') => write!(out, "has a capital letter")?,
+        Some(byte @ 32..=126) => write!(out, "has '{}'", char::from(*byte))?,
+        Some(byte) => write!(out, "has the byte {byte}")?,
+        None => write!(out, "has {}", text.len())?,
     }
+    writeln!(out, " ({number} {word})")
 }
 
 fn is_name_byte(byte: u8) -> bool {
@@ -112,11 +137,11 @@ fn is_name_byte(byte: u8) -> bool {
 }
 
 /// Names the number that is outside its range.
-fn tell_setting<W: Write>(out: &mut W, text: &str, why: PhcError) -> io::Result<()> {
+fn write_setting<W: Write>(out: &mut W, text: &str, why: PhcError) -> io::Result<()> {
     let (number, word) = (why.number(), why.word());
     write!(out, "credkeep: --setting: ")?;
     match why {
-        PhcError::Range => tell_range(out, text)?,
+        PhcError::Range => write_range(out, text)?,
         PhcError::Params => write!(
             out,
             "the costs are written as m=65536,t=3,p=4, or ln=17,r=8,p=1 for scrypt"
@@ -126,48 +151,31 @@ fn tell_setting<W: Write>(out: &mut W, text: &str, why: PhcError) -> io::Result<
     writeln!(out, " ({number} {word})")
 }
 
-/// Says why the file isn't opened.
-pub(crate) fn refuse_file(host: &HostRuntime, path: &str, why: &FileFault) -> Status {
-    let _ = writeln!(host.stderr(), "credkeep: {path}: {why}");
-    why.status()
-}
-
-/// Says why a database wasn't opened.
-pub(crate) fn refuse_unopened(host: &HostRuntime, path: &str, why: &Unopened) -> Status {
-    match why {
-        Unopened::File(FileFault::Busy) => {
-            let busy = DatabaseError::SqliteFailure(ErrorCode::DatabaseBusy);
-            refuse(&mut host.stderr(), &OpenFault::Database(busy))
-        }
-        Unopened::File(why) => refuse_file(host, path, why),
-        Unopened::Database(error) => refuse(&mut host.stderr(), &OpenFault::Database(*error)),
+/// The value, if there is one; otherwise it says why the file was refused.
+pub(crate) fn accept<T, E: Into<BookFault>>(
+    host: &HostRuntime,
+    path: &str,
+    found: Result<T, E>,
+) -> Result<T, Status> {
+    match found {
+        Ok(value) => Ok(value),
+        Err(why) => Err(refuse_file(host, path, why)),
     }
 }
 
-pub(crate) fn warn_of_others(host: &HostRuntime, path: &str) {
-    let _ = writeln!(
-        host.stderr(),
-        "credkeep: warning: {path}: another user owns it, or others can read or write it"
-    );
-}
-
-/// Says why a terminal gave no passwords.
-pub(crate) fn refuse_typing(host: &HostRuntime, path: &str, why: &TypingFault) -> Status {
-    match why {
-        TypingFault::Refused => {
-            let _ = writeln!(
-                host.stderr(),
-                "credkeep: standard input is a terminal, which shows a password as it is typed: \
-                 write credkeep-ask in the place of credkeep, or\n  \
-                 systemd-ask-password | credkeep {path} ..\n\
-                 --echo asks here and shows it"
-            );
-            Status::Usage
+/// Says why a file was refused, and gives the exit status that tells of it.
+pub(crate) fn refuse_file<E: Into<BookFault>>(host: &HostRuntime, path: &str, why: E) -> Status {
+    match why.into() {
+        BookFault::File(why) => {
+            let _ = writeln!(host.stderr(), "credkeep: {path}: {why}");
+            why.status()
         }
-        TypingFault::Ended => say(host, "no password on standard input", Status::Data),
-        TypingFault::Unequal => say(host, "the two new passwords differ", Status::Data),
-        TypingFault::Memory => say(host, "out of memory", Status::Memory),
-        TypingFault::System(_) => say(host, "reading failed", Status::Io),
+        BookFault::Database(error) => refuse(&mut host.stderr(), &OpenFault::Database(error)),
+        BookFault::Book(why) => {
+            let status = refuse(&mut host.stderr(), &why);
+            let _ = writeln!(host.stderr(), "credkeep: that is said of {path}");
+            status
+        }
     }
 }
 

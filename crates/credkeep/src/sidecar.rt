@@ -1,7 +1,7 @@
 //! The files that lie beside a database: its log, its journal, its folder.
 
-use crate::files::FileFault;
-use crate::log::{LogEnd, LogLook, look_at_log};
+use crate::fault::FileFault;
+use crate::log::{LogLook, look_at_log};
 use sqlite::{FileFrom, Files, Wary};
 use sqlite_std_file::OpenError;
 use std::fs::File;
@@ -18,6 +18,15 @@ pub(crate) const JOURNAL: &str = "-journal";
 /// A log of no more bytes holds no change: the header, and the start of one frame.
 const EMPTY_LOG: u64 = 41;
 
+/// What was found at a name, or nothing if nothing has it.
+pub(crate) fn if_there<T>(found: io::Result<T>) -> io::Result<Option<T>> {
+    match found {
+        Ok(found) => Ok(Some(found)),
+        Err(error) if error.kind() == ErrorKind::NotFound => Ok(None),
+        Err(error) => Err(error),
+    }
+}
+
 /// The name of a file that lies beside this one.
 pub(crate) fn sidecar(rt: &HostRuntime, path: &str, end: &str) -> io::Result<String> {
     Ok(format!(in rt.alloc(); "{path}{end}")?)
@@ -26,22 +35,15 @@ pub(crate) fn sidecar(rt: &HostRuntime, path: &str, end: &str) -> io::Result<Str
 /// The name of the file itself, if a link leads to it; beside that its log lies. A name that
 /// nothing has is its own.
 pub(crate) fn real_path(rt: &HostRuntime, path: &str) -> io::Result<String> {
-    match fs::canonicalize(rt, path) {
-        Ok(real) => Ok(real.into_string()),
-        Err(error) if error.kind() == ErrorKind::NotFound => {
-            Ok(String::from_str(rt.alloc(), path)?)
-        }
-        Err(error) => Err(error),
+    match if_there(fs::canonicalize(rt, path))? {
+        Some(real) => Ok(real.into_string()),
+        None => Ok(String::from_str(rt.alloc(), path)?),
     }
 }
 
 /// The length of a file, or nothing if nothing has the name.
 pub(crate) fn len_of(rt: &HostRuntime, path: &str) -> io::Result<Option<u64>> {
-    match fs::symlink_metadata(rt, path) {
-        Ok(found) => Ok(Some(found.len())),
-        Err(error) if error.kind() == ErrorKind::NotFound => Ok(None),
-        Err(error) => Err(error),
-    }
+    Ok(if_there(fs::symlink_metadata(rt, path))?.map(|found| found.len()))
 }
 
 /// What the log of the database at this path holds; nothing if there is none.
@@ -58,22 +60,14 @@ pub(crate) fn look_at_its_log(rt: &HostRuntime, path: &str) -> io::Result<LogLoo
 
 /// Whether the database at this path has a log with changes in it, also with damaged ones.
 pub(crate) fn has_changes_in_log(rt: &HostRuntime, path: &str) -> io::Result<bool> {
-    let look = look_at_its_log(rt, path)?;
-    Ok(look.commits != 0 || look.end != LogEnd::Whole)
+    Ok(look_at_its_log(rt, path)? != LogLook::EMPTY)
 }
 
-/// Takes the log away that lies beside this path, if one does, and lets the folder know.
-pub(crate) fn remove_log(rt: &HostRuntime, path: &str) -> io::Result<()> {
-    let log = sidecar(rt, path, LOG)?;
-    remove_if_there(rt, log.as_str())?;
-    sync_folder(rt, path)
-}
-
-pub(crate) fn remove_if_there(rt: &HostRuntime, path: &str) -> io::Result<()> {
-    match fs::remove_file(rt, path) {
-        Err(error) if error.kind() == ErrorKind::NotFound => Ok(()),
-        ended => ended,
-    }
+/// Takes the file away that lies beside this one, if one does.
+pub(crate) fn remove_sidecar(rt: &HostRuntime, path: &str, end: &str) -> io::Result<()> {
+    let other = sidecar(rt, path, end)?;
+    if_there(fs::remove_file(rt, other.as_str()))?;
+    Ok(())
 }
 
 /// Syncs the folder of a file, whose names are then on the disk.
@@ -95,7 +89,7 @@ pub(crate) type Held = Files<FileFrom<Wary>>;
 ///
 /// Errors: `Busy` if another process has it open, or if it was put in another's place meanwhile;
 /// `Journal`; `System`.
-pub(crate) fn held_at(rt: &HostRuntime, path: &str) -> Result<Held, FileFault> {
+pub(crate) fn hold(rt: &HostRuntime, path: &str) -> Result<Held, FileFault> {
     let file = File::open(rt, path)?;
     let held = match sqlite_std_file::open(rt, path, Wary) {
         Ok(held) => held,

@@ -5,12 +5,14 @@
 //! after it the log from its start to its end, is the database at one moment, unless the log began
 //! anew meanwhile.
 
-use crate::files::FileFault;
-use crate::part::Part;
+use crate::draft::Draft;
+use crate::fault::FileFault;
+use crate::files::OWNER_ALONE;
+use crate::log::{LOG_HEADER, fills};
 use crate::progress::Progress;
-use crate::sidecar::{LOG, sidecar};
+use crate::sidecar::{LOG, if_there, sidecar};
 use std::fs::{File, OpenOptions};
-use std::io::{ErrorKind, Read, Write};
+use std::io::{Read, Write};
 use std::os::unix::fs::{MetadataExt, OpenOptionsExt};
 use std::thread::sleep;
 use std::time::Duration;
@@ -26,10 +28,11 @@ const CHUNK: usize = 65536;
 
 const MIB: u64 = 1024 * 1024;
 
-/// The bytes of a log's header, which has its salt.
-const LOG_HEADER: usize = 32;
+/// A file of more MiB takes long to read once it is copied.
+const MANY: u64 = 16;
 
-/// What stays as it is while nothing but the end of the log is written.
+/// What stays as it is while nothing but the end of the log is written: the log's header has its
+/// salt.
 #[derive(Clone, Copy, PartialEq, Eq)]
 struct Stamp {
     device: u64,
@@ -37,21 +40,18 @@ struct Stamp {
     head: [u8; LOG_HEADER],
 }
 
-/// A file of more MiB takes long to read once it is copied.
-const MANY: u64 = 16;
-
-/// Copies a database into a part, with its log beside it.
+/// Copies a database into a draft, with its log beside it.
 ///
 /// Errors: `Busy` if its log begins again at each try.
 pub(crate) fn take_snapshot(
     rt: &HostRuntime,
     path: &str,
-    part: &Part,
+    draft: &Draft<'_>,
     progress: &mut Progress<'_>,
 ) -> Result<(), FileFault> {
     for _ in 0..TRIES {
         let before = stamp_of(rt, path)?;
-        copy_both(rt, path, part, progress)?;
+        copy_both(rt, path, draft, progress)?;
         if stamp_of(rt, path)? == before {
             return Ok(());
         }
@@ -64,11 +64,9 @@ fn stamp_of(rt: &HostRuntime, path: &str) -> io::Result<Stamp> {
     let found = fs::metadata(rt, path)?;
     let log = sidecar(rt, path, LOG)?;
     let mut head = [0; LOG_HEADER];
-    if let Some(mut log) = open_if_there(rt, log.as_str())? {
-        match log.read_exact(&mut head) {
-            Ok(()) => {}
-            Err(error) if error.kind() == ErrorKind::UnexpectedEof => head = [0; LOG_HEADER],
-            Err(error) => return Err(error),
+    if let Some(mut log) = if_there(File::open(rt, log.as_str()))? {
+        if !fills(&mut log, &mut head)? {
+            head = [0; LOG_HEADER];
         }
     }
     Ok(Stamp {
@@ -78,30 +76,23 @@ fn stamp_of(rt: &HostRuntime, path: &str) -> io::Result<Stamp> {
     })
 }
 
-fn open_if_there(rt: &HostRuntime, path: &str) -> io::Result<Option<File>> {
-    match File::open(rt, path) {
-        Ok(file) => Ok(Some(file)),
-        Err(error) if error.kind() == ErrorKind::NotFound => Ok(None),
-        Err(error) => Err(error),
-    }
-}
-
 /// Copies the file, and then the log.
 fn copy_both(
     rt: &HostRuntime,
     path: &str,
-    part: &Part,
+    draft: &Draft<'_>,
     progress: &mut Progress<'_>,
 ) -> io::Result<()> {
-    part.file().set_len(0)?;
-    let mut to = OpenOptions::new().write(true).open(rt, part.path())?;
+    draft.file().set_len(0)?;
+    let mut to = OpenOptions::new().write(true).open(rt, draft.path())?;
     let size = copy_all(&mut File::open(rt, path)?, &mut to, progress)?;
     let log = sidecar(rt, path, LOG)?;
-    let copied = sidecar(rt, part.path(), LOG)?;
+    let copied = sidecar(rt, draft.path(), LOG)?;
     let mut options = OpenOptions::new();
-    options.write(true).create(true).truncate(true).mode(0o600);
+    options.write(true).create(true).truncate(true);
+    options.mode(OWNER_ALONE);
     let mut to = options.open(rt, copied.as_str())?;
-    if let Some(mut from) = open_if_there(rt, log.as_str())? {
+    if let Some(mut from) = if_there(File::open(rt, log.as_str()))? {
         copy_all(&mut from, &mut to, progress)?;
     }
     if size > MANY {

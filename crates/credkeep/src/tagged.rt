@@ -7,9 +7,9 @@ ghost use Rattle.cred_keep.specs.Orders.{IsRefused};
 ghost use Rattle.cred_many.specs.{Served.StandsAtEnd, Served.left_of, Service.service};
 ghost use Rattle.credkeep.specs.Service.{ServesBook, status_of_end, status_of_fault};
 
-use crate::files::{Access, DamagedLog, look_at, open_file};
-use crate::program::close;
-use crate::refusal::{refuse_file, refuse_unopened, say, warn_of_others};
+use crate::files::{DamagedLog, close, look, open_database};
+use crate::refusal::say;
+use crate::request::{Remarks, Request};
 use cred_admin::Status;
 use cred_cli::{Tools, Watched};
 use cred_file::{FileBook, Lost};
@@ -38,17 +38,13 @@ pub(crate) struct Tagged {
 pub(crate) fn serve_tagged<T: Threads + Wait + Sync + Copy + Send + 'static>(
     host: &HostRuntime,
     rt: &T,
-    path: &str,
-    wait: u16,
+    request: &Request<'_>,
     tagged: &Tagged,
-) -> Status {
-    match look_at(host, path) {
-        Ok(Access::OwnerAlone) => {}
-        Ok(Access::Others) => warn_of_others(host, path),
-        Err(why) => return refuse_file(host, path, &why),
-    }
+) -> Result<Status, Status> {
+    let file = request.file;
+    look(host, file, Remarks::Told)?;
     let Ok(salts) = make_rng::<StdRng, HostRuntime>(host) else {
-        return say(host, "the system has no random bytes", Status::Io);
+        return Err(say(host, "the system has no random bytes", Status::Io));
     };
     let tools = Tools {
         rt,
@@ -60,13 +56,9 @@ pub(crate) fn serve_tagged<T: Threads + Wait + Sync + Copy + Send + 'static>(
         writer: host.stdout(),
         salts,
     };
-    match open_file(host, path, wait, DamagedLog::Refused) {
-        Ok(conn) => {
-            let (conn, status) = serve_in(&tools, tagged, conn, streams, &mut host.stderr());
-            close(host, conn, status)
-        }
-        Err(why) => refuse_unopened(host, path, &why),
-    }
+    let conn = open_database(host, file, file, request.wait, DamagedLog::Refused)?;
+    let (conn, status) = serve_in(&tools, tagged, conn, streams, &mut host.stderr());
+    Ok(close(host, conn, status))
 }
 
 /// Where lines come from, where their answers go, and where the salts of new records come from.

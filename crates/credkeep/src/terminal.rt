@@ -1,39 +1,11 @@
 //! Passwords that are typed at a terminal, which shows them.
 
-use cred_admin::Passwords;
+use crate::refusal::say;
+use cred_admin::{Passwords, Status};
 use cred_keep::Order;
-use std::alloc::AllocError;
-use std::io;
 use std::io::{BufRead, IsTerminal, Write};
 
 const PRESENT: &str = "Password: ";
-
-/// Why a terminal gave no passwords.
-#[derive(Drop)]
-pub(crate) enum TypingFault {
-    /// Nobody asked for it by `--echo`.
-    Refused,
-    /// It ended before a line did.
-    Ended,
-    /// The new password was typed in two ways.
-    Unequal,
-    /// There is no memory.
-    Memory,
-    /// The system refused.
-    System(io::Error),
-}
-
-impl From<io::Error> for TypingFault {
-    fn from(error: io::Error) -> Self {
-        TypingFault::System(error)
-    }
-}
-
-impl From<AllocError> for TypingFault {
-    fn from(_error: AllocError) -> Self {
-        TypingFault::Memory
-    }
-}
 
 /// Whether passwords may be typed at a terminal.
 #[derive(Clone, Copy, PartialEq, Eq)]
@@ -42,59 +14,62 @@ pub(crate) enum Echo {
     Taken,
 }
 
-/// The lines of the passwords that an order reads, if standard input is a terminal: each is asked
-/// for on standard error, a new one twice. Otherwise nothing is read.
-pub(crate) fn asked_for(
+/// The lines of the passwords that an order on a book reads, if standard input is a terminal: each
+/// is asked for on standard error, a new one twice. Otherwise nothing is read.
+pub(crate) fn ask_passwords(
     host: &HostRuntime,
+    file: &str,
     order: &Order,
     echo: Echo,
-) -> Result<Typed, TypingFault> {
+) -> Result<Option<Vec<u8>>, Status> {
     let Order::Account { command, .. } = order else {
-        return Ok(Typed::Nothing);
+        return Ok(None);
     };
     if !host.stdin().is_terminal() {
-        return Ok(Typed::Nothing);
+        return Ok(None);
     }
     if echo == Echo::Refused {
-        return Err(TypingFault::Refused);
+        let _ = writeln!(
+            host.stderr(),
+            "credkeep: standard input is a terminal, which shows a password as it is typed: \
+             write credkeep-ask in the place of credkeep, or\n  \
+             systemd-ask-password | credkeep {file} ..\n\
+             --echo asks here and shows it"
+        );
+        return Err(Status::Usage);
     }
     match command.passwords() {
-        Passwords::Present => Ok(Typed::Lines(line_asked(host, PRESENT)?)),
-        Passwords::New(_) => Ok(Typed::Lines(new_line_asked(host)?)),
+        Passwords::Present => Ok(Some(ask_line(host, PRESENT)?)),
+        Passwords::New(_) => Ok(Some(ask_new_line(host)?)),
         Passwords::PresentAndNew(_) => {
-            let mut lines = line_asked(host, PRESENT)?;
-            let new = new_line_asked(host)?;
-            lines.extend_from_slice(&new)?;
-            Ok(Typed::Lines(lines))
+            let mut lines = ask_line(host, PRESENT)?;
+            let new = ask_new_line(host)?;
+            match lines.extend_from_slice(&new) {
+                Ok(()) => Ok(Some(lines)),
+                Err(_) => Err(say(host, "out of memory", Status::Memory)),
+            }
         }
     }
 }
 
-/// What was typed.
-#[derive(Drop)]
-pub(crate) enum Typed {
-    /// Passwords, a line each.
-    Lines(Vec<u8>),
-    /// Nothing: standard input is to be read.
-    Nothing,
-}
-
-fn new_line_asked(host: &HostRuntime) -> Result<Vec<u8>, TypingFault> {
-    let new = line_asked(host, "New password: ")?;
-    let again = line_asked(host, "The same again: ")?;
+fn ask_new_line(host: &HostRuntime) -> Result<Vec<u8>, Status> {
+    let new = ask_line(host, "New password: ")?;
+    let again = ask_line(host, "The same again: ")?;
     if new != again {
-        return Err(TypingFault::Unequal);
+        return Err(say(host, "the two new passwords differ", Status::Data));
     }
     Ok(new)
 }
 
 /// The line that is typed, with its end.
-fn line_asked(host: &HostRuntime, prompt: &str) -> Result<Vec<u8>, TypingFault> {
+fn ask_line(host: &HostRuntime, prompt: &str) -> Result<Vec<u8>, Status> {
     let _ = write!(host.stderr(), "{prompt}");
     let mut line = Vec::new(host.alloc());
-    host.stdin().lock().read_until(b'\n', &mut line)?;
+    if host.stdin().lock().read_until(b'\n', &mut line).is_err() {
+        return Err(say(host, "reading failed", Status::Io));
+    }
     if line.last() != Some(&b'\n') {
-        return Err(TypingFault::Ended);
+        return Err(say(host, "no password on standard input", Status::Data));
     }
     Ok(line)
 }

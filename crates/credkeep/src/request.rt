@@ -1,24 +1,22 @@
 //! What the words of the command line ask for.
 
 use crate::arguments::credkeep;
-use crate::commands::{CommandText, command_in};
 use crate::options::{
-    counts_in, echo_in, empty_in, importing_in, line_in, most_in, name_in, number_in, part_in,
-    remarks_in, size_in, text_in, threads_in,
+    counts_in, either, importing_in, line_in, most_in, name_in, number_in, size_in, text_in,
+    threads_in,
 };
+use crate::refusal::Refusal;
 use crate::tagged::Tagged;
 use crate::terminal::Echo;
-use clap::error::ErrorKind;
 use clap::{ArgMatches, Error};
-use cred_admin::{Command, Edit, Line, NewPassword, NewSetting, Part, setting_of};
-use cred_book::BookError;
+use cred_admin::{Command, Edit, EmptyPassword, Line, NewPassword, NewSetting, Part, setting_of};
 use cred_cli::exceeds;
 use cred_keep::{Counts, Order};
 use cred_many::{Costs, Means};
 use cred_phc::{PhcError, draw_salt};
+use rand::make_rng;
 use rand::rngs::StdRng;
-use rand::{Rng, make_rng};
-use std::alloc::{AllocError, Global};
+use std::alloc::Global;
 use std::random::RandomSource;
 
 /// RFC 9106's second recommended choice: Argon2id, 64 MiB, three passes, four lanes.
@@ -32,11 +30,12 @@ const LANES: u8 = 4;
 
 /// A file, and what is to be done with it.
 #[derive(Drop)]
-pub(crate) struct Asked<'a> {
+pub(crate) struct Request<'a> {
     pub(crate) file: &'a str,
     /// For how many seconds a busy file is tried.
     pub(crate) wait: u16,
     pub(crate) remarks: Remarks,
+    pub(crate) counts: Counts,
     pub(crate) act: Act<'a>,
 }
 
@@ -51,20 +50,12 @@ pub(crate) enum Remarks {
 pub(crate) enum Act<'a> {
     /// Begins a book.
     Init,
-    /// Writes a copy of the book.
-    Backup {
-        to: &'a str,
-        counts: Counts,
-    },
-    /// Puts a copy in the book's place.
-    Restore {
-        from: &'a str,
-        counts: Counts,
-    },
+    /// Writes a copy of the book to this place.
+    Backup(&'a str),
+    /// Puts this copy in the book's place.
+    Restore(&'a str),
     /// Reads all of the book, and its log.
-    Verify {
-        counts: Counts,
-    },
+    Verify,
     /// Answers tagged lines of many clients.
     Tagged(Tagged),
     /// Does what is asked of a book, with at most so many threads.
@@ -75,79 +66,27 @@ pub(crate) enum Act<'a> {
     },
 }
 
-/// Why the words ask for nothing.
-#[derive(Drop)]
-pub(crate) enum Refusal<'a> {
-    /// They don't parse, or ask for help or the version.
-    Words(Error),
-    /// There is a word or an option too many for this command, or for any.
-    Unknown(Option<&'static CommandText>),
-    /// No account can have this name.
-    Name {
-        text: &'a str,
-        why: BookError,
-    },
-    /// The text of the setting has this fault.
-    Setting {
-        text: &'a str,
-        why: PhcError,
-    },
-    /// The text of this option is no size.
-    Size(&'static str),
-    /// The text of this option is no number from the one to the other.
-    Number {
-        option: &'static str,
-        low: u16,
-        high: u16,
-    },
-    /// The setting asks for more memory than the bound on the lines.
-    Costly,
-    /// Existing accounts can't both stay as they are and be updated.
-    Existing,
-    /// The system has no random bytes for a salt.
-    Salt,
-    /// There is no memory.
-    Memory,
-}
-
-impl From<Error> for Refusal<'_> {
-    fn from(error: Error) -> Self {
-        Refusal::Words(error)
-    }
-}
-
-impl From<AllocError> for Refusal<'_> {
-    fn from(_error: AllocError) -> Self {
-        Refusal::Memory
-    }
-}
-
 /// What the process's words ask for.
-pub(crate) fn asked_by<'a, R: RandomSource + AllocGlobal>(
+pub(crate) fn request_of<'a, R: RandomSource + AllocGlobal>(
     rt: &R,
     words: &'a [String],
-) -> Result<Asked<'a>, Refusal<'a>> {
-    let matches = match parsed(rt.alloc(), words) {
+) -> Result<Request<'a>, Refusal<'a>> {
+    let matches = match parse(rt.alloc(), words) {
         Ok(matches) => matches,
-        Err(error) => return Err(refusal_of(words, error)),
+        Err(error) => return Err(Refusal::of_words(words, error)),
     };
-    let file = text_in(&matches, "file");
-    let wait = number_in(&matches, "wait", 0, 3600)?.unwrap_or(0);
-    let remarks = remarks_in(&matches);
-    let act = match matches.subcommand() {
-        Some((word, values)) => act_of(rt, word, values)?,
-        None => Act::Init,
-    };
-    Ok(Asked {
-        file,
-        wait,
-        remarks,
-        act,
+    let (word, values) = matches.subcommand().unwrap_or(("init", &matches));
+    Ok(Request {
+        file: text_in(&matches, "file"),
+        wait: number_in(&matches, "wait", 0, 3600)?.unwrap_or(0),
+        remarks: either(&matches, "quiet", Remarks::Hidden, Remarks::Told),
+        counts: counts_in(values),
+        act: act_of(rt, word, values)?,
     })
 }
 
 /// A single word may ask for help or the version as a command does elsewhere.
-fn parsed<'a>(alloc: Global, words: &'a [String]) -> Result<ArgMatches<'a>, Error> {
+fn parse<'a>(alloc: Global, words: &'a [String]) -> Result<ArgMatches<'a>, Error> {
     let command = credkeep(alloc)?;
     match words {
         [_, word] if word.as_str() == "help" => {
@@ -160,33 +99,16 @@ fn parsed<'a>(alloc: Global, words: &'a [String]) -> Result<ArgMatches<'a>, Erro
     }
 }
 
-/// Why the words don't parse. A word too many isn't repeated: it may be a password.
-fn refusal_of<'a>(words: &[String], error: Error) -> Refusal<'a> {
-    match error.kind() {
-        ErrorKind::UnknownArgument | ErrorKind::InvalidSubcommand => {
-            Refusal::Unknown(command_in(words))
-        }
-        _ => Refusal::Words(error),
-    }
-}
-
 fn act_of<'a, R: RandomSource + AllocGlobal>(
     rt: &R,
     word: &str,
     values: &ArgMatches<'a>,
 ) -> Result<Act<'a>, Refusal<'a>> {
-    let counts = counts_in(values);
     let order = match word {
         "init" => return Ok(Act::Init),
-        "backup" => return Ok(Act::Backup {
-            to: text_in(values, "to"),
-            counts,
-        }),
-        "restore" => return Ok(Act::Restore {
-            from: text_in(values, "from"),
-            counts,
-        }),
-        "verify" => return Ok(Act::Verify { counts }),
+        "backup" => return Ok(Act::Backup(text_in(values, "to"))),
+        "restore" => return Ok(Act::Restore(text_in(values, "from"))),
+        "verify" => return Ok(Act::Verify),
         "serve" if values.get_flag("tagged") => return Ok(Act::Tagged(tagged_in(rt, values)?)),
         "run" => Order::Run,
         "serve" => Order::Serve {
@@ -206,7 +128,7 @@ fn act_of<'a, R: RandomSource + AllocGlobal>(
     Ok(Act::Perform {
         order,
         workers: threads_in(values, "workers", 64)?.unwrap_or(LANES),
-        echo: echo_in(values),
+        echo: either(values, "echo", Echo::Taken, Echo::Refused),
     })
 }
 
@@ -215,9 +137,9 @@ fn tagged_in<'a, R: RandomSource + AllocGlobal>(
     rt: &R,
     values: &ArgMatches<'a>,
 ) -> Result<Tagged, Refusal<'a>> {
-    let memory = size_in(values.get_str("memory"), "--memory")?.unwrap_or(DEFAULT_MEMORY);
+    let memory = size_in(values, "memory")?.unwrap_or(DEFAULT_MEMORY);
     let most = most_in(values)?;
-    let setting = new_setting(rt, values)?.setting();
+    let setting = setting_in(rt, values)?.setting();
     if exceeds(&most, &setting) {
         return Err(Refusal::Costly);
     }
@@ -243,22 +165,15 @@ fn order_on<'a, R: RandomSource + AllocGlobal>(
     word: &str,
     values: &ArgMatches<'a>,
 ) -> Result<Order, Refusal<'a>> {
-    let name = name_in(text_in(values, "name"))?;
+    let name = name_in(values, "name")?;
+    let part = either(values, "record", Part::Record, Part::Costs);
     let edit = match word {
+        "show" if values.get_flag("json") => return Ok(Order::ShowJson { name, part }),
+        "show" => return Ok(Order::Show { name, part }),
         "disable" if values.get_flag("show") => return Ok(Order::DisableShown { name }),
         "disable" => Edit::Disable(name),
         "delete" => Edit::Delete(name),
-        "rename" => Edit::Rename(name, name_in(text_in(values, "new"))?),
-        "show" if values.get_flag("json") => {
-            return Ok(Order::ShowJson {
-                name,
-                part: part_in(values),
-            });
-        }
-        "show" => return Ok(Order::Show {
-            name,
-            part: part_in(values),
-        }),
+        "rename" => Edit::Rename(name, name_in(values, "new")?),
         _ => {
             let command = command_of(rt, word, values)?;
             return Ok(Order::Account { name, command });
@@ -273,13 +188,16 @@ fn command_of<'a, R: RandomSource + AllocGlobal>(
     word: &str,
     values: &ArgMatches<'a>,
 ) -> Result<Command, Refusal<'a>> {
-    match word {
+    let setting = match word {
         "check" => return Ok(Command::Check),
         "remove" => return Ok(Command::Remove),
-        _ => {}
-    }
-    let setting = new_setting(rt, values)?;
-    let empty = empty_in(values);
+        _ => setting_in(rt, values)?,
+    };
+    let empty = if values.get_flag("empty-password") {
+        EmptyPassword::Taken
+    } else {
+        EmptyPassword::Refused
+    };
     let new = NewPassword { setting, empty };
     Ok(match word {
         "add" => Command::Add(new),
@@ -289,8 +207,8 @@ fn command_of<'a, R: RandomSource + AllocGlobal>(
     })
 }
 
-/// The setting that was given.
-fn new_setting<'a, R: RandomSource + AllocGlobal>(
+/// The setting of new records, with a salt of its own or one that is drawn.
+fn setting_in<'a, R: RandomSource + AllocGlobal>(
     rt: &R,
     values: &ArgMatches<'a>,
 ) -> Result<NewSetting, Refusal<'a>> {
@@ -298,16 +216,7 @@ fn new_setting<'a, R: RandomSource + AllocGlobal>(
     let Ok(mut source) = make_rng::<StdRng, R>(rt) else {
         return Err(Refusal::Salt);
     };
-    setting_in(rt.alloc(), text, &mut source)
-}
-
-/// The setting of this text, with a salt of its own or the next one of the source.
-fn setting_in<'a, G: Rng>(
-    alloc: Global,
-    text: &'a str,
-    source: &mut G,
-) -> Result<NewSetting, Refusal<'a>> {
-    match setting_of(alloc, text.as_bytes(), &draw_salt(source)) {
+    match setting_of(rt.alloc(), text.as_bytes(), &draw_salt(&mut source)) {
         Ok(setting) => Ok(setting),
         Err(PhcError::Memory) => Err(Refusal::Memory),
         Err(why) => Err(Refusal::Setting { text, why }),

@@ -1,0 +1,139 @@
+//! Files that are made whole beside a place, and then put there.
+
+use crate::fault::FileFault;
+use crate::files::{OWNER_ALONE, own_user};
+use crate::sidecar::{
+    JOURNAL, LOG, has_changes_in_log, hold, if_there, is_at, remove_sidecar, sidecar, sync_folder,
+};
+use std::fs::{File, OpenOptions, Permissions};
+use std::io::ErrorKind;
+use std::os::unix::fs::{MetadataExt, OpenOptionsExt, PermissionsExt, fchown};
+use std::thread::sleep;
+use std::time::Duration;
+use std::{fs, io};
+
+/// For so many milliseconds a file is held after another was put in its place: a process that had
+/// opened it by its name finds it in use, and looks at the name again.
+const LINGER: u64 = 100;
+
+/// A file that is written beside the place where it goes, and is removed with this if it isn't put
+/// there. Nobody else may read or write it.
+pub(crate) struct Draft<'a> {
+    rt: &'a HostRuntime,
+    path: String,
+    file: File,
+}
+
+/// What becomes of a log that lies at the place.
+#[derive(Clone, Copy, PartialEq, Eq)]
+pub(crate) enum OldLog {
+    /// It has no changes, or nothing is put there.
+    Kept,
+    /// It is taken away.
+    Removed,
+}
+
+impl Drop for Draft<'_> {
+    /// If the removal fails nothing is lost: the next run takes the file.
+    fn drop(self) {
+        let Draft { rt, path, file } = self;
+        if let Ok(true) = is_at(rt, &file, path.as_str()) {
+            let _ = remove_logs(rt, path.as_str());
+            let _ = fs::remove_file(rt, path.as_str());
+        }
+    }
+}
+
+impl<'a> Draft<'a> {
+    /// Makes an empty file whose name is the place's with this end. What a run that was stopped
+    /// left there is taken for it.
+    ///
+    /// Errors: `Busy` if another run is writing it; what has its name and may not be overwritten.
+    pub(crate) fn make(rt: &'a HostRuntime, place: &str, end: &str) -> Result<Self, FileFault> {
+        let path = sidecar(rt, place, end)?;
+        let file = open_or_make(rt, path.as_str())?;
+        if file.try_lock().is_err() || !is_at(rt, &file, path.as_str())? {
+            return Err(FileFault::Busy);
+        }
+        file.set_permissions(Permissions::from_mode(OWNER_ALONE))?;
+        file.set_len(0)?;
+        remove_logs(rt, path.as_str())?;
+        Ok(Draft { rt, path, file })
+    }
+
+    pub(crate) fn path(&self) -> &str {
+        self.path.as_str()
+    }
+
+    /// What is written and read directly.
+    pub(crate) fn file(&self) -> &File {
+        &self.file
+    }
+
+    /// Gives it the owner and the mode of the file that it is to replace, if there is one.
+    ///
+    /// Errors: `Owner` if this user can't give it away.
+    pub(crate) fn dress_as(&self, place: &str) -> Result<(), FileFault> {
+        let Some(old) = if_there(fs::symlink_metadata(self.rt, place))? else {
+            return Ok(());
+        };
+        let own = self.file.metadata()?;
+        if (own.uid(), own.gid()) != (old.uid(), old.gid()) {
+            match fchown(&self.file, Some(old.uid()), Some(old.gid())) {
+                Err(error) if error.kind() == ErrorKind::PermissionDenied => {
+                    return Err(FileFault::Owner);
+                }
+                given => given?,
+            }
+        }
+        let mode = Permissions::from_mode(old.mode() & 0o777);
+        Ok(self.file.set_permissions(mode)?)
+    }
+
+    /// Puts the file at the place, by one step: whoever looks there finds the old file whole, or
+    /// this one. It has no log then.
+    ///
+    /// Errors: `Busy` if another process has the old file open; `OldLog` if a log lies there with
+    /// changes in it, which is to be kept.
+    pub(crate) fn put_at(&self, place: &str, old_log: OldLog) -> Result<(), FileFault> {
+        let rt = self.rt;
+        remove_logs(rt, self.path())?;
+        self.file.sync_all()?;
+        let held = match hold(rt, place) {
+            Ok(held) => Some(held),
+            Err(FileFault::System(error)) if error.kind() == ErrorKind::NotFound => None,
+            Err(why) => return Err(why),
+        };
+        if old_log == OldLog::Kept && has_changes_in_log(rt, place)? {
+            return Err(FileFault::OldLog);
+        }
+        remove_sidecar(rt, place, LOG)?;
+        sync_folder(rt, place)?;
+        fs::rename(rt, self.path(), place)?;
+        sync_folder(rt, place)?;
+        if held.is_some() {
+            sleep(rt, Duration::from_millis(LINGER));
+        }
+        Ok(())
+    }
+}
+
+fn remove_logs(rt: &HostRuntime, path: &str) -> io::Result<()> {
+    remove_sidecar(rt, path, LOG)?;
+    remove_sidecar(rt, path, JOURNAL)
+}
+
+/// Opens the file of a draft, or makes it. Neither a link nor another user's file is taken.
+fn open_or_make(rt: &HostRuntime, path: &str) -> Result<File, FileFault> {
+    let mut options = OpenOptions::new();
+    options.read(true).write(true);
+    match if_there(fs::symlink_metadata(rt, path))? {
+        Some(found) if !found.is_file() || found.nlink() != 1 => return Err(FileFault::Irregular),
+        Some(found) if found.uid() != own_user(rt)? => return Err(FileFault::Owner),
+        Some(_) => {}
+        None => {
+            options.create_new(true).mode(OWNER_ALONE);
+        }
+    }
+    Ok(options.open(rt, path)?)
+}
