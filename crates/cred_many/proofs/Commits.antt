@@ -1,45 +1,21 @@
 -- A commit that doesn't find the record changed is the whole operation.
-use Rattle.std.proofs.Common.{◌≡◌, ℕ, List, [], ◌∷◌, ◌++◌, Option, Some, None, Ok, Err, Bool, true, false, not, if◌then◌else◌, refl, sym, ap, ◌∙◌}
-use Rattle.std.specs.FinMap as map
+use Rattle.std.proofs.Common.{◌≡◌, ℕ, List, [], ◌∷◌, ◌++◌, Option, Some, None, Ok, Bool, true, false, refl, sym, ap, ◌∙◌}
 use Rattle.cred_phc.specs.Values.{RecordValue, SettingValue, record_of}
 use Rattle.cred_book.specs.{Accounts.Accounts, Commits.Commits, Commits.commit_outcome, Commits.commit_outcome_if}
-use Rattle.cred_book.specs.Works.{Task, is_for_current, name_of, new_record, right, same, same_scheme, seq, seq_at, whole}
-use Rattle.cred_book.specs.declared.error.BookError.{BookError}
-use Rattle.cred_book.specs.declared.error.BookError.TheVariants as error
+use Rattle.cred_book.specs.Works.{Task, is_for_current, name_of, new_record, same, seq, seq_at, whole}
 use Rattle.cred_book.specs.{declared.reply.Reply.Reply, declared.request.Request.Request}
-use Rattle.cred_book.specs.declared.request.Request.TheVariants as request
 use Rattle.cred_book.proofs.Commitments.{committed_found}
 use Rattle.cred_cli.specs.Texts.{reply_line}
-use Rattle.cred_many.specs.{declared.ask.Ask.Ask, declared.ask.Ask.TheVariants.Quick, declared.ask.Ask.TheVariants.Whole}
-use Rattle.cred_many.specs.declared.ask.Ask.TheVariants.{Login, Reset}
-use Rattle.cred_many.specs.{Asks.Entry, Asks.IsJobOf, Asks.IsResetOf, Asks.IsSound, Scribe.is_changed}
-use Rattle.cred_many.specs.Served.{NeedsMemory, done, login_reply, name_asked, reset_at, told_reply}
+use Rattle.cred_cli.proofs.Simulation.{whole_replies}
+use Rattle.cred_many.specs.{Asks.Entry, Asks.IsJobOf, Asks.IsResetOf, Asks.IsSound, Scribe.is_change, Scribe.is_changed}
+use Rattle.cred_many.specs.{Served.NeedsMemory, Served.done, Served.login_reply, Served.name_asked, Served.told_reply, declared.ask.Ask.Ask}
+use Rattle.cred_many.specs.declared.ask.Ask.TheVariants.{Quick, Whole, Login, Reset}
+use Rattle.cred_admin.specs.Commands.{reset_step}
 use Rattle.cred_many.proofs.Serving.{IsDone, done_at}
-
-chosen : (b : Bool) (x y : Reply) → is_changed x ≡ false → is_changed y ≡ false → is_changed (if b then x else y) ≡ false
-chosen true x y p q = p
-chosen false x y p q = q
-
-picked : (b : Bool) (x y : Reply × Option RecordValue) → is_changed x.0 ≡ false → is_changed y.0 ≡ false → is_changed (if b then x else y).0 ≡ false
-picked true x y p q = p
-picked false x y p q = q
-
-picked_not : (b : Bool) (x y : Reply × Option RecordValue) → is_changed x.0 ≡ false → is_changed y.0 ≡ false → is_changed (if not b then x else y).0 ≡ false
-picked_not true x y p q = q
-picked_not false x y p q = p
+use Rattle.std.specs.FinMap as map
 
 pub whole_unchanged : (r : Request) (now : Option RecordValue) → is_changed (whole r now).0 ≡ false
-whole_unchanged (request.Enrol name pw setting) None = refl
-whole_unchanged (request.Enrol name pw setting) (Some stored) = refl
-whole_unchanged (request.Verify name pw) None = refl
-whole_unchanged (request.Verify name pw) (Some stored) = chosen (right stored pw) _ _ refl refl
-whole_unchanged (request.Change name pw more setting) None = refl
-whole_unchanged (request.Change name pw more setting) (Some stored) = picked (right stored pw) _ _ refl refl
-whole_unchanged (request.Upgrade name pw setting) None = refl
-whole_unchanged (request.Upgrade name pw setting) (Some stored) =
-    picked_not (right stored pw) _ _ refl (picked (same_scheme stored.setting.scheme setting.scheme) _ _ refl refl)
-whole_unchanged (request.Remove name pw) None = refl
-whole_unchanged (request.Remove name pw) (Some stored) = picked (right stored pw) _ _ refl refl
+whole_unchanged r now = ap is_change (whole_replies r now)
 
 module _ (book new : Accounts) (work : Task) (r : Reply) where
   -- a commit that doesn't find the record changed is the whole operation
@@ -67,13 +43,6 @@ module _ (book new : Accounts) (work : Task) (r : Reply) where
 
   pub commits_still : Commits book new work (Ok r) → is_changed r ≡ true → new ≡ book
   commits_still is changed = stays_at (map.get book (name_of work.0)) refl changed is
-
-pub refused_still : (book new : Accounts) (work : Task) (e : Task × BookError) → Commits book new work (Err e) → new ≡ book
-refused_still book new work (back, error.Memory) h = h.1
-refused_still book new work (back, error.Exists) h = absurd h
-refused_still book new work (back, error.Full) h = absurd h
-refused_still book new work (back, error.Name) h = absurd h
-refused_still book new work (back, error.NoAccount) h = absurd h
 
 -- ---- what is hashed for a line
 
@@ -126,18 +95,11 @@ done_whole capacity book later e work found tag answer job commits is_not tag_is
 
 -- ---- resets
 
-pub reset_stored : (ask : Ask) (name : List ℕ) (task : Task) → IsResetOf ask name task → (whole task.0 task.1).1 ≡ None → ⊥
-reset_stored (Reset n pw setting) name task job none =
-    let made : Some (new_record setting pw) ≡ None = ap (λ t. (whole t.0 t.1).1) (sym job.1) ∙ none in absurd cc
-reset_stored (Quick ask) name task job none = job
-reset_stored (Whole q) name task job none = job
-reset_stored (Login n pw setting) name task job none = job
-
 job_reset : (ask : Ask) (name : List ℕ) (task : Task) (stored : RecordValue) → IsResetOf ask name task → Some stored ≡ (whole task.0 task.1).1
-    → (capacity : ℕ) (book later : Accounts) (found : Reply) → (reply_line found, later) ≡ reset_at book name stored (map.get book name) → (reply_line found, later) ≡ done capacity book ask
+    → (capacity : ℕ) (book later : Accounts) (found : Reply) → (found, later) ≡ reset_step book name stored → (reply_line found, later) ≡ done capacity book ask
 job_reset (Reset n pw setting) name task stored job is capacity book later found done_is =
     let made : stored ≡ new_record setting pw = some_inj (is ∙ ap (λ t. (whole t.0 t.1).1) job.1) in
-    done_is ∙ ap (λ r. reset_at book name r (map.get book name)) made ∙ ap (λ m. reset_at book m (new_record setting pw) (map.get book m)) job.0
+    ap (λ o. (reply_line o.0, o.1)) (done_is ∙ ap (reset_step book name) made ∙ ap (λ m. reset_step book m (new_record setting pw)) job.0)
   where
     some_inj : {A : Type 0} {x y : A} → Some x ≡ Some y → x ≡ y
     some_inj e = cc
@@ -146,7 +108,7 @@ job_reset (Whole q) name task stored job is capacity book later found done_is = 
 job_reset (Login n pw setting) name task stored job is capacity book later found done_is = absurd job
 
 pub done_reset : (capacity : ℕ) (book later : Accounts) (e : Entry) (name : List ℕ) (task : Task) (stored : RecordValue) (found : Reply) (tag answer : List ℕ)
-    → IsResetOf e.ask name task → Some stored ≡ (whole task.0 task.1).1 → (reply_line found, later) ≡ reset_at book name stored (map.get book name) → tag ≡ e.tag
+    → IsResetOf e.ask name task → Some stored ≡ (whole task.0 task.1).1 → (found, later) ≡ reset_step book name stored → tag ≡ e.tag
     → answer ≡ reply_line found → IsDone capacity book later e (tag ++ 32 ∷ answer)
 done_reset capacity book later e name task stored found tag answer job is done_is tag_is answer_is =
     let whole = job_reset e.ask name task stored job is capacity book later found done_is in

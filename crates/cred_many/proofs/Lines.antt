@@ -1,20 +1,17 @@
 -- The lines that a reader comes to are lines of its input.
-use Rattle.std.proofs.Common.{◌≡◌, ◌≢◌, ℕ, zero, suc, ◌+◌, ◌<◌, ◌≤◌, List, [], ◌∷◌, ◌++◌, length, take, drop, get_or, Option, Some, None, IfSome, true, false, if◌then◌else◌, nat_lt, option_map, slice_get, refl, sym, ap, ◌∙◌, arith, append_assoc, append-nil, inl, inr, codes, subst, take-append-drop}
-use Rattle.std.proofs.{lemmas.Bool.Decides.eqb_tells, lemmas.Bool.Decides.nat_tests, lemmas.Bool.cases_lt}
-use Rattle.std.proofs.{lemmas.List.length-append, lemmas.List.length-take, lemmas.List.take_all, lemmas.List.take_more, Math.Seq.drop-cons}
+use Rattle.std.proofs.Common.{◌≡◌, ◌≢◌, ◌==◌, ℕ, zero, suc, ◌+◌, ◌<◌, ◌≤◌, List, [], ◌∷◌, ◌++◌, length, take, drop, get_or, Option, Some, None, IfSome, true, false, if◌then◌else◌, nat_lt, option_map, slice_get, refl, sym, ap, ◌∙◌, arith, append_assoc, append-nil, inl, inr, codes, subst, take-append-drop}
+use Rattle.std.specs.List.{filter}
+use Rattle.std.proofs.{Math.Seq.drop-cons, lemmas.Bool.cases_lt, lemmas.Bool.Decides.eqb_tells}
+use Rattle.std.proofs.{lemmas.List.length-append, lemmas.List.length-take, lemmas.List.take_all, lemmas.List.take_more, lemmas.Option.IfSome_then}
 use Rattle.cred_phc.specs.{Pieces.pieces, Values.SettingValue}
-use Rattle.cred_cli.specs.declared.costs.CostBounds.{CostBounds}
-use Rattle.cred_cli.specs.declared.refusal.Refusal.TheVariants as refusal
 use Rattle.cred_cli.specs.{Events.longest_line, Events.most_kept, Events.most_pieces, Feeding.unfinished_from, Script.line_ends, Script.lines_of}
-use Rattle.cred_cli.proofs.Feeds.{none_kept, some_kept, take-kept}
-use Rattle.cred_cli.proofs.Lines.{length-whole_from, lines_of-ended, lines_of-line_end, lines_of-unfinished, unfinished_from-end, unfinished_from-more, whole_from}
-use Rattle.cred_cli.proofs.{Readings.if_known, Unended.ends_sooner, Unended.unended_at, Unended.unended_last}
+use Rattle.cred_cli.specs.declared.costs.CostBounds.{CostBounds}
+use Rattle.cred_cli.proofs.{Feeds.none_kept, Feeds.some_kept, Feeds.take-kept, Readings.if_known, Unended.ends_sooner, Unended.unended_at, Unended.unended_last}
+use Rattle.cred_cli.proofs.Lines.{length-whole_from, line_ends-append, line_ends-end, line_ends-more, lines_of-ended, lines_of-line_end, lines_of-unfinished, longer, unfinished_from-end, unfinished_from-more, whole_from}
 use Rattle.cred_many.specs.Asks.{Tagged, entry_of, refused, tag_of, tagged, tagged_by, tagged_of, untagged, within}
 use Rattle.cred_many.specs.Reading.{ComesNext, IsCutLine, IsWholeLine, MovesOver, NothingIsLeft, Place, Splits}
 use Rattle.cred_many.specs.Service.{IsLine, Service, asked_from, cut_line, drawn_setting}
-
-longer : (line : List ℕ) → longest_line < length line → nat_lt longest_line (length line) ≡ true
-longer line long = grind (arith, nat_tests)
+use Rattle.cred_cli.specs.declared.refusal.Refusal.TheVariants as refusal
 
 too_long : (drawn : SettingValue) (line : List ℕ) → longest_line < length line → tagged_of drawn line ≡ untagged refusal.Long
 unfolding tagged_of
@@ -54,11 +51,10 @@ kept_came s (Some all) at most drawn same is (line, there, kept, ended) =
 
 -- and a line without its end as it is refused
 pub cut_came : (s : Service) (input : Option (List ℕ)) (number : ℕ) → IfSome input (λ all. IsCutLine all number) → IfSome input (λ all. IsLine s all (cut_line number))
-cut_came s None number came = tt
-cut_came s (Some all) number (line, there, last) =
-    unended_last (λ e. cut_line e.number) all (asked_from s 0 (lines_of all)) number last
-    ∙ ap (option_map (λ e. cut_line e.number)) (asked_at s 0 (lines_of all) number line there)
-    ∙ ap (λ n. Some (cut_line n)) (omega arith)
+cut_came s input number came = IfSome_then input came (λ all here.
+    unended_last (λ e. cut_line e.number) all (asked_from s 0 (lines_of all)) number here.2
+    ∙ ap (option_map (λ e. cut_line e.number)) (asked_at s 0 (lines_of all) number here.0 here.1)
+    ∙ ap (λ n. Some (cut_line n)) (omega arith))
 
 get_seam : (front : List (List ℕ)) (line : List ℕ) (more : List (List ℕ)) → slice_get (front ++ line ∷ more) (length front) ≡ Some line
 get_seam [] line more = refl
@@ -110,32 +106,6 @@ module _ (input : Option (List ℕ)) (at : Place) (ended : NothingIsLeft input a
       let count : length (lines_of all) ≡ line_ends all = ap length (lines_of-ended all left) ∙ length-whole_from [] all in
       let number : at.number ≡ line_ends all = here.number_is ∙ ap line_ends whole in
       omega (arith, count, number))
-
--- those that were handed on
-pub counted_all : (input : Option (List ℕ)) (n m : ℕ) → n ≡ m → IfSome input (λ all. n ≡ length (lines_of all)) → IfSome input (λ all. m ≡ length (lines_of all))
-counted_all None n m same all = tt
-counted_all (Some bytes) n m same all = sym same ∙ all
-
-line_ends-more : (front : List ℕ) (b : ℕ) → b ≢ 10 → line_ends (front ++ b ∷ []) ≡ line_ends front
-line_ends-more front b ne =
-    sym (length-whole_from [] (front ++ b ∷ [])) ∙ ap length (whole_more [] front b ne) ∙ length-whole_from [] front
-  where
-    whole_more : (start front : List ℕ) (b : ℕ) → b ≢ 10 → whole_from start (front ++ b ∷ []) ≡ whole_from start front
-    whole_more start [] b ne = elim (eqb_tells b 10) [
-      | inl w ↦ absurd (ne w.1)
-      | inr w ↦ rw w.0 refl
-    ]
-    whole_more start (c ∷ cs) b ne = elim (eqb_tells c 10) [
-      | inl w ↦ rw w.0 (ap (λ ls. start ∷ ls) (whole_more [] cs b ne))
-      | inr w ↦ rw w.0 (whole_more (start ++ c ∷ []) cs b ne)
-    ]
-
-line_ends-end : (front : List ℕ) → line_ends (front ++ 10 ∷ []) ≡ suc (line_ends front)
-line_ends-end [] = refl
-line_ends-end (c ∷ cs) = elim (eqb_tells c 10) [
-  | inl w ↦ rw w.0 (ap suc (line_ends-end cs))
-  | inr w ↦ rw w.0 (line_ends-end cs)
-]
 
 -- a byte of a line
 pub byte_taken : (input : Option (List ℕ)) (old new : Place) (b : ℕ) → b ≢ 10 → new.start ≡ take most_kept (old.start ++ b ∷ []) → new.number ≡ old.number → MovesOver input old (b ∷ []) new
@@ -205,13 +175,6 @@ bytes_all input old new bytes i whole on = λ all rest known at. on all rest kno
 
 -- ---- line ends in turn
 
-pub line_ends-append : (xs ys : List ℕ) → line_ends (xs ++ ys) ≡ line_ends xs + line_ends ys
-line_ends-append [] ys = omega arith
-line_ends-append (c ∷ cs) ys = elim (eqb_tells c 10) [
-  | inl w ↦ rw w.0 (let r = line_ends-append cs ys in omega (arith, r))
-  | inr w ↦ rw w.0 (line_ends-append cs ys)
-]
-
 -- each line end ends a line
 ends_few_lines : (all : List ℕ) → line_ends all ≤ length (lines_of all)
 ends_few_lines all = elim (cases_lt 0 (length (unfinished_from [] all))) [
@@ -256,21 +219,10 @@ ends_few bytes i within n is = let short = line_ends-short (take i bytes) in let
 pub counted : (given more handed now next : ℕ) → handed ≡ given → now ≡ handed + more → next ≡ given + more → now ≡ next
 counted given more handed now next same on is = on ∙ ap (λ n. n + more) same ∙ sym is
 
-pub ends_whole : (bytes : List ℕ) (i : ℕ) → length bytes ≤ i → (n : ℕ) → n ≡ line_ends (take i bytes) → n ≡ line_ends bytes
-ends_whole bytes i whole n is = is ∙ ap line_ends (take_all i bytes whole)
-
-one_end : (b : ℕ) → b ≡ 10 → line_ends (b ∷ []) ≡ 1
-one_end b is = rw is refl
-
-no_end : (b : ℕ) → b ≢ 10 → line_ends (b ∷ []) ≡ 0
-no_end b other = elim (eqb_tells b 10) [
-  | inl w ↦ absurd (other w.1)
-  | inr w ↦ rw w.0 refl
+-- the bytes that end lines are as many
+pub length-ends : (bytes : List ℕ) → length (filter (λ b. b == 10) bytes) ≡ line_ends bytes
+length-ends [] = refl
+length-ends (c ∷ cs) = elim (eqb_tells c 10) [
+  | inl w ↦ rw w.0 (ap suc (length-ends cs))
+  | inr w ↦ rw w.0 (length-ends cs)
 ]
-
-module _ (bytes : List ℕ) (i : ℕ) (within : i < length bytes) (n m : ℕ) (is : n ≡ line_ends (take i bytes)) where
-  pub end_more : get_or bytes i 0 ≡ 10 → m ≡ n + 1 → m ≡ line_ends (take (i + 1) bytes)
-  end_more end next = let one = one_end (get_or bytes i 0) end in let more = ends_next bytes i within in omega (arith, is, next, one, more)
-
-  pub byte_more : get_or bytes i 0 ≢ 10 → m ≡ n → m ≡ line_ends (take (i + 1) bytes)
-  byte_more other same = let none = no_end (get_or bytes i 0) other in let more = ends_next bytes i within in omega (arith, is, same, none, more)

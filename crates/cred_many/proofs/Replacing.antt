@@ -1,12 +1,11 @@
 -- Records that a keeper replaces together.
 use Rattle.std.proofs.Common.{◌≡◌, ℕ, List, [], ◌∷◌, ◌++◌, Bool, true, false, cond, Option, Some, refl, sym, ap, ◌∙◌}
-use Rattle.std.specs.Option.{option_or}
-use Rattle.std.specs.FinMap as fin
-use Rattle.std.specs.{FinMap.get-empty, FinMap.get-entries, FinMap.get-from_entries, Cmp.Lexicographic.nat_list_cmp_total, Ordering.eq_by_cmp}
+use Rattle.std.specs.{Cmp.Lexicographic.nat_list_cmp_total, FinMap.get-empty, FinMap.get-entries, FinMap.get-from_entries, Option.option_or, Ordering.eq_by_cmp}
 use Rattle.cred_phc.specs.Values.{RecordValue}
 use Rattle.cred_book.specs.{Accounts.Accounts, Names.name_cmp}
 use Rattle.cred_file.specs.Edits.{joined, taken_in}
 use Rattle.cred_many.specs.Scribe.{AreReplaced}
+use Rattle.std.specs.FinMap as fin
 
 abbrev Entries : Type 0
 Entries = List (List ℕ × Option RecordValue)

@@ -1,7 +1,7 @@
 -- How often a record was seen to change.
 use Rattle.std.proofs.Common.{◌≡◌, ℕ, zero, suc, ◌+◌, ◌≤◌, List, [], ◌∷◌, ◌++◌, Option, Some, None, IfSome, subst, Bool, true, false, if◌then◌else◌, refl, sym, ap, ◌∙◌, append_assoc, append-nil, arith, take, drop, set, slice_get}
-use Rattle.std.proofs.lemmas.Slice.Eq.{bytes_eq-Decides}
-use Rattle.std.proofs.lemmas.List.Elements.{All-append, All-drop, All-head, All-same, All-set, All-tail, All-take, All-weaker}
+use Rattle.std.proofs.{lemmas.Option.IfSome_then, lemmas.Option.get_or_from_slice_get, lemmas.Option.slice_get_within, lemmas.Slice.Eq.bytes_eq-Decides}
+use Rattle.std.proofs.lemmas.List.Elements.{All-append, All-drop, All-get_or, All-same, All-set, All-take, All-weaker}
 use Rattle.std.specs.{List.All, Str.bytes_eq}
 use Rattle.cred_phc.specs.Values.{RecordValue}
 use Rattle.cred_book.specs.{Accounts.Accounts, Works.same}
@@ -59,9 +59,7 @@ answers-append capacity book (x ∷ xs) ys =
 -- ---- what was seen
 
 at_place : {A : Type 0} (P : A → Type 0) (xs : List A) (i : ℕ) (x : A) → All P xs → slice_get xs i ≡ Some x → P x
-at_place P [] i x all is = absurd cc
-at_place P (y ∷ ys) zero x all is = let same : y ≡ x = cc in subst P same (All-head P y ys all)
-at_place P (y ∷ ys) (suc i) x all is = at_place P ys i x (All-tail P y ys all) is
+at_place P xs i x all is = subst P (get_or_from_slice_get xs i x x is) (All-get_or P xs i x (slice_get_within xs i x is) all)
 
 at_set : {A : Type 0} (xs : List A) (i : ℕ) (x y : A) → slice_get xs i ≡ Some x → slice_get (set xs i y) i ≡ Some y
 at_set [] i x y is = absurd cc
@@ -79,14 +77,13 @@ numbers-snoc (o ∷ os) n = ap (λ ns. o.number ∷ ns) (numbers-snoc os n)
 
 module _ (capacity : ℕ) (opening : Accounts) (list : List Entry) where
   seen_on : (more : List Entry) (o : Option Sight) → IfSome o (WasThere capacity opening list) → IfSome o (WasThere capacity opening (list ++ more))
-  seen_on more None h = tt
-  seen_on more (Some s) h = record {
-    before = h.before;
-    rest = h.rest ++ more;
-    cut = ap (λ l. l ++ more) h.cut ∙ append_assoc h.before h.rest more;
-    stored_is = h.stored_is;
-    few = h.few;
-  }
+  seen_on more o h = IfSome_then o h (λ s was. record {
+    before = was.before;
+    rest = was.rest ++ more;
+    cut = ap (λ l. l ++ more) was.cut ∙ append_assoc was.before was.rest more;
+    stored_is = was.stored_is;
+    few = was.few;
+  })
 
   pub watched_on : (more : List Entry) (left : List Open) → All (SightHolds capacity opening list) left → All (SightHolds capacity opening (list ++ more)) left
   watched_on more left all = All-weaker (SightHolds capacity opening list) (SightHolds capacity opening (list ++ more)) (λ o h. seen_on more o.sight h) left all

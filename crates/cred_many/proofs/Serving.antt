@@ -1,20 +1,19 @@
 -- A history that goes on by one line.
 use Rattle.std.proofs.Common.{◌≡◌, ◌⊎◌, inl, inr, ℕ, zero, suc, ◌+◌, List, [], ◌∷◌, ◌++◌, Bool, Option, Some, None, IfSome, subst, ◌≤◌, refl, sym, ap, ◌∙◌, append_assoc, append-nil, arith, take, drop, slice_get, length}
-use Rattle.std.proofs.{Math.Logic.∥∥₁_map, lemmas.List.length-append}
+use Rattle.std.proofs.{KnownBytes.Appends-nil, Math.Logic.∥∥₁_map, lemmas.List.length-append, lemmas.Option.IfSome_then}
 use Rattle.std.proofs.lemmas.List.Elements.{All-head, All-nil, All-push, All-same, All-tail}
 use Rattle.std.proofs.lemmas.List.Sorted.{IsPermutation-append_left, IsPermutation-append_right, IsPermutation-cons, IsPermutation-middle, IsPermutation-refl, IsPermutation-trans}
-use Rattle.std.proofs.KnownBytes.{Appends-nil}
 use Rattle.std.specs.{List.All, List.range_with_len, List.Sorted.IsPermutation, Option.option_or}
 use Rattle.cred_phc.specs.Values.{RecordValue}
 use Rattle.cred_book.specs.Accounts.{Accounts}
-use Rattle.cred_book.specs.declared.error.BookError.TheVariants as error
-use Rattle.cred_cli.specs.declared.refusal.Refusal.TheVariants as refusal
-use Rattle.cred_many.specs.{declared.fault.ServiceFault.ServiceFault, declared.open.Open.Open, Asks.Entry, Asks.entry, Asks.refused}
+use Rattle.cred_many.specs.Asks.{Entry, entry, refused}
 use Rattle.cred_many.specs.Scribe.{AreClosed, History, IsBusy, IsConcluded, Notes, SightHolds, numbers, unseen}
 use Rattle.cred_many.specs.Served.{AreFor, IsFor, NeedsMemory, answers, book_after, changes, done, entry_numbers, line_at, most_together, name_asked, record_at, tries}
-use Rattle.cred_many.specs.Service.{IsLine, Service, asked}
+use Rattle.cred_many.specs.{Service.IsLine, Service.Service, Service.asked, declared.fault.ServiceFault.ServiceFault, declared.open.Open.Open}
 use Rattle.cred_many.proofs.Seen.{book_after-append, looked_numbers, numbers-snoc, watched_looked, watched_on, watched_rest, worn}
 use Rattle.cred_many.proofs.Standing.{written_on, written_still, written_whole}
+use Rattle.cred_book.specs.declared.error.BookError.TheVariants as error
+use Rattle.cred_cli.specs.declared.refusal.Refusal.TheVariants as refusal
 
 -- ---- what may stand in the list
 
@@ -24,24 +23,18 @@ module _ (capacity : ℕ) (s : Service) where
   MayFollow before e = IfSome s.input (λ bytes. IsFor capacity s.opening (asked s bytes) before e)
 
   -- so is a line itself
-  own_for : (input : Option (List ℕ)) (before : List Entry) (e : Entry) → IfSome input (λ bytes. IsLine s bytes e) → IfSome input (λ bytes. IsFor capacity s.opening (asked s bytes) before e)
-  own_for None before e h = tt
-  own_for (Some bytes) before e h = record { line = e; came = h; tag = refl; ask = inl refl }
-
   pub owed_own : (before : List Entry) (e : Entry) → IfSome s.input (λ bytes. IsLine s bytes e) → MayFollow before e
-  owed_own before e h = own_for s.input before e h
+  owed_own before e h = IfSome_then s.input h (λ bytes came. record { line = e; came = came; tag = refl; ask = inl refl })
 
   -- and a line that is given up for want of memory
-  memory_for : (input : Option (List ℕ)) (before : List Entry) (e : Entry) → IfSome input (λ bytes. IsLine s bytes e) → NeedsMemory capacity (book_after capacity s.opening before) e.ask
-      → IfSome input (λ bytes. IsFor capacity s.opening (asked s bytes) before (entry e.number e.tag (refused (refusal.Book error.Memory))))
-  memory_for None before e h needs = tt
-  memory_for (Some bytes) before e h needs = record { line = e; came = h; tag = refl; ask = inr (inl (refl, needs)) }
+  memory_for : (before : List Entry) (e : Entry) → IfSome s.input (λ bytes. IsLine s bytes e) → NeedsMemory capacity (book_after capacity s.opening before) e.ask
+      → MayFollow before (entry e.number e.tag (refused (refusal.Book error.Memory)))
+  memory_for before e h needs = IfSome_then s.input h (λ bytes came. record { line = e; came = came; tag = refl; ask = inr (inl (refl, needs)) })
 
   -- or since others were faster
-  busy_for : (input : Option (List ℕ)) (before : List Entry) (e : Entry) → IfSome input (λ bytes. IsLine s bytes e) → tries ≤ changes capacity s.opening (name_asked e.ask) before
-      → IfSome input (λ bytes. IsFor capacity s.opening (asked s bytes) before (entry e.number e.tag (refused refusal.Busy)))
-  busy_for None before e h often = tt
-  busy_for (Some bytes) before e h often = record { line = e; came = h; tag = refl; ask = inr (inr (refl, often)) }
+  busy_for : (before : List Entry) (e : Entry) → IfSome s.input (λ bytes. IsLine s bytes e) → tries ≤ changes capacity s.opening (name_asked e.ask) before
+      → MayFollow before (entry e.number e.tag (refused refusal.Busy))
+  busy_for before e h often = IfSome_then s.input h (λ bytes came. record { line = e; came = came; tag = refl; ask = inr (inr (refl, often)) })
 
 -- a list that ends so is cut at its end, or before
 pub snoc_cut : (list before rest : List Entry) (z e : Entry) → list ++ z ∷ [] ≡ before ++ e ∷ rest
@@ -76,7 +69,7 @@ module _ (capacity : ℕ) (s : Service) where
   owed_each (Some bytes) list (e ∷ es) all came =
       subst (AreFor capacity s.opening (asked s bytes)) (append_assoc list (e ∷ []) es)
       (owed_each (Some bytes) (list ++ e ∷ []) es
-      (owed_all (Some bytes) list e all (own_for capacity s (Some bytes) list e (All-head (IsLine s bytes) e es came))) (All-tail (IsLine s bytes) e es came))
+      (owed_all (Some bytes) list e all (record { line = e; came = All-head (IsLine s bytes) e es came; tag = refl; ask = inl refl })) (All-tail (IsLine s bytes) e es came))
 
   owed_none : (input : Option (List ℕ)) → IfSome input (λ bytes. AreFor capacity s.opening (asked s bytes) [])
   owed_none None = tt
@@ -208,14 +201,14 @@ module _ (capacity : ℕ) (s : Service) (old now : Option (List ℕ)) (book : Ac
       → ∥ History capacity s old book was left came ∥₁ → ∥ History capacity s now book f rest came ∥₁
   starved needs d told served =
       concluded capacity s old now book book (entry line.number line.tag (refused (refusal.Book error.Memory))) left rest place came text failed was f
-      (λ h. memory_for capacity s s.input h.list line came_is (subst (λ b. NeedsMemory capacity b line.ask) h.book_is needs)) none there rest_is d told served
+      (λ h. memory_for capacity s h.list line came_is (subst (λ b. NeedsMemory capacity b line.ask) h.book_is needs)) none there rest_is d told served
 
   -- or since others were always faster
   pub given_up : IsBusy left place line.ask → IsDone capacity book book (entry line.number line.tag (refused refusal.Busy)) text → IsConcluded text old now failed f
       → ∥ History capacity s old book was left came ∥₁ → ∥ History capacity s now book f rest came ∥₁
   given_up busy d told served =
       concluded capacity s old now book book (entry line.number line.tag (refused refusal.Busy)) left rest place came text failed was f
-      (λ h. busy_for capacity s s.input h.list line came_is (worn capacity s.opening h.list left place line.ask h.seen busy)) none there rest_is d told served
+      (λ h. busy_for capacity s h.list line came_is (worn capacity s.opening h.list left place line.ask h.seen busy)) none there rest_is d told served
 
 -- nothing was done, and perhaps nothing more is answered
 pub still : (capacity : ℕ) (s : Service) (now : Option (List ℕ)) (book later : Accounts) (left rest : List Open) (came : ℕ) (was f : Option ServiceFault)

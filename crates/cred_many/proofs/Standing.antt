@@ -1,17 +1,16 @@
 -- What is written, why nothing more is, and what is told of a history.
 use Rattle.std.proofs.Common.{◌≡◌, ◌≢◌, ◌⊎◌, inl, inr, ℕ, ◌+◌, ◌-◌, ◌≤◌, ◌<◌, List, [], ◌∷◌, ◌++◌, Bool, true, false, Option, Some, None, IfSome, refl, sym, ap, subst, ◌∙◌, arith, take, drop, take-append-drop, length, suc}
-use Rattle.std.proofs.{lemmas.List.length-append, lemmas.List.take_all, lemmas.List.take-append-le, lemmas.Option.slice_get_within}
-use Rattle.std.proofs.KnownBytes.{Appends-trans}
+use Rattle.std.proofs.{KnownBytes.Appends-trans, Math.Seq.take-append-add, lemmas.List.length-append, lemmas.List.take_all, lemmas.List.take-append-le}
+use Rattle.std.proofs.lemmas.Option.{IfSome_then, slice_get_within}
 use Rattle.std.specs.{Io.KnownBytes.Appends, Option.option_or}
 use Rattle.cred_book.specs.Accounts.{Accounts}
 use Rattle.cred_cli.specs.{Outcome.FrontWritten, Script.lines_of}
 use Rattle.cred_cli.proofs.Unended.{length-unended}
-use Rattle.cred_many.specs.declared.fault.ServiceFault.{ServiceFault}
-use Rattle.cred_many.specs.declared.fault.ServiceFault.TheVariants as fault
-use Rattle.cred_many.specs.{declared.open.Open.Open, Asks.Entry, Scribe.History, Scribe.IsConcluded, Scribe.numbers}
+use Rattle.cred_many.specs.{Asks.Entry, Scribe.History, Scribe.IsConcluded, Scribe.numbers, declared.open.Open.Open}
 use Rattle.cred_many.specs.Served.{HasCause, IsWritten, Moment, Stands, answers, book_after, most_together}
-use Rattle.cred_many.specs.Service.{IsLine, Service, asked, asked_from, cut_line}
-use Rattle.cred_many.proofs.{Seen.answers-append, Writes.take-behind}
+use Rattle.cred_many.specs.{Service.IsLine, Service.Service, Service.asked, Service.asked_from, Service.cut_line, declared.fault.ServiceFault.ServiceFault}
+use Rattle.cred_many.proofs.Seen.{answers-append}
+use Rattle.cred_many.specs.declared.fault.ServiceFault.TheVariants as fault
 
 -- a line is written, or the writer failed in it
 concluded : (line : List ℕ) (old now : Option (List ℕ)) (failed : Bool) (why : Option ServiceFault) → IsConcluded line old now failed why
@@ -69,7 +68,7 @@ module _ (capacity : ℕ) (opening : Accounts) where
           record {
             bytes = length first + n;
             front = subst (λ xs. Appends before next (take (length first + n) xs)) (sym (answers-append capacity opening list es))
-                (subst (Appends before next) (sym (take-behind first rest n (length first + n) refl)) (Appends-trans before now next first (take n rest) whole_text text));
+                (subst (Appends before next) (sym (take-append-add first rest n)) (Appends-trans before now next first (take n rest) whole_text text));
             whole = λ other. absurd (other refl);
             most = omega (arith, same, less);
           }
@@ -126,19 +125,16 @@ length-asked s n (line ∷ lines) = let r = length-asked s (suc n) lines in omeg
 -- a line that comes is one of the input
 pub line_missing : (s : Service) (input : Option (List ℕ)) (e : Entry) (came : ℕ) → IfSome input (λ bytes. IsLine s bytes e) → came ≤ e.number
     → IfSome input (λ bytes. came ≢ length (lines_of bytes))
-line_missing s None e came h behind = tt
-line_missing s (Some bytes) e came h behind = λ all.
-    let many = slice_get_within (asked s bytes) e.number e h in
+line_missing s input e came h behind = IfSome_then input h (λ bytes is all.
+    let many = slice_get_within (asked s bytes) e.number e is in
     let long = length-unended (λ e. cut_line e.number) bytes (asked_from s 0 (lines_of bytes)) ∙ length-asked s 0 (lines_of bytes) in
-    absurd (omega (arith, all, many, long, behind))
+    absurd (omega (arith, all, many, long, behind)))
 
 pub not_all : (input : Option (List ℕ)) (came lines : ℕ) → IfSome input (λ bytes. lines ≡ length (lines_of bytes)) → (came ≡ lines → ⊥) → IfSome input (λ bytes. came ≢ length (lines_of bytes))
-not_all None came lines h other = tt
-not_all (Some bytes) came lines h other = λ all. other (all ∙ sym h)
+not_all input came lines h other = IfSome_then input h (λ bytes is all. other (all ∙ sym is))
 
 pub too_few : (input : Option (List ℕ)) (came least : ℕ) → IfSome input (λ bytes. least ≤ length (lines_of bytes)) → came < least → IfSome input (λ bytes. came ≢ length (lines_of bytes))
-too_few None came least h fewer = tt
-too_few (Some bytes) came least h fewer = λ all. absurd (omega (arith, all, h, fewer))
+too_few input came least h fewer = IfSome_then input h (λ bytes is all. absurd (omega (arith, all, is, fewer)))
 
 -- ---- all of it
 

@@ -1,22 +1,19 @@
 -- Changes of different accounts that are made together.
 use Rattle.std.proofs.Common.{◌≡◌, ℕ, suc, ◌<◌, List, [], ◌∷◌, ◌++◌, length, Option, Some, None, IfSome, Result, Ok, Err, OnErr, OnOk, Bool, true, false, cond, refl, sym, ap, subst, ◌∙◌, append_assoc, append-nil, arith}
-use Rattle.std.proofs.Math.Logic.{∥∥₁_map}
-use Rattle.std.specs.{List.All, Option.option_or, Ordering.eq_by_cmp}
-use Rattle.std.specs.FinMap as fin
-use Rattle.std.specs.{FinMap.get-empty, FinMap.get-insert, FinMap.same_map, Cmp.Lexicographic.nat_list_cmp_total}
-use Rattle.std.proofs.{lemmas.List.Elements.All-nil, lemmas.List.Elements.All-push, lemmas.List.length-append}
+use Rattle.std.proofs.{Math.Logic.∥∥₁_map, lemmas.List.length-append, lemmas.List.Elements.All-nil, lemmas.List.Elements.All-push}
+use Rattle.std.specs.{Cmp.Lexicographic.nat_list_cmp_total, FinMap.get-empty, FinMap.get-insert, FinMap.same_map, List.All, Option.option_or}
+use Rattle.std.specs.Ordering.{eq_by_cmp}
 use Rattle.cred_phc.specs.Values.{RecordValue}
 use Rattle.cred_book.specs.{Accounts.Accounts, Changes.judged_book, Commits.Commits, Commits.judgement, Commits.judgement_at, Commits.judgement_if}
-use Rattle.cred_book.specs.{Names.name_cmp, Works.Task, Works.name_of, Works.same}
-use Rattle.cred_book.specs.declared.reply.Reply.{Reply}
+use Rattle.cred_book.specs.{Names.name_cmp, Works.Task, Works.name_of, Works.same, declared.reply.Reply.Reply}
 use Rattle.cred_book.proofs.Changes.{committed_as_judged}
 use Rattle.cred_cli.specs.Texts.{reply_line}
-use Rattle.cred_many.specs.{declared.fault.ServiceFault.ServiceFault, declared.open.Open.Open, Asks.Entry, Asks.IsJobOf}
+use Rattle.cred_many.specs.{Asks.Entry, Asks.IsJobOf, declared.fault.ServiceFault.ServiceFault, declared.open.Open.Open}
 use Rattle.cred_many.specs.Scribe.{AreClosed, AreReplaced, History, IsConcluded, IsGroup, entries_of, is_changed}
-use Rattle.cred_many.specs.Served.{answers, book_after, line_at, most_together, told_reply}
-use Rattle.cred_many.specs.Service.{IsLine, Service}
+use Rattle.cred_many.specs.{Served.answers, Served.book_after, Served.line_at, Served.most_together, Served.told_reply, Service.IsLine, Service.Service}
 use Rattle.cred_many.proofs.{Commits.done_whole, Commits.whole_unchanged, Seen.answers-append, Seen.book_after-append}
 use Rattle.cred_many.proofs.Serving.{IsDone, owed_each, served_on}
+use Rattle.std.specs.FinMap as fin
 
 -- ---- what is judged at a name depends on its record alone
 

@@ -1,6 +1,6 @@
 -- A text that is written in parts.
-use Rattle.std.proofs.Common.{◌≡◌, ℕ, zero, suc, ◌+◌, List, [], ◌∷◌, ◌++◌, length, take, Option, Bool, Result, Ok, Err, OnErr, OnOk, IfErr, ap, arith, refl}
-use Rattle.std.proofs.{lemmas.List.length-append, lemmas.List.take-append-le, KnownBytes.Appends-trans}
+use Rattle.std.proofs.Common.{ℕ, ◌+◌, List, ◌++◌, length, take, Option, Bool, Result, Ok, Err, OnErr, OnOk, IfErr, arith}
+use Rattle.std.proofs.{lemmas.List.length-append, lemmas.List.take-append-le, KnownBytes.Appends-trans, Math.Seq.take-append-add}
 use Rattle.std.specs.Io.KnownBytes.{Appends}
 use Rattle.cred_cli.specs.{Outcome.FrontWritten, Steps.WriteFails, declared.fault.ScriptFault.ScriptFault}
 
@@ -9,15 +9,10 @@ pub front_more : (a b : Option (List ℕ)) (xs ys : List ℕ) → FrontWritten a
 front_more a b xs ys (n, short, written) =
     (n, omega (arith, short, length-append xs ys), rw (take-append-le n xs ys (omega (arith, short))) written)
 
-pub take-behind : (xs ys : List ℕ) (n m : ℕ) → m ≡ length xs + n → take m (xs ++ ys) ≡ xs ++ take n ys
-take-behind [] ys n m is = let none : m ≡ n = omega (arith, is) in ap (λ k. take k ys) none
-take-behind (x ∷ xs) ys n zero is = absurd (omega (arith, is))
-take-behind (x ∷ xs) ys n (suc m) is = ap (λ l. x ∷ l) (take-behind xs ys n m (omega (arith, is)))
-
 -- a front of the second part, behind the first
 pub front_behind : (a b c : Option (List ℕ)) (xs ys : List ℕ) → Appends a b xs → FrontWritten b c ys → FrontWritten a c (xs ++ ys)
 front_behind a b c xs ys first (n, short, written) =
-    (length xs + n, omega (arith, short, length-append xs ys), rw (take-behind xs ys n (length xs + n) refl) (Appends-trans a b c xs (take n ys) first written))
+    (length xs + n, omega (arith, short, length-append xs ys), rw (take-append-add xs ys n) (Appends-trans a b c xs (take n ys) first written))
 
 -- three parts, one behind another
 pub three_parts : (r : Result (Unit {0}) ScriptFault) (a b c d : Option (List ℕ)) (xs ys zs : List ℕ) → Appends a b xs → Appends b c ys → OnOk r (Appends c d zs) → OnOk r (Appends a d (xs ++ (ys ++ zs)))

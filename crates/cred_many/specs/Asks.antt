@@ -1,32 +1,19 @@
 -- What a tagged line asks for.
-use Rattle.std.specs.Prelude.{◌≡◌, ℕ, List, [], ◌∷◌, Bool, ◌&&◌, ◌||◌, if◌then◌else◌, length, nat_le, nat_lt, codes, Option, Some, None, Result, Ok, Err, true, false}
 use Rattle.std.specs.{List.list_all, Str.bytes_eq}
+use Rattle.std.specs.Prelude.{◌≡◌, ℕ, List, [], ◌∷◌, Bool, ◌&&◌, ◌||◌, if◌then◌else◌, length, nat_le, nat_lt, codes, Option, Some, None, Result, Ok, Err, true, false}
 use Rattle.cred_phc.specs.{Number.number_of, Pieces.pieces, Ranges.between, Ranges.is_current, Reading.◌>>=◌, Values.SettingValue}
 use Rattle.cred_phc.specs.declared.error.PhcError.TheVariants.{Range}
 use Rattle.cred_book.specs.Works.{Task, is_for_current}
-use Rattle.cred_book.specs.declared.request.Request.TheVariants as request
-use Rattle.cred_cli.specs.{Costs.exceeds, Costs.request_exceeds, declared.costs.CostBounds.CostBounds}
-use Rattle.cred_cli.specs.Events.{longest_line, name_field, password_field, record_field, setting_field}
-use Rattle.cred_cli.specs.declared.refusal.Refusal.{Refusal}
-use Rattle.cred_cli.specs.declared.refusal.Refusal.TheVariants as refusal
+use Rattle.cred_cli.specs.{Costs.exceeds, Costs.request_exceeds, declared.costs.CostBounds.CostBounds, declared.refusal.Refusal.Refusal}
+use Rattle.cred_cli.specs.Events.{longest_line, name_and_password, name_and_record, name_field, name_password_setting, only_name, request_of}
 use Rattle.cred_admin.specs.declared.edits.Edit.TheVariants.{Disable, Delete, Rename}
-use Rattle.cred_many.specs.declared.ask.Ask.{Ask}
+use Rattle.cred_many.specs.{declared.ask.Ask.Ask, declared.ask.QuickAsk.QuickAsk}
 use Rattle.cred_many.specs.declared.ask.Ask.TheVariants.{Quick, Whole, Login, Reset}
-use Rattle.cred_many.specs.declared.ask.QuickAsk.{QuickAsk}
 use Rattle.cred_many.specs.declared.ask.QuickAsk.TheVariants.{Account, Load, Show, DisableShown, Bad, Edit, List as Names}
+use Rattle.cred_book.specs.declared.request.Request.TheVariants as request
+use Rattle.cred_cli.specs.declared.refusal.Refusal.TheVariants as refusal
 
 -- ---- what needs no hash
-
--- `NAME`
-abbrev pub name_alone : List (List ℕ) → Result (List ℕ) Refusal
-name_alone (x ∷ []) = name_field x
-name_alone _ = Err refusal.Line
-
--- `load NAME RECORD`
-abbrev pub load_ask : List (List ℕ) → Result QuickAsk Refusal
-load_ask (x ∷ text ∷ []) =
-    name_field x >>= λ name. record_field text >>= λ stored. Ok (Load name stored)
-load_ask _ = Err refusal.Line
 
 abbrev pub in_page : Option ℕ → Result ℕ Refusal
 in_page None = Err (refusal.Text Range)
@@ -57,64 +44,28 @@ rename_ask _ = Err refusal.Line
 
 -- ---- what needs a hash
 
--- `NAME PW`
-abbrev pub name_and_password : List (List ℕ) → Result (List ℕ × List ℕ) Refusal
-name_and_password (x ∷ p ∷ []) =
-    name_field x >>= λ name. password_field p >>= λ pw. Ok (name, pw)
-name_and_password _ = Err refusal.Line
-
--- the setting that a line gives, or the one that is drawn; with more fields it is refused first
-abbrev pub own_setting : SettingValue → List (List ℕ)
-    → Result (Result SettingValue Refusal) Refusal
-own_setting drawn [] = Ok (Ok drawn)
-own_setting drawn (text ∷ []) = Ok (setting_field text)
-own_setting drawn _ = Err refusal.Line
-
--- `NAME PW`, with a setting or without one
-abbrev pub name_password_setting : SettingValue → List (List ℕ)
-    → Result (List ℕ × List ℕ × SettingValue) Refusal
-name_password_setting drawn (x ∷ p ∷ own) =
-    own_setting drawn own >>= λ setting. name_field x >>= λ name. password_field p >>= λ pw.
-    setting >>= λ s. Ok (name, pw, s)
-name_password_setting drawn _ = Err refusal.Line
-
--- `change NAME PW NEW`, with a setting or without one
-abbrev pub change_ask : SettingValue → List (List ℕ) → Result Ask Refusal
-change_ask drawn (x ∷ p ∷ q ∷ own) =
-    own_setting drawn own >>= λ setting. name_field x >>= λ name. password_field p >>= λ pw.
-    password_field q >>= λ new. setting >>= λ s. Ok (Whole (request.Change name pw new s))
-change_ask drawn _ = Err refusal.Line
-
 abbrev pub hashed_ask : SettingValue → List ℕ → List (List ℕ) → Result Ask Refusal
 hashed_ask drawn word fields =
-    if bytes_eq word (codes "verify") then
-    (name_and_password fields >>= λ f. Ok (Whole (request.Verify f.0 f.1)))
-    else if bytes_eq word (codes "login") then
+    if bytes_eq word (codes "login") then
     (name_and_password fields >>= λ f. Ok (Login f.0 f.1 drawn))
-    else if bytes_eq word (codes "enrol") then
-    (name_password_setting drawn fields >>= λ f. Ok (Whole (request.Enrol f.0 f.1 f.2)))
-    else if bytes_eq word (codes "change") then change_ask drawn fields
-    else if bytes_eq word (codes "upgrade") then
-    (name_password_setting drawn fields >>= λ f. Ok (Whole (request.Upgrade f.0 f.1 f.2)))
-    else if bytes_eq word (codes "remove") then
-    (name_and_password fields >>= λ f. Ok (Whole (request.Remove f.0 f.1)))
     else if bytes_eq word (codes "reset") then
-    (name_password_setting drawn fields >>= λ f. Ok (Reset f.0 f.1 f.2))
-    else Err refusal.Line
+    (name_password_setting (Some drawn) fields >>= λ f. Ok (Reset f.0 f.1 f.2))
+    else (request_of (Some drawn) word fields >>= λ r. Ok (Whole r))
 
 -- a line gives a setting, or it has the one that is drawn
 abbrev pub ask_of : SettingValue → List (List ℕ) → Result Ask Refusal
 ask_of drawn [] = Err refusal.Line
 ask_of drawn (word ∷ fields) =
     if bytes_eq word (codes "account") then
-    (name_alone fields >>= λ name. Ok (Quick (Account name)))
-    else if bytes_eq word (codes "load") then (load_ask fields >>= λ load. Ok (Quick load))
+    (only_name fields >>= λ name. Ok (Quick (Account name)))
+    else if bytes_eq word (codes "load") then
+    (name_and_record fields >>= λ f. Ok (Quick (Load f.0 f.1)))
     else if bytes_eq word (codes "show") then
-    (name_alone fields >>= λ name. Ok (Quick (Show name)))
+    (only_name fields >>= λ name. Ok (Quick (Show name)))
     else if bytes_eq word (codes "list") then (list_ask fields >>= λ list. Ok (Quick list))
     else if bytes_eq word (codes "disable") then (disable_ask fields >>= λ it. Ok (Quick it))
     else if bytes_eq word (codes "delete") then
-    (name_alone fields >>= λ name. Ok (Quick (Edit (Delete name))))
+    (only_name fields >>= λ name. Ok (Quick (Edit (Delete name))))
     else if bytes_eq word (codes "rename") then (rename_ask fields >>= λ it. Ok (Quick it))
     else hashed_ask drawn word fields
 

@@ -1,6 +1,5 @@
 -- What lines answer that list names.
-use Rattle.std.specs.Prelude.{ℕ, List, [], ◌∷◌, ◌++◌, not, codes, take}
-use Rattle.std.specs.{List.filter, Ordering.is_lt}
+use Rattle.std.specs.{List.filter, Ordering.is_lt, Prelude.ℕ, Prelude.List, Prelude.[], Prelude.◌∷◌, Prelude.◌++◌, Prelude.not, Prelude.codes, Prelude.take}
 use Rattle.cred_book.specs.Names.{name_cmp}
 
 -- of names in their order, the first ones, so many at most, that don't come before this one

@@ -1,17 +1,14 @@
 -- What stands behind it in a scribe: what each open line has seen, lines that are answered, and those
 -- whose changes are made together. No public clause speaks of it.
+use Rattle.std.specs.{Io.KnownBytes.Appends, List.range_with_len, List.Sorted.IsPermutation, Option.option_or, Str.bytes_eq}
 use Rattle.std.specs.Prelude.{◌≡◌, ℕ, ◌≤◌, ◌+◌, List, [], ◌∷◌, ◌++◌, Bool, true, false, All, if◌then◌else◌, IfSome, Option, Some, None, drop, length, map, set, slice_get, take}
-use Rattle.std.specs.{List.range_with_len, List.Sorted.IsPermutation, Option.option_or, Str.bytes_eq, Io.KnownBytes.Appends}
-use Rattle.std.specs.FinMap as fin
 use Rattle.cred_phc.specs.Values.{RecordValue}
-use Rattle.cred_book.specs.{Accounts.Accounts, Works.Task}
-use Rattle.cred_book.specs.declared.reply.Reply.{Reply}
-use Rattle.cred_book.specs.declared.reply.Reply.TheVariants as reply
-use Rattle.cred_cli.specs.Outcome.{FrontWritten}
-use Rattle.cred_many.specs.{declared.ask.Ask.Ask, declared.fault.ServiceFault.ServiceFault, declared.fault.ServiceFault.TheVariants.Write}
-use Rattle.cred_many.specs.{declared.open.Open.Open, declared.open.Sight.Sight, Asks.Entry}
+use Rattle.cred_book.specs.{Accounts.Accounts, Works.Task, declared.reply.Reply.Reply}
+use Rattle.cred_cli.specs.{History.Answer, History.Changed, Outcome.FrontWritten, Steps.reply_answer}
+use Rattle.cred_many.specs.{Asks.Entry, Service.IsLine, Service.Service, Service.asked, declared.ask.Ask.Ask, declared.fault.ServiceFault.ServiceFault}
 use Rattle.cred_many.specs.Served.{AreFor, IsWritten, answers, book_after, change_from, changes, entry_numbers, most_together, name_asked, record_at, tries}
-use Rattle.cred_many.specs.Service.{IsLine, Service, asked}
+use Rattle.cred_many.specs.{declared.fault.ServiceFault.TheVariants.Write, declared.open.Open.Open, declared.open.Sight.Sight}
+use Rattle.std.specs.FinMap as fin
 
 -- ---- what an open line has seen
 
@@ -76,9 +73,12 @@ IsConcluded line old new failed (Some Write) = FrontWritten old new line × (fai
 IsConcluded line old new failed (Some _) = ⊥
 
 -- the record isn't the one that was copied
+abbrev pub is_change : Answer → Bool
+is_change Changed = true
+is_change _ = false
+
 abbrev pub is_changed : Reply → Bool
-is_changed (reply.Changed now) = true
-is_changed _ = false
+is_changed r = is_change (reply_answer r)
 
 -- ---- changes that are made together
 

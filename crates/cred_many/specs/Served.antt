@@ -1,26 +1,23 @@
 -- What a service stands for at every moment: one list of lines, each done whole, one after another.
+use Rattle.std.specs.{Io.KnownBytes.Appends, List.range_with_len, List.Sorted.IsPermutation, Option.option_map}
 use Rattle.std.specs.Prelude.{◌≡◌, ◌≢◌, ◌⊎◌, ℕ, ◌<◌, ◌≤◌, ◌+◌, ◌-◌, ◌^◌, List, [], ◌∷◌, ◌++◌, Bool, true, false, if◌then◌else◌, IfSome, nat_lt, Option, Some, None, length, map, take, slice_get, unwrap_or}
-use Rattle.std.specs.{List.range_with_len, List.Sorted.IsPermutation, Option.option_map}
-use Rattle.std.specs.FinMap as fin
-use Rattle.std.specs.Io.KnownBytes.{Appends}
 use Rattle.cred_phc.specs.Values.{RecordValue}
-use Rattle.cred_book.specs.{Accounts.Accounts, Works.name_of, Works.new_record, Works.same, Works.seq}
-use Rattle.cred_book.specs.declared.error.BookError.TheVariants as error
-use Rattle.cred_book.specs.declared.reply.Reply.{Reply}
-use Rattle.cred_book.specs.declared.reply.Reply.TheVariants as reply
-use Rattle.cred_book.specs.declared.request.Request.TheVariants as request
+use Rattle.cred_book.specs.{Accounts.Accounts, Works.name_of, Works.new_record, Works.same, Works.seq, declared.reply.Reply.Reply}
 use Rattle.cred_cli.specs.{History.Done, History.Refused, History.show_answer, Script.lines_of, Texts.line_of, Texts.reply_line}
 use Rattle.cred_cli.specs.Watched.{failed_of, inner_of}
-use Rattle.cred_cli.specs.declared.refusal.Refusal.TheVariants as refusal
-use Rattle.cred_admin.specs.{Edits.disabling, Edits.edit_line, Edits.edit_status, Edits.edited, Edits.lacks_room, Listing.passwd_line}
-use Rattle.cred_admin.specs.declared.edit_reply.EditReply.TheVariants as edit
-use Rattle.cred_admin.specs.declared.status.Status.TheVariants as status
-use Rattle.cred_many.specs.declared.ask.Ask.{Ask}
+use Rattle.cred_admin.specs.{Commands.reset_step, Edits.disabling, Edits.edit_line, Edits.edit_status, Edits.edited, Edits.lacks_room, Listing.passwd_line}
+use Rattle.cred_many.specs.{Asks.Entry, Asks.refused, Names.names_line, Names.page, Service.Service, Service.asked, declared.ask.Ask.Ask}
 use Rattle.cred_many.specs.declared.ask.Ask.TheVariants.{Quick, Whole, Login, Reset}
 use Rattle.cred_many.specs.declared.ask.QuickAsk.TheVariants.{Account, Load, Show, DisableShown, Bad, Edit as Change, List as Names}
-use Rattle.cred_many.specs.declared.fault.ServiceFault.{ServiceFault}
+use Rattle.cred_many.specs.{declared.ending.Served.Served, declared.fault.ServiceFault.ServiceFault}
+use Rattle.std.specs.FinMap as fin
+use Rattle.cred_book.specs.declared.error.BookError.TheVariants as error
+use Rattle.cred_book.specs.declared.reply.Reply.TheVariants as reply
+use Rattle.cred_book.specs.declared.request.Request.TheVariants as request
+use Rattle.cred_cli.specs.declared.refusal.Refusal.TheVariants as refusal
+use Rattle.cred_admin.specs.declared.edit_reply.EditReply.TheVariants as edit
+use Rattle.cred_admin.specs.declared.status.Status.TheVariants as status
 use Rattle.cred_many.specs.declared.fault.ServiceFault.TheVariants as fault
-use Rattle.cred_many.specs.{declared.ending.Served.Served, Asks.Entry, Asks.refused, Names.names_line, Names.page, Service.Service, Service.asked}
 
 -- ---- what is done
 
@@ -35,15 +32,6 @@ login_reply r = r
 abbrev pub told_reply : Ask → Reply → Reply
 told_reply (Login name pw setting) r = login_reply r
 told_reply _ r = r
-
--- a record takes the place of any other
-abbrev pub reset_at : Accounts → List ℕ → RecordValue → Option (Option RecordValue)
-    → List ℕ × Accounts
-reset_at book name new None = (reply_line reply.NoAccount, book)
-reset_at book name new (Some None) =
-    (reply_line reply.Enrolled, fin.insert book name (Some new))
-reset_at book name new (Some (Some old)) =
-    (reply_line reply.Replaced, fin.insert book name (Some new))
 
 -- the line of an account whose record is taken away, or that it has none
 abbrev pub disabled_line : List ℕ → Option (Option RecordValue) → List ℕ
@@ -73,8 +61,10 @@ done capacity book (Login name pw setting) = (
   reply_line (login_reply (seq book (request.Upgrade name pw setting)).0),
   (seq book (request.Upgrade name pw setting)).1,
 )
-done capacity book (Reset name pw setting) =
-    reset_at book name (new_record setting pw) (fin.get book name)
+done capacity book (Reset name pw setting) = (
+  reply_line (reset_step book name (new_record setting pw)).0,
+  (reset_step book name (new_record setting pw)).1,
+)
 
 -- the answer to a line at this book, as it is written: `TAG ANSWER`
 abbrev pub line_at : ℕ → Accounts → Entry → List ℕ

@@ -1,13 +1,12 @@
 -- Which service it is.
 use Rattle.std.specs.Prelude.{◌≡◌, ℕ, zero, suc, List, [], ◌∷◌, Option, Some, None, slice_get, codes}
-use Rattle.std.specs.FinMap as map
 use Rattle.rand_core.specs.Stream.{Stream, fill_bytes}
-use Rattle.cred_phc.specs.{declared.scheme.Scheme.Scheme, declared.scheme.Scheme.TheVariants.Scrypt, Values.SettingValue, Values.setting_of}
+use Rattle.cred_phc.specs.{Values.SettingValue, Values.setting_of, declared.scheme.Scheme.Scheme, declared.scheme.Scheme.TheVariants.Scrypt}
 use Rattle.cred_book.specs.Accounts.{Accounts}
-use Rattle.cred_cli.specs.{Costs.no_bounds, declared.costs.CostBounds.CostBounds}
-use Rattle.cred_cli.specs.declared.refusal.Refusal.TheVariants as refusal
-use Rattle.cred_cli.specs.Script.{lines_of, with_unended}
+use Rattle.cred_cli.specs.{Costs.no_bounds, Script.lines_of, Script.with_unended, declared.costs.CostBounds.CostBounds}
 use Rattle.cred_many.specs.{Asks.Entry, Asks.entry, Asks.entry_of, Asks.refused, declared.service.Means.Means}
+use Rattle.std.specs.FinMap as map
+use Rattle.cred_cli.specs.declared.refusal.Refusal.TheVariants as refusal
 
 -- the book at first, what the reader has to give, what was written before, with which costs and
 -- from which source of salts settings are drawn, and what the costs of a line may ask for

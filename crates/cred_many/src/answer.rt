@@ -1,17 +1,16 @@
 //! What is done in one go, without hashing.
 
 ghost use Rattle.std.specs.Prelude.{◌≡◌, IfOk, OnErr, OnOk, Some, true};
-ghost use Rattle.std.specs.FinMap as map;
 ghost use Rattle.cred_phc.specs.Values.{RecordValue};
-ghost use Rattle.cred_admin.specs.Edits.{disabling};
-ghost use Rattle.cred_cli.specs.{Answers.line_bytes, Texts.reply_line};
-ghost use Rattle.cred_many.specs.{Served.NeedsMemory, Served.disabled_line, Served.done, Served.reset_at};
-ghost use Rattle.cred_many.specs.declared.ask.Ask.TheVariants.{Quick};
+ghost use Rattle.cred_admin.specs.{Commands.reset_step, Edits.disabling};
+ghost use Rattle.cred_cli.specs.Answers.{line_bytes};
+ghost use Rattle.cred_many.specs.{Served.NeedsMemory, Served.disabled_line, Served.done, declared.ask.Ask.TheVariants.Quick};
+ghost use Rattle.std.specs.FinMap as map;
 
 use crate::ask::QuickAsk;
 use crate::host::Host;
-use crate::listing::{names_line, passwd_line};
-use cred_admin::{Edit, EditReply, edit_line};
+use crate::listing::names_line;
+use cred_admin::{Edit, EditReply, Line, Part, edit_line, line_of};
 use cred_book::{BookError, Name, Reply};
 use cred_cli::{AnswerLine, Refusal};
 use cred_phc::Record;
@@ -79,7 +78,7 @@ fn disable_shown<K: Host>(
         Ok(None) => return Ok(AnswerLine::Fixed(edit_line(EditReply::Absent))),
         Err(_) => return Ok(AnswerLine::Fixed(edit_line(EditReply::NoAccount))),
     };
-    let line = passwd_line(alloc, &name, &stored)?;
+    let line = line_of(alloc, Line::Passwd(Part::Record), &name, Some(stored))?;
     match keeper.edit(&Edit::Disable(name)) {
         Ok(_) => Ok(AnswerLine::Made(line)),
         Err(_) => Err(AllocError),
@@ -93,8 +92,8 @@ pub(crate) fn put_in_place<K: Host>(
     name: &Name,
     stored: Record,
 ) -> Result<Reply, AllocError>
-    ensures done { IfOk result (λ reply. (reply_line reply, K.book keeper.new)
-        ≡ reset_at (K.book keeper.old) name.now stored (map.get (K.book keeper.old) name.now)) }
+    ensures done { IfOk result (λ reply.
+        (reply, K.book keeper.new) ≡ reset_step (K.book keeper.old) name.now stored) }
     ensures refused { OnErr result (K.book keeper.new ≡ K.book keeper.old) }
     ensures there { OnErr result (map.contains_key (K.book keeper.old) name.now ≡ true) }
 {

@@ -7,8 +7,8 @@ ghost use Rattle.cred_many.specs.Service.{salts_after};
 
 use crate::costs::Costs;
 use crate::line::Line;
-use crate::naming::Naming;
 use crate::service::Means;
+use crate::service_id::ServiceId;
 use cred_cli::{CostBounds, LineStart};
 use cred_phc::draw_salt;
 use rand_core::Rng;
@@ -16,7 +16,7 @@ use std::marker::PhantomData;
 
 /// The line that is coming in, its number, and what draws settings.
 #[derive(Drop)]
-pub(crate) struct LineDecoder<J: Naming, G: Rng> {
+pub(crate) struct LineDecoder<J: ServiceId, G: Rng> {
     pub(crate) start: LineStart,
     /// How many lines came before.
     pub(crate) number: u64,
@@ -31,7 +31,7 @@ pub(crate) struct LineDecoder<J: Naming, G: Rng> {
     ghost drawn: { G.stream salts ≡ salts_after J.service.salts number },
 }
 
-impl<J: Naming, G: Rng> LineDecoder<J, G> {
+impl<J: ServiceId, G: Rng> LineDecoder<J, G> {
     /// Before the first line.
     pub(crate) fn new(means: &Means, salts: G) -> LineDecoder<J, G>
         requires costs { means.now.costs ≡ J.service.costs }

@@ -5,8 +5,8 @@ ghost use Rattle.cred_many.specs.Reading.{IsEnd};
 
 use crate::fault::ServiceFault;
 use crate::host::Host;
-use crate::naming::Naming;
 use crate::sender::Gone;
+use crate::service_id::ServiceId;
 use crate::source::Source;
 use cred_cli::Watched;
 use std::io::Write;
@@ -30,7 +30,7 @@ pub struct Served<K: Host, W: Write, S: Source> {
 
 /// How the reading ended.
 #[derive(Drop)]
-pub struct Ending<J: Naming, S: Source> {
+pub struct Ending<J: ServiceId, S: Source> {
     end: End<S>,
     of: PhantomData<J>,
 }
@@ -52,7 +52,7 @@ pub(crate) enum End<S> {
     Memory,
 }
 
-impl<J: Naming, S: Source> Model for Ending<J, S> {
+impl<J: ServiceId, S: Source> Model for Ending<J, S> {
     ghost use Rattle.cred_many.specs.Reading.{IsEnd};
     ghost use Rattle.cred_many.specs.declared.ending.End.{End};
 
@@ -63,7 +63,7 @@ impl<J: Naming, S: Source> Model for Ending<J, S> {
     ghost invariant = { λ e. IsEnd J.service.input S.failed e.end };
 }
 
-impl<J: Naming, S: Source> Ending<J, S> {
+impl<J: ServiceId, S: Source> Ending<J, S> {
     pub(crate) fn new(end: End<S>) -> Ending<J, S>
         requires { IsEnd J.service.input S.failed end }
         ensures { result ≡ end }

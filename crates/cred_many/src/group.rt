@@ -2,11 +2,12 @@
 
 ghost use Rattle.std.specs.Prelude.{◌≡◌, ◌∷◌, ◌++◌, [], IfErr, None, OnErr, OnOk, length, take};
 ghost use Rattle.std.specs.FinMap as map;
+ghost use Rattle.cred_cli.specs.Texts.{reply_line};
 
 use crate::job::Hashed;
-use crate::naming::Naming;
-use cred_book::{Name, Register};
-use cred_phc::Record;
+use crate::service_id::ServiceId;
+use cred_book::{Change, Register};
+use cred_cli::reply_line;
 use std::alloc::{AllocError, Global};
 
 /// How many changes are made together at most.
@@ -14,22 +15,13 @@ pub(crate) const MOST_TOGETHER: usize = 64;
 
 /// Hashed lines, the records that they give their accounts, and their answers one after another.
 #[derive(Drop)]
-pub(crate) struct Group<J: Naming> {
+pub(crate) struct Group<J: ServiceId> {
     pub(crate) works: Vec<Hashed<J>>,
     pub(crate) changed: Register,
     pub(crate) text: Vec<u8>,
 }
 
-/// What a line makes of an account.
-#[derive(Clone, Copy)]
-pub(crate) struct Change {
-    pub(crate) name: Name,
-    pub(crate) stored: Option<Record>,
-    /// With the line end.
-    pub(crate) answer: &'static [u8],
-}
-
-impl<J: Naming> Group<J> {
+impl<J: ServiceId> Group<J> {
     /// A group of no lines.
     pub(crate) fn new(alloc: Global) -> Group<J>
         ensures works { result.works.items ≡ [] }
@@ -50,9 +42,9 @@ impl<J: Naming> Group<J> {
         ensures first { OnOk result
             (map.get self.old.changed change.now.name ≡ None) }
         ensures changed { OnOk result (self.new.changed
-            ≡ map.insert self.old.changed change.now.name change.now.stored) }
+            ≡ map.insert self.old.changed change.now.name change.now.after) }
         ensures text { OnOk result (self.new.text.items ≡ self.old.text.items
-            ++ work.0.tag ++ 32 ∷ change.now.answer.now) }
+            ++ work.0.tag ++ 32 ∷ reply_line change.now.reply) }
         ensures back { IfErr result (λ back. back ≡ work) }
         ensures same_works { OnErr result (self.new.works.items ≡ self.old.works.items) }
         ensures same_changed { OnErr result (self.new.changed ≡ self.old.changed) }
@@ -62,8 +54,8 @@ impl<J: Naming> Group<J> {
             return Err(work);
         }
         let length = self.text.len();
-        if add_line(&mut self.text, work.line.tag(), change.answer).is_err()
-            || self.changed.enter(change.name, change.stored).is_err()
+        if add_line(&mut self.text, work.line.tag(), reply_line(&change.reply)).is_err()
+            || self.changed.enter(change.name, change.after).is_err()
         {
             self.text.truncate(length);
             return Err(work);

@@ -3,7 +3,7 @@
 use crate::budget::{Budget, Idle, Limit};
 use crate::costs::{Costs, NO_SALT};
 use crate::job::{Job, Message};
-use crate::naming::Naming;
+use crate::service_id::ServiceId;
 use cred_book::{Request, Ticket};
 use cred_cli::memory_alone;
 use cred_phc::{Password, Scratch, Setting, TagError, tag_in};
@@ -26,7 +26,7 @@ pub(crate) struct Hashing<L: Limit> {
 impl<L: Limit> Hashing<L> {
     /// Hashes jobs as long as they come. The memory of a hash is kept for the next one, as far as
     /// the costs of new records go.
-    pub(crate) fn work<J: Naming, T: Wait>(
+    pub(crate) fn work<J: ServiceId, T: Wait>(
         &self,
         rt: &T,
         jobs: Receiver<Job<J>>,
@@ -49,7 +49,7 @@ impl<L: Limit> Hashing<L> {
     }
 
     /// Hashes a job, once the memory for it is free.
-    fn hashed<J: Naming, T: Wait>(
+    fn hashed<J: ServiceId, T: Wait>(
         &self,
         rt: &T,
         scratch: &mut Scratch,
@@ -66,7 +66,7 @@ impl<L: Limit> Hashing<L> {
     }
 
     /// Hashes a job. A name that doesn't exist, and an account without a record, take a hash too.
-    fn hash<J: Naming>(&self, scratch: &mut Scratch, job: Job<J>) -> Message<J> {
+    fn hash<J: ServiceId>(&self, scratch: &mut Scratch, job: Job<J>) -> Message<J> {
         let request = job.ticket.request();
         if job.ticket.copy().is_none() && self.hash_for_nothing(scratch, &request).is_err() {
             return Message::NoMemory(job);

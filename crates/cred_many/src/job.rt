@@ -3,7 +3,7 @@
 ghost use Rattle.cred_many.specs.Asks.{IsJobOf};
 
 use crate::line::Line;
-use crate::naming::Naming;
+use crate::service_id::ServiceId;
 use cred_book::{Ticket, Worked};
 use cred_phc::Scratch;
 use cred_pool::NoGate;
@@ -12,12 +12,12 @@ use std::marker::Model;
 
 /// A line with what is to be hashed for it.
 #[derive(Drop)]
-pub struct Job<J: Naming> {
+pub struct Job<J: ServiceId> {
     pub(crate) line: Line<J>,
     pub(crate) ticket: Ticket,
 }
 
-impl<J: Naming> Model for Job<J> {
+impl<J: ServiceId> Model for Job<J> {
     ghost use Rattle.cred_book.specs.Works.{Task};
     ghost use Rattle.cred_many.specs.Asks.{Entry, IsJobOf};
 
@@ -30,12 +30,12 @@ impl<J: Naming> Model for Job<J> {
 
 /// A line whose hashing is done.
 #[derive(Drop)]
-pub struct Hashed<J: Naming> {
+pub struct Hashed<J: ServiceId> {
     pub(crate) line: Line<J>,
     pub(crate) worked: Worked,
 }
 
-impl<J: Naming> Model for Hashed<J> {
+impl<J: ServiceId> Model for Hashed<J> {
     ghost use Rattle.cred_book.specs.Works.{Task};
     ghost use Rattle.cred_many.specs.Asks.{Entry, IsJobOf};
 
@@ -48,7 +48,7 @@ impl<J: Naming> Model for Hashed<J> {
 
 /// A message to the thread that has the book.
 #[derive(Drop)]
-pub(crate) enum Message<J: Naming> {
+pub(crate) enum Message<J: ServiceId> {
     /// A line came.
     Came(Line<J>),
     /// A line is hashed.
@@ -59,7 +59,7 @@ pub(crate) enum Message<J: Naming> {
     Ended,
 }
 
-impl<J: Naming> Job<J> {
+impl<J: ServiceId> Job<J> {
     pub(crate) fn new(line: Line<J>, ticket: Ticket) -> Job<J>
         requires { IsJobOf line.ask ticket }
     {
@@ -76,7 +76,7 @@ impl<J: Naming> Job<J> {
     }
 }
 
-impl<J: Naming> Hashed<J> {
+impl<J: ServiceId> Hashed<J> {
     pub(crate) fn new(line: Line<J>, worked: Worked) -> Hashed<J>
         requires { IsJobOf line.ask worked }
     {

@@ -5,9 +5,9 @@ ghost use Rattle.cred_many.specs.Service.{service};
 
 use crate::ending::Ending;
 use crate::host::Host;
-use crate::naming::Naming;
 use crate::scribe::Scribe;
 use crate::service::{Means, serve_tagged};
+use crate::service_id::ServiceId;
 use crate::source::LineReader;
 use cred_admin::{Edit, EditReply, make_edit};
 use cred_book::{BookError, Name, Register, Reply, Worked};
@@ -71,7 +71,7 @@ pub fn serve_file<J, T, S, R, W, G>(
     reader: R,
 ) -> Ending<J, LineReader<R>>
 where
-    J: Naming + Send + Sync + 'static,
+    J: ServiceId + Send + Sync + 'static,
     T: Threads + Wait + Sync + Copy + Send + 'static,
     S: Alter,
     R: Read + Send + Drop + 'static,

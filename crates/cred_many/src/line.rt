@@ -6,7 +6,7 @@ ghost use Rattle.cred_many.specs.{Asks.IsSound, Asks.entry_of, Asks.is_tag_byte,
 
 use crate::ask::Ask;
 use crate::grammar::ask_of;
-use crate::naming::Naming;
+use crate::service_id::ServiceId;
 use cred_cli::{CostBounds, Refusal, first_pieces, is_too_long};
 use cred_phc::{Setting, ShortBytes};
 use std::marker::{Model, PhantomData};
@@ -18,14 +18,14 @@ type Tag = ShortBytes<LONGEST_TAG>;
 
 /// A line that came: its number among the lines, from 0 on, its tag and what it asks for.
 #[derive(Drop)]
-pub struct Line<J: Naming> {
+pub struct Line<J: ServiceId> {
     number: u64,
     tag: Tag,
     ask: Ask,
     of: PhantomData<J>,
 }
 
-impl<J: Naming> Model for Line<J> {
+impl<J: ServiceId> Model for Line<J> {
     ghost use Rattle.std.specs.Prelude.{IfSome};
     ghost use Rattle.cred_many.specs.Asks.{Entry, IsSound, entry};
     ghost use Rattle.cred_many.specs.Service.{IsLine};
@@ -41,7 +41,7 @@ impl<J: Naming> Model for Line<J> {
     } };
 }
 
-impl<J: Naming> Line<J> {
+impl<J: ServiceId> Line<J> {
     /// Reads the line of this number, for which this setting is drawn, and whose costs are bounded
     /// so.
     pub(crate) fn read(number: u64, most: &CostBounds, drawn: Setting, line: &[u8]) -> Line<J>

@@ -1,13 +1,10 @@
-//! Answers that list names, and the line of an account.
+//! Answers that list names.
 
-ghost use Rattle.std.specs.Prelude.{◌≡◌, ◌++◌, IfOk, OnOk, Some};
+ghost use Rattle.std.specs.Prelude.{◌≡◌, ◌++◌, IfOk, OnOk};
 ghost use Rattle.std.specs.FinMap as map;
-ghost use Rattle.cred_admin.specs.Listing.{passwd_line};
 ghost use Rattle.cred_many.specs.Names.{names_line, page, spaced};
 
 use cred_book::{Name, Register};
-use cred_cli::AnswerLine;
-use cred_phc::Record;
 use std::alloc::{AllocError, Global};
 
 /// The word `names` and the first names, so many at most, from this one on, in a line.
@@ -49,20 +46,4 @@ fn push_names(
         }
     }
     Ok(())
-}
-
-/// The line of an account with its record, as a passwd-file has it.
-pub(crate) fn passwd_line(
-    alloc: Global,
-    name: &Name,
-    stored: &Record,
-) -> Result<Vec<u8>, AllocError>
-    ensures { IfOk result (λ line. line.items ≡ passwd_line (name.now, Some stored.now)) }
-{
-    let shown = AnswerLine::shown(alloc, stored)?;
-    let mut line = Vec::new(alloc);
-    line.extend_from_slice(name.bytes())?;
-    line.push(b':')?;
-    line.extend_from_slice(shown.bytes())?;
-    Ok(line)
 }

@@ -4,7 +4,7 @@ ghost use Rattle.std.specs.Prelude.{◌≡◌, ◌≤◌, ◌+◌, ◌<◌, ◌+
 ghost use Rattle.cred_many.specs.Scribe.{AreClosed, Notes, counted, entries_of, numbers, unseen};
 
 use crate::job::Hashed;
-use crate::naming::Naming;
+use crate::service_id::ServiceId;
 use cred_book::Name;
 use cred_phc::Record;
 use std::alloc::{AllocError, Global};
@@ -96,7 +96,7 @@ impl OpenLines {
 
     /// The lines that are open when these are open no more, or nothing if one of them isn't open or
     /// memory runs out.
-    pub(crate) fn without<J: Naming>(&self, works: &[Hashed<J>]) -> Option<OpenLines>
+    pub(crate) fn without<J: ServiceId>(&self, works: &[Hashed<J>]) -> Option<OpenLines>
         ensures { IfSome result (λ left. AreClosed (entries_of works.now) self.now left) }
     {
         let Ok(lines) = self.lines.clone() else {

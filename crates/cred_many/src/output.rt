@@ -1,7 +1,6 @@
 //! Where answers are written.
 
-ghost use Rattle.std.specs.Prelude.{◌≡◌, ◌∷◌, ◌++◌, OnErr, OnOk, None, true};
-ghost use Rattle.std.specs.Io.KnownBytes.{Appends};
+ghost use Rattle.std.specs.{Io.KnownBytes.Appends, Prelude.◌≡◌, Prelude.◌∷◌, Prelude.◌++◌, Prelude.OnErr, Prelude.OnOk, Prelude.None, Prelude.true};
 ghost use Rattle.cred_cli.specs.{Outcome.FrontWritten, Watched.failed_of, Watched.inner_of};
 ghost use Rattle.cred_many.specs.Scribe.{IsConcluded};
 

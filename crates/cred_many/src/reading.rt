@@ -6,8 +6,8 @@ ghost use Rattle.cred_many.specs.Reading.{IsOfReading, MovesOver, NothingIsLeft,
 
 use crate::decoder::LineDecoder;
 use crate::ending::{End, Ending, MOST_LINES};
-use crate::naming::Naming;
 use crate::sender::{Gone, LineSender};
+use crate::service_id::ServiceId;
 use crate::source::Source;
 use rand_core::Rng;
 use std::sync::Wait;
@@ -16,7 +16,7 @@ use std::sync::Wait;
 const CHUNK: usize = 4096;
 
 /// Hands out each line that comes, and tells and says how the reading ended.
-pub(crate) fn read<J: Naming, T: Wait, S: Source + Drop, G: Rng + Drop>(
+pub(crate) fn read<J: ServiceId, T: Wait, S: Source + Drop, G: Rng + Drop>(
     rt: &T,
     source: S,
     decoder: LineDecoder<J, G>,
@@ -38,7 +38,7 @@ pub(crate) fn read<J: Naming, T: Wait, S: Source + Drop, G: Rng + Drop>(
 }
 
 /// Hands out each line, to the end of the input or until nobody takes them.
-fn read_lines<J: Naming, T: Wait, S: Source + Drop, G: Rng>(
+fn read_lines<J: ServiceId, T: Wait, S: Source + Drop, G: Rng>(
     rt: &T,
     source: S,
     decoder: &mut LineDecoder<J, G>,
@@ -71,7 +71,7 @@ fn read_lines<J: Naming, T: Wait, S: Source + Drop, G: Rng>(
 }
 
 /// Hands out the last line, if it has no end.
-fn read_last<J: Naming, T: Wait, S: Source, G: Rng>(
+fn read_last<J: ServiceId, T: Wait, S: Source, G: Rng>(
     rt: &T,
     decoder: &LineDecoder<J, G>,
     sender: &mut LineSender<J>,
@@ -90,7 +90,7 @@ fn read_last<J: Naming, T: Wait, S: Source, G: Rng>(
 }
 
 /// Takes the bytes in turn.
-fn take_bytes<J: Naming, T: Wait, G: Rng>(
+fn take_bytes<J: ServiceId, T: Wait, G: Rng>(
     rt: &T,
     decoder: &mut LineDecoder<J, G>,
     sender: &mut LineSender<J>,
@@ -112,7 +112,7 @@ fn take_bytes<J: Naming, T: Wait, G: Rng>(
     Ok(())
 }
 
-fn take_byte<J: Naming, T: Wait, G: Rng>(
+fn take_byte<J: ServiceId, T: Wait, G: Rng>(
     rt: &T,
     decoder: &mut LineDecoder<J, G>,
     sender: &mut LineSender<J>,

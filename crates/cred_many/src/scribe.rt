@@ -4,9 +4,8 @@ ghost use Rattle.std.specs.Prelude.{◌≡◌, ◌≢◌, ◌<◌, [], false, If
 ghost use Rattle.cred_cli.specs.{Script.lines_of, Watched.failed_of, Watched.inner_of};
 ghost use Rattle.cred_book.specs.Works.{is_for_current, name_of};
 ghost use Rattle.cred_phc.specs.Values.{RecordValue};
-ghost use Rattle.cred_many.specs.{Asks.IsJobOf, Asks.IsResetOf, Scribe.History, Scribe.is_changed, Scribe.numbers};
+ghost use Rattle.cred_many.specs.{Asks.IsJobOf, Asks.IsResetOf, Scribe.History, Scribe.is_changed, Scribe.numbers, declared.ask.Ask.TheVariants.Quick};
 ghost use Rattle.cred_many.specs.Served.{HasCause, Stands, StandsAtEnd, left_of, record_at, told_reply};
-ghost use Rattle.cred_many.specs.declared.ask.Ask.TheVariants.{Quick};
 
 mod groups;
 mod refusals;
@@ -18,9 +17,9 @@ use crate::fault::ServiceFault;
 use crate::host::Host;
 use crate::job::{Hashed, Job};
 use crate::line::Line;
-use crate::naming::Naming;
 use crate::open::OpenLines;
 use crate::output::Output;
+use crate::service_id::ServiceId;
 use crate::source::Source;
 use cred_book::{Name, Reply, Request, Ticket, Worked};
 use cred_cli::{Watched, reply_line};
@@ -38,7 +37,7 @@ const TRIES: u32 = 8;
 /// more than its calls do: they take lines that came and what was hashed for them, each once. None
 /// of them has a handle by which it may wait, so each returns, and does what it promises.
 #[derive(Drop)]
-pub struct Scribe<J: Naming, K: Host, W: Write> {
+pub struct Scribe<J: ServiceId, K: Host, W: Write> {
     keeper: K,
     output: Output<W>,
     pending: OpenLines,
@@ -52,7 +51,7 @@ pub struct Scribe<J: Naming, K: Host, W: Write> {
         (numbers pending) came output.fault ∥₁ },
 }
 
-impl<J: Naming, K: Host, W: Write> Scribe<J, K, W> {
+impl<J: ServiceId, K: Host, W: Write> Scribe<J, K, W> {
     /// Before the first line.
     pub fn new(alloc: Global, keeper: K, writer: Watched<W>) -> Scribe<J, K, W>
         requires opening { K.book keeper ≡ J.service.opening }

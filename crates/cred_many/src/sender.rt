@@ -4,18 +4,18 @@ ghost use Rattle.std.specs.Prelude.{◌≡◌, ◌+◌, ◌^◌, ◌<◌, OnOk};
 
 use crate::job::Message;
 use crate::line::Line;
-use crate::naming::Naming;
+use crate::service_id::ServiceId;
 use crossbeam_channel::{Receiver, Sender};
 use std::marker::Model;
 use std::sync::Wait;
 
 /// How many lines were handed out.
 #[derive(Drop)]
-pub struct Handed {
+pub struct LineCount {
     lines: u64,
 }
 
-impl Model for Handed {
+impl Model for LineCount {
     ghost use Rattle.std.specs.Prelude.{ℕ};
 
     ghost Value = { ℕ };
@@ -23,7 +23,7 @@ impl Model for Handed {
     ghost view = { λ h. h.lines };
 }
 
-impl Handed {
+impl LineCount {
     /// Their number.
     pub(crate) fn lines(&self) -> u64
         ensures { result ≡ self.now }
@@ -38,24 +38,24 @@ pub(crate) struct Gone(());
 
 /// Hands lines to the thread that has the book, no more than may be open.
 #[derive(Drop)]
-pub(crate) struct LineSender<J: Naming> {
+pub(crate) struct LineSender<J: ServiceId> {
     /// One for each line that may be opened now.
     room: Receiver<()>,
     book: Sender<Message<J>>,
-    handed: Handed,
+    handed: LineCount,
 }
 
-impl<J: Naming> LineSender<J> {
+impl<J: ServiceId> LineSender<J> {
     /// Before the first line.
     pub(crate) fn new(room: Receiver<()>, book: Sender<Message<J>>) -> LineSender<J>
         ensures { result.handed ≡ 0 }
     {
-        let handed = Handed { lines: 0 };
+        let handed = LineCount { lines: 0 };
         LineSender { room, book, handed }
     }
 
     /// How many lines it handed out.
-    pub(crate) fn handed(&self) -> &Handed
+    pub(crate) fn handed(&self) -> &LineCount
         ensures { result.now ≡ self.now.handed }
     {
         &self.handed

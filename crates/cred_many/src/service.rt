@@ -6,16 +6,16 @@ ghost use Rattle.cred_many.specs.Service.{service};
 use crate::budget::{Budget, Idle, Limit, parts};
 use crate::costs::Costs;
 use crate::decoder::LineDecoder;
-use crate::desk::{Desk, attend};
 use crate::ending::{End, Ending};
 use crate::hashing::Hashing;
 use crate::host::Host;
 use crate::job::{Job, Message};
-use crate::naming::Naming;
+use crate::message_loop::MessageLoop;
 use crate::open::MOST_OPEN;
 use crate::reading::read;
 use crate::scribe::Scribe;
 use crate::sender::LineSender;
+use crate::service_id::ServiceId;
 use crate::source::Source;
 use cred_cli::{CostBounds, Tools};
 use crossbeam_channel::{Receiver, Sender, bounded};
@@ -59,7 +59,7 @@ pub fn serve_tagged<J, T, S, G, K, W>(
     source: S,
 ) -> Ending<J, S>
 where
-    J: Naming + Send + Sync + 'static,
+    J: ServiceId + Send + Sync + 'static,
     T: Threads + Wait + Sync + Copy + Send + 'static,
     S: Source + Send + Drop + 'static,
     G: Rng + Send + Drop + 'static,
@@ -95,7 +95,7 @@ where
 /// The ends of the channels that the thread with the book has, and those that it gives to the
 /// threads that hash.
 #[derive(Drop)]
-struct Channels<J: Naming> {
+struct Channels<J: ServiceId> {
     room: Sender<()>,
     jobs: Sender<Job<J>>,
     waiting: Receiver<Job<J>>,
@@ -105,7 +105,7 @@ struct Channels<J: Naming> {
 
 /// The channels, with room for all lines that may be open: so that nobody waits to send but the
 /// thread that reads.
-fn make_channels<J: Naming, T: Wait>(
+fn make_channels<J: ServiceId, T: Wait>(
     rt: &T,
     alloc: Global,
 ) -> Result<(Channels<J>, LineSender<J>), AllocError>
@@ -141,7 +141,7 @@ fn hash_beside<L, J, T, K, W>(
 ) -> bool
 where
     L: Limit + Send + Sync,
-    J: Naming + Send + Sync + 'static,
+    J: ServiceId + Send + Sync + 'static,
     T: Threads + Wait + Sync + Copy + Send + 'static,
     K: Host,
     W: Write + Drop,
@@ -170,7 +170,7 @@ fn attend_beside<L, J, T, K, W>(
 ) -> bool
 where
     L: Limit + Send + Sync,
-    J: Naming + Send + Sync + 'static,
+    J: ServiceId + Send + Sync + 'static,
     T: Threads + Wait + Sync + Copy + Send + 'static,
     K: Host,
     W: Write + Drop,
@@ -207,6 +207,7 @@ where
         if !started {
             return false;
         }
-        attend(rt, tools.alloc, scribe, &Desk { inbox, jobs, room })
+        let mut messages = MessageLoop::new(tools.alloc, inbox, jobs, room);
+        messages.run(rt, scribe)
     })
 }

@@ -3,7 +3,7 @@
 ghost use Rattle.std.specs.Prelude.{◌≡◌, ◌≤◌, false, length};
 ghost use Rattle.cred_cli.specs.Script.{line_ends};
 
-use crate::sender::Handed;
+use crate::sender::LineCount;
 use std::io;
 use std::io::Read;
 
@@ -31,7 +31,7 @@ pub trait Source {
     ghost failed: { Self → Bool };
 
     /// Reads as [`Read::read`] does, once that many lines were handed on.
-    fn read(&mut self, handed: &Handed, buf: &mut [u8]) -> io::Result<usize>
+    fn read(&mut self, handed: &LineCount, buf: &mut [u8]) -> io::Result<usize>
         requires handed { handed.now ≡ given self.old }
         requires going { (ended self.old ≡ false) × (failed self.old ≡ false) }
         requires few { given self.old + length buf.old < 2 ^ 64 }
@@ -79,7 +79,7 @@ impl<R: Read> Source for LineReader<R> {
 
     ghost failed = { λ l. l.failed };
 
-    fn read(&mut self, _handed: &Handed, buf: &mut [u8]) -> io::Result<usize> {
+    fn read(&mut self, _handed: &LineCount, buf: &mut [u8]) -> io::Result<usize> {
         match self.reader.read(buf) {
             Ok(n) => {
                 self.given += line_ends(&buf[..n]);
@@ -99,11 +99,5 @@ fn line_ends(bytes: &[u8]) -> u64
     ensures ends { result ≡ line_ends bytes.now }
     ensures few { result ≤ length bytes.now }
 {
-    let mut ends = 0;
-    for byte in bytes {
-        if *byte == b'\n' {
-            ends += 1;
-        }
-    }
-    ends
+    bytes.iter().filter(|byte| **byte == b'\n').count() as u64
 }

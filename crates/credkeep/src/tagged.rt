@@ -14,7 +14,7 @@ use cred_admin::Status;
 use cred_cli::{Tools, Watched};
 use cred_file::{FileBook, Lost};
 use cred_keep::{Failure, explain, refuse};
-use cred_many::{LineReader, Means, Naming, Scribe, Served, ServiceFault, Source, serve_file};
+use cred_many::{LineReader, Means, Scribe, Served, ServiceFault, ServiceId, Source, serve_file};
 use rand::make_rng;
 use rand::rngs::StdRng;
 use rand_core::Rng;
@@ -135,7 +135,7 @@ fn serve_named<J, T, S, R, W, G>(
     writer: W,
 ) -> Served<FileBook<S>, W, LineReader<R>>
 where
-    J: Naming + Send + Sync + 'static,
+    J: ServiceId + Send + Sync + 'static,
     T: Threads + Wait + Sync + Copy + Send + 'static,
     S: Alter,
     R: Read + Send + Drop + 'static,

@@ -7,15 +7,15 @@ ghost use Rattle.cred_many.specs.{Asks.IsJobOf, Scribe.IsGroup, Scribe.entries_o
 use super::{Scribe, told_reply};
 use crate::ask::Ask;
 use crate::fault::ServiceFault;
-use crate::group::{Change, Group, MOST_TOGETHER};
+use crate::group::{Group, MOST_TOGETHER};
 use crate::host::Host;
 use crate::job::Hashed;
-use crate::naming::Naming;
-use cred_cli::reply_line;
+use crate::service_id::ServiceId;
+use cred_book::Change;
 use std::alloc::Global;
 use std::io::Write;
 
-impl<J: Naming, K: Host, W: Write> Scribe<J, K, W> {
+impl<J: ServiceId, K: Host, W: Write> Scribe<J, K, W> {
     /// Makes the changes of different accounts among these works together, and answers their lines.
     /// The other works come back, in their order.
     pub fn commit_together(&mut self, alloc: Global, works: Vec<Hashed<J>>) -> Vec<Hashed<J>> {
@@ -63,8 +63,8 @@ impl<J: Naming, K: Host, W: Write> Scribe<J, K, W> {
         }
         let change = Change {
             name: hashed.worked.request().name(),
-            stored,
-            answer: reply_line(&told_reply(hashed.line.ask(), reply)),
+            after: stored,
+            reply: told_reply(hashed.line.ask(), reply),
         };
         let _tag = hashed.line.tag();
         group.push(hashed, &change)

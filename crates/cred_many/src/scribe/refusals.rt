@@ -7,12 +7,12 @@ use super::Scribe;
 use crate::fault::ServiceFault;
 use crate::host::Host;
 use crate::line::Line;
-use crate::naming::Naming;
+use crate::service_id::ServiceId;
 use cred_book::BookError;
 use cred_cli::Refusal;
 use std::io::Write;
 
-impl<J: Naming, K: Host, W: Write> Scribe<J, K, W> {
+impl<J: ServiceId, K: Host, W: Write> Scribe<J, K, W> {
     /// Answers that nothing was done for want of memory, unless nothing is answered any more.
     pub(super) fn starve(&mut self, line: Line<J>)
         requires { NeedsMemory K.capacity (K.book self.old.keeper) line.ask }

@@ -5,7 +5,7 @@ use Rattle.cred_many.proofs.reading.read_lines.Given as goal
 -- a front of the input came, and each whole line of it was handed out
 abbrev pub invariant-loop-call : goal.invariant-loop-call
 invariant-loop-call g l = record {
-  at : (all : List ℕ) → g.J.Naming.service.input ≡ Some all →
+  at : (all : List ℕ) → g.J.ServiceId.service.input ≡ Some all →
       (rest : List ℕ) × (g.S.Source.remaining l.source ≡ Some rest) × Splits all (place l.decoder.start l.decoder.number) rest;
   handed : l.sender.handed ≡ g.S.Source.given l.source;
   number : l.decoder.number ≡ l.sender.handed;

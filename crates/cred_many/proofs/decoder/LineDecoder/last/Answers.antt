@@ -6,14 +6,14 @@ use Rattle.cred_many.proofs.decoder.LineDecoder.last.Goals as goal
 pub returns-then-is_empty-clause-whole : goal.returns-then-is_empty-clause-whole
 returns-then-is_empty-clause-whole g c =
     let none : length c.bytes.result.now ≡ 0 = grind (arith, nat_tests) in
-    count_ended g.J.Naming.service.input (place c.args.self.now.start c.args.self.now.number) c.requires (rw c.bytes.ensures at none)
+    count_ended g.J.ServiceId.service.input (place c.args.self.now.start c.args.self.now.number) c.requires (rw c.bytes.ensures at none)
 
 pub cut-requires : goal.cut-requires
 cut-requires g c =
     let some : 0 < length c.bytes.result.now = grind (arith, nat_tests) in
-    cut_came g.J.Naming.service _ _ (last_came g.J.Naming.service.input (place c.args.self.now.start c.args.self.now.number) c.requires (rw c.bytes.ensures at some))
+    cut_came g.J.ServiceId.service _ _ (last_came g.J.ServiceId.service.input (place c.args.self.now.start c.args.self.now.number) c.requires (rw c.bytes.ensures at some))
 
 pub returns-clause-whole : goal.returns-clause-whole
 returns-clause-whole g c =
     let some : 0 < length c.bytes.result.now = grind (arith, nat_tests) in
-    count_with_last g.J.Naming.service.input (place c.args.self.now.start c.args.self.now.number) c.requires (rw c.bytes.ensures at some)
+    count_with_last g.J.ServiceId.service.input (place c.args.self.now.start c.args.self.now.number) c.requires (rw c.bytes.ensures at some)

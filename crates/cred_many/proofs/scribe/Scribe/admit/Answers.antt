@@ -5,7 +5,7 @@ use Rattle.cred_many.proofs.scribe.Scribe.admit.Goals as goal
 pub invariant_of-self : goal.invariant_of-self
 invariant_of-self g c = record {
   history = still _ _ _ _ _ _ _ _ _ _ c.requires refl refl c.args.self.now.history;
-  cause = ∣ inr (line_missing g.J.Naming.service _ c.args.line.now _ c.tag-tag.ensures.came (omega arith)) ∣₁;
+  cause = ∣ inr (line_missing g.J.ServiceId.service _ c.args.line.now _ c.tag-tag.ensures.came (omega arith)) ∣₁;
 }
 
 pub invariant_of-self-then-is_err : goal.invariant_of-self-then-is_err

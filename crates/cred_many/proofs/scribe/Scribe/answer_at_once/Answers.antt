@@ -5,7 +5,7 @@ use Rattle.cred_many.proofs.scribe.Scribe.answer_at_once.Goals as goal
 
 pub invariant_of-self : goal.invariant_of-self
 invariant_of-self g c =
-    let s = g.J.Naming.service in
+    let s = g.J.ServiceId.service in
     let book = g.K.Host.book c.args.self.now.keeper in
     let d = done_at g.K.Host.capacity book _ c.args.line c.tag.result.now c.bytes.result.now (c.in-Ok.ensures.book ∙ ap (λ a. (done g.K.Host.capacity book a).1) c.requires.asked) c.tag.ensures.tag
     (c.bytes.ensures ∙ c.in-Ok.ensures.answer ∙ ap (λ a. (done g.K.Host.capacity book a).0) c.requires.asked) in

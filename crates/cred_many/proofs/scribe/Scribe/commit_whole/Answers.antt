@@ -14,7 +14,7 @@ invariant_of-self-then-is_changed g c = record {
 
 pub invariant_of-self-2 : goal.invariant_of-self-2
 invariant_of-self-2 g c =
-    let s = g.J.Naming.service in
+    let s = g.J.ServiceId.service in
     let book = g.K.Host.book c.args.self.now.keeper in
     let d = done_whole g.K.Host.capacity book _ c.args.line c.args.worked c.in-Ok.reply c.tag.result.now c.reply_line-answer.result.now c.requires.asked c.in-Ok.ensures (sym c.if-is_changed.ensures) c.tag.ensures.tag (c.reply_line-answer.ensures ∙ ap reply_line (c.told_reply.ensures ∙ ap (λ a. told_reply a c.in-Ok.reply) c.ask.ensures.ask)) in
     record {

@@ -1,4 +1,5 @@
 use Rattle.std.proofs.Common.{rules, ◌≡◌, arith, IfSome, subst}
+use Rattle.cred_cli.specs.Texts.{reply_line}
 use Rattle.cred_many.specs.Service.{IsLine}
 use Rattle.cred_many.proofs.Together.{pushed_together}
 use Rattle.cred_many.proofs.scribe.Scribe.gather_whole.Goals as goal
@@ -6,6 +7,6 @@ use Rattle.cred_many.proofs.scribe.Scribe.gather_whole.Goals as goal
 pub returns : goal.returns
 returns g c =
     let line : c.hashed.inside.line ≡ c.args.hashed.0 = search rules in
-    pushed_together _ _ _ _ _ _ _ _ _ c.args.hashed c.judge-reply.result.0 c.judge-reply.result.1 c.name.result c.reply_line.result.now c.push.result c.requires.group c.requires.asked (search rules) (search rules) (search rules) (omega (arith, c.if-len-ge-MOST_TOGETHER.false, c.len.ensures))
-    (subst (λ e. IfSome g.J.Naming.service.input (λ bytes. IsLine g.J.Naming.service bytes e)) line c.tag-tag.ensures.came)
+    pushed_together _ _ _ _ _ _ _ _ _ c.args.hashed c.judge-reply.result.0 c.judge-reply.result.1 c.name.result (reply_line c.told_reply.result) c.push.result c.requires.group c.requires.asked (search rules) (search rules) (search rules) (omega (arith, c.if-len-ge-MOST_TOGETHER.false, c.len.ensures))
+    (subst (λ e. IfSome g.J.ServiceId.service.input (λ bytes. IsLine g.J.ServiceId.service bytes e)) line c.tag-tag.ensures.came)
     c.push.ensures.works c.push.ensures.first c.push.ensures.changed c.push.ensures.text c.push.ensures.same_works c.push.ensures.same_changed c.push.ensures.same_text

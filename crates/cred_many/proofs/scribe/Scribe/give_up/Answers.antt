@@ -7,7 +7,7 @@ use Rattle.cred_many.proofs.scribe.Scribe.give_up.Goals as goal
 
 pub invariant_of-self : goal.invariant_of-self
 invariant_of-self g c =
-    let s = g.J.Naming.service in
+    let s = g.J.ServiceId.service in
     let book = g.K.Host.book c.args.self.now.keeper in
     let given = entry c.args.line.number c.args.line.tag (refused (refusal.Book error.Memory)) in
     let d = done_at g.K.Host.capacity book book given c.tag.result.now c.line.result.now refl c.tag.ensures.tag c.line.ensures in

@@ -3,7 +3,7 @@ use Rattle.cred_many.proofs.scribe.Scribe.reset.Goals as goal
 
 pub invariant_of-self : goal.invariant_of-self
 invariant_of-self g c =
-    let s = g.J.Naming.service in
+    let s = g.J.ServiceId.service in
     let book = g.K.Host.book c.args.self.now.keeper in
     let d = done_reset g.K.Host.capacity book _ c.args.line c.args.name.now c.args.worked.now c.in-Some.stored c.in-Ok.reply c.tag.result.now c.reply_line.result.now c.requires.asked c.in-Some.ensures c.in-Ok.ensures.done c.tag.ensures.tag c.reply_line.ensures in
     record {

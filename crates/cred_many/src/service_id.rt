@@ -4,13 +4,13 @@ use std::marker::Brand;
 
 /// Names one service. A function that is generic over it is called with `Brand`, and that call
 /// picks which service it is.
-pub trait Naming {
+pub trait ServiceId {
     ghost use Rattle.cred_many.specs.Service.{Service};
 
     ghost service: { Service };
 }
 
-impl Naming for Brand {
+impl ServiceId for Brand {
     ghost use Rattle.cred_many.specs.Service.{no_service};
 
     ghost service = { no_service };
