@@ -184,14 +184,14 @@ class PagesTest(unittest.TestCase):
 
     def need_php(self, page=None):
         need("php")
+        if "pdo_sqlite" not in run("php", "-m"):
+            self.skipTest("PHP's pdo_sqlite isn't installed")
         if page and not pathlib.Path("/usr/share/php", page).exists():
             self.skipTest(f"PHP's {page} isn't installed")
 
     def test_php(self):
         """docs/PHP.md's plain code, on SQLite."""
         self.need_php()
-        if "pdo_sqlite" not in run("php", "-m"):
-            self.skipTest("PHP's pdo_sqlite isn't installed")
         self.php("accounts.php", "php_accounts.php")
 
     def test_laravel(self):
