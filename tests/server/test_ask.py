@@ -19,6 +19,7 @@ from dataclasses import dataclass, field
 from served import Case, TOP, need
 
 ASK = TOP / "bin/credkeep-ask"
+SIGNALS = (signal.SIGHUP, signal.SIGINT, signal.SIGQUIT, signal.SIGTERM)
 PROMPT = b": "
 
 # Each word is noted with a bar behind it. `show` says what is in the environment; everything else reads its input and ends with 7.
@@ -66,6 +67,13 @@ def read(terminal: int, seconds: float) -> bytes:
     return os.read(terminal, 10000) if select.select([terminal], [], [], seconds)[0] else b""
 
 
+def at_its_terminal() -> None:
+    """Gives a process its terminal. A shell's background would have it ignore signals."""
+    fcntl.ioctl(0, termios.TIOCSCTTY, 0)
+    for number in SIGNALS:
+        signal.signal(number, signal.SIG_DFL)
+
+
 class CredkeepAsk(Case):
     def setUp(self) -> None:
         """A folder with the stand-in, and with no program but stty: a password would be in the words of another one."""
@@ -92,7 +100,7 @@ class CredkeepAsk(Case):
             stderr=inside,
             env=self.environment(account),
             start_new_session=True,
-            preexec_fn=lambda: fcntl.ioctl(0, termios.TIOCSCTTY, 0),
+            preexec_fn=at_its_terminal,
         )
         ended, rest, end = Ended(-1, b""), list(typed), time.monotonic() + 30
         sent, again = 0, end
@@ -245,7 +253,7 @@ class CredkeepAsk(Case):
 
     def test_signals(self) -> None:
         """A signal at the prompt ends it with the signal's status, and the terminal echoes again."""
-        for number in (signal.SIGHUP, signal.SIGINT, signal.SIGQUIT, signal.SIGTERM):
+        for number in SIGNALS:
             for before in ([], ONE):
                 ended = self.asked("users.db|change|ada", [*before, number])
                 self.assertFalse(ended.echoes[-1])
