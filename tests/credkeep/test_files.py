@@ -178,9 +178,11 @@ class NamesTest(BookTest):
                 self.assertEqual(stat.S_IMODE(file.stat().st_mode), 0o600)
             self.assertEqual(run.end(), DONE)
         book.path.chmod(0o640)
-        done = book("list")
-        self.assertEqual(done[:2], (0, "ann\n"))
-        self.assertIn("warning: ", done.faults)
+        for words, said in (("list", "ann\n"), ("serve", ""), ("serve --tagged", "")):
+            done = book(*words.split())
+            self.assertEqual(done[:2], (0, said))
+            self.assertIn("warning: ", done.faults)
+            self.assertEqual(book("--quiet", *words.split()), (0, said, ""))
 
     def test_read_only(self) -> None:
         """A file that this process may not write is left alone. Root may write any, so the program

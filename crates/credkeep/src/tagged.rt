@@ -9,7 +9,7 @@ ghost use Rattle.credkeep.specs.Service.{ServesBook, status_of_end, status_of_fa
 
 use crate::files::{DamagedLog, close, look, open_database};
 use crate::refusal::say;
-use crate::request::{Remarks, Request};
+use crate::request::Request;
 use cred_admin::Status;
 use cred_cli::{Tools, Watched};
 use cred_file::{FileBook, Lost};
@@ -42,7 +42,7 @@ pub(crate) fn serve_tagged<T: Threads + Wait + Sync + Copy + Send + 'static>(
     tagged: &Tagged,
 ) -> Result<Status, Status> {
     let file = request.file;
-    look(host, file, Remarks::Told)?;
+    look(host, file, request.remarks)?;
     let Ok(salts) = make_rng::<StdRng, HostRuntime>(host) else {
         return Err(say(host, "the system has no random bytes", Status::Io));
     };
