@@ -15,7 +15,6 @@ import re
 import subprocess
 import sys
 
-import plant
 import promises
 from tree import CRATES, TOP, has_edit, has_test, listed, report, source
 
@@ -69,46 +68,22 @@ def logic():
 
 
 def stands(place):
-    """Whether a place is a wrong body of the gate, `CRATE/NAME`, a test, `CRATE::TEST`, or a list, `plants/CRATE.txt`."""
+    """Whether a place is there: a test, `CRATE::TEST`, a file, `FOLDER/../NAME.KIND`, or a wrong body of the gate, `CRATE/NAME`."""
     if "::" in place:
         return has_test(*place.split("::"))
-    return (TOP / place).is_file() if place.startswith("plants/") else has_edit(*place.split("/"))
+    return (TOP / place).is_file() or place.count("/") == 1 and has_edit(*place.split("/"))
 
 
 def planted():
-    """The wrong bodies of docs/PLANTED.md, `NAME | .. | PLACES |`, in the table whose head begins with "Wrong body": each is there."""
-    table = (TOP / "docs/PLANTED.md").read_text().partition("| Wrong body |")[2].partition("\n\n")[0]
-    rows = table.splitlines()[2:]
+    """The wrong bodies of docs/PLANTED.md: the third column of its tables names where each is in the gate, or tests that refuse it."""
+    page = (TOP / "docs/PLANTED.md").read_text()
+    rows = re.findall(r"^\| .*", re.sub(r"^\| .*\n\|-.*\n", "", page, flags=re.M), re.M)
     yield None if rows else "docs/PLANTED.md has no table of named wrong bodies"
     for row in rows:
-        name, _, where, _ = [it.strip() for it in row.strip("|").split("|")]
+        name, _, where, *_ = row.strip("| ").split(" | ")
         places = re.findall(r"`([^`]+)`", where)
         lost = [it for it in places if not stands(it)]
         yield f"docs/PLANTED.md: {name}: {', '.join(lost) or 'no place'} isn't there" if lost or not places else None
-
-
-def bugs():
-    """The bugs of plants/: their number, and each that doesn't fit the code."""
-    lists = {name: plant.list_of(name) for name in plant.lists()}
-    there = f"{sum(map(len, lists.values()))} bugs in {len(lists)} lists"
-    said = re.findall(r"\d+ bugs in \d+ lists", source(TOP / "docs/PLANTED.md"))
-    yield None if said == [there] else f"docs/PLANTED.md: there are {there}"
-    for name, found in lists.items():
-        yield from [*plant.misfits(name)] or [None]
-        for reason in (it.passes for it in found if it.passes):
-            lost = refuted(reason)
-            yield None if lost == "" else f"plants/{name}.txt: {lost or reason}"
-
-
-def refuted(reason):
-    """Which tests and files aren't there that are said to refuse a bug that no clause refuses; None if none is named, and the
-    reason doesn't say either that nothing refuses it."""
-    tests = re.findall(r"`(\w+)::(\w+)`", reason)
-    files = re.findall(r"((?:tools|tests|crates)/[\w/]+(?:\.py|/stdout))(?: \(`(\w+)`\))?", reason)
-    lost = ["::".join(it) for it in tests if not has_test(*it)]
-    lost += [path for path, word in files if not (TOP / path).is_file() or word and f"def {word}" not in source(TOP / path)]
-    is_said = tests or files or "nothing refuses it" in reason or "harmless" in reason
-    return ", ".join(lost) if is_said else None
 
 
 def anchors(page):
@@ -175,7 +150,7 @@ def walks():
 
 
 def main():
-    of_tree = (figures, logic, planted, bugs, rooms, definitions, walks, versions, promises.check)
+    of_tree = (figures, logic, planted, rooms, definitions, walks, versions, promises.check)
     of_page = [it(page) for page in PAGES for it in (links, callers)]
     return report([it for found in [*(check() for check in of_tree), *of_page] for it in found])
 
