@@ -2,24 +2,11 @@
 """Compares what docs/PROMISES.md names with the tree; tools/pages.py runs it.
 
     python3 tools/promises.py
-    python3 tools/promises.py --refused LOG..
 
 Each call is named by its path, `cred_argon::argon::argon2` (`input_len`, `err`): the function has to stand in that file, and its
 contract has to have the clauses in brackets. Each test `CRATE::TEST`, each file, and each definition that a file "has" has to be
-there. No cell of a table has over 120 characters. The last line is `N passed, M failed`, and the status is 1 if anything failed.
+there. No cell of a table has over 120 characters. The last line is `N passed, M failed`, and the status is 1 if anything failed."""
 
-With --refused it reads what `rt ci` or `rt must-fail` printed, and says of each kind of refusal how many wrong bodies it has:
-
-    shown false     values were found at which a goal is false
-    not proved      a goal stays open: the search found no proof of it, or gave up at a limit
-    no proof of it  a written answer is no proof of the goal any more
-    names           a written answer names what the edit took away, and nothing else was judged: this says nothing of the contract
-
-The wrong bodies that docs/PLANTED.md names count by themselves. The status is 1 if one of these is refused for
-its names alone, or if the log has a wrong body that wasn't refused.
-"""
-
-import pathlib
 import re
 import sys
 
@@ -91,39 +78,6 @@ def cells(text):
         yield from (f"a cell of over 120 characters: {it.strip()[:60]}.." for it in row.split("|") if len(it.strip()) > 120)
 
 
-# What the prover says of each kind of refusal.
-KINDS = {
-    "shown false": "at which this goal is false|does not follow from what it read",
-    "not proved": r"note: \S+: it is not proved that|`search`: no proof",
-    "no proof of it": "",
-    "names": "only because a proof file names what the edit took away",
-}
-TRIED = re.compile(r"(?m)^(?:rt: )?must-fail (\w+)/([\w.-]+)\.edit: (refused, as it must be|NOT REFUSED|BAD EDIT)(.*)$")
-
-
-def kind_of(said):
-    """Which kind of refusal this is, by the first line that the prover printed of it."""
-    found = [kind for kind, form in KINDS.items() if re.search(form, said)]
-    return "names" if "names" in found else found[0]
-
-
-def refusals(logs):
-    """What the logs say of each wrong body: its kind, or None if it wasn't refused."""
-    text = "\n".join(pathlib.Path(it).read_text(errors="replace") for it in logs)
-    return {f"{it[1]}/{it[2]}": kind_of(it[4]) if it[3].startswith("refused") else None for it in TRIED.finditer(text)}
-
-
-def say_refusals(logs):
-    found = refusals(logs)
-    named = set(re.findall(r"`(\w+/[\w-]+)`", (PAGE.parent / "PLANTED.md").read_text()))
-    for kind in KINDS:
-        of = [it for it in found if found[it] == kind]
-        print(f"{kind}: {len(of)}, {sum(it in named for it in of)} of them named")
-    lost = sorted(it for it, kind in found.items() if kind is None or kind == "names" and it in named)
-    print("\n".join([*(f"{it}: {found[it] or 'not refused'}" for it in lost), f"{len(found)} wrong bodies, {len(lost)} failed"]))
-    return 1 if lost or not found else 0
-
-
 def check():
     """What is wrong with each name of the page."""
     text = PAGE.read_text()
@@ -131,5 +85,4 @@ def check():
 
 
 if __name__ == "__main__":
-    is_log = sys.argv[1:2] == ["--refused"]
-    sys.exit(say_refusals(sys.argv[2:]) if is_log else report(check()))
+    sys.exit(report(check()))

@@ -149,6 +149,7 @@ class Texts(unittest.TestCase):
 
     def test_needs_rehash(self):
         i, scrypt = COSTS.replace("2id", "2i"), "$scrypt$ln=8,r=8,p=1"
+        other_scrypt = [f"$scrypt$ln={n},r={r},p={p}" for n, r, p in ((7, 8, 1), (8, 9, 1), (8, 8, 2))]
         for record, costs, salt_size, tag_size, wanted in (
             (RECORD, COSTS, 8, 32, N.OK),
             (RECORD, f"{COSTS}${SALT}", 0, 32, N.OK),
@@ -166,7 +167,7 @@ class Texts(unittest.TestCase):
             (RECORD, scrypt, 8, 32, N.OTHER_COSTS),
             (OLD_RECORD, i, 8, 32, N.OTHER_COSTS),
             (SCRYPT_RECORD, scrypt, 9, 32, N.OK),
-            (SCRYPT_RECORD, scrypt.replace("p=1", "p=2"), 9, 32, N.OTHER_COSTS),
+            *((SCRYPT_RECORD, it, 9, 32, N.OTHER_COSTS) for it in other_scrypt),
             ("x", "y", 8, 32, N.SHAPE),
             (f"$argon2id$v=19$m=7,t=1,p=1${SALT}${TAG}", COSTS, 8, 32, N.RANGE),
             (RECORD, COSTS.replace("v=19", "v=18"), 8, 32, N.VERSION),

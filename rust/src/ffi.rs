@@ -18,6 +18,8 @@ extern "C" {
     fn rigzumal_strerror(fault: c_int) -> *const c_char;
     fn rigzumal_record_fault(record: *const c_char) -> c_int;
     fn rigzumal_parts(parts: *mut [u32; 7], record: *const c_char) -> c_int;
+    fn rigzumal_needs_rehash(record: *const c_char, costs: *const c_char,
+        salt_size: usize, tag_size: usize) -> c_int;
     fn rigzumal_record_threads(text: *mut u8, text_size: usize, tag_size: usize,
         costs: *const c_char, salt: *const u8, salt_size: usize,
         password: *const u8, password_size: usize, threads: u32) -> c_int;
@@ -88,6 +90,11 @@ pub(crate) fn parts(record: &CStr) -> Result<Parts, Error> {
     // SAFETY: struct rigzumal_parts is seven numbers.
     Error::check(unsafe { rigzumal_parts(&mut numbers, record.as_ptr()) })?;
     Ok(Parts::from_numbers(numbers))
+}
+
+pub(crate) fn needs_rehash(record: &CStr, costs: &CStr, salt_len: usize, tag_len: usize) -> bool {
+    // SAFETY: both texts end with a zero byte.
+    unsafe { rigzumal_needs_rehash(record.as_ptr(), costs.as_ptr(), salt_len, tag_len) != 0 }
 }
 
 #[rustfmt::skip]

@@ -1,6 +1,6 @@
 //! What makes records and verifies them.
 
-use crate::{ffi, Algorithm, Error, Parts, Record, Scheme};
+use crate::{ffi, Algorithm, Error, Record};
 use alloc::{boxed::Box, ffi::CString, string::ToString};
 use core::{ffi::CStr, fmt};
 
@@ -38,15 +38,9 @@ impl Costs {
         Costs::Argon2 { algorithm: Algorithm::Argon2id, memory, passes, lanes }
     }
 
-    /// Whether a record is of these, whatever its salt and the size of its tag.
-    fn are_of(self, parts: &Parts) -> bool {
-        let wanted = match self {
-            Costs::Argon2 { algorithm, memory, passes, lanes } => {
-                (Scheme::from(algorithm), 0x13, memory, passes, lanes)
-            }
-            Costs::Scrypt { log2_n, r, p } => (Scheme::Scrypt, 0, log2_n, r, p),
-        };
-        wanted == (parts.scheme, parts.version, parts.memory, parts.passes, parts.lanes)
+    fn text(self) -> CString {
+        // No text of costs has a zero byte.
+        CString::new(self.to_string()).unwrap_or_default()
     }
 }
 
@@ -159,9 +153,8 @@ impl Hasher {
     }
 
     fn make(&self, password: &[u8], salt: Option<&[u8]>) -> Result<Record, Error> {
-        let costs = CString::new(self.costs.to_string()).map_err(|_| Error::Shape)?;
         let it = NewRecord {
-            costs: &costs,
+            costs: &self.costs.text(),
             salt,
             salt_len: self.salt_size(),
             tag_len: self.tag_size(),
@@ -199,10 +192,8 @@ impl Hasher {
     /// Whether the record is of another scheme, other costs or other sizes than a new one.
     #[must_use]
     pub fn needs_rehash(&self, record: &Record) -> bool {
-        let sizes = |it: &Parts| (it.salt_len as usize, it.tag_len as usize);
-        record.parts().map_or(true, |parts| {
-            !self.costs.are_of(&parts) || sizes(&parts) != (self.salt_size(), self.tag_size())
-        })
+        let costs = self.costs.text();
+        ffi::needs_rehash(record.as_c_str(), &costs, self.salt_size(), self.tag_size())
     }
 }
 
