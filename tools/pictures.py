@@ -1,18 +1,16 @@
 #!/usr/bin/env python3
 """Draws the pictures of docs/pictures from text: the tree's own, and docs/pictures/*.txt.
 
-    /usr/bin/python3 tools/pictures.py [--check]
+    /usr/bin/python3 tools/pictures.py
 
 overtaken.svg, server.svg and kept-change.svg are drawn from the text beside them, crates.svg from crates.txt and around-the-crates.txt by
-graphviz's dot, and bench.svg from the tables of bench/RESULTS.md by matplotlib (Debian's graphviz and python3-matplotlib). With
---check nothing is written: each picture that would come out otherwise is named, and the status is 1.
+graphviz's dot, and bench.svg from the tables of bench/RESULTS.md by matplotlib (Debian's graphviz and python3-matplotlib).
 """
 
 import html
 import io
 import re
 import subprocess
-import sys
 
 from tree import CRATES, TOP, all_below, below, listed
 
@@ -167,18 +165,7 @@ DRAWN = {
 }
 
 
-def main():
-    stale = []
+if __name__ == "__main__":
     for name, draw in DRAWN.items():
         # in one line, since nobody reads the text of a picture
-        drawn, file = " ".join(draw().split("\n")).strip() + "\n", PICTURES / name
-        if not file.exists() or file.read_text() != drawn:
-            stale.append(name)
-            if "--check" not in sys.argv:
-                file.write_text(drawn)
-    print(f"drawn anew: {' '.join(stale) or 'none'}")
-    return 1 if stale and "--check" in sys.argv else 0
-
-
-if __name__ == "__main__":
-    sys.exit(main())
+        (PICTURES / name).write_text(" ".join(draw().split("\n")).strip() + "\n")

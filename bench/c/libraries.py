@@ -11,6 +11,7 @@ PASSWORD, SALT, SIZE = b"password", b"sixteen of salt.", 32
 INPUTS = (PASSWORD, len(PASSWORD), SALT, len(SALT))
 NUMBER, WIDE, LENGTH, TEXT = ctypes.c_uint32, ctypes.c_ulonglong, ctypes.c_size_t, ctypes.c_char_p
 DATA = [TEXT, LENGTH]
+ROOM = object()  # where a call is given the room that it writes into
 
 
 class Numbers(ctypes.Structure):
@@ -38,53 +39,43 @@ def libsodium():
 
 
 def made(call, *given):
-    """What a call writes into its first room, which has no room's size beside it."""
+    """What a call writes into its ROOM."""
     room = ctypes.create_string_buffer(SIZE)
-    if call(room, *given) != 0:
+    if call(*(room if it is ROOM else it for it in given)) != 0:
         sys.exit(f"{call.__name__} refuses")
     return room.raw
 
 
-def rigzumal_argon2(ours):
-    """On the caller's thread alone."""
-    call = ours.rigzumal_argon2
-    call.argtypes = [*DATA, ctypes.POINTER(Numbers), *DATA * 4]
-    none = (None, 0, None, 0)
-    return lambda *costs: made(call, SIZE, Numbers(2, 0x13, *costs), *INPUTS, *none)
-
-
-def rigzumal_argon2_threads(ours):
-    """With a thread for each lane."""
+def rigzumal_argon2(ours, most_threads=1):
+    """With a thread for each lane, up to so many."""
     call = ours.rigzumal_argon2_threads
     call.argtypes = [*DATA, ctypes.POINTER(Numbers), *DATA * 4, NUMBER]
     none = (None, 0, None, 0)
-    return lambda *costs: made(call, SIZE, Numbers(2, 0x13, *costs), *INPUTS, *none, costs[2])
+
+    def hashed(memory, passes, lanes):
+        numbers = Numbers(2, 0x13, memory, passes, lanes)
+        return made(call, ROOM, SIZE, numbers, *INPUTS, *none, min(lanes, most_threads))
+
+    return hashed
 
 
 def original_argon2(original):
     call = original.argon2id_hash_raw
     call.argtypes = [NUMBER] * 3 + DATA * 3
-
-    def hashed(memory, passes, lanes):
-        tag = ctypes.create_string_buffer(SIZE)
-        if call(passes, memory, lanes, *INPUTS, tag, SIZE) != 0:
-            sys.exit("libargon2 refuses")
-        return tag.raw
-
-    return hashed
+    return lambda memory, passes, lanes: made(call, passes, memory, lanes, *INPUTS, ROOM, SIZE)
 
 
 def sodium_argon2(sodium):
     """It has one lane."""
     call = sodium.crypto_pwhash
     call.argtypes = [TEXT, WIDE, TEXT, WIDE, TEXT, WIDE, LENGTH, ctypes.c_int]
-    return lambda memory, passes, _: made(call, SIZE, *INPUTS[:3], passes, memory * 1024, 2)
+    return lambda memory, passes, _: made(call, ROOM, SIZE, *INPUTS[:3], passes, memory * 1024, 2)
 
 
 def rigzumal_scrypt(ours):
     call = ours.rigzumal_scrypt
     call.argtypes = [*DATA, ctypes.POINTER(Numbers), *DATA * 2]
-    return lambda *costs: made(call, SIZE, Numbers(*costs), *INPUTS)
+    return lambda *costs: made(call, ROOM, SIZE, Numbers(*costs), *INPUTS)
 
 
 def openssl_scrypt(ln, r, p):
@@ -95,11 +86,4 @@ def openssl_scrypt(ln, r, p):
 def sodium_scrypt(sodium):
     call = sodium.crypto_pwhash_scryptsalsa208sha256_ll
     call.argtypes = [*DATA * 2, ctypes.c_uint64, NUMBER, NUMBER, *DATA]
-
-    def hashed(ln, r, p):
-        key = ctypes.create_string_buffer(SIZE)
-        if call(*INPUTS, 1 << ln, r, p, key, SIZE) != 0:
-            sys.exit("libsodium refuses")
-        return key.raw
-
-    return hashed
+    return lambda ln, r, p: made(call, *INPUTS, 1 << ln, r, p, ROOM, SIZE)

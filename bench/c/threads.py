@@ -125,7 +125,7 @@ def main():
         original, sodium = library(ORIGINAL), libsodium()
         ways = {
             "one thread": libraries.rigzumal_argon2(ours),
-            "threads": libraries.rigzumal_argon2_threads(ours),
+            "threads": libraries.rigzumal_argon2(ours, most_threads=255),
             "libargon2": original and libraries.original_argon2(original),
             "libsodium": sodium and libraries.sodium_argon2(sodium),
             "other": given.other and libraries.rigzumal_argon2(ctypes.CDLL(given.other)),

@@ -3,11 +3,11 @@
 
     bench/keep/run.py [--turns N] [--accounts N [N ..]] [--program PROGRAM]
 
-PROGRAM is the built credkeep, by default crates/credkeep/out/credkeep; htpasswd is that of Debian's apache2-utils. Names come in random
-order. The hashes are as cheap as each takes (Argon2id with 8 KiB and one pass, bcrypt with cost 4), so that what is timed is the
-keeping. Each figure is the best of the turns. credkeep syncs twice at each change, Python's sqlite3 once here (WAL, synchronous =
-FULL), and htpasswd never does. The files stand in TMPDIR, and the first line is what its disk takes for a sync alone: on another disk
-the changes take as much more as its syncs do.
+PROGRAM is the built credkeep, by default crates/credkeep/out/credkeep; htpasswd is that of Debian's apache2-utils, and time is of its
+package time. Names come in random order. The hashes are as cheap as each takes (Argon2id with 8 KiB and one pass, bcrypt with cost 4),
+so that what is timed is the keeping. Each figure is the best of the turns. credkeep syncs twice at each change, Python's sqlite3 once
+here (WAL, synchronous = FULL), and htpasswd never does. The files stand in TMPDIR, and the first line is what its disk takes for a sync
+alone: on another disk the changes take as much more as its syncs do.
 """
 
 import argparse
@@ -23,9 +23,12 @@ import tempfile
 import time
 from collections.abc import Callable, Iterable
 
-from service import Service, peak_mb
-
 TOP = pathlib.Path(__file__).resolve().parent.parent.parent
+sys.path.insert(1, str(TOP / "bench"))
+
+from service import Service
+from turns import print_row
+
 CHEAP = "$argon2id$v=19$m=8,t=1,p=1"
 PASSWORD = "secret"
 PASSWORD_WORD = "c2VjcmV0"
@@ -52,20 +55,10 @@ def run(*words: str | pathlib.Path, given: str = "", status: int = 0) -> float:
 
 
 def run_with_peak(*words: str | pathlib.Path, given: str) -> tuple[float, float]:
-    """The seconds of a program with this input, and the most memory that it held, in MB, as was seen each hundredth second."""
-    peak = 0.0
-    with tempfile.TemporaryFile() as text:
-        text.write(given.encode())
-        text.seek(0)
-        start = time.perf_counter()
-        process = subprocess.Popen(words, stdin=text, stdout=subprocess.DEVNULL)
-        while process.poll() is None:
-            peak = max(peak, peak_mb(process.pid))
-            time.sleep(0.01)
-        seconds = time.perf_counter() - start
-    if process.returncode:
-        sys.exit(f"{words}: status {process.returncode}")
-    return seconds, peak
+    """The seconds of a program with this input, and the most memory that it held, in MB."""
+    with tempfile.NamedTemporaryFile("r") as told:
+        seconds = run("/usr/bin/time", "-f", "%M", "-o", told.name, *words, given=given)
+        return seconds, int(told.read()) / 1024
 
 
 def each_timed(work: Callable[[str], object], given: list[str]) -> float:
@@ -226,18 +219,18 @@ def main() -> None:
     parser.add_argument("--accounts", type=int, nargs="+", default=[1000, 10000, 100000])
     parser.add_argument("--program", type=pathlib.Path, default=TOP / "crates/credkeep/out/credkeep")
     words = parser.parse_args()
-    if not shutil.which("htpasswd"):
-        sys.exit("htpasswd isn't installed (Debian's apache2-utils)")
+    if missing := [it for it in ("htpasswd", "/usr/bin/time") if shutil.which(it) is None]:
+        sys.exit(f"not there: {', '.join(missing)} (Debian's packages apache2-utils and time have them)")
     columns = []
     for accounts in words.accounts:
         with tempfile.TemporaryDirectory(prefix="keep-") as folder:
             sample = Sample(words.program, pathlib.Path(folder), accounts)
             columns.append(ours(sample, words.turns) | theirs(sample, words.turns))
         print(f"{accounts}: {columns[-1]}", file=sys.stderr, flush=True)
-    print("| Accounts | " + " | ".join(f"{accounts}" for accounts in words.accounts) + " |")
+    print_row(["Accounts", *words.accounts])
     print("|---|" + "--:|" * len(columns))
     for row in columns[0]:
-        print(f"| {row} | " + " | ".join(column[row] for column in columns) + " |")
+        print_row([row, *(column[row] for column in columns)])
 
 
 if __name__ == "__main__":

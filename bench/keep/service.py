@@ -60,11 +60,6 @@ class Service:
         return count / (time.perf_counter() - start)
 
     def peak_mb(self) -> float:
-        return peak_mb(self.process.pid)
-
-
-def peak_mb(process: int) -> float:
-    """The most memory that a process held since it began its program, or nothing if it has ended:
-    what wait4 says counts its parent's too."""
-    status = pathlib.Path(f"/proc/{process}/status").read_text()
-    return next((int(it.split()[1]) / 1024 for it in status.splitlines() if it.startswith("VmHWM:")), 0)
+        """The most memory that it held so far."""
+        status = pathlib.Path(f"/proc/{self.process.pid}/status").read_text()
+        return int(status.partition("VmHWM:")[2].split()[0]) / 1024
