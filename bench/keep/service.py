@@ -9,10 +9,8 @@ from collections.abc import Callable
 
 
 class Service:
-    def __init__(self, *command: str | pathlib.Path, preload: str = "") -> None:
-        environment = {**os.environ, "LD_PRELOAD": preload} if preload else None
-        pipe = subprocess.PIPE
-        self.process = subprocess.Popen(command, stdin=pipe, stdout=pipe, env=environment)
+    def __init__(self, *command: str | pathlib.Path) -> None:
+        self.process = subprocess.Popen(command, stdin=subprocess.PIPE, stdout=subprocess.PIPE)
         assert self.process.stdin and self.process.stdout
         self.asked, self.answers = self.process.stdin, self.process.stdout
 

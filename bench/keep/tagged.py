@@ -9,7 +9,7 @@ times the rate of one thread. Then the time of a change (p50 and p99) beside ver
 lines open for each thread.
 
 Then changes a second, with the cheapest costs, of 1, 4, 16 and 64 clients who wait for each answer, on a disk whose syncs take MS longer than
-they do (4 if it isn't said): a library before the C library's adds that, so it needs cc. Run it on a machine that does nothing else.
+they do (4 if it isn't said), which strace adds. Run it on a machine that does nothing else.
 """
 
 import argparse
@@ -29,23 +29,6 @@ WORD = base64.b64encode(b"secret").decode()
 SALT = base64.b64encode(b"a salt of the bench").decode().rstrip("=")
 CHEAPEST = "$argon2id$v=19$m=8,t=1,p=1"
 CLIENTS = (1, 4, 16, 64)
-
-# A sync, after a pause of so many microseconds.
-SLOW_SYNC = """
-#define _GNU_SOURCE
-#include <dlfcn.h>
-#include <unistd.h>
-
-int fsync(int file) {
-    usleep(PAUSE);
-    return ((int (*)(int))dlsym(RTLD_NEXT, "fsync"))(file);
-}
-
-int fdatasync(int file) {
-    usleep(PAUSE);
-    return ((int (*)(int))dlsym(RTLD_NEXT, "fdatasync"))(file);
-}
-"""
 
 
 def hashes(program: pathlib.Path, setting: str, seconds: float, at_once: int) -> float:
@@ -111,7 +94,7 @@ class Book:
             run.rate([*lines, "c reset bob -"], after, self.seconds)
         return [later - earlier for earlier, later in zip(moments, moments[1:])]
 
-    def changes_a_second(self, clients: int, shim: str) -> float:
+    def changes_a_second(self, clients: int, pause: float) -> float:
         """Of so many clients, each with an account of its own, who send a line once the one before it is answered."""
 
         def after(tag: str, answer: str) -> str:
@@ -119,7 +102,9 @@ class Book:
             word = "remove" if answer == "enrolled" else "enrol"
             return f"{tag} {word} c{clients}x{tag} {WORD}"
 
-        with Service(*self.words, "serve", "--tagged", "--setting", CHEAPEST, preload=shim) as run:
+        slow = ("-e", "trace=fsync,fdatasync", "-e", f"inject=fsync,fdatasync:delay_enter={pause * 1000:.0f}")
+        strace = ("strace", "-f", "--seccomp-bpf", "-o", "/dev/null", *slow)
+        with Service(*strace, *self.words, "serve", "--tagged", "--setting", CHEAPEST) as run:
             for at in range(clients):
                 run.ask(f"a account c{clients}x{at}")
             return run.rate([after(str(at), "removed") for at in range(clients)], after, self.seconds)
@@ -128,14 +113,11 @@ class Book:
 def changes_together(program: pathlib.Path, seconds: float, pause: float) -> None:
     """Prints the changes a second of each number of clients."""
     with tempfile.TemporaryDirectory() as folder:
-        source, shim, path = (pathlib.Path(folder) / it for it in ("slow_sync.c", "slow_sync.so", "users.db"))
-        source.write_text(SLOW_SYNC.replace("PAUSE", str(round(pause * 1000))))
-        subprocess.run(["cc", "-shared", "-fPIC", "-o", shim, source, "-ldl"], check=True)
-        book = Book(program, path, CHEAPEST, seconds)
+        book = Book(program, pathlib.Path(folder) / "users.db", CHEAPEST, seconds)
         print(f"changes a second, {CHEAPEST}, a sync takes {pause:g} ms more:")
         alone = 0.0
         for clients in CLIENTS:
-            rate = book.changes_a_second(clients, str(shim))
+            rate = book.changes_a_second(clients, pause)
             alone = alone or rate
             print(f"  {clients} clients: {rate:.0f}, {rate / alone:.1f} times those of one", flush=True)
 
