@@ -35,11 +35,7 @@ RT = os.environ.get("RT", "rt")
 SECONDS = {"cred_pool": 44, "cred_blake": 68, "cred_scrypt": 118, "cred_base64": 14, "cred_argon": 132, "cred_phc": 82, "cred_book": 85}
 SECONDS |= {"cred_file": 415, "cred_cli": 509, "cred_admin": 138, "cred_keep": 254, "cred_many": 318, "credkeep": 900}
 LEVELS = ("x86-64", "x86-64-v2", "x86-64-v3")
-# Each level's features by the system's names for them, beside those of the levels below.
-FEATURES = {
-    "x86-64-v2": "cx16 lahf_lm popcnt pni sse4_1 sse4_2 ssse3".split(),
-    "x86-64-v3": "abm avx avx2 bmi1 bmi2 f16c fma movbe xsave".split(),
-}
+LOADER = "/lib64/ld-linux-x86-64.so.2"
 
 
 def folders(room):
@@ -144,15 +140,10 @@ def build_all(libraries, progress):
                 it.result()
 
 
-def level_of(processor):
-    """The highest level whose features a processor has, by the text of /proc/cpuinfo."""
-    flags = next((it.partition(":")[2].split() for it in processor.splitlines() if it.startswith("flags")), [])
-    found = LEVELS[0]
-    for level, features in FEATURES.items():
-        if not {*features} <= {*flags}:
-            break
-        found = level
-    return found
+def level_here():
+    """The highest level that this processor has, as the loader sees it."""
+    said = subprocess.run([LOADER, "--help"], capture_output=True, text=True, check=True).stdout
+    return max(it for it in LEVELS if it == LEVELS[0] or f"{it} (supported" in said)
 
 
 def sum_of(program, level):
@@ -196,7 +187,7 @@ def main():
     reader.add_argument("--built", action="store_true")
     reader.add_argument("program", nargs="?", default="credbook", choices=[*listed()], metavar="PROGRAM")
     asked = reader.parse_args(sys.argv[1:at])
-    program, level = asked.program, asked.cpu or level_of(pathlib.Path("/proc/cpuinfo").read_text())
+    program, level = asked.program, asked.cpu or level_here()
     if not is_built(program, level):
         if asked.built:
             raise SystemExit(f"{program} isn't built for {level}: make programs CPU={level} does it")

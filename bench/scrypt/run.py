@@ -28,7 +28,7 @@ import tempfile
 TOP = pathlib.Path(__file__).resolve().parents[2]
 sys.path[1:1] = [str(TOP / "bench"), str(TOP / "tools")]
 
-from build import level_of
+from build import level_here
 from programs import HUGE_PAGES, hashes_for
 from turns import best, print_head, print_row, take_turns, timed
 
@@ -108,7 +108,7 @@ def main():
     words.add_argument("--times", type=int, default=9, metavar="N", help="turns of each (9)")
     words.add_argument("--installed", metavar="CREDBOOK", help="the installed command, for a second table")
     given = words.parse_args()
-    level = level_of(pathlib.Path("/proc/cpuinfo").read_text())
+    level = level_here()
     work = ("scrypt", "14", "8", "1", "1")
     with tempfile.TemporaryDirectory(prefix="scrypt-") as room:
         programs = [hashes_for(it, room, *work) for it in ("x86-64", level)]

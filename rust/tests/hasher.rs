@@ -4,11 +4,7 @@ use rigzumal::{verify, Algorithm, Argon2, Costs, Error, Hasher, Record, Version}
 use std::collections::HashSet;
 use std::process::Command;
 use std::sync::atomic::{AtomicBool, Ordering};
-use std::sync::Barrier;
 use std::{env, fs, thread};
-
-const THREADS: usize = 8;
-const TURNS: u8 = 25;
 
 fn least() -> Hasher {
     Hasher::new(Costs::argon2id(8, 1, 1))
@@ -161,56 +157,25 @@ fn what_is_shared_may_be() {
     is_for_threads::<rigzumal::Scrypt>();
 }
 
-#[test]
-fn eight_threads_hash_and_verify_at_once() {
-    let hashers = [
-        Hasher::new(Costs::argon2id(64, 1, 2)),
-        Hasher::new(Costs::argon2id(4096, 1, 2)).threads(2),
-        Hasher::new(Costs::Scrypt { log2_n: 6, r: 4, p: 2 }),
-    ];
-    let salt = b"sixteen of salt.";
-    let password = |turn: u8| [turn; 20];
-    let wanted: Vec<Vec<Record>> = hashers
-        .iter()
-        .map(|it| {
-            (0..TURNS).map(|n| it.hash_password_with_salt(&password(n), salt).unwrap()).collect()
-        })
-        .collect();
-    let start = Barrier::new(THREADS);
-    thread::scope(|scope| {
-        for number in 0..THREADS {
-            let (start, hashers, wanted) = (&start, &hashers, &wanted);
-            scope.spawn(move || {
-                start.wait();
-                for turn in 0..TURNS {
-                    let which = (usize::from(turn) + number) % hashers.len();
-                    let record = &wanted[which][usize::from(turn)];
-                    let made = hashers[which].hash_password_with_salt(&password(turn), salt);
-                    assert_eq!(made.as_ref(), Ok(record));
-                    assert_eq!(verify(&password(turn), record), Ok(()));
-                    assert_eq!(verify(&password(turn + 1), record), Err(Error::Mismatch));
-                }
-            });
-        }
-    });
-}
-
 const CHILD: &str = "RIGZUMAL_TEST_CHILD";
 
-/// A process of its own for a test, which finds itself in it by the variable.
-fn child_of(test: &str, limits: &str) -> String {
-    let exe = env::current_exe().unwrap();
-    let script = format!("{limits} exec \"$0\" --exact {test} --nocapture --test-threads 1");
-    let done = Command::new("sh").args(["-c", &script]).arg(exe).env(CHILD, "1").output().unwrap();
-    assert!(done.status.success(), "{}", String::from_utf8_lossy(&done.stderr));
-    String::from_utf8(done.stdout).unwrap()
+/// Whether this is a test's own process: one is run if not, since what is counted or kept there is
+/// the process's.
+fn is_child(test: &str) -> bool {
+    if env::var_os(CHILD).is_some() {
+        return true;
+    }
+    let words = ["--exact", test, "--nocapture", "--test-threads", "1"];
+    let mut child = Command::new(env::current_exe().unwrap());
+    let done = child.args(words).env(CHILD, "1").env_remove("RIGZUMAL_KEEP").output().unwrap();
+    let said = String::from_utf8_lossy(&done.stdout);
+    assert!(done.status.success() && said.contains("1 passed"), "{said}");
+    false
 }
 
 #[test]
 fn threads_are_those_asked_for() {
-    if env::var_os(CHILD).is_none() {
-        let said = child_of("threads_are_those_asked_for", "");
-        assert!(said.contains("the threads were counted"), "{said}");
+    if !is_child("threads_are_those_asked_for") {
         return;
     }
     let record = Hasher::new(Costs::argon2id(65536, 2, 4)).hash_password(b"x").unwrap();
@@ -228,39 +193,17 @@ fn threads_are_those_asked_for() {
     }
     assert_eq!(with(0), [alone; 2]);
     assert_eq!(usual_threads_in(|| verify(b"x", &record).unwrap()), alone);
-    println!("the threads were counted");
 }
 
-/// In a process of its own, since what is kept is the process's.
 #[test]
 fn what_is_kept_is_bounded() {
-    if env::var_os(CHILD).is_none() {
-        for (variable, wanted) in [("unset", "bound 67108864"), ("2097152", "bound 2097152")] {
-            let said =
-                child_of("what_is_kept_is_bounded", &format!("export RIGZUMAL_KEEP={variable};"));
-            assert!(said.contains(wanted), "{said}");
-        }
+    if !is_child("what_is_kept_is_bounded") {
         return;
     }
-    println!("bound {}", rigzumal::keep(0));
+    assert_eq!(rigzumal::keep(0), 1 << 26);
     least().hash_password(b"x").unwrap();
     Hasher::new(Costs::argon2id(1024, 1, 1)).hash_password(b"x").unwrap();
     assert_eq!((rigzumal::trim(), rigzumal::keep(1 << 21)), (0, 0));
     Hasher::new(Costs::argon2id(4096, 1, 1)).hash_password(b"x").unwrap();
     assert_eq!((rigzumal::trim(), rigzumal::keep(0)), (1 << 21, 1 << 21));
-}
-
-#[test]
-fn want_of_memory_is_an_error() {
-    if env::var_os(CHILD).is_none() {
-        let said = child_of("want_of_memory_is_an_error", "ulimit -v 400000;");
-        assert!(said.contains("too little, three times"), "{said}");
-        return;
-    }
-    let hasher = Hasher::new(Costs::argon2id(1 << 20, 1, 1));
-    assert_eq!(hasher.hash_password(b"x"), Err(Error::Memory));
-    assert_eq!(hasher.secret(b"pepper").hash_password(b"x"), Err(Error::Memory));
-    let record: Record = "$argon2id$v=19$m=1048576,t=1,p=3$c29tZXNhbHQ$yzTAtA".parse().unwrap();
-    assert_eq!(verify(b"password", &record), Err(Error::Memory));
-    println!("too little, three times");
 }
