@@ -9,6 +9,7 @@ php-laravel-framework, php-symfony-security-http, php-symfony-password-hasher, a
 dovecot-core, python3-passlib, python3-argon2, python3-bcrypt; and credkeep, if it is built.
 """
 
+import functools
 import os
 import pathlib
 import re
@@ -63,6 +64,26 @@ def sample_for(page, test):
     """The code on a page that a test is named with."""
     return [code for (_, code), (_, named) in zip(samples(page), TESTED[page]) if named == test]
 
+
+# Of docs/DJANGO.md's pieces: what a model and URLs import, and settings of a project with a model of
+# its own, as where argon2-cffi isn't installed.
+MODEL_IMPORTS = """from django.contrib.auth.models import AbstractUser
+from rigzumal.django.users import CompareAndSetMixin
+
+"""
+URL_IMPORTS = """from django.contrib import admin
+from django.urls import include, path
+from people.models import User
+import rigzumal.django.admin
+
+"""
+OWN_MODEL = """
+import sys
+sys.modules["argon2"] = None
+INSTALLED_APPS.append("people")
+AUTH_USER_MODEL = "people.User"
+del RIGZUMAL_USER_COMPARES
+"""
 
 # A function round the sample of C, whose dots are what the caller does then.
 FUNCTION = """#include "rigzumal.h"
@@ -140,14 +161,39 @@ class PagesTest(unittest.TestCase):
         if said.startswith("not there: "):
             self.skipTest(said.strip())
 
-    def test_samples_of_django(self):
-        """The page's settings, model, URLs and views, in a project of their own."""
+    def check_django(self, settings):
+        """A new project with these settings behind its own passes Django's checks, and its tests."""
+        with open(self.room / "service/settings.py", "a") as file:
+            file.write(settings)
+        env = {**OVER_PACKAGE, "DJANGO_SETTINGS_MODULE": "service.settings"}
+        manage = functools.partial(run, sys.executable, "manage.py", at=self.room, env=env)
+        manage("migrate", "--run-syncdb", "-v", "0")
+        said = manage("check", "--database", "default").strip()
+        self.assertEqual(said, "System check identified no issues (0 silenced).")
+        self.assertRegex(manage("test"), r"Ran [1-9]\d* tests? in")
+
+    def begin_django(self):
+        """Begins a project, and gives the pieces of docs/DJANGO.md."""
         need_module("django")
-        parts = [code for _, code in samples("docs/DJANGO.md")][:-1]
-        files = [self.room / f"django{number}.py" for number in range(len(parts))]
-        for file, code in zip(files, parts):
-            file.write_text(code)
-        run(sys.executable, HERE / "samples_of_django.py", *files, env=OVER_PACKAGE, at=self.room)
+        need("django-admin")
+        run("django-admin", "startproject", "service", ".", at=self.room, env=OVER_PACKAGE)
+        return [code for _, code in samples("docs/DJANGO.md")]
+
+    def test_samples_of_django(self):
+        """docs/DJANGO.md's model, URLs and views, where the model compares by itself."""
+        settings, model, urls, views, changed, _ = self.begin_django()
+        route, registered = urls.strip().split("\n")
+        (self.room / "people").mkdir()
+        for name, code in (
+            ("people/__init__.py", ""),
+            ("people/models.py", MODEL_IMPORTS + model),
+            ("people/tests.py", (HERE / "django_samples.py").read_text()),
+            ("service/urls.py", f"{URL_IMPORTS}urlpatterns = [\n{route}\n]\n{registered}\n"),
+            ("views", views),
+            ("changed", changed),
+        ):
+            (self.room / name).write_text(code)
+        self.check_django(settings + OWN_MODEL)
 
     def test_sample_of_a_co_process(self):
         """The page's co-process over a new book, where credkeep is built."""
@@ -161,19 +207,9 @@ class PagesTest(unittest.TestCase):
 
     def test_django_page(self):
         """docs/DJANGO.md's settings and tests, in a new project: nothing is amiss."""
-        need_module("django")
-        need("django-admin")
-        code = [block for _, block in samples("docs/DJANGO.md")]
-        run("django-admin", "startproject", "service", ".", at=self.room, env=OVER_PACKAGE)
-        with open(self.room / "service/settings.py", "a") as settings:
-            settings.write(code[0])
-        (self.room / "tests.py").write_text(code[-1])
-        env = {**OVER_PACKAGE, "DJANGO_SETTINGS_MODULE": "service.settings"}
-        manage = (sys.executable, "manage.py")
-        run(*manage, "migrate", "-v", "0", at=self.room, env=env)
-        said = run(*manage, "check", "--database", "default", at=self.room, env=env).strip()
-        self.assertEqual(said, "System check identified no issues (0 silenced).")
-        self.assertRegex(run(*manage, "test", at=self.room, env=env), r"Ran [1-9]\d* tests? in")
+        settings, *_, tests = self.begin_django()
+        (self.room / "tests.py").write_text(tests)
+        self.check_django(settings)
 
     def php(self, name, test):
         """Runs a test over the code of docs/PHP.md that begins with this name."""

@@ -1,0 +1,61 @@
+"""The code of docs/DJANGO.md in a project with a model of users of its own: test_pages.py puts this
+file into it as people/tests.py, and the page's calls beside it."""
+
+import pathlib
+from types import SimpleNamespace
+
+from django.contrib import admin
+from django.contrib.auth import authenticate, hashers
+from django.core import checks
+from django.test import TestCase
+from django.urls import resolve, reverse
+from people.models import User
+from rigzumal.django import passwords
+
+
+class SamplesTest(TestCase):
+    def setUp(self):
+        self.user = User.objects.create_user("ann", password="first")
+
+    def assertStored(self, password):
+        self.assertTrue(User.objects.get().check_password(password))
+
+    def test_settings(self):
+        """The page's hashers alone log in, since argon2-cffi isn't there; nothing is amiss, the URLs
+        have Django's names, and the admin knows the model."""
+        for algorithm in ("argon2", "scrypt"):
+            hasher = type(hashers.get_hasher(algorithm))
+            self.assertEqual(hasher.__module__, "rigzumal.django.hashers")
+        self.assertEqual(authenticate(username="ann", password="first"), self.user)
+        self.assertIsNone(authenticate(username="ann", password="another"))
+        errors = [it for it in checks.run_checks() if it.id.startswith("rigzumal")]
+        self.assertEqual(errors, [])
+        view = resolve(reverse("password_change")).func.view_class
+        for theirs in (view, type(admin.site._registry[User])):
+            self.assertTrue(theirs.__module__.startswith("rigzumal.django."), theirs)
+
+    def test_views(self):
+        """The page's calls in a view: each line by itself."""
+        change, reset = pathlib.Path("views").read_text().splitlines()
+        request = SimpleNamespace(user=self.user)
+        names = {"passwords": passwords, "request": request, "user": self.user}
+        for call, old, new, answer, right in (
+            (change, "wrong", "second", False, "first"),
+            (change, "first", "second", True, "second"),
+            (reset, None, "third", None, "third"),
+        ):
+            self.assertIs(eval(call, {**names, "old": old, "new": new}), answer)
+            self.assertStored(right)
+
+    def test_changed(self):
+        """The page's way to say that the password was changed meanwhile."""
+        told = []
+        form = SimpleNamespace(add_error=lambda *given: told.append(given))
+        self.user.set_password("mine")
+        User.objects.update(password=hashers.make_password("reset"))
+        names = {"passwords": passwords, "user": self.user, "form": form}
+        exec(pathlib.Path("changed").read_text(), names)
+        ((field, text),) = told
+        self.assertIsNone(field)
+        self.assertIn("meanwhile", text)
+        self.assertStored("reset")
