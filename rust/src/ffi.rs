@@ -2,7 +2,7 @@
 //! that comes with a size reaches that many bytes, texts end with a zero byte, and what is written
 //! overlaps nothing that is read. Slices, `CStr` and borrows are just that.
 
-use crate::{Argon2, Error, Parts, Scrypt};
+use crate::{Argon2, Error, Hasher, Parts, Scrypt};
 use alloc::{ffi::CString, vec};
 use core::ffi::{c_char, c_int, CStr};
 use core::{ptr, sync::atomic};
@@ -98,12 +98,13 @@ pub(crate) fn needs_rehash(record: &CStr, costs: &CStr, salt_len: usize, tag_len
 }
 
 #[rustfmt::skip]
-pub(crate) fn record(it: &crate::NewRecord<'_>, password: &[u8]) -> Result<CString, Error> {
+pub(crate) fn record(it: &Hasher, costs: &CStr, password: &[u8], salt: Option<&[u8]>)
+    -> Result<CString, Error> {
     let mut text = vec![0; TEXT_SIZE];
-    let (out, size, costs) = (text.as_mut_ptr(), it.tag_len, it.costs.as_ptr());
-    let ((salt, n), (pw, len)) = (it.salt.map_or((ptr::null(), it.salt_len), pair), pair(password));
+    let (out, size, costs) = (text.as_mut_ptr(), it.tag_size(), costs.as_ptr());
+    let ((salt, n), (pw, len)) = (salt.map_or((ptr::null(), it.salt_size()), pair), pair(password));
     // SAFETY: each pointer reaches its size, but for a salt that is null, which is drawn.
-    Error::check(unsafe { match it.secret.map(pair) {
+    Error::check(unsafe { match it.secret_bytes().map(pair) {
         None => rigzumal_record_threads(out, TEXT_SIZE, size, costs, salt, n, pw, len, it.threads),
         Some((key, key_len)) => rigzumal_record_with_secret_threads(
             out, TEXT_SIZE, size, costs, salt, n, pw, len, key, key_len, it.threads),

@@ -2,7 +2,7 @@
 
 use crate::{ffi, Algorithm, Error, Record};
 use alloc::{boxed::Box, ffi::CString, string::ToString};
-use core::{ffi::CStr, fmt};
+use core::fmt;
 
 /// By which function a new record is made, and its costs.
 ///
@@ -62,17 +62,6 @@ impl fmt::Display for Costs {
     }
 }
 
-/// What a new record is made of besides its password, as the library takes it.
-pub(crate) struct NewRecord<'a> {
-    pub(crate) costs: &'a CStr,
-    /// The salt, or none for one of so many bytes that the library draws.
-    pub(crate) salt: Option<&'a [u8]>,
-    pub(crate) salt_len: usize,
-    pub(crate) tag_len: usize,
-    pub(crate) secret: Option<&'a [u8]>,
-    pub(crate) threads: u32,
-}
-
 /// A secret's bytes, which are cleared when their hasher is dropped, as in each clone of it.
 #[derive(Clone)]
 struct Secret(Box<[u8]>);
@@ -103,7 +92,7 @@ pub struct Hasher {
     salt_len: Option<usize>,
     tag_len: Option<usize>,
     secret: Option<Secret>,
-    threads: u32,
+    pub(crate) threads: u32,
 }
 
 impl Hasher {
@@ -140,28 +129,16 @@ impl Hasher {
         Hasher { threads, ..self }
     }
 
-    fn secret_bytes(&self) -> Option<&[u8]> {
+    pub(crate) fn secret_bytes(&self) -> Option<&[u8]> {
         self.secret.as_ref().map(|secret| &*secret.0)
     }
 
-    fn tag_size(&self) -> usize {
+    pub(crate) fn tag_size(&self) -> usize {
         self.tag_len.unwrap_or(32)
     }
 
-    fn salt_size(&self) -> usize {
+    pub(crate) fn salt_size(&self) -> usize {
         self.salt_len.unwrap_or(16)
-    }
-
-    fn make(&self, password: &[u8], salt: Option<&[u8]>) -> Result<Record, Error> {
-        let it = NewRecord {
-            costs: &self.costs.text(),
-            salt,
-            salt_len: self.salt_size(),
-            tag_len: self.tag_size(),
-            secret: self.secret_bytes(),
-            threads: self.threads,
-        };
-        ffi::record(&it, password).map(Record::of_library)
     }
 
     /// A new record of the password, with a salt that the system's getrandom gives.
@@ -170,7 +147,7 @@ impl Hasher {
     /// [`Error::Range`], [`Error::Salt`] or [`Error::Tag`] for a cost or a size;
     /// [`Error::InputSize`]; [`Error::Memory`]; [`Error::NoRandom`].
     pub fn hash_password(&self, password: &[u8]) -> Result<Record, Error> {
-        self.make(password, None)
+        ffi::record(self, &self.costs.text(), password, None).map(Record::of_library)
     }
 
     /// A new record of the password with this salt, which is to be fresh.
@@ -178,7 +155,7 @@ impl Hasher {
     /// # Errors
     /// Those of [`hash_password`](Hasher::hash_password); [`Error::Shape`] if the salt is empty.
     pub fn hash_password_with_salt(&self, password: &[u8], salt: &[u8]) -> Result<Record, Error> {
-        self.make(password, Some(salt))
+        ffi::record(self, &self.costs.text(), password, Some(salt)).map(Record::of_library)
     }
 
     /// Whether the record is one of the password, whatever its costs.

@@ -87,7 +87,6 @@ mod raw;
 mod record;
 
 pub use error::Error;
-pub(crate) use hasher::NewRecord;
 pub use hasher::{Costs, Hasher};
 pub use raw::{Algorithm, Argon2, Scrypt, Version};
 pub use record::{Parts, Record, Scheme};
