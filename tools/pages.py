@@ -68,7 +68,7 @@ def logic():
 
 
 def stands(place):
-    """Whether a place is there: a test, `CRATE::TEST`, a file, `FOLDER/../NAME.KIND`, or a wrong body of the gate, `CRATE/NAME`."""
+    """Whether a place is there: a test, `CRATE::TEST`, a file by its path, or a wrong body of the gate, `CRATE/NAME`."""
     if "::" in place:
         return has_test(*place.split("::"))
     return (TOP / place).is_file() or place.count("/") == 1 and has_edit(*place.split("/"))
