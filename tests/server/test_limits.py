@@ -52,8 +52,8 @@ class Limits(Case):
         self.assertTrue(client.is_ended(), "it goes on")
 
     def test_in_flight(self) -> None:
-        """A client has at most 32 lines running, and the book one more that is hashed for than it has workers."""
-        for at_once, ought in (("100", 32), ("4", 5)):
+        """A client has at most 32 lines running, and a user so many that are hashed; another user has a place."""
+        for at_once, ought in (("100", 32), ("4", 4)):
             service = self.serving("--at-once", at_once, faults="mute=verify")
             client = service.client()
             client.send(f"a verify ada {SECRET}\n" * 200)
@@ -61,6 +61,8 @@ class Limits(Case):
             time.sleep(0.3)
             self.assertEqual(len(service.asked()), ought)
             service.client().talk("known ada -> noaccount")  # which waits for no hash
+            service.client("admin").send("a verify eve -\n")
+            until(lambda: service.asked()[ought + 1 :] == ["verify eve -"], "the other user's")
             client.socket.setblocking(False)
             with self.assertRaises(BlockingIOError):  # what it doesn't take isn't read
                 for _ in range(4000):

@@ -2,6 +2,7 @@
 
 from __future__ import annotations
 
+import os
 import pathlib
 import re
 import shlex
@@ -20,6 +21,7 @@ MISTAKES = {
     "--idle=-1 x.db": "'-1' is no number",
     "--tries ten x.db": "'ten' is no number",
     "--wait 3601 x.db": "'3601' is no number from 0 to 3600",
+    "--at-once 255 x.db": "'255' is no number from 0 to 254",
     "--upgrade $argon2id$v=19$m=8,t=1,p=1$c29tZXNhbHQ x.db": "without a salt",
     "--upgrade $argon2id$v=19$m=8,t=1,p=1$ x.db": "without a salt",
     "--socket a /tmp/never-made rw - verify x.db": "the mode of the socket a is octal",
@@ -90,25 +92,26 @@ class Mistakes(Case):
         first.client().talk("known ada -> noaccount")
 
     def test_words_of_the_book(self) -> None:
-        """The book gets each option that is given, as it is given, and no other; new costs go before the setting."""
-        room = self.room()
-        book, noted, limits = room / "credkeep", room / "noted", "--at-once 3 --memory 1G"
-        most = "--most-memory 2G --most-work 400000"
+        """The book gets each option that is given, and no other but a place more; new costs go before the setting."""
+        room, own = self.room(), len(os.sched_getaffinity(0)) + 1
+        book, noted = room / "credkeep", room / "noted"
+        limits = "--memory 1G --most-memory 2G --most-work 400000"
         book.write_text(NOTES)
         book.chmod(0o755)
         (room / "users.db").touch()
-        for options, wait, handed in (
-            ("", "30", ""),
-            ("--wait 7", "7", ""),
-            (f"{limits} {most}", "30", f"{limits} {most}"),
-            ("--setting $one", "30", "--setting $one"),
-            ("--upgrade $two$c=2", "30", "--setting $two$c=2"),
-            ("--upgrade $two$c=2 --setting $one", "30", "--setting $two$c=2"),
-            ("--idle 5 --tries 4 --uid-tries 3 --mail-names --fold-local-part", "30", ""),
+        for options, wait, at_once, handed in (
+            ("", 30, own, ""),
+            ("--wait 7 --at-once 3", 7, 4, ""),
+            ("--at-once 254", 30, 255, ""),
+            (limits, 30, own, limits),
+            ("--setting $one", 30, own, "--setting $one"),
+            ("--upgrade $two$c=2", 30, own, "--setting $two$c=2"),
+            ("--upgrade $two$c=2 --setting $one", 30, own, "--setting $two$c=2"),
+            ("--idle 5 --tries 4 --uid-tries 3 --mail-names --fold-local-part", 30, own, ""),
         ):
             given = {"program": book, "folder": room, "environment": {"NOTED": str(noted)}}
             service = self.serving(*options.split(), waits=False, **given)
             self.assertEqual(service.process.wait(timeout=40), 3, service.log())
-            ought = f"--wait {wait} {room}/users.db serve --tagged {handed}"
+            ought = f"--wait {wait} {room}/users.db serve --tagged --at-once {at_once} {handed}"
             self.assertEqual(noted.read_text().splitlines(), ought.split(), options)
             noted.unlink()

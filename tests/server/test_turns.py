@@ -16,48 +16,49 @@ class Places(Case):
 
     def setUp(self) -> None:
         super().setUp()
-        self.started = ""
+        self.started, self.users = "", dict[str, int]()
 
     def start(self, line: str) -> None:
         self.started += line
 
-    def turns(self, places: int, lines: str) -> Turns[str]:
-        """So many places, and the lines of one client of a user."""
-        turns: Turns[str] = Turns(places, self.start)
-        self.take(turns, 1, "one", lines)
-        return turns
-
-    def take(self, turns: Turns[str], user: int, client: str, lines: str) -> None:
+    def take(self, turns: Turns[str], user: int, client: str, lines: str) -> str:
+        """What is started as so many lines of a client come."""
         for line in lines:
+            self.users[line] = user
             turns.take(user, client, line)
+        return self.ended(turns, "")
 
-    def started_by(self, turns: Turns[str], count: int) -> str:
-        """What was started since the last look, once so many places are given back."""
-        for _ in range(count):
-            turns.give_back()
+    def ended(self, turns: Turns[str], lines: str) -> str:
+        """What is started once these have ended."""
+        for line in lines:
+            turns.give_back(self.users[line])
         found, self.started = self.started, ""
         return found
 
     def test_places(self) -> None:
-        """A line starts at once while there is a place, and otherwise as one is given back."""
-        turns = self.turns(2, "abcd")
-        self.assertEqual([self.started_by(turns, count) for count in (0, 1, 2)], ["ab", "c", "d"])
-        self.take(turns, 1, "one", "ef")
-        self.assertEqual(self.started, "e", "one place is free, for which nobody waited")
+        """A user's lines start while there are places, but for the last, and then as one comes back."""
+        turns = Turns(3, self.start)
+        self.assertEqual(self.take(turns, 1, "one", "abcd"), "ab")
+        self.assertEqual([self.ended(turns, it) for it in "abcd"], ["c", "d", "", ""])
+        self.assertEqual(self.take(turns, 1, "one", "efg"), "ef")
+
+    def test_the_last_place(self) -> None:
+        """A user of whom none runs has it at once, and whoever has fewest running the next."""
+        turns = Turns(4, self.start)
+        self.assertEqual(self.take(turns, 1, "one", "abcdefg"), "abc")
+        self.assertEqual(self.take(turns, 2, "two", "xyz"), "x")
+        self.assertEqual(self.take(turns, 3, "three", "mn"), "")
+        self.assertEqual([self.ended(turns, it) for it in "abcxy"], ["m", "", "d", "y", "z"])
 
     def test_turns(self) -> None:
         """Users take turns, then the clients of each; a client's lines come in their order."""
-        turns = self.turns(1, "-")
+        turns, said = Turns(1, self.start), "-"
+        self.assertEqual(self.take(turns, 1, "one", "-"), "-")
         for user, client, lines in ((2, "a", "ABC"), (2, "b", "mn"), (3, "c", "xy"), (4, "d", "!")):
             self.take(turns, user, client, lines)
-        self.assertEqual(self.started_by(turns, 9), "-Ax!myBnC")
-
-    def test_newcomers(self) -> None:
-        """Who comes while others wait waits behind them, and has its turn before their second."""
-        turns = self.turns(1, "-abc")
-        self.assertEqual(self.started_by(turns, 1), "-a")
-        self.take(turns, 2, "two", "x")
-        self.assertEqual(self.started_by(turns, 2), "bx")
+        while more := self.ended(turns, said[-1]):
+            said += more
+        self.assertEqual(said, "-Ax!myBnC")
 
 
 class Changes(Case):

@@ -106,6 +106,7 @@ class Client(asyncio.BufferedProtocol):
         it = transport.get_extra_info("socket")
         peer = it.getsockopt(socket.SOL_SOCKET, socket.SO_PEERCRED, 12)
         self.pid, self.uid, _ = struct.unpack("3i", peer)
+        self.user = (self.door.name, self.uid)  # whose turn it is
         if self.service.lets_in(self):
             self.door.clients.add(self)
         else:

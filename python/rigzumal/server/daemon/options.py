@@ -16,6 +16,7 @@ from .log import Problem
 VERSION = "0.2.0"
 BOOKS, SOCKETS = pathlib.Path("/var/lib/rigzumal"), pathlib.Path("/run/rigzumal")
 LONGEST_PATH = 107  # bytes of a socket's path: unix(7)
+MOST_AT_ONCE = 254  # of a user: credkeep takes 255
 
 
 @dataclass(frozen=True)
@@ -91,7 +92,9 @@ class Options:
         "new costs, by which a right verify upgrades", "COSTS", kind=costs
     )
     setting: str = option("for credkeep: the costs of new records", "TEXT")
-    at_once: int = option("for credkeep: lines hashed at once; 0: processors", "N", 0)
+    at_once: int = option(
+        "lines of a user hashed at once; 0: processors", "N", 0, number(MOST_AT_ONCE)
+    )
     memory: str = option("for credkeep: memory for hashes, as 512M", "SIZE")
     most_memory: str = option("for credkeep: the bound of a record's memory", "SIZE")
     most_work: str = option("for credkeep: that of its memory times passes", "N")
@@ -103,13 +106,13 @@ class Options:
     fold_local_part: bool = flag("fold the part before the @ too")
 
     def workers(self) -> int:
-        """How many lines the book hashes at once."""
-        return self.at_once or len(os.sched_getaffinity(0))
+        """How many lines the book hashes at once: one more, which is for another user."""
+        return 1 + min(self.at_once or len(os.sched_getaffinity(0)), MOST_AT_ONCE)
 
     def book_words(self) -> list[str]:
         """The book's command."""
         given = {
-            "--at-once": self.at_once,
+            "--at-once": self.workers(),
             "--memory": self.memory,
             "--most-memory": self.most_memory,
             "--most-work": self.most_work,

@@ -60,7 +60,7 @@ class Service:
 
     def __init__(self, options: Options) -> None:
         self.options, self.book, self.tally = options, Book(), Tally(options)
-        self.hashes = Turns(options.workers() + 1, self.start)
+        self.hashes = Turns(options.workers(), self.start)
         self.changes, self.looks = Turns(CHANGES, self.start), Turns(LOOKS, self.start)
         self.logins, self.rounds = 0, Rounds(lambda: self.logins > 0)
         self.hash_seconds = 1.0  # what a hash takes if nothing else waits
@@ -103,7 +103,7 @@ class Service:
             else:
                 turns = self.changes if operation.changes else self.looks
             made = Line(client, tag, words, operation, turns, time.monotonic())
-            turns.take((client.door.name, client.uid), client, made)
+            turns.take(client.user, client, made)
 
     def own_answer(self, client: Client, words: list[bytes]) -> bytes:
         """The server's answer to a line that the book needn't be asked for, or nothing."""
@@ -154,7 +154,7 @@ class Service:
             if is_needed and not self.tally.is_early(operation, line.name, client.uid):
                 said = await self.judged(line)
         finally:
-            line.turns.give_back()
+            line.turns.give_back(client.user)
         if said != b"later":
             said = await self.counted(line, said)
         client.answer(line.tag, said)

@@ -4,7 +4,7 @@ from __future__ import annotations
 
 import asyncio
 import time
-from collections import OrderedDict, deque
+from collections import OrderedDict, defaultdict, deque
 from collections.abc import Callable
 from typing import Generic, Hashable, TypeVar
 
@@ -13,11 +13,16 @@ Line = TypeVar("Line")
 
 
 class Turns(Generic[Line]):
-    """Lines that wait for a place: users take turns, then the clients of each, a line each."""
+    """Lines that wait for a place.
+
+    The user of whom fewest run has the next turn, then the clients of each, a line each.
+    The last place is for a user of whom none runs: so one who floods leaves it free.
+    """
 
     def __init__(self, places: int, start: Callable[[Line], object]) -> None:
         self.free, self.start = places, start
         self.users = OrderedDict[Hashable, OrderedDict[Hashable, deque[Line]]]()
+        self.running = defaultdict[Hashable, int](int)
 
     def take(self, user: Hashable, client: Hashable, line: Line) -> None:
         """Starts a line once it is its turn, which may be now."""
@@ -25,14 +30,20 @@ class Turns(Generic[Line]):
         clients.setdefault(client, deque()).append(line)
         self.start_next()
 
-    def give_back(self) -> None:
-        """Frees a line's place."""
+    def give_back(self, user: Hashable) -> None:
+        """Frees the place of a user's line."""
         self.free += 1
+        self.running[user] -= 1
+        if not self.running[user]:
+            del self.running[user]
         self.start_next()
 
     def start_next(self) -> None:
         while self.free and self.users:
-            user, clients = next(iter(self.users.items()))
+            user = min(self.users, key=lambda it: self.running.get(it, 0))
+            if self.free == 1 and user in self.running:
+                return
+            clients = self.users[user]
             client, lines = next(iter(clients.items()))
             line = lines.popleft()
             clients.move_to_end(client)
@@ -42,6 +53,7 @@ class Turns(Generic[Line]):
             if not clients:
                 del self.users[user]
             self.free -= 1
+            self.running[user] += 1
             self.start(line)
 
 
