@@ -6,8 +6,8 @@
 For 64 MiB and 4 MiB (Argon2id, t=1, p=1) and 1, 4 and 16 clients: verifies a second of `credkeep FILE
 serve` alone, which answers one at a time; at the socket, each client with a connection that it keeps;
 through pam_rigzumal, each login with a connection of its own; and through pam_unix with yescrypt at
-its default costs. It needs root, the built credkeep, and libpam0g-dev, and runs in namespaces of its
-own. `--fast` takes the tests' book, whose hashes cost nothing: what is left is the path. Run it on a
+its default costs. It needs root, the built credkeep, libpam0g-dev and pamtester, and runs in
+namespaces of its own. `--fast` takes the tests' book, whose hashes cost nothing: what is left is the path. Run it on a
 machine that does nothing else.
 """
 
@@ -15,6 +15,7 @@ from __future__ import annotations
 
 import argparse
 import asyncio
+import concurrent.futures
 import pathlib
 import subprocess
 import sys
@@ -23,7 +24,7 @@ import time
 
 TOP = pathlib.Path(__file__).resolve().parent.parent.parent
 sys.path.insert(0, str(TOP / "tests/server"))
-from machine import RUN, Server, on_page, prepared, shell  # noqa: E402
+from machine import RUN, begun, install, prepared, shell  # noqa: E402
 from served import PYTHON, field_of  # noqa: E402
 
 WORD = "secret word"
@@ -39,13 +40,13 @@ def of_serve(room: pathlib.Path, setting: str, seconds: float) -> float:
     pipe = subprocess.PIPE
     with subprocess.Popen([credkeep, path, "serve"], stdin=pipe, stdout=pipe) as run:
         assert run.stdin and run.stdout
-        begun, count = time.perf_counter(), 0
-        while time.perf_counter() < begun + seconds:
+        start, count = time.perf_counter(), 0
+        while time.perf_counter() < start + seconds:
             run.stdin.write(f"begin 1 verify ada {FIELD}\ncommit 1\n".encode())
             run.stdin.flush()
             assert (run.stdout.readline(), run.stdout.readline()) == (b"begun\n", b"yes\n")
             count += 1
-        rate = count / (time.perf_counter() - begun)
+        rate = count / (time.perf_counter() - start)
         run.communicate()
     return rate
 
@@ -62,21 +63,31 @@ async def at_socket(clients: int, seconds: float) -> float:
             counts[number] += 1
         writer.close()
 
-    begun = time.perf_counter()
+    start = time.perf_counter()
     await asyncio.gather(*map(one, range(clients)))
-    return sum(counts) / (time.perf_counter() - begun)
+    return sum(counts) / (time.perf_counter() - start)
 
 
-def by_pam(room: pathlib.Path, service: str, password: str, clients: int, seconds: float) -> float:
-    rate, failures = shell(f"{room}/logins {service} ada '{password}' {clients} {seconds}").split()
-    assert failures == "0", f"{service}: {failures} failures"
-    return float(rate)
+def by_pam(service: str, clients: int, seconds: float) -> float:
+    """Logins a second of so many clients, ten by each run of pamtester."""
+    words, given = ["pamtester", service, "ada", *["authenticate"] * 10], f"{WORD}\n" * 10
+    end = time.perf_counter() + seconds
+
+    def one(_: int) -> int:
+        count = 0
+        while time.perf_counter() < end:
+            subprocess.run(words, input=given, text=True, capture_output=True, check=True)
+            count += 10
+        return count
+
+    start = time.perf_counter()
+    with concurrent.futures.ThreadPoolExecutor(clients) as pool:
+        return sum(pool.map(one, range(clients))) / (time.perf_counter() - start)
 
 
 def inside(room: pathlib.Path, given: argparse.Namespace) -> None:
     prepared(room)
-    shell(f"cc -O2 -pthread -o {room}/logins {TOP}/bench/server/logins.c -lpam")
-    pathlib.Path("/etc/pam.d/book").write_text(on_page("/etc/pam.d/book"))
+    install("/etc/pam.d/book")
     lines = "auth required pam_unix.so\naccount required pam_unix.so\n"
     pathlib.Path("/etc/pam.d/unix").write_text(lines)
     shell("sed -i '/^ada:/d' /etc/shadow && echo 'ada::19000:0:99999:7:::' >> /etc/shadow")
@@ -85,17 +96,16 @@ def inside(room: pathlib.Path, given: argparse.Namespace) -> None:
     print("|---|--:|--:|--:|--:|--:|")
     settings = {f"{it} MiB": f"$argon2id$v=19$m={it * 1024},t=1,p=1" for it in (64, 4)}
     for costs, setting in ({"none": "$fast$c=1"} if given.fast else settings).items():
-        server = Server(room, "--setting", setting)
+        server = begun("--setting", setting)
         server.enrol(ada=WORD)
         serve = "" if given.fast else f"{of_serve(room, setting, given.seconds):.1f}"
         for clients in given.clients:
             rates = [asyncio.run(at_socket(clients, given.seconds))]
-            for service in ("book", "unix"):
-                rates.append(by_pam(room, service, WORD, clients, given.seconds))
+            rates += [by_pam(it, clients, given.seconds) for it in ("book", "unix")]
             row = [costs, str(clients), serve, *(f"{rate:.1f}" for rate in rates)]
             print("|", " | ".join(row), "|", flush=True)
+        server.talk("admin delete ada -> deleted")
         server.stop()
-        server.file.unlink()
 
 
 def main() -> None:

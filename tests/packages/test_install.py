@@ -130,7 +130,15 @@ class Debs(unittest.TestCase):
     def test_programs(self):
         if not all(map(levels, PROGRAMS)) or not pathlib.Path("/usr/include/security/pam_modules.h").exists():
             self.skipTest("needs credbook and credkeep, built, and libpam0g-dev")
-        self.check(self.debs("c/pam", "CPU="), [("rigzumal-tools", "amd64"), ("libpam-rigzumal", "amd64")])
+        """Each unit, page and module of the server is in one."""
+        debs = self.debs("c/pam", "CPU=")
+        self.check(debs, [("rigzumal-tools", "amd64"), ("libpam-rigzumal", "amd64")])
+        listed = "".join(run("dpkg-deb", "-c", it) for it in debs)
+        modules = (TOP / "python/rigzumal/server/daemon").glob("*.py")
+        names = [f"/{it.name}\n" for it in [*(TOP / "units").iterdir(), *modules]]
+        names += [f"/man{it.suffix[1:]}/{it.name}.gz" for it in (TOP / "man").iterdir()]
+        for name in (*names, "./usr/bin/credkeep-ask", "./usr/sbin/credkeep-server"):
+            self.assertIn(name, listed)
 
     def test_programs_of_another_level(self):
         """Programs that don't run on every processor aren't packed without a word."""

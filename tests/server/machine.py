@@ -20,13 +20,12 @@ from served import (
     PYTHON,
     TOP,
     Case,
-    Client,
+    Given,
+    Service,
     chosen_book,
-    field_of,
     need,
     need_root,
     same,
-    until,
 )
 
 PAGE = TOP / "docs/SERVERS.md"
@@ -97,48 +96,18 @@ def prepared(room: pathlib.Path) -> None:
     os.chmod(RUN, 0o755)
 
 
-class Server:
+def begun(*options: str) -> Service:
     """The book's server, with the sockets that it has by default."""
-
-    def __init__(self, room: pathlib.Path, *options: str) -> None:
-        book = chosen_book()
-        real = book != FAST_BOOK
-        self.file = pathlib.Path("/var/lib/rigzumal/users.db")
-        if real and not self.file.exists():
-            subprocess.run([book, self.file, "init"], check=True)
-        words = [PYTHON, str(TOP / "bin/credkeep-server"), "--credkeep", str(book), *options]
-        words += ["--setting", CHEAP] if real and "--setting" not in options else []
-        with open(room / "log", "w") as log:
-            self.process = subprocess.Popen([*words, str(self.file)], stderr=log)
-        until(lambda: "start: " in (room / "log").read_text(), "the server")
-
-    def enrol(self, **passwords: str) -> None:
-        for name, password in passwords.items():
-            self.ask(f"account {name}", "ok")
-            self.ask(f"enrol {name} {field_of(password.encode())}", "enrolled")
-
-    def ask(self, line: str, ought: str) -> None:
-        with Client(RUN / "admin.sock") as admin:
-            same(admin.ask(line), ought, line)
-
-    def stats(self) -> dict[str, float]:
-        """What the server counted."""
-        with Client(RUN / "admin.sock") as admin:
-            words = admin.ask("stats").split()[1:]
-        return {name: float(value) for name, value in (word.split("=") for word in words)}
-
-    def disable(self, name: str, password: str) -> None:
-        """Takes the record away, and leaves the name."""
-        self.ask(f"remove {name} {field_of(password.encode())}", "removed")
-
-    def stop(self) -> None:
-        self.process.terminate()
-        same(self.process.wait(timeout=40), 0)
+    program, file = chosen_book(), pathlib.Path("/var/lib/rigzumal/users.db")
+    costs = () if program == FAST_BOOK or "--setting" in options else ("--setting", CHEAP)
+    given = Given(RUN, (*options, *costs), program=program, file=file, sockets=False)
+    return given.begun().wait_until_started()
 
 
-def started(room: pathlib.Path, *options: str) -> Server:
+def started(room: pathlib.Path, *options: str) -> Service:
+    """A machine with a server, whose book has two users."""
     prepared(room)
-    server = Server(room, *options)
+    server = begun(*options)
     server.enrol(ada="secret", bob="other word")
     return server
 

@@ -5,7 +5,6 @@ from __future__ import annotations
 import base64
 import os
 import pathlib
-import shutil
 import signal
 import socket
 import subprocess
@@ -13,8 +12,7 @@ import sys
 import tempfile
 import time
 import unittest
-from collections.abc import Callable, Iterator
-from contextlib import contextmanager
+from collections.abc import Callable
 from dataclasses import dataclass, field
 from typing import Any, Optional
 
@@ -59,9 +57,12 @@ class Case(unittest.TestCase):
         room.chmod(0o755)
         return room
 
-    def serving(self, *options: str, **fields: Any) -> Service:
-        """A server that runs until the test ends: see `serving`."""
-        return self.enterContext(serving(*options, **fields))
+    def serving(self, *options: str, waits: bool = True, **fields: Any) -> Service:
+        """A server that runs until the test ends."""
+        folder = fields.pop("folder", None) or self.room()
+        service = Given(folder, options, **fields).begun()
+        self.addCleanup(service.end)
+        return service.wait_until_started() if waits else service
 
 
 def same(is_: object, ought: object, said: str = "") -> None:
@@ -186,12 +187,57 @@ class Client:
 
 
 @dataclass
+class Given:
+    """How a server is started: over a fast book, with sockets in a folder, if nothing else is said."""
+
+    folder: pathlib.Path
+    options: tuple[str, ...] = ()
+    faults: str = ""
+    program: pathlib.Path = FAST_BOOK
+    file: Optional[pathlib.Path] = None
+    sockets: bool = True
+    before: tuple[str, ...] = ()
+    environment: dict[str, str] = field(default_factory=dict)
+    clocked: bool = False
+
+    def path(self) -> pathlib.Path:
+        """The book's file."""
+        return self.file or self.folder / "users.db"
+
+    def command(self) -> list[str]:
+        server = str(HERE / "clocked.py") if self.clocked else SERVER
+        words, at = [*self.before, PYTHON, server, "--credkeep", str(self.program)], self.folder
+        if self.sockets:
+            words += ["--socket", "login", f"{at}/login.sock", "0660", "-", "verify,change,known"]
+            words += ["--socket", "admin", f"{at}/admin.sock", "0600", "-", "all"]
+        return [*words, *self.options, str(self.path())]
+
+    def begun(self) -> Service:
+        """Starts it, over a book that is made if there is none."""
+        if self.program != FAST_BOOK and not self.path().exists():
+            subprocess.run([self.program, self.path(), "init"], check=True)
+        (self.folder / "clock").write_text("0.0")
+        (self.folder / "asked").touch()
+        own = {"BOOK_FAULTS": self.faults, "BOOK_LOG": f"{self.folder}/asked"}
+        environment = {**os.environ, **own, "CLOCK": f"{self.folder}/clock", **self.environment}
+        with open(self.folder / "log", "w") as log:
+            process = subprocess.Popen(self.command(), stderr=log, env=environment)
+        return Service(self.folder, process)
+
+
+@dataclass
 class Service:
     """A server that runs, and its folder."""
 
     folder: pathlib.Path
     process: subprocess.Popen[bytes]
     clients: list[Client] = field(default_factory=list)
+
+    def wait_until_started(self) -> Service:
+        process = self.process
+        until(lambda: "start: " in self.log() or process.poll() is not None, "start", 60)
+        assert process.poll() is None, f"it ended: {self.log()}"
+        return self
 
     def path(self, name: str = "login") -> pathlib.Path:
         return self.folder / f"{name}.sock"
@@ -206,10 +252,10 @@ class Service:
 
     def talk(self, table: str) -> None:
         """As a client's, with the socket in front of each line."""
-        clients = {"login": self.client(), "admin": self.client("admin")}
-        for row in table.strip().splitlines():
-            door, _, rest = row.lstrip().partition(" ")
-            clients[door].talk(rest)
+        with Client(self.path("login")) as login, Client(self.path("admin")) as admin:
+            for row in table.strip().splitlines():
+                door, _, rest = row.lstrip().partition(" ")
+                {"login": login, "admin": admin}[door].talk(rest)
 
     def log(self) -> str:
         return (self.folder / "log").read_text()
@@ -219,89 +265,39 @@ class Service:
         lines = (self.folder / "asked").read_text().splitlines()
         return [it for it in lines if it not in ("show -", "verify - -")]
 
-    def enrol(self, **passwords: str) -> None:
+    def stats(self) -> dict[str, float]:
+        """What the server counted."""
         with Client(self.path("admin")) as admin:
-            for name, password in passwords.items():
-                same(admin.ask(f"account {name}"), "ok")
-                same(admin.ask(f"enrol {name} {field_of(password.encode())}"), "enrolled")
+            words = admin.ask("stats").split()
+        same(words[0], "stats")
+        return {name: float(value) for name, value in (word.split("=") for word in words[1:])}
+
+    def enrol(self, **passwords: str) -> None:
+        for name, password in passwords.items():
+            typed = field_of(password.encode())
+            self.talk(f"admin account {name} -> ok\nadmin enrol {name} {typed} -> enrolled")
 
     def set_clock(self, seconds: float) -> None:
         """The time by which failed tries wait, of a server that is clocked."""
         (self.folder / "clock.new").write_text(str(seconds))
         (self.folder / "clock.new").rename(self.folder / "clock")
 
-    def stop(self, number: int = signal.SIGTERM) -> int:
-        self.process.send_signal(number)
-        return self.process.wait(timeout=40)
+    def stop(self) -> None:
+        """Ends it in order."""
+        self.process.terminate()
+        same(self.process.wait(timeout=40), 0, self.log())
+
+    def end(self) -> None:
+        """Ends it, and its clients, whatever they are at."""
+        for client in self.clients:
+            client.close()
+        self.process.terminate()
+        try:
+            self.process.wait(timeout=40)
+        except subprocess.TimeoutExpired:
+            self.process.kill()
+            self.process.wait()
 
     def book_pid(self) -> int:
         children = pathlib.Path(f"/proc/{self.process.pid}/task/{self.process.pid}/children")
         return int(children.read_text().split()[0])
-
-
-@dataclass
-class Given:
-    """How a server is started."""
-
-    options: tuple[str, ...] = ()
-    faults: str = ""
-    program: pathlib.Path = FAST_BOOK
-    sockets: bool = True
-    before: tuple[str, ...] = ()
-    environment: dict[str, str] = field(default_factory=dict)
-    folder: Optional[pathlib.Path] = None
-    waits: bool = True
-    clocked: bool = False
-
-
-def command(given: Given, folder: pathlib.Path) -> list[str]:
-    server = str(HERE / "clocked.py") if given.clocked else SERVER
-    words = [*given.before, PYTHON, server, "--credkeep", str(given.program)]
-    if given.sockets:
-        words += ["--socket", "login", f"{folder}/login.sock", "0660", "-", "verify,change,known"]
-        words += ["--socket", "admin", f"{folder}/admin.sock", "0600", "-", "all"]
-    return [*words, *given.options, str(folder / "users.db")]
-
-
-def environment_of(given: Given, folder: pathlib.Path) -> dict[str, str]:
-    own = {"BOOK_FAULTS": given.faults, "BOOK_LOG": f"{folder}/asked", "CLOCK": f"{folder}/clock"}
-    return {**os.environ, **own, **given.environment}
-
-
-def initialised(given: Given, folder: pathlib.Path) -> None:
-    """Makes the book's file, and the files that a server of the tests writes to."""
-    for name in ("asked", "log"):
-        (folder / name).touch()
-    (folder / "clock").write_text("0.0")
-    if given.program != FAST_BOOK and not (folder / "users.db").exists():
-        subprocess.run([given.program, folder / "users.db", "init"], check=True)
-
-
-@contextmanager
-def serving(*options: str, **fields: Any) -> Iterator[Service]:
-    """A server over a fast book, or over the book that is given."""
-    given = Given(tuple(options), **fields)
-    folder = given.folder or pathlib.Path(tempfile.mkdtemp(prefix="rigzumal-server-"))
-    initialised(given, folder)
-    (folder / "log").write_text("")
-    with open(folder / "log", "ab") as log:
-        words, environment = command(given, folder), environment_of(given, folder)
-        service = Service(folder, subprocess.Popen(words, stderr=log, env=environment))
-    process = service.process
-    try:
-        if given.waits:
-            until(lambda: "start: " in service.log() or process.poll() is not None, "start")
-            assert process.poll() is None, f"it ended: {service.log()}"
-        yield service
-    finally:
-        for client in service.clients:
-            client.close()
-        if process.poll() is None:
-            process.terminate()
-            try:
-                process.wait(timeout=40)
-            except subprocess.TimeoutExpired:
-                process.kill()
-                process.wait()
-        if given.folder is None:
-            shutil.rmtree(folder, ignore_errors=True)

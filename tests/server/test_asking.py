@@ -10,7 +10,7 @@ import socket
 import stat
 import subprocess
 
-from served import SECRET, WRONG, Case, Client, Given, as_user, command, field_of, need, need_root
+from served import SECRET, WRONG, Case, Client, Given, as_user, field_of, need, need_root
 
 
 def mode_of(path: pathlib.Path) -> int:
@@ -75,9 +75,9 @@ class Asking(Case):
         """Without --socket: login.sock and admin.sock in a folder by the book's name, or by its path elsewhere."""
         need_root()
         need("unshare")
-        room, given = self.room(), Given(sockets=False)
-        first = " ".join(command(given, pathlib.Path("/var/lib/rigzumal")))
-        second = " ".join(command(given, room / "a.b"))
+        room = self.room()
+        folders = (pathlib.Path("/var/lib/rigzumal"), room / "a.b")
+        first, second = (" ".join(Given(it, sockets=False).command()) for it in folders)
         text = DEFAULTS.format(room=room, first=first, second=second)
         script = ["unshare", "-m", "bash", "-c", text]
         done = subprocess.run(script, capture_output=True, text=True, timeout=60)
@@ -123,7 +123,7 @@ class Asking(Case):
         self.assertIn(f"another server has {path}", second.log())
         with Client(path) as client:
             client.talk("known ada -> noaccount")
-        self.assertEqual(service.stop(), 0)
+        service.stop()
         path.unlink()
         path.write_text("precious")
         for words in (words, f"--socket a {room}/t 0600 nosuchgroup all".split()):
@@ -175,7 +175,7 @@ class Asking(Case):
             with concurrent.futures.ThreadPoolExecutor(8) as pool:
                 for done in [pool.submit(many, number) for number in range(8)]:
                     done.result(60)
-            self.assertEqual(service.stop(), 0)
+            service.stop()
             self.assertEqual("answers to no line" in service.log(), "garbage" in faults)
 
     def test_answers_that_are_none(self) -> None:

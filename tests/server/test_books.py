@@ -146,7 +146,7 @@ class OverCredkeep(Case):
             admin frob ada -> denied
             """
         )
-        self.assertEqual(service.stop(), 0)
+        service.stop()
         self.assertEqual(self.listed(service.folder), ["eve"])
 
     def test_mail_names(self) -> None:
@@ -196,7 +196,7 @@ class OverCredkeep(Case):
         # names that are hashed make a line longer
         admin.talk(f"rename a@b c@d {'x' * 886} -> bad 11 line")
         admin.talk(f"rename a@b c@d {'x' * 887} -> bad 16 long\naccount e.short -> ok")
-        self.assertEqual(service.stop(), 0)
+        service.stop()
         self.assertEqual(self.listed(service.folder), sorted(["e.short", ada]))
         self.assertNotIn(b"example", (service.folder / "users.db").read_bytes())
 
@@ -234,7 +234,7 @@ class OverCredkeep(Case):
         until(lambda: has("cid", DEARER), "a second upgrade")
         admin.talk("reset bob {secret} -> replaced")
         self.assertTrue(has("bob", DEARER), "the costs of new records")
-        self.assertEqual(service.stop(), 0)
+        service.stop()
         self.assertIn(" upgraded=2 ", service.log())
         service = self.over("--upgrade", DEARER, folder=folder)
         for name in ("ada", "bob", "cid"):
@@ -280,7 +280,7 @@ class OverCredkeep(Case):
                     pass
             self.assertEqual(good.ask(f"verify ada {SECRET}"), "yes")
         self.assertEqual(service.book_pid(), pid)
-        self.assertEqual(service.stop(), 0)
+        service.stop()
         self.assertNotIn("answers to no line", service.log())
         self.assertTrue(service.log().isascii(), "noise in the log")
 

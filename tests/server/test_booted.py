@@ -1,7 +1,7 @@
-"""The packages' units under systemd itself, which is the first process of a Debian in namespaces.
+"""The packages in a Debian of their own: its systemd is the first process, and PAM asks the book.
 
 It needs root, the built programs, and debootstrap with Debian's mirror, or the base of an earlier one in
-BOOT (test_units.py names what is in it). The machine's own files, processes, network and
+BOOT (minbase with what INCLUDED says), which is copied. The machine's own files, processes, network and
 settings stay as they are.
 """
 
@@ -11,52 +11,25 @@ import os
 import pathlib
 import shutil
 import subprocess
+import unittest
 
 from machine import shell
-from served import CHEAP, Case, need, need_root, real_book
-from test_units import base, debs
+from served import CHEAP, TOP, Case, need, need_root, real_book, same
 
 CGROUPS = pathlib.Path("/sys/fs/cgroup")
+MIRROR = "http://deb.debian.org/debian"
+INCLUDED = "python3,libpam-runtime,pamtester,adduser,systemd,systemd-sysv,dbus"
 
-# What is before systemd: a root of its own, of the machine's /proc/sys and /sys what may be read, no device.
-BOOT = """set -e
-mount --make-rprivate /
-mount --bind "$ROOM" "$ROOM"
-cd "$ROOM"
-mount -t proc proc proc
-mount --bind proc/sys proc/sys && mount -o remount,ro,bind proc/sys
-mount -t sysfs -o ro sysfs sys
-mount -t tmpfs tmpfs run
-mount -t tmpfs -o mode=755 tmpfs dev
-while read -r name major minor; do mknod -m 666 dev/$name c $major $minor; done <<END
-null 1 3
-zero 1 5
-full 1 7
-random 1 8
-urandom 1 9
-tty 5 0
-END
-mkdir dev/pts dev/shm && mount -t devpts -o newinstance,ptmxmode=0666 devpts dev/pts && ln -s pts/ptmx dev/ptmx
-if [ "$KIND" = cgroup2 ]; then
-    mount -t cgroup2 cgroup2 sys/fs/cgroup
-else
-    mount -t tmpfs -o mode=755 tmpfs sys/fs/cgroup && mkdir sys/fs/cgroup/systemd sys/fs/cgroup/unified
-    mount -t cgroup -o none,name=systemd cgroup sys/fs/cgroup/systemd
-    mount -t cgroup2 cgroup2 sys/fs/cgroup/unified
-fi
-mkdir -p oldroot && pivot_root . oldroot && cd / && umount -l /oldroot
-exec env -i container=other PATH=/usr/sbin:/usr/bin:/sbin:/bin /lib/systemd/systemd --log-target=console --log-level=notice
-"""
-
-# What runs inside, as docs/SERVERS.md tells it, and then with kills and restarts.
+# What runs inside, as docs/SERVERS.md tells it, and then with kills and restarts; then PAM, and the packages' end.
 INSIDE = """import os, pathlib, signal, socket, subprocess, sys, time
 
 UNIT = "credkeep-server@users.service"
 SOCKETS = ["credkeep-server@users.socket", "credkeep-server-admin@users.socket"]
+KINDS = ("auth", "account", "password")
 
 
-def run(*words):
-    done = subprocess.run(words, stdout=subprocess.PIPE, stderr=subprocess.STDOUT, text=True)
+def run(*words, typed=""):
+    done = subprocess.run(words, input=typed, stdout=subprocess.PIPE, stderr=subprocess.STDOUT, text=True)
     print(*words[:2], done.returncode, done.stdout if done.returncode else "", flush=True)
     return done.stdout.strip()
 
@@ -88,6 +61,17 @@ def book():
     return pathlib.Path(f"/proc/{main}/task/{main}/children").read_text().split()[0]
 
 
+def chosen():
+    texts = [pathlib.Path(f"/etc/pam.d/common-{it}").read_text() for it in KINDS]
+    print("chosen", *(it.count("pam_rigzumal") for it in texts), flush=True)
+
+
+def pam(tasks, *typed):
+    print(run("pamtester", "both", "ada", *tasks.split(), typed="".join(f"{it}\\n" for it in typed)))
+
+
+run("sh", "-c", "DEBIAN_FRONTEND=noninteractive dpkg -i /*.deb && rm /*.deb")
+print(run("stat", "-c", "%a %U %G", "/var/lib/rigzumal"))
 run("runuser", "-u", "rigzumal", "--", "credkeep", "/var/lib/rigzumal/users.db", "init")
 run("systemctl", "enable", "--now", *SOCKETS, UNIT)
 print("active", shown("ActiveState"))
@@ -107,14 +91,30 @@ print(*sorted(line.replace("\\t", " ") for line in status.splitlines() if line.s
 run("systemctl", "stop", UNIT)
 ask("login", "verify ada ZnJlc2g")
 print("by its socket", shown("ActiveState"))
+chosen()
+run("useradd", "ada")
+run("pam-auth-update", "--enable", "rigzumal")
+chosen()
+pathlib.Path("/etc/pam.d/both").write_text("".join(f"{it} include common-{it}\\n" for it in KINDS))
+pam("authenticate acct_mgmt", "fresh")
+pam("authenticate", "guess")
+pam("chauthtok", "fresh", "fresh word 1", "fresh word 1")
+pam("authenticate", "fresh word 1")
 run("systemctl", "stop", *SOCKETS, UNIT)
 print("ended", shown("Result"))
 print(run("runuser", "-u", "rigzumal", "--", "credkeep", "/var/lib/rigzumal/users.db", "verify"))
 print(run("journalctl", "--no-pager", "-o", "cat", "-u", UNIT))
+run("dpkg", "--purge", "libpam-rigzumal", "rigzumal-tools")
+chosen()
+found = run("find", "/", "-xdev", "-name", "*rigzumal*", "-not", "-path", "/proc/*", "-not", "-path", "/var/lib/dpkg/*")
+print("left", *sorted(found.split()), *sorted(os.listdir("/var/lib/rigzumal")))
 print("done")
 """
 
-OUGHT = """runuser -u 0
+# What it says, each line or its beginning in this order.
+OUGHT = """sh -c 0
+700 rigzumal rigzumal
+runuser -u 0
 systemctl enable 0
 active active
 /run/rigzumal/users/login.sock 660 root rigzumal
@@ -126,48 +126,72 @@ login verify 1 no
 login enrol 1 denied
 login change 1 replaced
 systemctl restart 0
+login verify 1 yes
 restarts 1
+login verify 1 yes
 restarts 2
+login verify 1 yes
 CapBnd: 0000000000000000
 NoNewPrivs: 1
 Seccomp: 2
 systemctl stop 0
+login verify 1 yes
 by its socket active
+chosen 0 0 0
+pam-auth-update --enable 0
+chosen 1 1 1
+pamtester: successfully authenticated
+pamtester: account management done
+pamtester both 1
+pamtester: authentication token altered successfully
+pamtester: successfully authenticated
 ended success
 1 account, 0 changes in the log
-credkeep-server: end: status 137, stats yes=1 no=0
 credkeep-server: denied at login to uid 0: enrol
+credkeep-server: end: status 137, stats yes=1 no=0
+dpkg --purge 0
+chosen 0 0 0
+left /var/lib/rigzumal users.db
 done"""
 
 
-def group_of(room: pathlib.Path) -> tuple[str, list[pathlib.Path]]:
-    """The kind of the machine's control groups, and new ones for what is booted."""
-    both = [CGROUPS / "systemd", CGROUPS / "unified"]
-    roots = both if all((it / "cgroup.procs").exists() for it in both) else [CGROUPS]
-    groups = [root / room.name for root in roots]
-    for group in groups:
-        group.mkdir()
-    return ("both" if len(roots) == 2 else "cgroup2"), groups
+def debs() -> list[pathlib.Path]:
+    need("dpkg-deb", "dpkg-shlibdeps", "strip")
+    for name in ("credbook", "credkeep"):
+        if not (TOP / f"crates/{name}/out/{name}").exists():
+            raise unittest.SkipTest(f"{name} isn't built")
+    shell(f"make -s -C {TOP}/c/pam all deb CPU=")
+    found = sorted((TOP / "c/pam/out").glob("*.deb"))
+    same([it.name.partition("_")[0] for it in found], ["libpam-rigzumal", "rigzumal-tools"])
+    return found
+
+
+def base(room: pathlib.Path) -> None:
+    """A small Debian in a folder."""
+    if "BOOT" in os.environ:
+        shell(f"cp -a {os.environ['BOOT']}/. {room}")
+    else:
+        words = "unshare --mount --pid --fork --kill-child --mount-proc debootstrap"
+        words += f" --variant=minbase --include={INCLUDED} bookworm {room} {MIRROR}"
+        done = subprocess.run(words.split(), capture_output=True, text=True, timeout=1200)
+        if done.returncode:
+            raise unittest.SkipTest(f"debootstrap can't: {(done.stdout + done.stderr)[-400:]}")
+    room.chmod(0o755)
 
 
 def booted(room: pathlib.Path) -> None:
     """Boots the Debian in a folder, until it powers itself off."""
-    kind, groups = group_of(room.parent)
-    script = " ".join(f"echo $$ > {group}/cgroup.procs;" for group in groups)
-    script += " exec unshare --mount --pid --fork --kill-child --uts --ipc --net --cgroup"
-    words = ["bash", "-c", script + ' bash -c "$SCRIPT"']
-    environment = {**os.environ, "ROOM": str(room), "KIND": kind, "SCRIPT": BOOT}
+    words = "systemd-nspawn --quiet --boot --register=no --keep-unit --private-network --directory"
     try:
-        subprocess.run(words, env=environment, capture_output=True, timeout=400)
-    finally:
-        for group in groups:
-            for folder in sorted((it for it in group.rglob("*") if it.is_dir()), reverse=True):
-                folder.rmdir()
-            group.rmdir()
+        subprocess.run(
+            [*words.split(), room], stdin=subprocess.DEVNULL, capture_output=True, timeout=400
+        )
+    finally:  # what it leaves of control groups where no systemd runs
+        for name in ("payload", "supervisor"):
+            for group in (*CGROUPS.glob(name), *CGROUPS.glob(f"*/{name}")):
+                shell(f"find {group} -depth -type d -delete")
 
 
-# What would touch the machine, or waits for what isn't there.
-MASKED = ("udevd", "udev-trigger", "sysctl", "modules-load")
 UNIT = """[Service]
 Type=oneshot
 ExecStart=/usr/bin/python3 /inside.py
@@ -179,35 +203,31 @@ ExecStopPost=/bin/systemctl poweroff --force --force
 
 
 class Booted(Case):
-    seconds = 1500
+    seconds = 1500  # of which a debootstrap may take most
 
     def test_under_systemd(self) -> None:
-        """The units start, hand over their sockets, are restarted after kills, and end in order, in their whole sandbox."""
+        """The units start, hand over their sockets, are restarted after kills, and end in order, in their whole sandbox.
+        The profile that PAM is given lets the book's users in, and is gone with the packages; the book stays.
+        """
         need_root()
         real_book()
-        need("debootstrap", "unshare", "chroot", "pivot_root")
+        need("debootstrap", "unshare", "systemd-nspawn")
         found, room = debs(), self.room() / "root"
         room.mkdir()
         base(room)
-        self.assertTrue((room / "lib/systemd/systemd").exists(), "the base has no systemd")
         for deb in found:
             shutil.copy(deb, room)
-        install = "mount -t proc proc /proc && DEBIAN_FRONTEND=noninteractive dpkg -i /*.deb"
-        path = "PATH=/usr/sbin:/usr/bin:/sbin:/bin"
-        shell(f"unshare --mount --pid --fork env {path} chroot {room} sh -c '{install}'")
         options = f"CREDKEEP_SERVER_OPTIONS=--setting {CHEAP}\n"
         (room / "etc/default/credkeep-server-users").write_text(options)
         (room / "inside.py").write_text(INSIDE)
-        system = room / "etc/systemd/system"
-        for name in MASKED:
-            (system / f"systemd-{name}.service").symlink_to("/dev/null")
-        (system / "inside.service").write_text(UNIT)
-        (system / "multi-user.target.wants").mkdir(exist_ok=True)
-        (system / "multi-user.target.wants/inside.service").symlink_to("../inside.service")
+        wanted = room / "etc/systemd/system/multi-user.target.wants"
+        wanted.mkdir(exist_ok=True)
+        (wanted.parent / "inside.service").write_text(UNIT)
+        (wanted / "inside.service").symlink_to("../inside.service")
         booted(room)
         said = (room / "said").read_text() if (room / "said").exists() else "nothing"
-        lines = [it.strip() for it in said.splitlines()]
+        lines = iter(it.strip() for it in said.splitlines())
         for line in OUGHT.splitlines():
-            self.assertTrue(any(it.startswith(line) for it in lines), f"{line!r} isn't in:\n{said}")
-        self.assertEqual(lines.count("login verify 1 yes"), 5, said)
+            is_said = any(it.startswith(line) for it in lines)
+            self.assertTrue(is_said, f"no {line!r} in its place:\n{said}")
         self.assertNotRegex(said.rpartition("in the log")[2], "c2VjcmV0|ada", "it is logged")

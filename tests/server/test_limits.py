@@ -2,6 +2,7 @@
 
 from __future__ import annotations
 
+import contextlib
 import pathlib
 import re
 import socket
@@ -121,7 +122,7 @@ class Limits(Case):
         without = "show list disable rename delete account load"
         self.assertEqual(asked, set(without.split()), "what was asked beside full places")
         begun = time.monotonic()
-        self.assertEqual(service.stop(), 0)
+        service.stop()
         self.assertTrue(15 < time.monotonic() - begun < 35, "20 s")
         self.assertIn("the book is killed", service.log())
 
@@ -184,19 +185,18 @@ class Limits(Case):
 
     def test_idle_clients(self) -> None:
         """After the idle time a client is closed, also in the midst of a line; one that asks isn't."""
-        service = self.serving("--idle", "1")
+        service = self.serving("--idle", "3")
         silent, half, drips, busy = [service.client() for _ in range(4)]
         half.send("a verify ada")
-        begun = time.monotonic()
-        while time.monotonic() < begun + 2.5:
-            self.assertEqual(busy.ask("known ada"), "noaccount")
-            try:
+
+        def are_closed() -> bool:
+            busy.talk("known ada -> noaccount")
+            with contextlib.suppress(OSError):
                 drips.send("a")
-            except OSError:
-                pass
-            time.sleep(0.2)
+            return service.stats()["clients"] == 2  # the busy one, and the one who looks
+
+        until(are_closed, "the others are closed")
         for client in (silent, half, drips):
-            client.socket.settimeout(1)
             self.assertTrue(client.is_ended(), "it goes on")
         waits = self.serving("--idle", "0").client()
         waits.send("a known")
@@ -242,5 +242,5 @@ class Limits(Case):
             client.close()
         service.client().talk("known ada -> noaccount")
         begun_to_end = time.monotonic()
-        self.assertEqual(service.stop(), 0)
+        service.stop()
         self.assertLess(time.monotonic() - begun_to_end, 10, "it waited for who has gone")

@@ -21,7 +21,7 @@ from typing import Any
 
 from machine import (
     RUN,
-    Server,
+    begun,
     in_namespaces,
     install,
     is_open,
@@ -108,7 +108,7 @@ class Logins(Case):
         keeps_out("book", "ada", "secret")
         pamtester("book", "ada", "chauthtok", "secret\nx\nx\n", 1, "Authentication failure")
         pamtester("book", "ada", "chauthtok", "fresh\nx\ny\n", 1, "")
-        server.disable("bob", "other word")
+        server.talk("admin disable bob -> disabled")
         keeps_out("book", "bob", "other word")
         pamtester("book", "bob", "acct_mgmt", "", 1, "expired")
         with Client(RUN / "login.sock") as client:
@@ -130,7 +130,7 @@ class Logins(Case):
         server.stop()
         lets_in("both", "ada", "unixword", both)
         keeps_out("both", "ada", "secret")
-        server = Server(room)
+        server = begun()
         lets_in("both", "ada", "secret", both)
         server.process.kill()
         server.process.wait()
@@ -256,7 +256,7 @@ class Logins(Case):
 
         self.assertEqual([tried("secret"), tried("guess"), tried("unixword")], ["ada", "", ""])
         self.assertEqual([tried("unixword", "eve"), by_key()], ["", "ada"])
-        server.disable("ada", "secret")
+        server.talk("admin disable ada -> disabled")
         self.assertEqual([tried("secret"), by_key()], ["", ""])
 
     @in_namespaces

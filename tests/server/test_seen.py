@@ -27,12 +27,6 @@ from daemon import tally
 from daemon.options import OPERATIONS, Options
 
 
-def stats(text: str) -> dict[str, str]:
-    words = text.split()
-    assert words[0] == "stats", text
-    return dict(word.split("=") for word in words[1:])
-
-
 def noted(path: pathlib.Path) -> list[dict[str, object]]:
     """What an audit log has."""
     return [json.loads(line) for line in path.read_text().splitlines()]
@@ -44,7 +38,7 @@ class Seen(Case):
         service = self.serving("--tries", "2", clocked=True)
         service.enrol(ada="secret")
         login, admin = service.both()
-        before = stats(admin.ask("stats"))
+        before = service.stats()
         login.talk(
             """
             verify ada {secret} -> yes
@@ -59,12 +53,12 @@ class Seen(Case):
             stats -> denied
             """
         )
-        after = stats(admin.ask("stats"))
-        grown = {name: int(after[name]) - int(before[name]) for name in after if name != "waited"}
+        after = service.stats()
+        grown = {name: after[name] - before[name] for name in after if name != "waited"}
         ought = {"yes": 3, "no": 2, "later": 1, "noaccount": 1, "changes": 1, "denied": 2}
         ought |= {"absent": 0, "refused": 0, "clients": 0, "waits": 1, "upgraded": 0}
         self.assertEqual(grown, ought)
-        self.assertEqual((before["changes"], before["clients"]), ("2", "2"))
+        self.assertEqual((before["changes"], before["clients"]), (2, 3))
 
     def test_waited(self) -> None:
         """The seconds that lines waited for their turn are counted."""
@@ -72,9 +66,9 @@ class Seen(Case):
         client = service.client()
         client.send("a verify ada -\n" * 6)
         client.lines(6)
-        # Two have places at once; the others follow after 0.2, 0.4, 0.6 and 0.8 s.
-        waited = float(stats(service.client("admin").ask("stats"))["waited"])
-        self.assertTrue(1.9 < waited < 8, f"{waited} s")
+        # One has a place at once; the others follow after 0.2, 0.4 .. 1 s.
+        waited = service.stats()["waited"]
+        self.assertTrue(2.9 < waited < 20, f"{waited} s")
 
     def test_metrics(self) -> None:
         """--metrics prints the counts as Prometheus reads them."""
@@ -92,8 +86,7 @@ class Seen(Case):
         names = dict.fromkeys(re.split("[ {]", it)[0] for it in samples)
         kinds = ["counter" if it.endswith("_total") else "gauge" for it in names]
         self.assertEqual(typed, list(zip(names, kinds)))
-        counts = stats(service.client("admin").ask("stats"))
-        self.assertEqual(len(samples), len(counts), "each count is a sample")
+        self.assertEqual(len(samples), len(service.stats()), "each count is a sample")
         for path in (str(service.path()), "/nonexistent"):
             status, text, faults = ran("--metrics", path)
             self.assertEqual((status, text), (1, ""))
@@ -182,7 +175,7 @@ class Logs(Case):
                 asked_all(service)
             except (AssertionError, OSError):
                 self.assertTrue(faults, "it ended")
-            service.stop()
+            service.end()
             for secret in SECRETS:
                 self.assertNotIn(secret, service.log())
             if not faults:
@@ -245,10 +238,11 @@ class Audited(Case):
             admin delete bob -> deleted
             """
         )
-        counts = stats(service.client("admin").ask("stats"))
-        self.assertEqual((path.stat().st_mode & 0o777, service.stop()), (0o600, 0))
+        counts = service.stats()
+        service.stop()
+        self.assertEqual(path.stat().st_mode & 0o777, 0o600)
         lines = noted(path)
-        self.assertEqual(counts["changes"], "10")
+        self.assertEqual(counts["changes"], 10)
         whole = {"door": "admin", "uid": os.getuid(), "pid": os.getpid(), "operation": "account"}
         self.assertEqual(
             lines[0], {"time": lines[0]["time"], **whole, "name": "ada", "answer": "ok"}

@@ -8,14 +8,13 @@ import imaplib
 import pathlib
 import re
 import smtplib
-import time
 import unittest
 import urllib.error
 import urllib.request
 
 from machine import (
     PAGE,
-    Server,
+    begun,
     commands_on_page,
     in_namespaces,
     install,
@@ -26,7 +25,7 @@ from machine import (
     shell,
     started,
 )
-from served import FRESH, Case, need, same, until
+from served import Case, Service, need, same, until
 from tests.helpers import need_module
 
 POSTFIX = "inet_interfaces=127.0.0.1 inet_protocols=ipv4 alias_maps= myhostname=mail.example.org"
@@ -40,7 +39,7 @@ def need_file(path: str, package: str) -> None:
         raise unittest.SkipTest(f"{package} isn't installed")
 
 
-def run_nginx(room: pathlib.Path, site: str, port: int) -> Server:
+def run_nginx(room: pathlib.Path, site: str, port: int) -> Service:
     """The book's server, and nginx with one of the page's sites."""
     need("nginx", "curl", "htpasswd")
     module = "/usr/lib/nginx/modules/ngx_http_auth_pam_module.so"
@@ -53,7 +52,7 @@ def run_nginx(room: pathlib.Path, site: str, port: int) -> Server:
     return server
 
 
-def run_apache(room: pathlib.Path, configuration: str, modules: str) -> Server:
+def run_apache(room: pathlib.Path, configuration: str, modules: str) -> Service:
     """The same of Apache."""
     need("apache2", "curl")
     need_file("/usr/lib/apache2/modules/mod_authnz_pam.so", "libapache2-mod-authnz-pam")
@@ -101,7 +100,7 @@ def configure_dovecot(*changes: tuple[str, str]) -> None:
     pathlib.Path("/etc/dovecot/local.conf").write_text(text + QUICK)
 
 
-def web_logins(port: int, server: Server) -> None:
+def web_logins(port: int, server: Service) -> None:
     def got(user: str, password: str) -> int:
         request = urllib.request.Request(f"http://127.0.0.1:{port}/")
         if user:
@@ -120,9 +119,9 @@ def web_logins(port: int, server: Server) -> None:
         *((unknown, "secret", 401) for unknown in ("zoe", "", "ADA", "ada%20")),
     ):
         same(got(user, password), status, f"{user}, {password}")
-    server.disable("bob", "other word")
+    server.talk("admin disable bob -> disabled")
     assert got("bob", "other word") in (401, 403), "bob is disabled"
-    server.ask(f"reset ada {FRESH}", "replaced")
+    server.talk("admin reset ada {fresh} -> replaced")
     same([got("ada", "secret"), got("ada", "fresh")], [401, 200])
     server.stop()
     assert got("ada", "fresh") in (401, 403, 500, 503), "the server is down"
@@ -188,7 +187,7 @@ class Sites(Case):
         server.stop()
         need_module("passlib")
         install("/etc/pam.d/book")
-        Server(room, "--foreign", str(old))
+        begun("--foreign", str(old))
         keeps_out("book", "dan", "new")
         lets_in("book", "dan", "old", "authenticate acct_mgmt")
         self.assertEqual([it[:4] for it in old.read_text().splitlines()], ["eli:"])
@@ -205,7 +204,7 @@ class Sites(Case):
         self.assertEqual(fetched("ada:secret", 80), {200: 40})
         self.assertEqual(fetched("ada:guess", 80, 3), {401: 3})
         self.assertEqual(server.stats()["yes"] - before["yes"], 1)
-        server.ask("disable ada", "disabled")
+        server.talk("admin disable ada -> disabled")
         self.assertEqual(fetched("ada:secret", 80, 1), {401: 1})
 
 
@@ -221,9 +220,9 @@ class Mail(Case):
         run_dovecot()
         self.imap_logins(("ada", "secret", True), ("ada", "guess", False), ("zoe", "secret", False))
         self.imap_logins(("bob", "other word", True), ("bob", "other words", False))
-        server.ask(f"reset ada {FRESH}", "replaced")
+        server.talk("admin reset ada {fresh} -> replaced")
         self.imap_logins(("ada", "secret", False), ("ada", "fresh", True))
-        server.disable("ada", "fresh")
+        server.talk("admin disable ada -> disabled")
         self.imap_logins(("ada", "fresh", False))
 
     @in_namespaces
@@ -242,9 +241,8 @@ class Mail(Case):
         )
         configure_dovecot(("", "auth_username_format = %Ln\n"))
         shell("doveadm reload")
-        time.sleep(1)
+        until(lambda: imap("Ada@example.org", "secret"), "the new configuration")
         self.imap_logins(
-            ("Ada@example.org", "secret", True),
             ("ada@example.net", "secret", True),
             ("ada@example.org", "x", False),
         )
@@ -292,6 +290,6 @@ class Mail(Case):
         ):
             self.assertEqual(sent(user, password), ought)
         self.assertIn("sasl_username=ada", pathlib.Path("/var/log/postfix.log").read_text())
-        server.ask(f"reset ada {FRESH}", "replaced")
+        server.talk("admin reset ada {fresh} -> replaced")
         self.assertEqual([sent("ada", "secret"), sent("ada", "fresh")], ["not let in", "taken"])
         shell("postfix stop")

@@ -11,17 +11,15 @@ from __future__ import annotations
 
 import asyncio
 import itertools
+import math
 import os
-import pathlib
 import random
 import signal
-import subprocess
 import sys
 import time
 import unittest
-from collections.abc import Callable
 from dataclasses import dataclass
-from typing import Optional, TypeVar
+from typing import Optional
 
 from served import (
     CHEAP,
@@ -30,11 +28,9 @@ from served import (
     Case,
     Client,
     Given,
+    Service,
     chosen_book,
-    command,
-    environment_of,
     field_of,
-    initialised,
     until,
 )
 
@@ -50,49 +46,31 @@ SEED = int(os.environ.get("TORTURE_SEED", "1"))
 NAMES = [f"user{number}" for number in range(8)]
 MIX = {"verify": 8, "login": 3, "change": 4, "enrol": 3, "remove": 1, "upgrade": 2}
 LOGIN = frozenset(("verify", "change"))
-Result = TypeVar("Result")
 
 
 @dataclass
 class Running:
     """The server, which is started again whenever it has ended."""
 
-    folder: pathlib.Path
     given: Given
-    process: Optional["subprocess.Popen[bytes]"] = None
-    ends: bool = False
+    service: Service
 
     async def keep(self) -> None:
-        while not self.ends:
-            if self.process is None or self.process.poll() is not None:
-                words = command(self.given, self.folder)
-                environment = environment_of(self.given, self.folder)
-                with open(self.folder / "log", "ab") as log:
-                    self.process = subprocess.Popen(words, stderr=log, env=environment)
+        while True:
+            if self.service.process.poll() is not None:
+                self.service = self.given.begun()
             await asyncio.sleep(0.02)
-
-    def end(self) -> None:
-        if self.process and self.process.poll() is None:
-            self.process.terminate()
-            self.process.wait(timeout=60)
-
-    def book(self) -> Optional[int]:
-        assert self.process
-        try:
-            path = pathlib.Path(f"/proc/{self.process.pid}/task/{self.process.pid}/children")
-            return int(path.read_text().split()[0])
-        except (OSError, IndexError):
-            return None
 
     def kill(self, kind: str) -> bool:
         """Kills the book, the server or both; false if there is none just now."""
-        book = self.book()
-        if book is None or self.process is None or self.process.poll() is not None:
+        try:
+            book = self.service.book_pid()
+        except (OSError, IndexError):
             return False
         if kind in ("book", "both"):
             os.kill(book, signal.SIGKILL)
         if kind in ("front", "both"):
-            self.process.kill()
+            self.service.process.kill()
         return True
 
 
@@ -102,7 +80,7 @@ class Log:
     def __init__(self) -> None:
         self.operations: dict[str, list[Operation]] = {name: [] for name in NAMES}
         self.passwords = {name: ["never"] for name in NAMES}
-        self.denials: list[tuple[str, Operation]] = []
+        self.denials: dict[str, list[Operation]] = {name: [] for name in NAMES}
 
     def note(self, name: str, operation: Operation, said: Optional[str]) -> None:
         """Files an operation by its answer, or by none."""
@@ -121,7 +99,7 @@ class Log:
             return
         operation.answered, operation.reply = time.monotonic(), said
         if said in ("no", "wrong"):
-            self.denials.append((name, operation))
+            self.denials[name].append(operation)
         elif said in ("yes", "absent", "enrolled", "replaced", "removed", "kept"):
             operation.before = None if said in ("absent", "enrolled") else old
             after = {"enrolled": new, "replaced": new, "removed": None}
@@ -166,7 +144,7 @@ class Asking:
 
     async def answer(self, door: str, line: str) -> Optional[str]:
         """What is answered, or none if the connection ends first."""
-        path = str(self.running.folder / f"{door}.sock")
+        path = str(self.running.service.path(door))
         while door not in self.connections:
             try:
                 self.connections[door] = await asyncio.open_unix_connection(path)
@@ -197,97 +175,44 @@ async def killing(running: Running, chance: random.Random, kills: int, seconds: 
     return done
 
 
-def stands(folder: pathlib.Path, log: Log, name: str) -> Optional[str]:
-    """The password that is right at last, or none."""
-    with Client(folder / "admin.sock") as admin:
+def stands(service: Service, log: Log, name: str) -> Optional[str]:
+    """The record that stands at last, or none."""
+    with Client(service.path("admin")) as admin:
         if admin.ask(f"known {name}") == "absent":
             return None
         for password in reversed(log.passwords[name]):
             if admin.ask(f"verify {name} {field_of(password.encode())}") == "yes":
-                return password
+                return record_of(password)
     raise Illegal(f"{name}: no password that was ever set is right", [])
 
 
-def surely_stood(
-    operations: list[Operation], last: Optional[str]
-) -> dict[str, tuple[float, float]]:
-    """From when until when the record of a password stood in any history of these."""
-    spans: dict[str, tuple[float, float]] = {}
-    for it in operations:
-        if it.reply and it.after and it.after != it.before:
-            spans[it.after] = (it.answered, float("inf") if it.after == last else 0.0)
-    for record, (first, until) in spans.items():
-        if until == 0.0:
-            replaced = [
-                it.called
-                for it in operations
-                if record in (it.before, *(a.before for a in it.attempts)) and it.after != it.before
-            ]
-            spans[record] = (first, min(replaced, default=0.0))
-    return spans
+def surely_stood(operations: list[Operation]) -> dict[Optional[str], tuple[float, float]]:
+    """From when until when the record of a password stood in any history of these, of which is
+    known what each of them did."""
+    changes = [it for it in operations if it.after != it.before]
+    ends = {it.before: it.called for it in changes}
+    return {it.after: (it.answered, ends.get(it.after, math.inf)) for it in changes if it.after}
 
 
-def found_out(operations: list[Operation], last: Optional[str]) -> list[Operation]:
-    """The operations without those that had no answer and left no trace.
-
-    A change without an answer was made if its record was seen, or if one that was made replaced it. If
-    a record is gone, the first way of such changes from it to a removal was gone.
-    """
-    answered = [it for it in operations if it.reply]
-    seen = {last} | {it.before for it in answered}
-    lost = [it for it in operations if not it.reply]
-    made: list[Operation] = []
-
-    def follow() -> None:
-        while more := [
-            it for it in lost if it not in made and it.attempts[0].after in seen - {None}
-        ]:
-            made.extend(more)
-            seen.update(it.attempts[0].before for it in more)
-
-    follow()
-    changes = [it for it in answered if it.after != it.before]
-    replaced = {it.before for it in changes} | {it.attempts[0].before for it in made} | {last}
-    for record in [it.after for it in changes if it.after and it.after not in replaced]:
-        ways: dict[Optional[str], list[Operation]] = {record: []}
-        for at in (queue := [record]):
-            for it in (it for it in lost if it not in made and it.attempts[0].before == at):
-                if it.attempts[0].after not in ways:
-                    ways[it.attempts[0].after] = [*ways[at], it]
-                    queue.append(it.attempts[0].after or "")
-        made += ways.get(None, [])
-    return answered + made
-
-
-def judged(folder: pathlib.Path, log: Log, began: float) -> int:
+def judged(service: Service, log: Log) -> int:
     """How many operations have a legal history; Illegal if they have none."""
-    count = 0
     for name in NAMES:
-        last = record_of(stands(folder, log, name))
-        now = time.monotonic()
-        seed = Operation("first", "seed", None, began - 1, answered=began - 0.5)
-        end = Operation(
-            "last", "end", None, now, answered=now + 1, reply="end", before=last, after=last
-        )
-        operations = log.operations[name]
-        check(Account(seed, end, found_out(operations, last)))
-        spans = surely_stood(operations, last)
-        for place, it in log.denials:
-            if place == name and it.password and record_of(it.password) in spans:
-                first, until = spans[record_of(it.password) or ""]
-                if first < it.called and it.answered < until:
-                    raise Illegal(
-                        f"{it.id} was answered {it.reply}, and its password stood from {first:.3f} to {until:.3f}",
-                        [it],
-                    )
-        count += len(operations)
-    return count + len(log.denials)
+        last, operations = stands(service, log, name), log.operations[name]
+        end = Operation.end(last, time.monotonic())
+        check(Account(Operation.seed(None, None), end, operations))
+        spans = surely_stood(operations)
+        for it in log.denials[name]:
+            first, last_moment = spans.get(record_of(it.password), (math.inf, 0.0))
+            if first < it.called and it.answered < last_moment:
+                stood = f"its password stood from {first:.3f} to {last_moment:.3f}"
+                raise Illegal(f"{it.id} was answered {it.reply}, and {stood}", [it])
+    return sum(map(len, (*log.operations.values(), *log.denials.values())))
 
 
-def names_stand(folder: pathlib.Path) -> bool:
-    """Whether the server answers, and has each name; the last one may have ended just now."""
+def names_stand(service: Service) -> bool:
+    """Whether the server answers, and has each name; it may have ended just now."""
     try:
-        with Client(folder / "admin.sock") as admin:
+        with Client(service.path("admin")) as admin:
             said = [admin.ask(f"known {name}") for name in NAMES]
     except (OSError, AssertionError):
         return False
@@ -296,56 +221,42 @@ def names_stand(folder: pathlib.Path) -> bool:
     return set(said) <= {"yes", "absent"}
 
 
-async def aside(call: Callable[..., Result], *given: object) -> Result:
-    """Calls in a thread, since what is asked for waits for this one's tasks."""
-    return await asyncio.get_running_loop().run_in_executor(None, lambda: call(*given))
-
-
-async def tortured(
-    given: Given, folder: pathlib.Path, seconds: float, kills: int, seed: int
-) -> tuple[int, int]:
+async def tortured(given: Given, seconds: float, kills: int) -> tuple[int, int]:
     """How many operations were legal, and how often something was killed."""
-    chance, log, running = random.Random(seed), Log(), Running(folder, given)
+    chance, log = random.Random(SEED), Log()
+    running = Running(given, given.begun().wait_until_started())
+    running.service.talk("".join(f"admin account {name} -> ok\n" for name in NAMES))
     keeping = asyncio.ensure_future(running.keep())
     try:
-        await aside(until, lambda: "start: " in (folder / "log").read_text(), "the server", 60.0)
-        with Client(folder / "admin.sock") as admin:
-            admin.talk("".join(f"account {name} -> ok\n" for name in NAMES))
-        began = time.monotonic()
         seeds = [random.Random(chance.random()) for _ in range(64)]
         clients = [Asking(running, log, own, number) for number, own in enumerate(seeds)]
+        end = time.monotonic() + seconds
         killed, *_ = await asyncio.gather(
-            killing(running, chance, kills, seconds), *(it.go(began + seconds) for it in clients)
+            killing(running, chance, kills, seconds), *(it.go(end) for it in clients)
         )
-        await aside(until, lambda: names_stand(folder), "all names are there", 60.0)
-        return await aside(judged, folder, log, began), killed
+        await asyncio.to_thread(until, lambda: names_stand(running.service), "all names", 60.0)
+        return await asyncio.to_thread(judged, running.service, log), killed
     finally:
-        running.ends = True
-        await keeping
-        running.end()
+        keeping.cancel()
+        running.service.end()
 
 
 class Torture(Case):
     seconds = 30 * SECONDS
 
-    def run_over(self, given: Given, seconds: float, kills: int) -> tuple[int, int]:
-        room = self.room()
-        initialised(given, room)
-        return asyncio.run(tortured(given, room, seconds, kills, SEED))
-
     def test_killed(self) -> None:
         """What was answered has one legal history, whatever is killed."""
         program, kills = chosen_book(), SECONDS // 3
-        options = ("--tries", "0", "--at-once", "8")
-        given = Given(options, "late", program)
-        if program != FAST_BOOK:
-            given = Given((*options, "--setting", CHEAP), "", program)
-        count, killed = self.run_over(given, SECONDS, kills)
+        costs = () if program == FAST_BOOK else ("--setting", CHEAP)
+        options = ("--tries", "0", "--at-once", "8", *costs)
+        given = Given(self.room(), options, "late", program)
+        count, killed = asyncio.run(tortured(given, SECONDS, kills))
         self.assertGreater(count, 10 * SECONDS)
         self.assertGreaterEqual(killed, kills // 2)
 
     def test_books_that_lie(self) -> None:
         """A book that loses changes, or lets everybody in, is found out."""
         for faults in ("loses=5", "answers=yes"):
+            given = Given(self.room(), ("--tries", "0", "--at-once", "8"), faults)
             with self.assertRaises(Illegal, msg=faults):
-                self.run_over(Given(("--tries", "0", "--at-once", "8"), faults), 5, 2)
+                asyncio.run(tortured(given, 5, 2))

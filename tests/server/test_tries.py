@@ -81,7 +81,7 @@ class Tries(Case):
             client.send(f"a verify ada {WRONG}\n" * 20)
         said = {line for client in clients for line in client.lines(20)}
         self.assertEqual(said, {b"a no", b"a later"})
-        self.assertIn(len(service.asked()) - enrolled, range(3, 3 + 5 + 1))
+        self.assertIn(len(service.asked()) - enrolled, range(3, 3 + 4 + 1))
 
     def test_later_by_uid(self) -> None:
         """A person's failed tries at many names count together; those of a service don't."""

@@ -1,42 +1,18 @@
-"""Tests of the units and of Debian's packages.
+"""Tests of the units by systemd-analyze, and of what they forbid by what strace sees of a server.
 
-The units are looked at by systemd-analyze, and what they forbid is compared with what strace sees of a
-server; test_booted.py runs them. The packages need `make programs`, lintian and, to be installed,
-debootstrap, root and Debian's mirror, or the base of an earlier debootstrap in BOOT (minbase with
-python3, libpam-runtime, pamtester, adduser, systemd, systemd-sysv, dbus), which is copied. What isn't
-there is skipped by name.
+test_booted.py runs them.
 """
 
 from __future__ import annotations
 
-import os
-import pathlib
 import re
-import shutil
-import subprocess
-import unittest
 from typing import Any
 
 from machine import shell
-from served import (
-    CHEAP,
-    FAST_BOOK,
-    PYTHON,
-    TOP,
-    Case,
-    Client,
-    chosen_book,
-    is_listening,
-    need,
-    need_root,
-    same,
-    until,
-)
+from served import PYTHON, TOP, Case, Client, chosen_book, is_listening, need, until
 from tests.helpers import need_module
 
 NOT_NEEDED = {"fchown"}  # of a new log, to the book's owner, whose it is
-MIRROR = "http://deb.debian.org/debian"
-INCLUDED = "python3,libpam-runtime,pamtester,adduser,systemd,systemd-sysv,dbus"
 
 
 def in_set(name: str) -> set[str]:
@@ -56,78 +32,7 @@ def allowed_calls() -> set[str]:
     return allowed
 
 
-def debs() -> list[pathlib.Path]:
-    need("dpkg-deb", "dpkg-shlibdeps", "strip")
-    for name in ("credbook", "credkeep"):
-        if not (TOP / f"crates/{name}/out/{name}").exists():
-            raise unittest.SkipTest(f"{name} isn't built")
-    shell(f"make -s -C {TOP}/c/pam all deb CPU=")
-    found = sorted((TOP / "c/pam/out").glob("*.deb"))
-    same([it.name.partition("_")[0] for it in found], ["libpam-rigzumal", "rigzumal-tools"])
-    return found
-
-
-PATH = "/usr/local/sbin:/usr/local/bin:/usr/sbin:/usr/bin:/sbin:/bin"
-# What is said inside of that Debian.
-OUGHT = ["700 rigzumal rigzumal", "1 ok\n2 enrolled", "successfully authenticated", "refused"]
-OUGHT += ["account management done", "authentication token altered successfully"]
-OUGHT += [f"common-{it}:1" for it in ("auth", "account", "password")]
-INSTALLED = """set -e
-export DEBIAN_FRONTEND=noninteractive
-mount -t proc none /proc
-dpkg -i /debs/*.deb > /dpkg.log 2>&1 || { cat /dpkg.log; exit 1; }
-getent passwd rigzumal > /dev/null && getent group rigzumal > /dev/null
-stat -c '%a %U %G' /var/lib/rigzumal
-! grep -q rigzumal /etc/pam.d/common-*
-runuser -u rigzumal -- credkeep /var/lib/rigzumal/users.db init
-case "$OPTIONS" in *fast_book*) : > /var/lib/rigzumal/users.db ;; esac
-mkdir -p -m 755 /run/rigzumal/users && chown rigzumal: /run/rigzumal/users
-runuser -u rigzumal -- credkeep-server $OPTIONS /var/lib/rigzumal/users.db 2> /server.log &
-for try in $(seq 200); do if grep -q start: /server.log; then break; fi; sleep 0.1; done
-printf '1 account ada\\n2 enrol ada c2VjcmV0 %s\\n' "$SETTING" > /lines
-python3 - <<'PYTHON'
-import socket
-it = socket.socket(socket.AF_UNIX)
-it.connect("/run/rigzumal/users/admin.sock")
-for line in open("/lines", "rb"):
-    it.sendall(line)
-    print(it.recv(100).decode().strip())
-PYTHON
-useradd ada
-pam-auth-update --enable rigzumal
-grep -c pam_rigzumal /etc/pam.d/common-auth /etc/pam.d/common-account /etc/pam.d/common-password
-printf 'auth include common-auth\\naccount include common-account\\npassword include common-password\\n' > /etc/pam.d/both
-echo secret | pamtester both ada authenticate acct_mgmt 2>&1
-echo guess | pamtester both ada authenticate 2>&1 || echo refused
-printf 'secret\\nfresh word 1\\nfresh word 1\\n' | pamtester both ada chauthtok 2>&1
-echo 'fresh word 1' | pamtester both ada authenticate 2>&1
-kill %1
-wait %1 || true
-dpkg --purge libpam-rigzumal rigzumal-tools > /dpkg.log 2>&1 || { cat /dpkg.log; exit 1; }
-! grep -q rigzumal /etc/pam.d/common-*
-ls /var/lib/rigzumal
-find / -xdev -name '*rigzumal*' -not -path '/proc/*' -not -path '/debs/*' | sort
-"""
-
-
-def base(room: pathlib.Path) -> None:
-    """A small Debian in a folder, in which no service is started by a package."""
-    if "BOOT" in os.environ:
-        shell(f"cp -a {os.environ['BOOT']}/. {room}")
-    else:
-        words = "unshare --mount --pid --fork --kill-child --mount-proc debootstrap"
-        words += f" --variant=minbase --include={INCLUDED} bookworm {room} {MIRROR}"
-        done = subprocess.run(words.split(), capture_output=True, text=True, timeout=1200)
-        if done.returncode:
-            raise unittest.SkipTest(f"debootstrap can't: {(done.stdout + done.stderr)[-400:]}")
-    room.chmod(0o755)
-    (room / "usr/sbin/policy-rc.d").write_text("#!/bin/sh\nexit 101\n")
-    (room / "usr/sbin/policy-rc.d").chmod(0o755)
-
-
 class Units(Case):
-    seconds = 1500  # of which a debootstrap may take most
-
     def units(self) -> list[str]:
         """The units, with the repository's program in place of the installed one."""
         need("systemd-analyze")
@@ -177,43 +82,3 @@ class Units(Case):
         both = re.findall("^.*PROT_WRITE.*PROT_EXEC.*$|^.*PROT_EXEC.*PROT_WRITE.*$", ours, re.M)
         self.assertEqual(both, [], "memory that may be written and run")
         self.assertLessEqual(set(re.findall(r" socket\((\w+)", ours)), {"AF_UNIX"})
-
-    def test_packages(self) -> None:
-        """lintian has nothing against them, and each unit, page and module of the server is in one."""
-        found = " ".join(map(str, debs()))
-        listed = shell(f"for deb in {found}; do dpkg-deb -c $deb; done")
-        modules = (TOP / "python/rigzumal/server/daemon").glob("*.py")
-        pages = [f"/man{it.suffix[1:]}/{it.name}.gz" for it in (TOP / "man").iterdir()]
-        names = [f"/{it.name}\n" for it in [*(TOP / "units").iterdir(), *modules]]
-        for name in (*pages, *names, "./usr/bin/credkeep-ask", "./usr/sbin/credkeep-server"):
-            self.assertIn(name, listed)
-        need("lintian")
-        shell(f"lintian --fail-on error,warning {found}")
-
-    def test_installed(self) -> None:
-        """In a Debian of its own they are installed, used through PAM, and purged; the book stays."""
-        need_root()
-        need("debootstrap", "unshare", "chroot")
-        found, room = debs(), self.room()
-        base(room)
-        (room / "debs").mkdir()
-        for deb in found:
-            shutil.copy(deb, room / "debs")
-        environment = {"OPTIONS": "", "SETTING": f"{CHEAP}$c29tZXNhbHQ", "PATH": PATH}
-        if chosen_book() == FAST_BOOK:
-            shutil.copy(FAST_BOOK, room / "usr/local/bin/fast_book")
-            environment |= {"OPTIONS": "--credkeep fast_book", "SETTING": "$fast$c=1"}
-        (room / "test.sh").write_text(INSTALLED)
-        words = f"unshare --mount --pid --fork --kill-child chroot {room} bash /test.sh"
-        given: Any = {"capture_output": True, "text": True, "timeout": 300}
-        done = subprocess.run(words.split(), env=environment, **given)
-        said = done.stdout
-        self.assertEqual(done.returncode, 0, said + done.stderr)
-        for text in OUGHT:
-            self.assertIn(text, said, done.stderr)
-        self.assertEqual(said.count("successfully authenticated"), 2, said)
-        left = said.rpartition("altered successfully")[2].splitlines()[2:]
-        self.assertIn("users.db", left, "the book is gone")
-        allowed = {"users.db", "users.db-wal", "/run/rigzumal", "/var/lib/rigzumal"}
-        others = {it for it in left if not it.startswith("/var/lib/dpkg")} - allowed
-        self.assertEqual(others, set(), said)
