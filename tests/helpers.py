@@ -4,7 +4,10 @@ and shims that stand before the C library.
 RIGZUMAL_TIMES=N makes N times as many kills and random operations as the gate does.
 """
 
+from __future__ import annotations
+
 import atexit
+import contextlib
 import functools
 import itertools
 import os
@@ -14,6 +17,8 @@ import resource
 import shlex
 import shutil
 import signal
+import socket
+import socketserver
 import subprocess
 import sys
 import tempfile
@@ -31,6 +36,50 @@ LONGEST = 120
 LIMIT = float(os.environ.get("TEST_LIMIT", "1800"))
 
 Found = TypeVar("Found")
+
+
+class Case(unittest.TestCase):
+    """A test that ends: after so many seconds it fails, wherever it waits."""
+
+    seconds = 300
+
+    def setUp(self) -> None:
+        def too_long(*_: object) -> None:
+            raise TimeoutError(f"over {self.seconds} s")
+
+        signal.signal(signal.SIGALRM, too_long)
+        signal.alarm(self.seconds)
+        self.addCleanup(signal.alarm, 0)
+
+    def room(self) -> pathlib.Path:
+        """A folder for this test, which every user may enter."""
+        room = pathlib.Path(self.enterContext(tempfile.TemporaryDirectory(prefix="rigzumal-")))
+        room.chmod(0o755)
+        return room
+
+
+class Peer(socketserver.ThreadingUnixStreamServer):
+    """A socket at which a function answers the first line of each client, and then closes."""
+
+    daemon_threads = True
+
+    def __init__(self, path: pathlib.Path, reply: Callable[[bytes, socket.socket], None]) -> None:
+        super().__init__(str(path), socketserver.BaseRequestHandler)
+        self.path, self.reply, self.lines = path, reply, list[bytes]()
+
+    def finish_request(self, request: Any, client_address: Any) -> None:
+        with contextlib.suppress(OSError):  # the client has gone
+            line = request.makefile("rb").readline()
+            self.lines.append(line)
+            self.reply(line, request)
+
+    def __enter__(self) -> Peer:
+        threading.Thread(target=self.serve_forever, args=(0.01,), daemon=True).start()
+        return self
+
+    def __exit__(self, *_: object) -> None:
+        self.shutdown()
+        self.server_close()
 
 
 class Ended(NamedTuple):

@@ -5,11 +5,9 @@ from __future__ import annotations
 import base64
 import os
 import pathlib
-import signal
 import socket
 import subprocess
 import sys
-import tempfile
 import time
 import unittest
 from collections.abc import Callable
@@ -20,6 +18,7 @@ HERE = pathlib.Path(__file__).resolve().parent
 TOP = HERE.parent.parent
 sys.path.insert(0, str(TOP))
 os.environ["PATH"] += ":/usr/sbin:/usr/lib/dovecot"
+from tests import helpers  # noqa: E402
 from tests.helpers import need, need_root, program  # noqa: E402, F401 (for the tests)
 
 FAST_BOOK = HERE / "fast_book.py"
@@ -38,25 +37,7 @@ def field_of(password: bytes) -> str:
 SECRET, WRONG, FRESH = field_of(b"secret"), field_of(b"guess"), field_of(b"fresh")
 
 
-class Case(unittest.TestCase):
-    """A test that ends: after so many seconds it fails, wherever it waits."""
-
-    seconds = 300
-
-    def setUp(self) -> None:
-        def too_long(*_: object) -> None:
-            raise TimeoutError(f"over {self.seconds} s")
-
-        signal.signal(signal.SIGALRM, too_long)
-        signal.alarm(self.seconds)
-        self.addCleanup(signal.alarm, 0)
-
-    def room(self) -> pathlib.Path:
-        """A folder for this test, which every user may enter."""
-        room = pathlib.Path(self.enterContext(tempfile.TemporaryDirectory(prefix="rigzumal-")))
-        room.chmod(0o755)
-        return room
-
+class Case(helpers.Case):
     def serving(self, *options: str, waits: bool = True, **fields: Any) -> Service:
         """A server that runs until the test ends."""
         folder = fields.pop("folder", None) or self.room()

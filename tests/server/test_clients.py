@@ -7,7 +7,6 @@ from __future__ import annotations
 
 import asyncio
 import concurrent.futures
-import contextlib
 import importlib
 import os
 import pathlib
@@ -22,6 +21,7 @@ from collections.abc import Callable, Coroutine, Iterator
 from typing import Any
 
 from served import TOP, Case, need
+from tests.helpers import Peer
 
 PAGE = (TOP / "docs/SERVERS.md").read_text()
 
@@ -31,38 +31,6 @@ def block(language: str) -> str:
     (found,) = re.findall(rf"```{language}\n(.*?)```", PAGE, re.S)
     assert len(found.splitlines()) <= 30
     return str(found)
-
-
-class Peer:
-    """A socket at which each line gets the same bytes; then it is closed, or waits, or drips for twelve seconds."""
-
-    def __init__(self, path: pathlib.Path, answer: bytes, then: str) -> None:
-        self.answer, self.then, self.kept = answer, then, list[socket.socket]()
-        self.listener = socket.socket(socket.AF_UNIX)
-        self.listener.bind(str(path))
-        self.listener.listen()
-        threading.Thread(target=self.take, daemon=True).start()
-
-    def take(self) -> None:
-        with contextlib.suppress(OSError):  # it is closed
-            while True:
-                self.kept.append(self.listener.accept()[0])
-                with contextlib.suppress(OSError):  # the client has gone
-                    self.say(self.kept[-1])
-                if self.then == "close":
-                    self.kept[-1].close()
-
-    def say(self, client: socket.socket) -> None:
-        client.recv(4096)
-        client.sendall(self.answer)
-        for _ in range(60 if self.then == "drip" else 0):
-            client.sendall(b"x")
-            time.sleep(0.2)
-
-    def close(self) -> None:
-        self.listener.shutdown(socket.SHUT_RDWR)
-        for it in [self.listener, *self.kept]:
-            it.close()
 
 
 class Clients(Case):
@@ -75,10 +43,17 @@ class Clients(Case):
         except ImportError as fault:
             raise unittest.SkipTest(str(fault).partition(":")[0]) from None
 
-    def peer(self, answer: bytes, then: str = "close") -> pathlib.Path:
-        path = self.room() / "s"
-        self.enterContext(contextlib.closing(Peer(path, answer, then)))
-        return path
+    def peer(self, answer: bytes, then: str = "") -> pathlib.Path:
+        """A socket at which a line gets these bytes; then it is closed, or waits, or drips."""
+
+        def reply(line: bytes, client: socket.socket) -> None:
+            client.sendall(answer)
+            for _ in range(60 if then == "drips" else 0):
+                client.sendall(b"x")
+                time.sleep(0.2)
+            client.recv(1 if then == "waits" else 0)
+
+        return self.enterContext(Peer(self.room() / "s", reply)).path
 
     def calls(self, path: object, **options: float) -> Iterator[Callable[..., Any]]:
         """One of each client: called with a method's name and its arguments, it calls that."""
@@ -223,11 +198,11 @@ class Clients(Case):
         """Garbage, half an answer, another tag, what has no end: Unavailable, at once or after the call's whole time."""
         answers = [b"", b"yes\n", b"1 yes", b"2 yes\n", b"1 yess\n", b"1 ye\n", b"1 no yes\n"]
         answers += [b"1 \xffyes\n", b"x" * 200000, b"* bad 16 long\n", b"1 unavailable\n"]
-        scenes = [(answer, "close", 60.0, 0.0, 30) for answer in (*answers, b"\n", b"1\n")]
-        scenes += [(b"1 y", "wait", 0.5, 0.4, 15), (b"1 y", "drip", 1.0, 0.9, 8)]
+        scenes = [(answer, "", 60.0, 0.0, 30) for answer in (*answers, b"\n", b"1\n")]
+        scenes += [(b"1 y", "waits", 0.5, 0.4, 15), (b"1 y", "drips", 1.0, 0.9, 8)]
         for answer, then, timeout, least, most in (
             *scenes,
-            (b"x" * (8 << 20), "wait", 60.0, 0, 30),
+            (b"x" * (8 << 20), "waits", 60.0, 0, 30),
         ):
             for call in self.calls(self.peer(answer, then), timeout=timeout):
                 seconds = self.is_unavailable(call)
@@ -265,7 +240,7 @@ class Clients(Case):
             with self.assertRaises(self.server.Unavailable):
                 await asyncio.wait_for(waiting, 20)
 
-        asyncio.run(closes(self.peer(b"", then="wait")))
+        asyncio.run(closes(self.peer(b"", "waits")))
 
     def test_late_answers(self) -> None:
         """What came too late is nobody's."""

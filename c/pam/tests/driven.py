@@ -8,20 +8,20 @@ import enum
 import os
 import pathlib
 import shutil
-import signal
 import socket
 import subprocess
+import sys
 import tempfile
-import threading
 import time
-import unittest
-from collections.abc import Callable, Iterator, Sequence
-from contextlib import contextmanager
+from collections.abc import Callable, Sequence
 from dataclasses import dataclass, field
 from typing import Any
 
 HERE = pathlib.Path(__file__).resolve().parent
 TOP = HERE.parent
+sys.path.insert(0, str(TOP.parent.parent))
+from tests import helpers  # noqa: E402
+
 ROOM = pathlib.Path(tempfile.mkdtemp(prefix="rigzumal-pam-"))
 atexit.register(shutil.rmtree, ROOM, ignore_errors=True)
 SOURCES = ["pam_rigzumal.c", "../src/base64.c"]
@@ -44,17 +44,7 @@ class Pam(enum.IntEnum):
     INCOMPLETE = 31
 
 
-class Case(unittest.TestCase):
-    """A test that ends: after five minutes it fails, wherever it waits."""
-
-    def setUp(self) -> None:
-        def too_long(*_: object) -> None:
-            raise TimeoutError("over five minutes")
-
-        signal.signal(signal.SIGALRM, too_long)
-        signal.alarm(300)
-        self.addCleanup(signal.alarm, 0)
-
+class Case(helpers.Case):
     def check(
         self, answer: bytes, ought: Pam, *lines: bytes, task: str = "authenticate", **question: Any
     ) -> Said:
@@ -165,50 +155,8 @@ def asked(question: Question, path: pathlib.Path) -> Said:
     return said
 
 
-class Peer:
-    """A socket at which a thread takes connections, and answers each as it is told to."""
-
-    def __init__(self, reply: Callable[[bytes, socket.socket], None], backlog: int = 16) -> None:
-        self.reply, self.lines = reply, list[bytes]()
-        self.path = pathlib.Path(tempfile.mkdtemp(dir=ROOM)) / "socket"
-        self.listener = socket.socket(socket.AF_UNIX)
-        self.listener.bind(str(self.path))
-        self.listener.listen(backlog)
-        self.lock = threading.Lock()
-
-    def take(self) -> None:
-        while True:
-            try:
-                client, _ = self.listener.accept()
-            except OSError:
-                return
-            threading.Thread(target=self.answer, args=(client,), daemon=True).start()
-
-    def answer(self, client: socket.socket) -> None:
-        with client:
-            line = b""
-            while not line.endswith(b"\n"):
-                more = client.recv(4096)
-                if not more:
-                    break
-                line += more
-            with self.lock:
-                self.lines.append(line)
-            try:
-                self.reply(line, client)
-            except OSError:
-                pass
-
-
-@contextmanager
-def peer(reply: Callable[[bytes, socket.socket], None]) -> Iterator[Peer]:
-    made = Peer(reply)
-    threading.Thread(target=made.take, daemon=True).start()
-    try:
-        yield made
-    finally:
-        made.listener.shutdown(socket.SHUT_RDWR)
-        made.listener.close()
+def peer(reply: Callable[[bytes, socket.socket], None]) -> helpers.Peer:
+    return helpers.Peer(pathlib.Path(tempfile.mkdtemp(dir=ROOM)) / "socket", reply)
 
 
 def sends(answer: bytes) -> Callable[[bytes, socket.socket], None]:

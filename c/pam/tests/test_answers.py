@@ -2,11 +2,12 @@
 
 from __future__ import annotations
 
+import pathlib
 import socket
 import threading
 import time
 
-from driven import PLAIN, ROOM, Case, Pam, Peer, Question
+from driven import PLAIN, ROOM, Case, Pam, Question
 from driven import answers, asked, line_of, peer, said_at, sends
 
 YES = b"1 yes\n"
@@ -122,8 +123,8 @@ class Answers(Case):
         with peer(drips) as it:
             self.assertEqual(asked(Question(), it.path).codes, [Pam.SUCCESS])
 
-    def check_deadline(self, it: Peer, most: int) -> None:
-        said = asked(Question(options="timeout=1", build=PLAIN), it.path)
+    def check_deadline(self, path: pathlib.Path, most: int) -> None:
+        said = asked(Question(options="timeout=1", build=PLAIN), path)
         self.assertEqual(said.codes, [Pam.AUTHINFO_UNAVAIL])
         self.assertTrue(0.9 < said.seconds < most, f"{said.seconds} s")
 
@@ -140,26 +141,25 @@ class Answers(Case):
 
         for reply in (nothing, drips):
             with peer(reply) as it:
-                self.check_deadline(it, 7)
+                self.check_deadline(it.path, 7)
         self.check(YES, Pam.SUCCESS, VERIFY, environment={"JUMPS": "1"})  # the clock is set
-        busy = Peer(sends(b""), backlog=0)
+        path, busy = ROOM / "busy", socket.socket(socket.AF_UNIX)
+        busy.bind(str(path))
+        busy.listen(0)
         waiting = [socket.socket(socket.AF_UNIX) for _ in range(3)]
         for client in waiting:
             client.setblocking(False)
-            try:
-                client.connect(str(busy.path))
-            except BlockingIOError:
-                pass
-        self.check_deadline(busy, 30)
-        for client in (*waiting, busy.listener):
-            client.close()
+            client.connect_ex(str(path))
+        self.check_deadline(path, 30)
+        for it in (*waiting, busy):
+            it.close()
 
     def test_no_server(self) -> None:
         """Where no server is, the result is that the information isn't available, and at once."""
         plain = ROOM / "plain-file"
         plain.write_text("")
-        gone = Peer(sends(b""))
-        gone.listener.close()
+        gone = peer(sends(b""))
+        gone.server_close()
         unavailable = Pam.AUTHINFO_UNAVAIL
         results = {"authenticate": unavailable, "account": unavailable, "change": Pam.TRY_AGAIN}
         for path in (ROOM / "nothing-here", plain, gone.path, ROOM):
@@ -172,15 +172,15 @@ class Answers(Case):
         """A server that closes while the line is being sent ends nothing but the call."""
 
         def reads_a_byte() -> None:
-            client, _ = it.listener.accept()
+            client, _ = it.socket.accept()
             client.recv(1)
             client.close()
 
-        it = Peer(sends(b""))
+        it = peer(sends(b""))
         threading.Thread(target=reads_a_byte, daemon=True).start()
         said = asked(Question(answers=[b"x" * 256], environment={"PIECES": "1"}), it.path)
         self.assertEqual(said.codes, [Pam.AUTHINFO_UNAVAIL])
-        it.listener.close()
+        it.server_close()
 
     def test_falls_through(self) -> None:
         """A stack goes on to the next module if the server is down, and stops at a wrong password."""
