@@ -118,7 +118,7 @@ def is_open(port: int) -> bool:
 
 
 def pamtester(service: str, user: str, tasks: str, typed: str, status: int, text: str) -> None:
-    words = ["pamtester", service, user, *tasks.split()]
+    words = ["pamtester", "-I", "rhost=192.0.2.7", service, user, *tasks.split()]
     done = subprocess.run(words, input=typed, capture_output=True, text=True, timeout=60)
     said = done.stdout + done.stderr
     same((done.returncode, text in said), (status, True), f"{tasks}: {said}")

@@ -2,15 +2,13 @@
 
 from __future__ import annotations
 
-import concurrent.futures
 import grp
 import pathlib
-import random
 import socket
 import stat
 import subprocess
 
-from served import SECRET, WRONG, Case, Client, Given, as_user, field_of, need, need_root
+from served import SECRET, WRONG, Case, Client, Given, as_user, need, need_root
 
 
 def mode_of(path: pathlib.Path) -> int:
@@ -111,26 +109,20 @@ class Asking(Case):
             self.assertEqual(as_user(4711, gid, room / door, "known ada"), said)
 
     def test_paths_that_are_taken(self) -> None:
-        """A dead socket is replaced; another server's, a file, a group that isn't there end the start."""
-        room = self.room()
-        path = room / "s"
+        """A dead socket is replaced; a file ends the start, and stays."""
+        path = self.room() / "s"
+        words = f"--socket a {path} 0600 - all".split()
         with socket.socket(socket.AF_UNIX) as dead:
             dead.bind(str(path))
-        words = f"--socket a {path} 0600 - all".split()
         service = self.serving(*words)
-        second = self.serving(*words, waits=False)
-        self.assertEqual(second.process.wait(timeout=20), 1)
-        self.assertIn(f"another server has {path}", second.log())
         with Client(path) as client:
             client.talk("known ada -> noaccount")
         service.stop()
         path.unlink()
         path.write_text("precious")
-        for words in (words, f"--socket a {room}/t 0600 nosuchgroup all".split()):
-            third = self.serving(*words, waits=False)
-            self.assertEqual(third.process.wait(timeout=20), 1)
-            self.assertTrue(third.log().startswith("credkeep-server: "), third.log())
-            self.assertNotIn("Traceback", third.log())
+        second = self.serving(*words, waits=False)
+        self.assertEqual(second.process.wait(timeout=20), 1)
+        self.assertIn(f"credkeep-server: {path}: Address already in use\n", second.log())
         self.assertEqual(path.read_text(), "precious")
 
     def test_tags(self) -> None:
@@ -152,31 +144,6 @@ class Asking(Case):
         for line, said in cases:
             one.send(line + "\n")
             self.assertEqual(one.line(), said, repr(line))
-
-    def test_answers_find_their_lines(self) -> None:
-        """Late answers in any order, from a book that also writes noise: each line gets its own."""
-        passwords = {f"user{number}": f"secret{number}" for number in range(8)}
-        for faults in ("late", "late;garbage"):
-            service = self.serving("--tries", "0", "--at-once", "8", faults=faults)
-            service.enrol(**passwords)
-
-            def many(number: int) -> None:
-                chance, ought = random.Random(number), {}
-                with Client(service.path()) as client:
-                    for turn in range(60):
-                        user, guess = chance.randrange(9), chance.randrange(9)
-                        said = "noaccount" if user == 8 else "yes" if user == guess else "no"
-                        ought[f"{number}x{turn}"] = said
-                        password = field_of(f"secret{guess}".encode())
-                        client.send(f"{number}x{turn} verify user{user} {password}\n")
-                    found = dict(line.decode().split(" ") for line in client.lines(60))
-                self.assertEqual(found, ought)
-
-            with concurrent.futures.ThreadPoolExecutor(8) as pool:
-                for done in [pool.submit(many, number) for number in range(8)]:
-                    done.result(60)
-            service.stop()
-            self.assertEqual("answers to no line" in service.log(), "garbage" in faults)
 
     def test_answers_that_are_none(self) -> None:
         """A book's answer that isn't printable text is handed on as unavailable."""

@@ -283,9 +283,9 @@ class Clients(Case):
         asyncio.run(asks())
 
     def test_many_at_once(self) -> None:
-        """Tasks share a connection, threads have one each; each call gets its own answer."""
-        R, service = self.server.Reply, self.serving("--tries", "0", faults="late")
-        service.enrol(**{f"user{number}": f"secret{number}" for number in range(8)})
+        """Tasks share a connection, threads have one each: each call gets its own answer, though
+        answers come in any order, and from a book that also writes noise."""
+        R = self.server.Reply
         pairs = [(number % 8, number % 3) for number in range(400)]
         ought = [R.YES if one == two else R.NO for one, two in pairs]
 
@@ -293,11 +293,16 @@ class Clients(Case):
             asked = (client.verify(f"user{one}", f"secret{two}") for one, two in pairs)
             self.assertEqual(await asyncio.gather(*asked), ought)
 
-        self.run_with(service.path(), used)
-        verify = self.server.Client(service.path()).verify
-        with concurrent.futures.ThreadPoolExecutor(8) as pool:
-            said = pool.map(lambda it: verify(f"user{it[0]}", f"secret{it[1]}"), pairs)
-            self.assertEqual(list(said), ought)
+        for faults in ("late", "late;garbage"):
+            service = self.serving("--tries", "0", faults=faults)
+            service.enrol(**{f"user{number}": f"secret{number}" for number in range(8)})
+            self.run_with(service.path(), used)
+            verify = self.server.Client(service.path()).verify
+            with concurrent.futures.ThreadPoolExecutor(8) as pool:
+                said = pool.map(lambda it: verify(f"user{it[0]}", f"secret{it[1]}"), pairs)
+                self.assertEqual(list(said), ought)
+            service.stop()
+            self.assertEqual("answers to no line" in service.log(), "garbage" in faults)
 
     def test_connections_that_end(self) -> None:
         """After the server has closed or restarted, the next call connects anew."""

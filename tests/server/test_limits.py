@@ -160,29 +160,6 @@ class Limits(Case):
         text = "no more connections at a for uid 0, which has 512"
         self.assertEqual(service.log().count(text), 1)
 
-    def test_turns_beside_floods(self) -> None:
-        """Clients that flood take one turn with one client of another uid, or at another socket; of its own
-        uid and socket it has a turn with each of them."""
-        need_root()
-        room = self.room()
-        for count, uid, door, most in ((30, 4711, "s", 10), (30, 0, "t", 10), (3, 0, "s", 12)):
-            sockets = two_sockets(room, "verify")
-            service = self.serving(*sockets, "--at-once", "2", "--tries", "0", faults="slow=0.02")
-            service.clients = [Client(room / "s") for _ in range(count)]
-            for client in service.clients:
-                client.send("a verify flood -\n" * 500)
-            until(lambda: len(service.asked()) > 10, "the flood")
-            before = len(service.asked())
-            said = as_user(uid, uid, room / door, *["verify zoe -"] * 5)
-            self.assertEqual(said, " ".join(["noaccount"] * 5))
-            asked = service.asked()[before:]
-            ours = [at for at, line in enumerate(asked) if line == "verify zoe -"]
-            between = [later - at - 1 for at, later in zip(ours, ours[1:])]
-            self.assertEqual(len(between), 4)
-            self.assertLessEqual(max(between), most, f"{uid} at {door}")
-            service.process.kill()
-            service.process.wait()
-
     def test_idle_clients(self) -> None:
         """After the idle time a client is closed, also in the midst of a line; one that asks isn't."""
         service = self.serving("--idle", "3")

@@ -210,63 +210,46 @@ class Logs(Case):
         self.assertEqual(done.returncode, 0, done.stdout)
 
 
+# Lines, and whether the audit log has them, with the names and answers that it has.
+AUDITED = """
+admin account ada -> ok | ada ok
+admin enrol ada {secret} -> enrolled | ada enrolled
+login change ada {wrong} {secret} -> wrong | ada wrong
+login change ada {secret} {wrong} -> replaced | ada replaced
+login verify ada {secret} -> no |
+login verify ada {wrong} -> yes | ada yes
+login change hunter2 {secret} {wrong} -> noaccount | None noaccount
+login known ada -> yes |
+admin list - 5 -> names ada |
+login delete ada -> denied |
+admin upgrade ada {wrong} $fast$c=2 -> upgraded | ada upgraded
+admin remove ada {wrong} -> removed | ada removed
+admin reset ada {secret} -> enrolled | ada enrolled
+admin login ada {secret} -> yes | ada yes
+admin load ada $fast$c=1$x$y -> ok | ada ok
+admin rename ada bob -> renamed | ada renamed
+admin disable bob show -> bob:$fast$c=1$x$y | bob disabled
+admin disable bob -> absent | bob absent
+admin delete bob -> deleted | bob deleted
+"""
+
+
 class Audited(Case):
     def test_lines(self) -> None:
         """Each change is a line of JSON, with who asked for it and the answer; right logins are too."""
-        path = self.room() / "audit"
+        path, rows = self.room() / "audit", [it.split(" | ") for it in AUDITED.strip().splitlines()]
         service = self.serving("--audit", str(path), "--tries", "0")
-        service.talk(
-            """
-            admin account ada -> ok
-            admin enrol ada {secret} -> enrolled
-            login change ada {wrong} {secret} -> wrong
-            login change ada {secret} {wrong} -> replaced
-            login verify ada {secret} -> no
-            login verify ada {wrong} -> yes
-            login change hunter2 {secret} {wrong} -> noaccount
-            login known ada -> yes
-            admin list - 5 -> names ada
-            login delete ada -> denied
-            admin upgrade ada {wrong} $fast$c=2 -> upgraded
-            admin remove ada {wrong} -> removed
-            admin reset ada {secret} -> enrolled
-            admin login ada {secret} -> yes
-            admin load ada $fast$c=1$x$y -> ok
-            admin rename ada bob -> renamed
-            admin disable bob show -> bob:$fast$c=1$x$y
-            admin disable bob -> absent
-            admin delete bob -> deleted
-            """
-        )
-        counts = service.stats()
+        service.talk("\n".join(row[0].removesuffix(" |") for row in rows))
+        self.assertEqual(service.stats()["changes"], 10)
         service.stop()
-        self.assertEqual(path.stat().st_mode & 0o777, 0o600)
         lines = noted(path)
-        self.assertEqual(counts["changes"], 10)
         whole = {"door": "admin", "uid": os.getuid(), "pid": os.getpid(), "operation": "account"}
-        self.assertEqual(
-            lines[0], {"time": lines[0]["time"], **whole, "name": "ada", "answer": "ok"}
-        )
+        whole |= {"name": "ada", "answer": "ok", "time": lines[0]["time"]}
+        self.assertEqual((lines[0], path.stat().st_mode & 0o777), (whole, 0o600))
         self.assertRegex(str(lines[0]["time"]), r"^\d{4}-\d\d-\d\dT\d\d:\d\d:\d\dZ$")
-        ought = """
-            admin account ada ok
-            admin enrol ada enrolled
-            login change ada wrong
-            login change ada replaced
-            login verify ada yes
-            login change None noaccount
-            admin upgrade ada upgraded
-            admin remove ada removed
-            admin reset ada enrolled
-            admin login ada yes
-            admin load ada ok
-            admin rename ada renamed
-            admin disable bob disabled
-            admin disable bob absent
-            admin delete bob deleted
-            """
         said = [f"{it['door']} {it['operation']} {it['name']} {it['answer']}" for it in lines]
-        self.assertEqual(said, [it.strip() for it in ought.strip().splitlines()])
+        ought = [" ".join([*row[0].split()[:2], row[1]]) for row in rows if row[1:]]
+        self.assertEqual(said, ought)
         self.assertEqual(lines[11]["new_name"], "bob")
         for secret in (SECRET, WRONG, "secret", "guess", "$fast$", "hunter2"):
             self.assertNotIn(secret, path.read_text())

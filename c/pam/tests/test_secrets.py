@@ -88,17 +88,6 @@ class Secrets(Case):
             said, _ = said_at(b"1 noaccount\n", Question(tasks=task, answers=[PASSWORD] * 3))
             self.assertEqual((said.codes, said.logs), ([Pam.USER_UNKNOWN], []))
 
-    def test_fail2ban(self) -> None:
-        """fail2ban's stock filter finds the host in each line of a failed try."""
-        if shutil.which("fail2ban-regex") is None:
-            raise unittest.SkipTest("fail2ban-regex is not there")
-        for answer in (b"no", b"noaccount", b"later"):
-            said, _ = said_at(b"1 " + answer + b"\n", Question())
-            line = f"Nov 27 04:55:01 mail sshd[4711]: pam_rigzumal(sshd:auth): {said.logs[0]}"
-            words = ["fail2ban-regex", "--out", "ip", line, "pam-generic[__pam_auth=pam_rigzumal]"]
-            done = subprocess.run(words, capture_output=True, text=True, timeout=60)
-            self.assertEqual(done.stdout.split(), ["192.0.2.1"], done.stdout + done.stderr)
-
     def test_threads(self) -> None:
         """Sixteen threads at once: each is answered at its own name and password."""
 
