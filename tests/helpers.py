@@ -12,8 +12,10 @@ import functools
 import itertools
 import os
 import pathlib
+import pty
 import re
 import resource
+import select
 import shlex
 import shutil
 import signal
@@ -22,10 +24,11 @@ import socketserver
 import subprocess
 import sys
 import tempfile
+import termios
 import threading
 import unittest
 from collections import deque
-from collections.abc import Callable, Iterator
+from collections.abc import Callable, Iterable, Iterator
 from concurrent.futures import ThreadPoolExecutor
 from typing import Any, NamedTuple, TypeVar
 
@@ -193,6 +196,50 @@ def in_turn(attempt: Callable[[int], Found | None]) -> Iterator[Found]:
         while (found := running.popleft().result()) is not None:
             running.append(pool.submit(attempt, next(numbers)))
             yield found
+
+
+class Shown(NamedTuple):
+    """A program's status, what its terminal showed, with a bar where something was typed, and
+    whether it echoed then and at the end."""
+
+    status: int
+    text: bytes
+    echoes: list[bool]
+
+
+def at_a_terminal(
+    command: list[str], typed: Iterable[bytes | int], env: dict[str, str] | None = None
+) -> Shown:
+    """Runs a program at a terminal of its own. At each prompt a line is typed, or a signal sent,
+    which is sent again while the program goes on. It is killed at a prompt too many."""
+    pid, terminal = pty.fork()
+    if pid == 0:
+        for number in (signal.SIGHUP, signal.SIGINT, signal.SIGQUIT, signal.SIGTERM):
+            signal.signal(number, signal.SIG_DFL)  # a shell's background would have it ignore them
+        os.execvpe(command[0], command, os.environ if env is None else env)
+    shown, echoes, rest, sent = b"", [], [*typed], 0
+
+    def does_echo() -> bool:
+        return bool(termios.tcgetattr(terminal)[3] & termios.ECHO)
+
+    with contextlib.suppress(OSError):  # the terminal's end
+        while True:
+            if select.select([terminal], [], [], 0.1)[0]:
+                shown += os.read(terminal, 10000)
+            elif shown.rstrip(b" ").endswith((b":", b"]")):
+                echoes.append(does_echo())
+                shown += b"|"
+                if isinstance(it := rest.pop(0) if rest else signal.SIGKILL, bytes):
+                    os.write(terminal, it)
+                else:
+                    sent = it
+            if sent:
+                os.kill(pid, sent)
+    status = os.waitstatus_to_exitcode(os.waitpid(pid, 0)[1])
+    echoes.append(does_echo())
+    os.close(terminal)
+    assert not rest, f"it asked for less: {shown!r}"
+    return Shown(status, shown, echoes)
 
 
 # ---- shims

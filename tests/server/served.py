@@ -89,26 +89,22 @@ def is_listening(path: pathlib.Path) -> bool:
         return it.connect_ex(str(path)) == 0
 
 
-# A user's client: each line is asked, and what comes is printed.
-ASKING = """import socket, sys
-s = socket.socket(socket.AF_UNIX)
-s.settimeout(20)
-try:
-    s.connect(sys.argv[1])
-except PermissionError:
-    sys.exit("not permitted")
-for line in sys.argv[2:]:
-    s.sendall(b"1 " + line.encode() + b"\\n")
-    print(s.recv(100).decode()[2:].strip(), end=" ")
-"""
-
-
 def as_user(uid: int, gid: int, path: pathlib.Path, *lines: str) -> str:
-    """What a user's process is answered at a socket, or the system's refusal."""
-    words = [sys.executable, "-c", ASKING, str(path), *lines]
-    who: dict[str, Any] = {"user": uid, "group": gid, "extra_groups": []}
-    done = subprocess.run(words, capture_output=True, text=True, **who)
-    return (done.stdout or done.stderr).strip()
+    """What a user of one group is answered at a socket, or the system's refusal."""
+    groups = os.getgroups()
+    os.setgroups([])
+    os.setegid(gid)
+    os.seteuid(uid)
+    try:
+        client = Client(path)
+    except PermissionError:
+        return "not permitted"
+    finally:
+        os.seteuid(0)
+        os.setegid(0)
+        os.setgroups(groups)
+    with client:
+        return " ".join(client.ask(it) for it in lines)
 
 
 class Client:
@@ -117,8 +113,12 @@ class Client:
     def __init__(self, path: pathlib.Path) -> None:
         self.socket = socket.socket(socket.AF_UNIX)
         self.socket.settimeout(30)
-        self.socket.connect(str(path))
         self.rest, self.asked = b"", 0
+        try:
+            self.socket.connect(str(path))
+        except OSError:
+            self.close()
+            raise
 
     def send(self, data: bytes | str) -> None:
         self.socket.sendall(data.encode() if isinstance(data, str) else data)

@@ -5,22 +5,15 @@ They need a POSIX shell and stty. A script stands in for credkeep: it notes the 
 
 from __future__ import annotations
 
-import fcntl
-import os
-import pty
-import select
 import signal
 import subprocess
-import termios
-import time
 from collections.abc import Sequence
-from dataclasses import dataclass, field
 
 from served import Case, TOP, need
+from tests.helpers import Shown, at_a_terminal
 
 ASK = TOP / "bin/credkeep-ask"
 SIGNALS = (signal.SIGHUP, signal.SIGINT, signal.SIGQUIT, signal.SIGTERM)
-PROMPT = b": "
 
 # Each word is noted with a bar behind it. `show` says what is in the environment; everything else reads its input and ends with 7.
 STAND_IN = """#!/bin/sh
@@ -48,32 +41,6 @@ ONE, TWO = [b"old\n"], [b"new\n", b"new\n"]
 Typed = Sequence["bytes | int"]  # a line at each prompt, or a signal
 
 
-@dataclass
-class Ended:
-    """How a run ended: its status, what the terminal showed, whether it echoed at each prompt and at the end."""
-
-    status: int
-    shown: bytes
-    echoes: list[bool] = field(default_factory=list)
-    echoes_after: bool = True
-
-
-def does_echo(terminal: int) -> bool:
-    return bool(termios.tcgetattr(terminal)[3] & termios.ECHO)
-
-
-def read(terminal: int, seconds: float) -> bytes:
-    """What a terminal shows within so many seconds."""
-    return os.read(terminal, 10000) if select.select([terminal], [], [], seconds)[0] else b""
-
-
-def at_its_terminal() -> None:
-    """Gives a process its terminal. A shell's background would have it ignore signals."""
-    fcntl.ioctl(0, termios.TIOCSCTTY, 0)
-    for number in SIGNALS:
-        signal.signal(number, signal.SIG_DFL)
-
-
 class CredkeepAsk(Case):
     def setUp(self) -> None:
         """A folder with the stand-in, and with no program but stty: a password would be in the words of another one."""
@@ -90,44 +57,8 @@ class CredkeepAsk(Case):
         named |= {"PATH": f"{self.folder}/bin", "SHOWN": account[0], "STATUS": account[1]}
         return {name: str(it) for name, it in named.items()}
 
-    def asked(self, words: str, typed: Typed, account: Account = RECORD) -> Ended:
-        """Runs it at a terminal of its own."""
-        terminal, inside = pty.openpty()
-        process = subprocess.Popen(
-            [ASK, *words.split("|")],
-            stdin=inside,
-            stdout=inside,
-            stderr=inside,
-            env=self.environment(account),
-            start_new_session=True,
-            preexec_fn=at_its_terminal,
-        )
-        ended, rest, end = Ended(-1, b""), list(typed), time.monotonic() + 30
-        sent, again = 0, end
-        try:
-            while process.poll() is None:
-                if time.monotonic() > again:  # dash reads on if one came just before its read
-                    process.send_signal(sent)
-                self.assertLess(time.monotonic(), end, f"it hangs: {ended.shown!r}")
-                ended.shown += read(terminal, 0.05)
-                if ended.shown.endswith(PROMPT):
-                    self.assertTrue(rest, f"it asks for more: {ended.shown!r}")
-                    ended.echoes.append(does_echo(terminal))
-                    ended.shown += b"|"
-                    if isinstance(next_one := rest.pop(0), int):
-                        sent, again = next_one, time.monotonic() + 1
-                        process.send_signal(sent)
-                    else:
-                        os.write(terminal, next_one)
-            ended.status, ended.echoes_after = process.returncode, does_echo(terminal)
-            ended.shown += read(terminal, 0)
-            self.assertEqual(rest, [], f"not asked for; it showed {ended.shown!r}")
-            return ended
-        finally:
-            process.kill()
-            process.wait()
-            os.close(terminal)
-            os.close(inside)
+    def asked(self, words: str, typed: Typed, account: Account = RECORD) -> Shown:
+        return at_a_terminal([str(ASK), *words.split("|")], typed, self.environment(account))
 
     def without_a_terminal(self, words: str, given: bytes) -> tuple[int, bytes, bytes]:
         done = subprocess.run(
@@ -146,10 +77,10 @@ class CredkeepAsk(Case):
         path.unlink(missing_ok=True)
         return found
 
-    def nothing_was_given(self, ended: Ended, status: int, said: str = "") -> None:
+    def nothing_was_given(self, shown: Shown, status: int, said: str = "") -> None:
         """It ended before credkeep got more than a look at the account."""
-        self.assertEqual((ended.status, ended.echoes_after), (status, True), f"{ended.shown!r}")
-        self.assertIn(said.encode(), ended.shown)
+        self.assertEqual((shown.status, shown.echoes[-1]), (status, True), f"{shown.text!r}")
+        self.assertIn(said.encode(), shown.text)
         self.assertEqual((self.noted("words"), self.noted("given")), (f"{SHOW}\n", ""))
 
     def test_asked(self) -> None:
@@ -165,17 +96,17 @@ class CredkeepAsk(Case):
             ("add", NO_ACCOUNT, TWO, "new\n"),
         ):
             ended = self.asked(f"users.db|{operation}|ada", typed, account)
-            self.assertEqual((ended.status, ended.echoes), (7, [False] * len(typed)), operation)
-            self.assertTrue(ended.shown.endswith(b"it was asked\r\n"), f"{ended.shown!r}")
-            self.assertNotRegex(ended.shown, b"old|new\r", "it shows a password")
+            echoes = [*[False] * len(typed), True]
+            self.assertEqual((ended.status, ended.echoes), (7, echoes), operation)
+            self.assertTrue(ended.text.endswith(b"it was asked\r\n"), f"{ended.text!r}")
+            self.assertNotRegex(ended.text, b"old|new\r", "it shows a password")
             self.assertEqual(self.noted("words"), f"{SHOW}\nusers.db|{operation}|ada|\n")
             self.assertEqual(self.noted("given"), given, operation)
             self.assertNotRegex(self.noted("environment"), "old|new")
-            self.assertTrue(ended.echoes_after, operation)
 
     def test_prompts(self) -> None:
         """What it asks for, in these words and this order."""
-        shown = self.asked("users.db|change|ada", ONE + TWO).shown
+        shown = self.asked("users.db|change|ada", ONE + TWO).text
         ought = b"Password: |\r\nNew password: |\r\nThe same again: |\r\nit was asked\r\n"
         self.assertEqual(shown, ought)
 
@@ -193,7 +124,7 @@ class CredkeepAsk(Case):
             ("reset", ("", 1), 1, ""),
         ):
             ended = self.asked(f"users.db|{operation}|ada", [], account)
-            self.assertEqual(ended.shown.strip(), said.encode(), f"{operation} {account}")
+            self.assertEqual(ended.text.strip(), said.encode(), f"{operation} {account}")
             self.nothing_was_given(ended, status)
 
     def test_words(self) -> None:
@@ -256,7 +187,7 @@ class CredkeepAsk(Case):
         for number in SIGNALS:
             for before in ([], ONE):
                 ended = self.asked("users.db|change|ada", [*before, number])
-                self.assertFalse(ended.echoes[-1])
+                self.assertFalse(ended.echoes[-2])
                 self.nothing_was_given(ended, 128 + number)
 
     def test_no_terminal(self) -> None:

@@ -8,14 +8,10 @@ or by BOOK=fast.
 from __future__ import annotations
 
 import contextlib
-import os
 import pathlib
-import pty
-import select
 import socket
 import subprocess
 import threading
-import time
 from collections.abc import Iterator
 from typing import Any
 
@@ -34,6 +30,7 @@ from machine import (
     started,
 )
 from served import PYTHON, Case, Client, need, until
+from tests.helpers import at_a_terminal
 
 # Connects 1,100 times, and asks at 400 of these without end.
 FLOOD = """import socket, sys, time
@@ -74,24 +71,6 @@ def logged() -> Iterator[list[str]]:
         with socket.socket(socket.AF_UNIX, socket.SOCK_DGRAM) as end:
             end.sendto(b"", "/dev/log")
         reading.join()
-
-
-def at_a_terminal(words: str, typed: list[str]) -> tuple[str, int]:
-    """What a program shows at a terminal at which these lines are typed at its prompts, and its status."""
-    pid, terminal = pty.fork()
-    if pid == 0:
-        os.execvp(words.split()[0], words.split())
-    shown, seen, rest, end = b"", 0, list(typed), time.monotonic() + 60
-    with contextlib.suppress(OSError):  # the terminal's end
-        while time.monotonic() < end:
-            if select.select([terminal], [], [], 0.3)[0]:
-                shown += os.read(terminal, 1000)
-            elif rest and shown[seen:].rstrip().endswith((b":", b"]")):
-                seen = len(shown)
-                os.write(terminal, rest.pop(0).encode() + b"\n")
-    status = os.waitstatus_to_exitcode(os.waitpid(pid, 0)[1])
-    os.close(terminal)
-    return shown.decode(errors="replace"), status
 
 
 class Logins(Case):
@@ -176,17 +155,17 @@ class Logins(Case):
         server = started(room)
         install_stack("/etc/pam.d/common-password")
         own = "setpriv --reuid {} --regid people --clear-groups passwd"
-        one, two, three = "fresh word1", "fresh word2", "fresh word3"
+        one, two = "fresh word1", "fresh word2"
         for words, typed, status in (
             ("passwd eve", [one, one], 0),
             (own.format("eve"), [one, two, two], 0),
-            (own.format("eve"), [one, three, three], 10),
-            ("adduser --gecos x zed", [two, two, "y"], 0),
+            (own.format("eve"), [one], 10),
+            ("adduser --gecos x zed", [two, two], 0),
             (own.format("ada"), ["secret", "wordy", "wordy"], 0),
-            ("passwd ada", ["secret", "wordy", "wordy"], 10),
+            ("passwd ada", ["secret"], 10),
         ):
-            said, ended = at_a_terminal(words, typed)
-            self.assertEqual(ended, status, f"{words}: {said}")
+            shown = at_a_terminal(words.split(), [f"{it}\n".encode() for it in typed])
+            self.assertEqual(shown.status, status, f"{words}: {shown.text!r}")
         lets_in("both", "eve", two)
         lets_in("both", "zed", two)
         lets_in("both", "ada", "wordy")

@@ -9,30 +9,19 @@ environment is how long it goes on (60, with a kill every three), TORTURE_SEED i
 
 from __future__ import annotations
 
-import asyncio
+import concurrent.futures
 import itertools
 import math
 import os
+import pathlib
 import random
 import signal
 import sys
 import time
 import unittest
-from dataclasses import dataclass
 from typing import Optional
 
-from served import (
-    CHEAP,
-    FAST_BOOK,
-    TOP,
-    Case,
-    Client,
-    Given,
-    Service,
-    chosen_book,
-    field_of,
-    until,
-)
+from served import CHEAP, FAST_BOOK, TOP, Case, Client, Given, Service, chosen_book, field_of
 
 sys.path.insert(0, str(TOP / "python"))
 try:
@@ -46,32 +35,6 @@ SEED = int(os.environ.get("TORTURE_SEED", "1"))
 NAMES = [f"user{number}" for number in range(8)]
 MIX = {"verify": 8, "login": 3, "change": 4, "enrol": 3, "remove": 1, "upgrade": 2}
 LOGIN = frozenset(("verify", "change"))
-
-
-@dataclass
-class Running:
-    """The server, which is started again whenever it has ended."""
-
-    given: Given
-    service: Service
-
-    async def keep(self) -> None:
-        while True:
-            if self.service.process.poll() is not None:
-                self.service = self.given.begun()
-            await asyncio.sleep(0.02)
-
-    def kill(self, kind: str) -> bool:
-        """Kills the book, the server or both; false if there is none just now."""
-        try:
-            book = self.service.book_pid()
-        except (OSError, IndexError):
-            return False
-        if kind in ("book", "both"):
-            os.kill(book, signal.SIGKILL)
-        if kind in ("front", "both"):
-            self.service.process.kill()
-        return True
 
 
 class Log:
@@ -117,19 +80,19 @@ def record_of(password: Optional[str]) -> Optional[str]:
 class Asking:
     """A client: an operation after another, each on the connection that there is."""
 
-    def __init__(self, running: Running, log: Log, chance: random.Random, number: int) -> None:
-        self.running, self.log, self.chance, self.number = running, log, chance, number
-        self.connections: dict[str, tuple[asyncio.StreamReader, asyncio.StreamWriter]] = {}
+    def __init__(self, folder: pathlib.Path, log: Log, chance: random.Random, number: int) -> None:
+        self.folder, self.log, self.chance, self.number = folder, log, chance, number
+        self.clients = dict[str, Client]()
 
-    async def go(self, end: float) -> None:
+    def go(self, end: float) -> None:
         for turn in itertools.count():
             if time.monotonic() > end:
                 break
-            await self.one(f"c{self.number}.{turn}")
-        for _, writer in self.connections.values():
-            writer.close()
+            self.one(f"c{self.number}.{turn}")
+        for client in self.clients.values():
+            client.close()
 
-    async def one(self, made: str) -> None:
+    def one(self, made: str) -> None:
         name = self.chance.choice(NAMES)
         kind = self.chance.choices(list(MIX), list(MIX.values()))[0]
         known = self.log.passwords[name]
@@ -138,41 +101,30 @@ class Asking:
         fields = [field_of(word.encode()) for word in (password, new) if word]
         judged = {"login": "verify"}.get(kind, kind)
         operation = Operation(made, judged, password, time.monotonic(), new_password=new)
-        door = "login" if kind in LOGIN else "admin"
-        said = await self.answer(door, " ".join([kind, name, *fields]))
+        said = self.answer("login" if kind in LOGIN else "admin", " ".join([kind, name, *fields]))
         self.log.note(name, operation, said)
 
-    async def answer(self, door: str, line: str) -> Optional[str]:
+    def answer(self, door: str, line: str) -> Optional[str]:
         """What is answered, or none if the connection ends first."""
-        path = str(self.running.service.path(door))
-        while door not in self.connections:
+        while door not in self.clients:
             try:
-                self.connections[door] = await asyncio.open_unix_connection(path)
+                self.clients[door] = Client(self.folder / f"{door}.sock")
             except OSError:
-                await asyncio.sleep(0.02)
-        reader, writer = self.connections[door]
+                time.sleep(0.02)
         try:
-            writer.write(f"1 {line}\n".encode())
-            said = await asyncio.wait_for(reader.readline(), 60)
-        except (OSError, asyncio.IncompleteReadError):
-            said = b""
-        if not said.startswith(b"1 ") or not said.endswith(b"\n"):
-            del self.connections[door]
-            writer.close()
+            return self.clients[door].ask(line)
+        except (OSError, AssertionError):  # it ended, or amid an answer
+            self.clients.pop(door).close()
             return None
-        return said[2:-1].decode()
 
 
-async def killing(running: Running, chance: random.Random, kills: int, seconds: float) -> int:
-    """Kills so many times within the seconds; returns how often."""
-    done = 0
-    for number in range(kills):
-        await asyncio.sleep(seconds / kills * (0.5 + chance.random() / 2))
-        end = time.monotonic() + seconds / 4
-        while not running.kill(("book", "front", "both")[number % 3]) and time.monotonic() < end:
-            await asyncio.sleep(0.05)
-        done += time.monotonic() < end
-    return done
+def kill(service: Service, kind: str) -> None:
+    """Kills the book, the server or both, until the server has ended."""
+    if kind in ("book", "both"):
+        os.kill(service.book_pid(), signal.SIGKILL)
+    if kind in ("front", "both"):
+        service.process.kill()
+    service.process.wait(60)
 
 
 def stands(service: Service, log: Log, name: str) -> Optional[str]:
@@ -209,36 +161,26 @@ def judged(service: Service, log: Log) -> int:
     return sum(map(len, (*log.operations.values(), *log.denials.values())))
 
 
-def names_stand(service: Service) -> bool:
-    """Whether the server answers, and has each name; it may have ended just now."""
+def tortured(given: Given, seconds: float, kills: int) -> int:
+    """How many operations had a legal history, while so many kills were done."""
+    chance, log, service = random.Random(SEED), Log(), given.begun().wait_until_started()
     try:
-        with Client(service.path("admin")) as admin:
-            said = [admin.ask(f"known {name}") for name in NAMES]
-    except (OSError, AssertionError):
-        return False
-    if "noaccount" in said:
-        raise Illegal("a name is gone", [])
-    return set(said) <= {"yes", "absent"}
-
-
-async def tortured(given: Given, seconds: float, kills: int) -> tuple[int, int]:
-    """How many operations were legal, and how often something was killed."""
-    chance, log = random.Random(SEED), Log()
-    running = Running(given, given.begun().wait_until_started())
-    running.service.talk("".join(f"admin account {name} -> ok\n" for name in NAMES))
-    keeping = asyncio.ensure_future(running.keep())
-    try:
-        seeds = [random.Random(chance.random()) for _ in range(64)]
-        clients = [Asking(running, log, own, number) for number, own in enumerate(seeds)]
-        end = time.monotonic() + seconds
-        killed, *_ = await asyncio.gather(
-            killing(running, chance, kills, seconds), *(it.go(end) for it in clients)
-        )
-        await asyncio.to_thread(until, lambda: names_stand(running.service), "all names", 60.0)
-        return await asyncio.to_thread(judged, running.service, log), killed
+        service.talk("".join(f"admin account {name} -> ok\n" for name in NAMES))
+        chances, end = [
+            random.Random(chance.random()) for _ in range(64)
+        ], time.monotonic() + seconds
+        clients = [Asking(given.folder, log, own, number) for number, own in enumerate(chances)]
+        with concurrent.futures.ThreadPoolExecutor(64) as pool:
+            asking = [pool.submit(it.go, end) for it in clients]
+            for number in range(kills):
+                time.sleep(seconds / kills * (0.5 + chance.random() / 2))
+                kill(service, ("book", "front", "both")[number % 3])
+                service = given.begun().wait_until_started()
+            for it in asking:
+                it.result()
+        return judged(service, log)
     finally:
-        keeping.cancel()
-        running.service.end()
+        service.end()
 
 
 class Torture(Case):
@@ -250,13 +192,11 @@ class Torture(Case):
         costs = () if program == FAST_BOOK else ("--setting", CHEAP)
         options = ("--tries", "0", "--at-once", "8", *costs)
         given = Given(self.room(), options, "late", program)
-        count, killed = asyncio.run(tortured(given, SECONDS, kills))
-        self.assertGreater(count, 10 * SECONDS)
-        self.assertGreaterEqual(killed, kills // 2)
+        self.assertGreater(tortured(given, SECONDS, kills), 10 * SECONDS)
 
     def test_books_that_lie(self) -> None:
         """A book that loses changes, or lets everybody in, is found out."""
         for faults in ("loses=5", "answers=yes"):
             given = Given(self.room(), ("--tries", "0", "--at-once", "8"), faults)
             with self.assertRaises(Illegal, msg=faults):
-                asyncio.run(tortured(given, 5, 2))
+                tortured(given, 5, 2)
