@@ -8,6 +8,7 @@ import enum
 import os
 import pathlib
 import shutil
+import signal
 import socket
 import subprocess
 import sys
@@ -97,7 +98,7 @@ class Said:
     results: list[tuple[str, int]] = field(default_factory=list)
     prompts: list[str] = field(default_factory=list)
     logs: list[str] = field(default_factory=list)
-    numbers: dict[str, int] = field(default_factory=dict)
+    looks: list[list[int]] = field(default_factory=list)  # how often what was looked for was found
     seconds: float = 0.0
 
     @property
@@ -117,6 +118,7 @@ class Question:
     environment: dict[str, str] = field(default_factory=dict)
     build: Build = CHECKED
     service: str = ""
+    looked_for: Sequence[bytes] = ()  # in its memory, as each call ends, and at the end of all
 
 
 def asked(question: Question, path: pathlib.Path) -> Said:
@@ -130,29 +132,45 @@ def asked(question: Question, path: pathlib.Path) -> Said:
     (folder / "other").write_text("auth required pam_deny.so\n")
     (folder / "test").write_text(question.service.format(module=f"{module} {options}") or default)
     command = [*question.build.runner, str(question.build.driver()), str(folder), "test"]
-    before = time.monotonic()
-    done = subprocess.run(
-        [*command, question.user, *question.tasks.split()],
-        input="".join(f"{it.hex()}\n" for it in question.answers).encode(),
-        capture_output=True,
-        env={**os.environ, "ASAN_OPTIONS": "detect_leaks=1", **question.environment},
-        timeout=120,
-    )
-    text = done.stdout.decode(errors="replace")
-    if done.returncode:
-        raise AssertionError(f"{text}{done.stderr.decode(errors='replace')}")
-    said = Said(seconds=time.monotonic() - before)
+    environment = {**os.environ, "ASAN_OPTIONS": "detect_leaks=1", **question.environment}
+    if question.looked_for:
+        environment["STOPS"] = "1"
+    words = [*command, question.user, *question.tasks.split()]
+    pipe, said, before = subprocess.PIPE, Said(), time.monotonic()
+    with subprocess.Popen(words, stdin=pipe, stdout=pipe, stderr=pipe, env=environment) as run:
+        assert run.stdin and run.stdout and run.stderr
+        run.stdin.write("".join(f"{it.hex()}\n" for it in question.answers).encode())
+        run.stdin.close()
+        while os.WIFSTOPPED(status := os.waitpid(run.pid, os.WUNTRACED)[1]):
+            said.looks.append(found_in(run.pid, question.looked_for))
+            run.send_signal(signal.SIGCONT)
+        run.returncode, said.seconds = os.waitstatus_to_exitcode(status), time.monotonic() - before
+        text, faults = (it.read().decode(errors="replace") for it in (run.stdout, run.stderr))
+    if run.returncode:
+        raise AssertionError(f"{text}{faults}")
     for line in text.splitlines():
         word, _, rest = line.partition(" ")
         if word in ("prompt", "log"):
             (said.prompts if word == "prompt" else said.logs).append(rest)
-        elif word in ("open", "found", "inside"):
-            said.numbers[word] = int(rest)
         else:
             said.results.append((word, int(rest)))
-    if said.numbers["open"]:
+    if said.results.pop() != ("open", 0):
         raise AssertionError("files stay open, or a child's program has them")
     return said
+
+
+def found_in(pid: int, needles: Sequence[bytes]) -> list[int]:
+    """How often each of these is in the memory of a process that may be written."""
+    counts = [0] * len(needles)
+    with open(f"/proc/{pid}/mem", "rb", buffering=0) as memory:
+        for line in pathlib.Path(f"/proc/{pid}/maps").read_text().splitlines():
+            places, rights = line.split()[:2]
+            if "w" in rights and "[v" not in line:
+                first, last = (int(it, 16) for it in places.split("-"))
+                memory.seek(first)
+                found = memory.read(last - first)
+                counts = [count + found.count(it) for count, it in zip(counts, needles)]
+    return counts
 
 
 def peer(reply: Callable[[bytes, socket.socket], None]) -> helpers.Peer:

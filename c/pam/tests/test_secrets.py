@@ -18,45 +18,30 @@ PASSWORD = b"correct horse battery staple!"
 ENCODED = base64.b64encode(PASSWORD).rstrip(b"=")
 
 
-def turned(needle: bytes) -> str:
-    """Bytes as the driver wants them, so that they aren't in its memory."""
-    return bytes(byte ^ 1 for byte in needle).hex()
-
-
 class Secrets(Case):
     def test_cleared(self) -> None:
         """As a call ends the line that it sent is cleared; after it no password is in memory, plain
         or encoded."""
-        parts = (ENCODED, ENCODED[:24], ENCODED[-24:])
-        looks = [("LOOK", it) for it in (PASSWORD, *parts)]
-        looks += [("LOOK_INSIDE", it) for it in parts]
-        single, triple = [PASSWORD], [b"secret", PASSWORD, PASSWORD]
-        for variable, needle in looks:
-
-            def check(answer: bytes | None, tasks: str, given: list[bytes], calls: int) -> None:
-                look = {variable: turned(needle)}
-                question = Question(tasks=tasks, answers=given, environment=look, build=PLAIN)
-                if answer is None:
-                    said = asked(question, ROOM / "nothing-here")
-                else:
-                    replies = answers(change=answer) if tasks == "change" else sends(answer)
-                    with peer(replies) as it:
-                        said = asked(question, it.path)
-                wanted = {"found": 0} if variable == "LOOK" else {"inside": 1000 * calls}
-                self.assertEqual(said.numbers, {"open": 0, **wanted}, f"{tasks} {answer!r}")
-
+        needles = (ENCODED, ENCODED[:24], ENCODED[-24:], PASSWORD)
+        for tasks, given, calls in (
+            ("authenticate", [PASSWORD], 1),
+            ("change", [b"secret", PASSWORD, PASSWORD], 4),
+        ):
+            question = Question(tasks=tasks, answers=given, build=PLAIN, looked_for=needles)
+            looks = [asked(question, ROOM / "nothing-here").looks] if calls == 1 else []
             for answer in (b"1 yes\n", b"1 no\n", b"2 yes\n", b""):
-                check(answer, "authenticate", single, 1)
-                check(answer, "change", triple, 4)
-            check(None, "authenticate", single, 1)
+                with peer(answers(change=answer) if calls > 1 else sends(answer)) as it:
+                    looks.append(asked(question, it.path).looks)
+            for found in looks:
+                self.assertEqual([it[:3] for it in found], [[0, 0, 0]] * (calls + 1), tasks)
+                self.assertEqual(found[-1], [0] * 4, tasks)
 
     def test_looking_finds(self) -> None:
         """The search above finds bytes that are there: the socket's path."""
         with peer(sends(b"1 yes\n")) as it:
-            path = turned(str(it.path).encode())
-            looks = {"LOOK": path, "LOOK_INSIDE": path}
-            numbers = asked(Question(environment=looks, build=PLAIN), it.path).numbers
-            self.assertTrue(numbers["found"] > 0 and numbers["inside"] > 1000, numbers)
+            question = Question(build=PLAIN, looked_for=[str(it.path).encode()])
+            inside, after = asked(question, it.path).looks
+            self.assertTrue(inside > [0] and after > [0], f"{inside}, {after}")
 
     def test_logs(self) -> None:
         """Failed tries are logged in pam_unix's form: with the name only if the book has it, and no
