@@ -12,7 +12,7 @@ it only appends to, a line for each change. In the environment BOOK_FAULTS has w
     dies=N          it ends with status 5 once it has N answers, amid another, whose line end is missing
     killed=N        the same, by a signal
     mute=WORD       lines with this operation are never answered
-    endless         its first answer to a verify has no end
+    endless         before each answer to a verify it writes a line of 4 MiB
     answers=TEXT    each verify is answered by TEXT
     loses=N         each Nth change is answered, and not kept
     opens=S         it takes so many seconds until it answers
@@ -65,30 +65,28 @@ def tag_of(password: bytes, salt: str) -> str:
 
 
 class Book:
-    """Names, and a record or none at each; every change is in the file before it is answered."""
+    """Names, and a record or an empty text at each; a change is in the file before it is answered."""
 
     def __init__(self, path: str, costs: str) -> None:
-        self.costs, self.records = costs, dict[str, Optional[str]]()
-        self.loses, self.puts = int(FAULTS.get("loses", "0")), 0
+        self.costs, self.records = costs, dict[str, str]()
+        self.loses, self.puts = int(FAULTS.get("loses", "0")), itertools.count(1)
         self.file = open(path, "a+b", buffering=0)
         fcntl.flock(self.file, fcntl.LOCK_EX)
         self.file.seek(0)
         for line in self.file.read().decode().splitlines():
-            name, _, record = line.partition(" ")
-            self.records[name] = record or None
-            if record == "gone":
-                del self.records[name]
+            self.set(*line.split(" "))
 
-    def put(self, name: str, record: Optional[str]) -> None:
-        self.puts += record is not None
-        if record and self.loses and self.puts % self.loses == 0:
-            return
+    def set(self, name: str, record: str) -> None:
         self.records[name] = record
-        self.file.write(f"{name} {record or ''}\n".encode())
+        if record == "gone":
+            del self.records[name]
 
-    def remove(self, name: str) -> None:
-        del self.records[name]
-        self.file.write(f"{name} gone\n".encode())
+    def put(self, name: str, record: str, said: str) -> str:
+        """Keeps a record, none or "gone", and returns what is said."""
+        if not (self.loses and record[:1] == "$" and next(self.puts) % self.loses == 0):
+            self.set(name, record)
+            self.file.write(f"{name} {record}\n".encode())
+        return said
 
     def made(self, password: bytes, setting: str) -> str:
         """A record of a password; the setting may end before its salt."""
@@ -96,10 +94,6 @@ class Book:
         if setting.count("$") > 2:
             salt = setting[len(self.costs) + 1 :]
         return f"{costs}${salt}${tag_of(password, salt)}"
-
-    def is_right(self, record: str, password: bytes) -> bool:
-        salt, tag = record.split("$")[-2:]
-        return tag_of(password, salt) == tag
 
     def answer(self, words: list[str]) -> str:
         operation, *fields = words
@@ -127,56 +121,53 @@ class Book:
 
     def done(self, operation: str, fields: list[str], plain: list[bytes], setting: str) -> str:
         name, record = fields[0], self.records.get(fields[0])
-        if operation == "account":
-            if name in self.records:
-                return "bad 1 exists"
-            self.put(name, None)
-            return "ok"
-        if name not in self.records:
-            return "bad 5 noaccount" if operation in ("show", "load") else "noaccount"
-        if operation == "show":
-            return record or "none"
-        if operation == "load":
-            self.put(name, fields[1])
-            return "ok"
-        if operation == "delete":
-            self.remove(name)
-            return "deleted"
-        if operation == "rename":
-            if fields[1] in self.records:
+        match operation:
+            case "account":
+                return self.put(name, "", "ok") if record is None else "bad 1 exists"
+            case "show" | "load" if record is None:
+                return "bad 5 noaccount"
+            case _ if record is None:
+                return "noaccount"
+            case "show":
+                return record or "none"
+            case "load":
+                return self.put(name, fields[1], "ok")
+            case "delete":
+                return self.put(name, "gone", "deleted")
+            case "rename" if fields[1] in self.records:
                 return "exists"
-            self.put(fields[1], record)
-            self.remove(name)
-            return "renamed"
-        if operation == "reset" or (operation == "enrol" and record is None):
-            self.put(name, self.made(plain[0], setting))
-            return "enrolled" if record is None else "replaced"
-        if record is None:
-            return "absent"
-        if operation == "disable":
-            self.put(name, None)
-            return "disabled"
-        if operation == "enrol":
-            return "exists"
-        return self.at_record(operation, name, record, plain, setting)
+            case "rename":
+                self.put(fields[1], record, "")
+                return self.put(name, "gone", "renamed")
+            case "reset" | "enrol" if not record:
+                return self.put(name, self.made(plain[0], setting), "enrolled")
+            case "reset":
+                return self.put(name, self.made(plain[0], setting), "replaced")
+            case "enrol":
+                return "exists"
+            case _ if not record:
+                return "absent"
+            case "disable":
+                return self.put(name, "", "disabled")
+        return self.judged(operation, name, record, plain, setting)
 
-    def at_record(
+    def judged(
         self, operation: str, name: str, record: str, plain: list[bytes], setting: str
     ) -> str:
-        right = self.is_right(record, plain[0])
-        if operation in ("verify", "login"):
-            if right and operation == "login" and not record.startswith(self.costs + "$"):
-                self.put(name, self.made(plain[0], ""))
-            return "yes" if right else "no"
-        if not right:
-            return "wrong"
-        if operation == "remove":
-            self.put(name, None)
-            return "removed"
-        if operation == "upgrade" and record.startswith((setting or self.costs) + "$"):
-            return "kept"
-        self.put(name, self.made(plain[-1], setting))
-        return "replaced" if operation == "change" else "upgraded"
+        salt, tag = record.split("$")[-2:]
+        match operation:
+            case _ if tag_of(plain[0], salt) != tag:
+                return "no" if operation in ("verify", "login") else "wrong"
+            case "login" if not record.startswith(f"{self.costs}$"):
+                return self.put(name, self.made(plain[0], ""), "yes")
+            case "verify" | "login":
+                return "yes"
+            case "remove":
+                return self.put(name, "", "removed")
+            case "upgrade" if record.startswith(f"{setting or self.costs}$"):
+                return "kept"
+        said = "replaced" if operation == "change" else "upgraded"
+        return self.put(name, self.made(plain[-1], setting), said)
 
 
 WRITTEN = itertools.count()
@@ -190,7 +181,7 @@ def write(operation: str, tag: str, said: str) -> None:
             os.write(1, f"{tag} {said}".encode())
             os.kill(os.getpid(), signal.SIGKILL) if word == "killed" else os._exit(5)
     if "endless" in FAULTS and operation == "verify":
-        os.write(1, b"x" * (4 << 20))
+        os.write(1, b"x" * (4 << 20) + b"\n")
     if "garbage" in FAULTS:
         os.write(1, random.choice(NOISE))
     os.write(1, f"{tag} {said}\n".encode())

@@ -14,19 +14,15 @@ import urllib.request
 
 from machine import (
     PAGE,
-    begun,
     commands_on_page,
     in_namespaces,
     install,
     is_open,
-    keeps_out,
-    lets_in,
     on_page,
     shell,
     started,
 )
 from served import Case, Service, need, same, until
-from tests.helpers import need_module
 
 POSTFIX = "inet_interfaces=127.0.0.1 inet_protocols=ipv4 alias_maps= myhostname=mail.example.org"
 POSTFIX += " mydestination=localhost maillog_file=/var/log/postfix.log"
@@ -184,13 +180,6 @@ class Sites(Case):
         shell(f"{taken} cid")
         for user, status in (("cid:new", 200), ("cid:old", 401), ("dan:old", 200)):
             self.assertEqual(fetched(user, 8082, 1), {status: 1}, user)
-        server.stop()
-        need_module("passlib")
-        install("/etc/pam.d/book")
-        begun("--foreign", str(old))
-        keeps_out("book", "dan", "new")
-        lets_in("book", "dan", "old", "authenticate acct_mgmt")
-        self.assertEqual([it[:4] for it in old.read_text().splitlines()], ["eli:"])
 
     @in_namespaces
     def test_apache(self, room: pathlib.Path) -> None:

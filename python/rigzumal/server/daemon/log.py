@@ -63,6 +63,11 @@ def notify(text: str) -> None:
             it.sendto(text.encode(), "\0" + path[1:] if path[0] == "@" else path)
 
 
+def private(path: str, flags: int) -> int:
+    """Opens a file for its owner alone, and no link."""
+    return os.open(path, flags | os.O_NOFOLLOW, 0o600)
+
+
 class Audit:
     """A JSON line for each change, on the disk before the change is answered.
 
@@ -93,14 +98,9 @@ class Audit:
                 return False
 
     def append(self, text: bytes) -> None:
-        flags = os.O_WRONLY | os.O_APPEND | os.O_CREAT | os.O_CLOEXEC | os.O_NOFOLLOW
-        file = os.open(self.path, flags, 0o600)
-        try:
-            text = b"\n" + text if self.is_torn and text else text
+        with open(self.path, "ab", opener=private) as file:
+            file.write(b"\n" + text if self.is_torn and text else text)
             self.is_torn = self.is_torn or bool(text)
-            while text:
-                text = text[os.write(file, text) :]
-            os.fdatasync(file)
+            file.flush()
+            os.fdatasync(file.fileno())
             self.is_torn = False
-        finally:
-            os.close(file)
