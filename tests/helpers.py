@@ -4,8 +4,6 @@ and shims that stand before the C library.
 RIGZUMAL_TIMES=N makes N times as many kills and random operations as the gate does.
 """
 
-from __future__ import annotations
-
 import atexit
 import contextlib
 import functools
@@ -76,7 +74,7 @@ class Peer(socketserver.ThreadingUnixStreamServer):
             self.lines.append(line)
             self.reply(line, request)
 
-    def __enter__(self) -> Peer:
+    def __enter__(self) -> "Peer":
         threading.Thread(target=self.serve_forever, args=(0.01,), daemon=True).start()
         return self
 

@@ -11,8 +11,6 @@ namespaces of its own. `--fast` takes the tests' book, whose hashes cost nothing
 machine that does nothing else.
 """
 
-from __future__ import annotations
-
 import argparse
 import asyncio
 import concurrent.futures

@@ -1,7 +1,5 @@
 """bin/credkeep-server with a clock of the tests for failed tries: the file that CLOCK names has its seconds."""
 
-from __future__ import annotations
-
 import os
 import pathlib
 import sys

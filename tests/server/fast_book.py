@@ -20,8 +20,6 @@ it only appends to, a line for each change. In the environment BOOK_FAULTS has w
 BOOK_LOG names a file to which each line that came is appended, without its tag.
 """
 
-from __future__ import annotations
-
 import base64
 import fcntl
 import hashlib

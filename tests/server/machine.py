@@ -1,7 +1,5 @@
 """A machine of its own for Debian's programs: namespaces, layers over its folders, the PAM module, a server."""
 
-from __future__ import annotations
-
 import functools
 import os
 import pathlib

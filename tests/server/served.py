@@ -1,7 +1,5 @@
 """What the tests of the server share: a server in a temporary folder, and clients of it."""
 
-from __future__ import annotations
-
 import base64
 import os
 import pathlib
@@ -38,7 +36,7 @@ SECRET, WRONG, FRESH = field_of(b"secret"), field_of(b"guess"), field_of(b"fresh
 
 
 class Case(helpers.Case):
-    def serving(self, *options: str, waits: bool = True, **fields: Any) -> Service:
+    def serving(self, *options: str, waits: bool = True, **fields: Any) -> "Service":
         """A server that runs until the test ends."""
         folder = fields.pop("folder", None) or self.room()
         service = Given(folder, options, **fields).begun()
@@ -160,7 +158,7 @@ class Client:
     def close(self) -> None:
         self.socket.close()
 
-    def __enter__(self) -> Client:
+    def __enter__(self) -> "Client":
         return self
 
     def __exit__(self, *_: object) -> None:
@@ -193,7 +191,7 @@ class Given:
             words += ["--socket", "admin", f"{at}/admin.sock", "0600", "-", "all"]
         return [*words, *self.options, str(self.path())]
 
-    def begun(self) -> Service:
+    def begun(self) -> "Service":
         """Starts it, over a book that is made if there is none."""
         if self.program != FAST_BOOK and not self.path().exists():
             subprocess.run([self.program, self.path(), "init"], check=True)
@@ -214,7 +212,7 @@ class Service:
     process: subprocess.Popen[bytes]
     clients: list[Client] = field(default_factory=list)
 
-    def wait_until_started(self) -> Service:
+    def wait_until_started(self) -> "Service":
         process = self.process
         until(lambda: "start: " in self.log() or process.poll() is not None, "start", 60)
         assert process.poll() is None, f"it ended: {self.log()}"

@@ -3,8 +3,6 @@
 They need a POSIX shell and stty. A script stands in for credkeep: it notes the words and the input that it is given.
 """
 
-from __future__ import annotations
-
 import signal
 import subprocess
 from collections.abc import Sequence
@@ -98,17 +96,12 @@ class CredkeepAsk(Case):
             ended = self.asked(f"users.db|{operation}|ada", typed, account)
             echoes = [*[False] * len(typed), True]
             self.assertEqual((ended.status, ended.echoes), (7, echoes), operation)
-            self.assertTrue(ended.text.endswith(b"it was asked\r\n"), f"{ended.text!r}")
-            self.assertNotRegex(ended.text, b"old|new\r", "it shows a password")
+            prompts = b"Password: |\r\n" * (typed[0] in ONE)
+            prompts += b"New password: |\r\nThe same again: |\r\n" * (typed[-1] in TWO)
+            self.assertEqual(ended.text, prompts + b"it was asked\r\n")
             self.assertEqual(self.noted("words"), f"{SHOW}\nusers.db|{operation}|ada|\n")
             self.assertEqual(self.noted("given"), given, operation)
             self.assertNotRegex(self.noted("environment"), "old|new")
-
-    def test_prompts(self) -> None:
-        """What it asks for, in these words and this order."""
-        shown = self.asked("users.db|change|ada", ONE + TWO).text
-        ought = b"Password: |\r\nNew password: |\r\nThe same again: |\r\nit was asked\r\n"
-        self.assertEqual(shown, ought)
 
     def test_not_asked(self) -> None:
         """Where no password would help, credkeep's answer is told at once."""
@@ -169,26 +162,19 @@ class CredkeepAsk(Case):
             self.assertEqual(ended.status, 7, repr(line))
             self.assertEqual(self.noted("given"), f"{line}\n" * 2)
 
-    def test_differing(self) -> None:
-        """Two new passwords that differ go nowhere."""
-        for second in (b"new2\n", b"ne\n", b"New\n", b"\n", b"new \n"):
-            ended = self.asked("users.db|change|ada", [*ONE, b"new\n", second])
-            self.nothing_was_given(ended, 6, "credkeep-ask: the two new passwords differ")
-
-    def test_ends(self) -> None:
-        """An input that ends is no password, and half a line is none."""
-        end = b"\x04"
-        for typed in ([end], [b"ab" + end * 2], [*ONE, end], [*ONE, b"new\n", end]):
-            ended = self.asked("users.db|change|ada", typed)
-            self.nothing_was_given(ended, 6, "credkeep-ask: no password")
-
-    def test_signals(self) -> None:
-        """A signal at the prompt ends it with the signal's status, and the terminal echoes again."""
-        for number in SIGNALS:
-            for before in ([], ONE):
-                ended = self.asked("users.db|change|ada", [*before, number])
-                self.assertFalse(ended.echoes[-2])
-                self.nothing_was_given(ended, 128 + number)
+    def test_nothing_is_given(self) -> None:
+        """Two new passwords that differ go nowhere; an input that ends, and half a line, is none; a
+        signal ends it with the signal's status. The terminal echoes again."""
+        end, first = b"\x04", [*ONE, b"new\n"]
+        differing = ([*first, it] for it in (b"new2\n", b"ne\n", b"New\n", b"\n", b"new \n"))
+        rows = [(typed, 6, "credkeep-ask: the two new passwords differ") for typed in differing]
+        ended: list[Typed] = [[end], [b"ab" + end * 2], [*ONE, end], [*first, end]]
+        rows += [(typed, 6, "credkeep-ask: no password") for typed in ended]
+        rows += [([*it, number], 128 + number, "") for number in SIGNALS for it in ([], ONE)]
+        for typed, status, said in rows:
+            shown = self.asked("users.db|change|ada", typed)
+            self.assertFalse(shown.echoes[-2])
+            self.nothing_was_given(shown, status, said)
 
     def test_no_terminal(self) -> None:
         """Without a terminal there is nobody to ask: what stands at its input is no password."""

@@ -1,7 +1,5 @@
 """Tests of bin/credkeep-server: who may ask for what, and how answers find their lines."""
 
-from __future__ import annotations
-
 import grp
 import pathlib
 import socket

@@ -3,12 +3,9 @@
 They need the built credkeep, or one named by CREDKEEP.
 """
 
-from __future__ import annotations
-
 import os
 import pathlib
 import random
-import re
 import socket
 import subprocess
 import time
@@ -17,11 +14,9 @@ from typing import Any
 from served import (
     CHEAP,
     FAST_BOOK,
-    FRESH,
     PYTHON,
     SECRET,
     SERVER,
-    WRONG,
     Case,
     Client,
     Service,

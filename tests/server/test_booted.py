@@ -5,8 +5,6 @@ BOOT (minbase with what INCLUDED says), which is copied. The machine's own files
 settings stay as they are.
 """
 
-from __future__ import annotations
-
 import os
 import pathlib
 import shutil

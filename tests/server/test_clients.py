@@ -3,8 +3,6 @@
 They need the library in c/out, or named by RIGZUMAL_LIBRARY; the last one needs php.
 """
 
-from __future__ import annotations
-
 import asyncio
 import concurrent.futures
 import importlib

@@ -1,7 +1,5 @@
 """Tests of bin/credkeep-server: users of an htpasswd file, who move into the book."""
 
-from __future__ import annotations
-
 import json
 import os
 from typing import Any

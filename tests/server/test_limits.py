@@ -1,7 +1,5 @@
 """Tests of bin/credkeep-server: its limits: lines, clients, turns."""
 
-from __future__ import annotations
-
 import contextlib
 import pathlib
 import re

@@ -5,8 +5,6 @@ from the page, word for word. credkeep itself is asked where it is built, and th
 or by BOOK=fast.
 """
 
-from __future__ import annotations
-
 import contextlib
 import pathlib
 import socket
@@ -25,7 +23,6 @@ from machine import (
     lets_in,
     on_page,
     pamtester,
-    prepared,
     shell,
     started,
 )

@@ -1,7 +1,5 @@
 """Tests of bin/credkeep-server: what its own mistakes say, and what the book gets of its options."""
 
-from __future__ import annotations
-
 import os
 import pathlib
 import re

@@ -1,7 +1,5 @@
 """Tests of bin/credkeep-server: what an administrator sees of it, and what its own mistakes say."""
 
-from __future__ import annotations
-
 import datetime
 import json
 import os

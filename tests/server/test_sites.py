@@ -1,7 +1,5 @@
 """Debian's web and mail servers, unchanged, ask the book as docs/SERVERS.md tells them to: see test_logins.py."""
 
-from __future__ import annotations
-
 import base64
 import collections
 import imaplib

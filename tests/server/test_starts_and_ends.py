@@ -1,7 +1,5 @@
 """Tests of bin/credkeep-server: how it starts, what the book gets, how it ends, and systemd's words."""
 
-from __future__ import annotations
-
 import asyncio
 import contextlib
 import os

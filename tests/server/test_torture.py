@@ -7,8 +7,6 @@ surely stood. What was answered before a kill has to be there after it. TORTURE_
 environment is how long it goes on (60, with a kill every three), TORTURE_SEED its seed.
 """
 
-from __future__ import annotations
-
 import concurrent.futures
 import itertools
 import math

@@ -1,7 +1,5 @@
 """Tests of bin/credkeep-server: failed tries."""
 
-from __future__ import annotations
-
 import time
 from unittest import mock
 

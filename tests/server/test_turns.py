@@ -1,7 +1,5 @@
 """Tests of the server's turns and rounds, by themselves."""
 
-from __future__ import annotations
-
 import asyncio
 import time
 from collections.abc import Callable

@@ -3,8 +3,6 @@
 test_booted.py runs them.
 """
 
-from __future__ import annotations
-
 import re
 from typing import Any
 

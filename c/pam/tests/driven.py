@@ -1,7 +1,5 @@
 """The PAM module in a driver of its own, and a peer that answers it."""
 
-from __future__ import annotations
-
 import atexit
 import base64
 import enum
@@ -48,7 +46,7 @@ class Pam(enum.IntEnum):
 class Case(helpers.Case):
     def check(
         self, answer: bytes, ought: Pam, *lines: bytes, task: str = "authenticate", **question: Any
-    ) -> Said:
+    ) -> "Said":
         """What a task comes to if each line gets the same answer, and the lines that it sends."""
         said, sent = said_at(answer, Question(tasks=task, **question))
         what = f"{task} {answer!r:.40} {question!r:.200}"

@@ -1,14 +1,12 @@
 """Tests of the PAM module: what is sent, what each answer means, and what goes wrong on the way."""
 
-from __future__ import annotations
-
 import pathlib
 import socket
 import threading
 import time
 
 from driven import PLAIN, ROOM, Case, Pam, Question
-from driven import answers, asked, line_of, peer, said_at, sends
+from driven import answers, asked, line_of, peer, sends
 
 YES = b"1 yes\n"
 VERIFY, KNOWN = line_of("verify", "ada", b"secret"), line_of("known", "ada")

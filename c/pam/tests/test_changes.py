@@ -1,7 +1,5 @@
 """Tests of the PAM module: options, prompts and changes of passwords."""
 
-from __future__ import annotations
-
 from collections.abc import Sequence
 from typing import Any
 

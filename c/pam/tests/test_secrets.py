@@ -1,7 +1,5 @@
 """Tests of the PAM module: what it leaves in memory and in the log, threads, and how it is built."""
 
-from __future__ import annotations
-
 import base64
 import os
 import re
