@@ -78,10 +78,8 @@ class Client(Calls[Coroutine[Any, Any, Reply], Coroutine[Any, Any, "list[str]"]]
             self._waiting.pop(tag, None)
 
     async def _answer(self, tag: bytes, sent: bytes) -> bytes:
-        if (
-            self._connecting is None
-        ):  # until Python 3.10 a lock takes the loop of its birth
-            self._connecting = asyncio.Lock()
+        # Until Python 3.10 a lock takes the loop of its birth.
+        self._connecting = self._connecting or asyncio.Lock()
         async with self._connecting:
             if self._reading is None or self._reading.done():
                 reader, self._writer = await asyncio.open_unix_connection(

@@ -12,6 +12,7 @@ import socket
 import struct
 import time
 from dataclasses import dataclass, field
+from functools import partial
 from typing import TYPE_CHECKING, Optional, cast
 
 from .log import Problem, problems_at
@@ -85,11 +86,9 @@ class Door:
 
     async def open(self, service: Service) -> asyncio.AbstractServer:
         """Lets clients in. At the server's end the path stays: it may be systemd's."""
-        run, sock = (
-            asyncio.get_running_loop().create_server,
-            self.handed or self.bound(),
-        )
-        return await run(lambda: Client(service, self), sock=sock, backlog=CLIENTS)
+        sock, loop = self.handed or self.bound(), asyncio.get_running_loop()
+        made = partial(Client, service, self)
+        return await loop.create_server(made, sock=sock, backlog=CLIENTS)
 
 
 class Client(asyncio.BufferedProtocol):
