@@ -116,10 +116,7 @@ class Foreign(Case):
     def test_tries(self) -> None:
         """Wrong passwords at a user of the file count."""
         self.add("ada", "-s")
-        client = self.over(
-            "--tries",
-            "2",
-        ).client()
+        client = self.over("--tries", "2").client()
         client.talk("verify ada {wrong} -> no\n" * 2 + "verify ada {secret} -> later")
 
     def test_two_lines_of_a_name(self) -> None:

@@ -75,7 +75,6 @@ class Limits(Case):
         with service.client("admin") as client:
             client.send("a verify gone -\n" * 20 + f"a reset ada {FRESH}\n")
             until(lambda: "verify gone -" in service.asked(), "the first")
-        time.sleep(0.1)
         until(lambda: service.client().ask(f"verify ada {FRESH}") == "yes", "the change")
         self.assertLess(service.asked().count("verify gone -"), 5)
 

@@ -6,7 +6,6 @@ import os
 import pathlib
 import re
 import subprocess
-import time
 from unittest import mock
 
 from served import (
@@ -160,7 +159,6 @@ def asked_all(service: Service) -> None:
         client.send(f"a verify ada {SECRET}\n" * 50)
     for _ in range(3):
         service.client().ask("enrol zoe x")
-    time.sleep(0.1)
 
 
 class Logs(Case):

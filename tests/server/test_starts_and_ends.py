@@ -124,14 +124,12 @@ class Endings(Case):
         self.assertIn("the socket login that systemd handed over is no stream", service.log())
 
     def test_no_book(self) -> None:
-        """A program that isn't there, or that ends at once: no client is let in, and the status says so."""
-        for name in ("/nonexistent/credkeep", "/bin/false"):
-            room = self.room()
-            (room / "users.db").touch()
-            service = self.serving(program=pathlib.Path(name), waits=False, folder=room)
-            self.assertEqual(service.process.wait(timeout=20), 1)
-            self.assertNotIn("start:", service.log())
-            self.assertNotIn("Traceback", service.log())
+        """A program that ends at once: no client is let in, and the status says so."""
+        room = self.room()
+        (room / "users.db").touch()
+        service = self.serving(program=pathlib.Path("/bin/false"), waits=False, folder=room)
+        self.assertEqual(service.process.wait(timeout=20), 1)
+        self.assertNotRegex(service.log(), "start:|Traceback")
 
 
 class Systemd(Case):
