@@ -138,11 +138,11 @@ by its socket active
 chosen 0 0 0
 pam-auth-update --enable 0
 chosen 1 1 1
-pamtester: successfully authenticated
+Password: pamtester: successfully authenticated
 pamtester: account management done
 pamtester both 1
-pamtester: authentication token altered successfully
-pamtester: successfully authenticated
+Current password: New password: Retype new password: pamtester: authentication token altered
+Password: pamtester: successfully authenticated
 ended success
 1 account, 0 changes in the log
 credkeep-server: denied at login to uid 0: enrol
