@@ -15,33 +15,16 @@ import argparse
 import getpass
 import os
 import sys
-from typing import Union
 
-from rigzumal import PasswordHasher, RigzumalError, ScryptHasher, VerifyMismatchError
+from rigzumal import PasswordHasher, RigzumalError, VerifyMismatchError
 from rigzumal import _library
 from rigzumal._calibrate import LEAST_SAFE_MEMORY, trials, why_busy
 from rigzumal._newline import hint
 from rigzumal._parts import none_of_ours
-from rigzumal._statuses import Refusal, Status, Words, status_of
+from rigzumal._statuses import Refusal, Status, Words, add_costs, hasher_of
+from rigzumal._statuses import memory, positive, status_of
 
-_UNITS = {"K": 1, "M": 1024, "G": 1024 * 1024}
 _LEAST_TARGET, _MOST_TARGET = 10, 60_000
-
-
-def _memory(text: str) -> int:
-    """KiB, of a number with its unit: 64M, 1G, 65536K or 65536."""
-    unit = text[-1:].upper()
-    number = text[:-1] if unit in _UNITS else text
-    if not (number.isascii() and number.isdigit()):
-        raise argparse.ArgumentTypeError(f"{text!r} is no size, such as 64M")
-    return int(number) * _UNITS.get(unit, 1)
-
-
-def _threads(text: str) -> int:
-    """A number of threads."""
-    if not (text.isascii() and text.isdigit() and int(text) > 0):
-        raise argparse.ArgumentTypeError(f"{text!r} is no number of threads")
-    return int(text)
 
 
 def _target(text: str) -> float:
@@ -66,11 +49,7 @@ def _words() -> argparse.ArgumentParser:
     words.add_argument("--version", action="version", version=_library.version())
     commands = words.add_subparsers(dest="command", required=True)
     make = commands.add_parser("hash", help="writes a new record")
-    make.add_argument("--scrypt", action="store_true", help="by scrypt, not Argon2id")
-    make.add_argument("--memory", type=_memory, default=65536, help="of Argon2, as 64M")
-    make.add_argument("--passes", type=int, default=3, help="of Argon2")
-    make.add_argument("--lanes", type=int, default=4, help="of Argon2")
-    make.add_argument("--log2-n", type=int, default=17, help="of scrypt")
+    add_costs(make)
     make.add_argument("--empty", action="store_true", help="the password may be empty")
     verify = commands.add_parser("verify", help="writes yes, or no with status 4")
     verify.add_argument("record")
@@ -85,14 +64,14 @@ def _words() -> argparse.ArgumentParser:
     )
     calibrate.add_argument(
         "--memory",
-        type=_memory,
+        type=memory,
         default=65536,
         help="at most, as 64M; KiB without a unit",
     )
     calibrate.add_argument("--lanes", type=int, default=4)
     calibrate.add_argument(
         "--threads",
-        type=_threads,
+        type=positive,
         default=1,
         help="how many work the lanes of a hash; 1 for a service with many logins",
     )
@@ -123,11 +102,7 @@ def _password(is_new: bool) -> bytes:
 
 def _hash(given: argparse.Namespace) -> None:
     """Writes a new record."""
-    hasher: Union[PasswordHasher, ScryptHasher] = (
-        ScryptHasher(log2_n=given.log2_n)
-        if given.scrypt
-        else PasswordHasher(given.passes, given.memory, given.lanes)
-    )
+    hasher = hasher_of(given)
     password = _password(is_new=True)
     if password in (b"", b"\n") and not given.empty:
         raise Refusal("the password is empty; --empty allows it")

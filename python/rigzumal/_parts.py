@@ -67,15 +67,8 @@ def parts(record: Secret) -> Parts:
         InvalidRecordError: the text is no record; the exception has its first fault.
     """
     found = _library.parts(record)
-    return Parts(
-        _SCHEMES[found.scheme],
-        found.version,
-        found.memory,
-        found.passes,
-        found.lanes,
-        found.salt_size,
-        found.tag_size,
-    )
+    scheme, *numbers = (getattr(found, name) for name, *_ in found._fields_)
+    return Parts(_SCHEMES[scheme], *numbers)
 
 
 # As other programs begin a record: $2b$.., or Django's pbkdf2_sha256$... Nothing else is

@@ -1,13 +1,16 @@
-"""How the commands at the shell end: by the exit statuses of credkeep(1)."""
+"""What the commands at the shell share: the exit statuses of credkeep(1), and words."""
 
 from __future__ import annotations
 
 import argparse
 import enum
 import sys
-from typing import NoReturn
+from typing import NoReturn, Union
 
+from rigzumal._hashers import PasswordHasher, ScryptHasher
 from rigzumal._library import NoRandomError, OutOfMemoryError
+
+_UNITS = {"K": 1, "M": 1024, "G": 1024 * 1024}
 
 
 class Status(enum.IntEnum):
@@ -53,3 +56,35 @@ def status_of(fault: Exception) -> Status:
     if isinstance(fault, OutOfMemoryError):
         return Status.MEMORY
     return Status.STREAM if isinstance(fault, NoRandomError) else Status.WORDS
+
+
+def positive(text: str) -> int:
+    """A number of 1 or more."""
+    if not (text.isascii() and text.isdigit() and int(text) > 0):
+        raise argparse.ArgumentTypeError(f"{text!r} is not 1 or more")
+    return int(text)
+
+
+def memory(text: str) -> int:
+    """KiB, of a number with its unit: 64M, 1G, 65536K or 65536."""
+    unit = text[-1:].upper()
+    number = text[:-1] if unit in _UNITS else text
+    if not (number.isascii() and number.isdigit()):
+        raise argparse.ArgumentTypeError(f"{text!r} is no size, such as 64M")
+    return int(number) * _UNITS.get(unit, 1)
+
+
+def add_costs(words: argparse.ArgumentParser) -> None:
+    """Adds the words that say what a new record costs."""
+    words.add_argument("--scrypt", action="store_true", help="by scrypt, not Argon2id")
+    words.add_argument("--memory", type=memory, default=65536, help="of Argon2, as 64M")
+    words.add_argument("--passes", type=int, default=3, help="of Argon2")
+    words.add_argument("--lanes", type=int, default=4, help="of Argon2")
+    words.add_argument("--log2-n", type=int, default=17, help="of scrypt")
+
+
+def hasher_of(given: argparse.Namespace) -> Union[PasswordHasher, ScryptHasher]:
+    """The hasher of these costs."""
+    if given.scrypt:
+        return ScryptHasher(log2_n=given.log2_n)
+    return PasswordHasher(given.passes, given.memory, given.lanes)

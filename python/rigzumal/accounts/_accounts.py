@@ -2,7 +2,9 @@
 
 from __future__ import annotations
 
-from typing import Any
+import functools
+from collections.abc import Callable, Coroutine
+from typing import TYPE_CHECKING, Any, TypeVar
 
 from rigzumal._library import Secret
 from rigzumal.accounts._operations import Operations
@@ -10,6 +12,13 @@ from rigzumal.accounts._session import AsyncRuntime, Hook, Runtime, run
 from rigzumal.accounts.parts import Answer, Key, Kind, Reply, Request, Ticket, Worked
 from rigzumal.accounts.dialects._dialect import Fault
 from rigzumal.accounts.pools import AsyncPool, Pool
+
+if TYPE_CHECKING:
+    from typing_extensions import Concatenate, ParamSpec
+
+    P = ParamSpec("P")
+
+T = TypeVar("T")
 
 
 class Accounts(Operations[Pool]):
@@ -65,16 +74,20 @@ class Accounts(Operations[Pool]):
 
     _runtime = Runtime()
 
+    def _done(self, doing: Coroutine[Any, Any, T]) -> T:
+        """What an operation answers; AsyncAccounts leaves it to be awaited."""
+        return run(doing)
+
     def enrol(self, key: Key, password: Secret, *, also: Hook = None) -> Reply:
         """ENROLLED; EXISTS if the account has a record; NO_ACCOUNT.
 
         Use it for rows with a known owner: `new_record` is for a sign-up.
         """
-        return run(self._replied(Request(Kind.ENROL, key, password), also))
+        return self._done(self._replied(Request(Kind.ENROL, key, password), also))
 
     def verify(self, key: Key, password: Secret, *, also: Hook = None) -> Reply:
         """YES or NO; ABSENT if the account has no record; NO_ACCOUNT."""
-        return run(self._replied(Request(Kind.VERIFY, key, password), also))
+        return self._done(self._replied(Request(Kind.VERIFY, key, password), also))
 
     def login(self, key: Key, password: Secret, *, also: Hook = None) -> Reply:
         """A verify that replaces a record of lower costs, answered as a verify.
@@ -82,7 +95,7 @@ class Accounts(Operations[Pool]):
         If the new record can't be written (a full disk, an unknown outcome), the answer
         is that of a verify all the same.
         """
-        return run(self._login(key, password, also))
+        return self._done(self._login(key, password, also))
 
     def change(
         self, key: Key, password: Secret, new_password: Secret, *, also: Hook = None
@@ -92,21 +105,21 @@ class Accounts(Operations[Pool]):
         CHANGED, of any operation: its commit found another record `tries` times.
         """
         request = Request(Kind.CHANGE, key, password, new_password)
-        return run(self._replied(request, also))
+        return self._done(self._replied(request, also))
 
     def reset(self, key: Key, new_password: Secret, *, also: Hook = None) -> Reply:
         """For administrators: REPLACED, or ENROLLED if it had no record; NO_ACCOUNT."""
         request = Request(Kind.RESET, key, b"", new_password)
-        return run(self._replied(request, also))
+        return self._done(self._replied(request, also))
 
     def upgrade(self, key: Key, password: Secret, *, also: Hook = None) -> Reply:
         """UPGRADED if the record is of lower costs, otherwise KEPT; WRONG; ABSENT;
         NO_ACCOUNT."""
-        return run(self._replied(Request(Kind.UPGRADE, key, password), also))
+        return self._done(self._replied(Request(Kind.UPGRADE, key, password), also))
 
     def remove(self, key: Key, password: Secret, *, also: Hook = None) -> Reply:
         """REMOVED; the account stays, with no record. WRONG; ABSENT; NO_ACCOUNT."""
-        return run(self._replied(Request(Kind.REMOVE, key, password), also))
+        return self._done(self._replied(Request(Kind.REMOVE, key, password), also))
 
     def new_record(self, password: Secret) -> str:
         """A record for your own INSERT, which makes an account with its password.
@@ -115,7 +128,7 @@ class Accounts(Operations[Pool]):
             TypeError: the password is neither bytes nor text.
             ValueError: the password has over 256 bytes, or no UTF-8.
         """
-        return self._judge.new_record(password)
+        return self._done(self._runtime.call(self._judge.new_record, password))
 
     def examine(self) -> list[Fault]:
         """The faults of the table and the server; empty if they have none.
@@ -127,28 +140,28 @@ class Accounts(Operations[Pool]):
             StoreFault: the connection isn't in autocommit, or has a transaction open.
             Exception: whatever the driver raises.
         """
-        return run(self._examined())
+        return self._done(self._examined())
 
     # ---- in parts: see rigzumal.accounts.parts
 
     def perform(self, request: Request, *, also: Hook = None) -> Answer:
         """The whole operation, with the records before and after it."""
-        return run(self._perform(request, also))
+        return self._done(self._perform(request, also))
 
     def begin(self, request: Request) -> Ticket:
         """The first part: reads the record."""
-        return run(self._begin(request))
+        return self._done(self._begin(request))
 
     def work(self, ticket: Ticket) -> Worked:
         """The second part: hashes, and uses no connection."""
-        return run(self._work(ticket))
+        return self._done(self._work(ticket))
 
     def commit(self, worked: Worked) -> Answer:
         """The third part: writes the new record, if the row still has the copy.
 
         The reply is CHANGED if the row has another record, which is `after`.
         """
-        return run(self._commit(worked))
+        return self._done(self._commit(worked))
 
     def commit_in(self, conn: Any, worked: Worked) -> Answer:
         """The third part in a transaction that the caller begins and ends.
@@ -167,7 +180,21 @@ class Accounts(Operations[Pool]):
                 REPEATABLE READ, or the table has a fault.
             Exception: whatever the driver raises.
         """
-        return run(self._commit_in(conn, worked))
+        return self._done(self._commit_in(conn, worked))
+
+
+def _awaited(
+    method: Callable[Concatenate[Accounts, P], T]
+) -> Callable[Concatenate[AsyncAccounts, P], Coroutine[Any, Any, T]]:
+    """The same operation as a coroutine."""
+
+    @functools.wraps(method)
+    async def operation(accounts: Any, /, *given: P.args, **named: P.kwargs) -> T:
+        doing: Any = method(accounts, *given, **named)
+        answer: T = await doing
+        return answer
+
+    return operation
 
 
 class AsyncAccounts(Operations[AsyncPool]):
@@ -180,63 +207,20 @@ class AsyncAccounts(Operations[AsyncPool]):
 
     _runtime = AsyncRuntime()
 
-    async def enrol(self, key: Key, password: Secret, *, also: Hook = None) -> Reply:
-        """ENROLLED; EXISTS if the account has a record; NO_ACCOUNT."""
-        return await self._replied(Request(Kind.ENROL, key, password), also)
+    def _done(self, doing: T) -> T:
+        return doing
 
-    async def verify(self, key: Key, password: Secret, *, also: Hook = None) -> Reply:
-        """YES or NO; ABSENT if the account has no record; NO_ACCOUNT."""
-        return await self._replied(Request(Kind.VERIFY, key, password), also)
-
-    async def login(self, key: Key, password: Secret, *, also: Hook = None) -> Reply:
-        """A verify that replaces a record of lower costs, answered as a verify."""
-        return await self._login(key, password, also)
-
-    async def change(
-        self, key: Key, password: Secret, new_password: Secret, *, also: Hook = None
-    ) -> Reply:
-        """REPLACED; WRONG if the password is; ABSENT; NO_ACCOUNT; CHANGED."""
-        request = Request(Kind.CHANGE, key, password, new_password)
-        return await self._replied(request, also)
-
-    async def reset(
-        self, key: Key, new_password: Secret, *, also: Hook = None
-    ) -> Reply:
-        """For administrators: REPLACED, or ENROLLED if it had no record; NO_ACCOUNT."""
-        return await self._replied(Request(Kind.RESET, key, b"", new_password), also)
-
-    async def upgrade(self, key: Key, password: Secret, *, also: Hook = None) -> Reply:
-        """UPGRADED, or KEPT; WRONG; ABSENT; NO_ACCOUNT."""
-        return await self._replied(Request(Kind.UPGRADE, key, password), also)
-
-    async def remove(self, key: Key, password: Secret, *, also: Hook = None) -> Reply:
-        """REMOVED; the account stays, with no record. WRONG; ABSENT; NO_ACCOUNT."""
-        return await self._replied(Request(Kind.REMOVE, key, password), also)
-
-    async def new_record(self, password: Secret) -> str:
-        """A record for your own INSERT, which makes an account with its password."""
-        return await self._runtime.call(self._judge.new_record, password)
-
-    async def examine(self) -> list[Fault]:
-        """The faults of the table and the server; empty if they have none."""
-        return await self._examined()
-
-    async def perform(self, request: Request, *, also: Hook = None) -> Answer:
-        """The whole operation, with the records before and after it."""
-        return await self._perform(request, also)
-
-    async def begin(self, request: Request) -> Ticket:
-        """The first part: reads the record."""
-        return await self._begin(request)
-
-    async def work(self, ticket: Ticket) -> Worked:
-        """The second part: hashes, and uses no connection."""
-        return await self._work(ticket)
-
-    async def commit(self, worked: Worked) -> Answer:
-        """The third part: writes the new record, if the row still has the copy."""
-        return await self._commit(worked)
-
-    async def commit_in(self, conn: Any, worked: Worked) -> Answer:
-        """The third part in a transaction that the caller begins and ends."""
-        return await self._commit_in(conn, worked)
+    enrol = _awaited(Accounts.enrol)
+    verify = _awaited(Accounts.verify)
+    login = _awaited(Accounts.login)
+    change = _awaited(Accounts.change)
+    reset = _awaited(Accounts.reset)
+    upgrade = _awaited(Accounts.upgrade)
+    remove = _awaited(Accounts.remove)
+    new_record = _awaited(Accounts.new_record)
+    examine = _awaited(Accounts.examine)
+    perform = _awaited(Accounts.perform)
+    begin = _awaited(Accounts.begin)
+    work = _awaited(Accounts.work)
+    commit = _awaited(Accounts.commit)
+    commit_in = _awaited(Accounts.commit_in)

@@ -1,16 +1,5 @@
 """The command: python3 -m rigzumal accounts --database URL --table T COMMAND.
 
-    init           creates a table of accounts
-    add NAME       adds an account with a password
-    check NAME     writes yes, or no with status 1
-    reset NAME     gives an account another password
-    import FILE    adds accounts out of lines "NAME RECORD"; existing ones stay.
-                   With --foreign records of other schemes too, for a hook to judge
-    list           writes each account, and the costs of its record
-    examine        names faults of the table and the server
-    torture        runs many processes at once, and judges their history
-    history LOG..  judges logs
-
 At a terminal the command asks for a password; otherwise the password is standard
 input, without one newline at its end. An empty input is refused. The URL may be in
 RIGZUMAL_DATABASE instead, where no list of processes shows it.
@@ -31,12 +20,13 @@ import pathlib
 import shutil
 import sys
 from collections.abc import Callable, Iterator, Sequence
-from typing import Any, Final, Optional, Union
+from typing import Any, Final, Optional
 
-from rigzumal import PasswordHasher, RigzumalError, ScryptHasher
+from rigzumal import RigzumalError
 from rigzumal._library import InvalidRecordError, bytes_of
 from rigzumal._newline import hint
-from rigzumal._statuses import Refusal, Status, Words, status_of
+from rigzumal._statuses import Refusal, Status, Words, add_costs, hasher_of
+from rigzumal._statuses import positive, status_of
 from rigzumal.accounts._accounts import Accounts
 from rigzumal.accounts._import import Import, costs_of, shown, why
 from rigzumal.accounts._session import Session, run
@@ -114,13 +104,8 @@ class _Command:
         return self.database.dialect_kind()(given.table, given.key, given.record, kind)
 
     def accounts(self) -> Accounts:
-        given, dialect = self.given, self.dialect
-        hasher: Union[PasswordHasher, ScryptHasher] = (
-            ScryptHasher(log2_n=given.log2_n)
-            if given.scrypt
-            else PasswordHasher(given.passes, given.memory, given.lanes)
-        )
-        return Accounts(self.pool, dialect, hasher, confirm=given.confirm)
+        hasher = hasher_of(self.given)
+        return Accounts(self.pool, self.dialect, hasher, confirm=self.given.confirm)
 
     def key(self, name: str) -> Key:
         if not self.given.numbers:
@@ -288,11 +273,7 @@ def _parser() -> argparse.ArgumentParser:
     words.add_argument("--json", action="store_true", help="write lines of JSON")
     confirm = "confirm each answer by a write (docs/SCALE.md)"
     words.add_argument("--confirm", action="store_true", help=confirm)
-    words.add_argument("--scrypt", action="store_true", help="by scrypt, not Argon2id")
-    words.add_argument("--memory", type=int, default=65536, help="of Argon2, in KiB")
-    words.add_argument("--passes", type=int, default=3, help="of Argon2")
-    words.add_argument("--lanes", type=int, default=4, help="of Argon2")
-    words.add_argument("--log2-n", type=int, default=17, help="of scrypt")
+    add_costs(words)
     commands = words.add_subparsers(
         dest="command", required=True, metavar="COMMAND", parser_class=Words
     )
@@ -306,19 +287,13 @@ def _parser() -> argparse.ArgumentParser:
     foreign = "accept records of other schemes, which your hook judges"
     made["import"].add_argument("--foreign", action="store_true", help=foreign)
     torture = made["torture"]
-    torture.add_argument("--processes", type=_count, default=8)
-    torture.add_argument("--seconds", type=_count, default=60)
-    torture.add_argument("--accounts", type=_count, default=4)
+    torture.add_argument("--processes", type=positive, default=8)
+    torture.add_argument("--seconds", type=positive, default=60)
+    torture.add_argument("--accounts", type=positive, default=4)
     torture.add_argument("--kill", action="store_true", help="processes, now and then")
     torture.add_argument("--logs", type=pathlib.Path, help="a folder for the logs")
     made["history"].add_argument("logs", nargs="+")
     return words
-
-
-def _count(text: str) -> int:
-    if not text.isascii() or not text.isdigit() or int(text) == 0:
-        raise argparse.ArgumentTypeError(f"{text!r} is not 1 or more")
-    return int(text)
 
 
 def _password(twice: bool = False) -> bytes:

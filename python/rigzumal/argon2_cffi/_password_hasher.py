@@ -84,14 +84,8 @@ class PasswordHasher:
     @classmethod
     def from_parameters(cls, params: Parameters) -> PasswordHasher:
         """A hasher of these parameters, of version 0x13."""
-        return cls(
-            time_cost=params.time_cost,
-            memory_cost=params.memory_cost,
-            parallelism=params.parallelism,
-            hash_len=params.hash_len,
-            salt_len=params.salt_len,
-            type=params.type,
-        )
+        costs = params.time_cost, params.memory_cost, params.parallelism
+        return cls(*costs, params.hash_len, params.salt_len, type=params.type)
 
     @property
     def time_cost(self) -> int:

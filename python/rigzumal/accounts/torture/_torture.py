@@ -46,19 +46,13 @@ class Torture:
     kill: bool = False
     folder: Optional[pathlib.Path] = None  # of the logs; one is made if it is left out
     replica: Optional[str] = None  # another database for the copies, which may lag
-    end_url: Optional[
-        str
-    ] = None  # the database at which one reads what stands at the end
+    end_url: Optional[str] = None  # where what stands at the end is read
     mix: Mapping[str, int] = dataclasses.field(default_factory=lambda: dict(MIX))
     ways: tuple[str, ...] = WAYS  # of doing an operation; a login has its own
-    tasks: int = (
-        4  # of asyncio, in every fourth process on PostgreSQL; some are cancelled
-    )
+    tasks: int = 4  # in every fourth process on PostgreSQL; some are cancelled
     patience: float = 30.0
     confirm: bool = False
-    alter: Callable[
-        [Any], None
-    ] = lambda accounts: None  # a test may break what is used
+    alter: Optional[Callable[[Any], None]] = None  # a test may break what is used
     settings: tuple[str, ...] = ()  # SQL for each blocking connection to begin with
     killed: int = 0  # how many processes were killed
 

@@ -191,7 +191,8 @@ class Worker:
         )
         made: AnyAccounts = self.torture.made(kind, pool, memory, self.replica)
         made.log, made.memory = self.log, memory
-        self.torture.alter(made)
+        if self.torture.alter is not None:
+            self.torture.alter(made)
         return made
 
     def _connect(self) -> Any:
