@@ -4,6 +4,7 @@ import multiprocessing
 import pathlib
 import sys
 import unittest
+from concurrent.futures import ProcessPoolExecutor
 
 import servers
 from support import server
@@ -13,35 +14,31 @@ EXAMPLE = pathlib.Path(__file__).resolve().parents[3] / "examples/postgres"
 ADA = "ada@example.org"
 
 
-def serve(pipe, dsn, memory):
-    """A web server: asks its store what comes, and answers."""
+def open_store(dsn, memory):
+    """Begins a web server's process, with a store of its own."""
+    global STORE
     import store
 
     store.PasswordHasher = lambda: PasswordHasher(time_cost=1, memory_cost=memory)
-    found = store.Store(dsn)
-    for name, *words in iter(pipe.recv, None):
-        pipe.send(getattr(found, name)(*words))
-    found.pool.close()
+    STORE = store.Store(dsn)
+
+
+def call(name, *words):
+    return getattr(STORE, name)(*words)
 
 
 class WebServer:
     """One process of the service."""
 
     def __init__(self, dsn, memory):
-        self.pipe, theirs = multiprocessing.Pipe()
-        spawned = multiprocessing.get_context("spawn")
-        self.process = spawned.Process(target=serve, args=(theirs, dsn, memory))
-        self.process.start()
-        theirs.close()
+        given = {"mp_context": multiprocessing.get_context("spawn"), "initargs": (dsn, memory)}
+        self.process = ProcessPoolExecutor(1, initializer=open_store, **given)
+
+    def begin(self, *words):
+        return self.process.submit(call, *words)
 
     def ask(self, *words):
-        self.pipe.send(words)
-        return self.pipe.recv()
-
-    def end(self):
-        self.pipe.send(None)
-        self.process.join(60)
-        return self.process.exitcode
+        return self.begin(*words).result()
 
 
 class ThreeServers(unittest.TestCase):
@@ -59,7 +56,7 @@ class ThreeServers(unittest.TestCase):
 
     def web_server(self, memory=64):
         made = WebServer(self.server.url, memory)
-        self.addCleanup(made.process.kill)
+        self.addCleanup(made.process.shutdown)
         return made
 
     def test_each_server_sees_what_another_did(self):
@@ -73,7 +70,6 @@ class ThreeServers(unittest.TestCase):
             self.assertFalse(it.ask("log_in", ADA, "one"))
             self.assertTrue(it.ask("log_in", ADA, "two"))
         self.assertFalse(first.ask("log_in", "nobody@example.org", "two"))
-        self.assertEqual([it.end() for it in all_three], [0, 0, 0])
 
     def test_what_strangers_type(self):
         """No row that is there is theirs, removed or invited, and any password has an answer."""
@@ -97,11 +93,10 @@ class ThreeServers(unittest.TestCase):
         upgrading = [self.web_server(memory=1024), self.web_server(memory=2048)]
         self.assertTrue(changing.ask("sign_up", ADA, "0"))
         for turn in range(40):
-            for it in upgrading:
-                it.pipe.send(("log_in", ADA, str(turn)))
+            logins = [it.begin("log_in", ADA, str(turn)) for it in upgrading]
             self.assertTrue(changing.ask("change", ADA, str(turn), str(turn + 1)))
-            for it in upgrading:
-                it.pipe.recv()
+            for login in logins:
+                login.result()
             self.assertTrue(changing.ask("log_in", ADA, str(turn + 1)))
             self.assertFalse(changing.ask("log_in", ADA, str(turn)))
 

@@ -2,8 +2,7 @@
 
     python3 django_own.py FOLDER-OF-DJANGO'S-SOURCE
 
-Its stock User compares, as by RIGZUMAL_USER_COMPARES. `--djangos` runs the same without
-Rigzumal, to see what fails then.
+Its stock User compares, as by RIGZUMAL_USER_COMPARES.
 """
 
 import os
@@ -20,9 +19,7 @@ from django.test.runner import DiscoverRunner
 from django.utils.deprecation import RemovedInNextVersionWarning
 from settings import ROOM, TEMPLATES
 
-OURS = "rigzumal.django.hashers."
 BACKEND = "rigzumal.django.backends.CompareAndSetBackend"
-DJANGOS = "--djangos" in sys.argv
 # What fails by these settings, and why.
 EXPECTED = {
     "test_username_non_unique": "names that aren't unique are an error to Django only if"
@@ -30,18 +27,13 @@ EXPECTED = {
     "test_username_partially_unique": "the same",
     "test_view_user_password_is_readonly": "it takes a record apart as MD5's, into three",
 }
-if not DJANGOS:
-    kept = [
-        name
-        for name in global_settings.PASSWORD_HASHERS
-        if not name.endswith((".Argon2PasswordHasher", ".ScryptPasswordHasher"))
-    ]
-    # The tests want PBKDF2 in front, and the others by their algorithms.
-    global_settings.PASSWORD_HASHERS = kept + [
-        OURS + "Argon2PasswordHasher",
-        OURS + "ScryptPasswordHasher",
-    ]
-    global_settings.AUTHENTICATION_BACKENDS = [BACKEND]
+# The tests want PBKDF2 in front, and the others by their algorithms.
+OURS = [f"{scheme}PasswordHasher" for scheme in ("Argon2", "Scrypt")]
+global_settings.PASSWORD_HASHERS = [
+    *(it for it in global_settings.PASSWORD_HASHERS if not it.endswith(tuple(OURS))),
+    *(f"rigzumal.django.hashers.{it}" for it in OURS),
+]
+global_settings.AUTHENTICATION_BACKENDS = [BACKEND]
 # As in Django's runner.
 warnings.simplefilter("error", RemovedInNextVersionWarning)
 
@@ -63,7 +55,7 @@ settings.configure(
         "django.contrib.admin.apps.SimpleAdminConfig",
         "django.contrib.staticfiles",
         "auth_tests",
-        *([] if DJANGOS else ["rigzumal.django"]),  # behind auth: the command is Django's
+        "rigzumal.django",  # behind auth: the command is Django's
     ],
     MIDDLEWARE=[
         "django.contrib.sessions.middleware.SessionMiddleware",
@@ -78,9 +70,7 @@ settings.configure(
     STATIC_ROOT=os.path.join(ROOM, "static"),
     LANGUAGE_CODE="en",
     SITE_ID=1,
-    PASSWORD_HASHERS=["django.contrib.auth.hashers.MD5PasswordHasher"]
-    if DJANGOS
-    else ["meanwhile.Argon2", "django.contrib.auth.hashers.MD5PasswordHasher"],
+    PASSWORD_HASHERS=["meanwhile.Argon2", "django.contrib.auth.hashers.MD5PasswordHasher"],
     MIGRATION_MODULES={"auth": None, "contenttypes": None, "sessions": None},
     SILENCED_SYSTEM_CHECKS=["fields.W342", "fields.W903", "models.W042"],
     SECRET_KEY="django_tests_secret_key",
@@ -90,12 +80,11 @@ django.setup()
 from auth_tests import test_auth_backends
 from django.contrib.auth.models import User
 
-if not DJANGOS:
-    from rigzumal.django.users import make_comparing
+from rigzumal.django.users import make_comparing
 
-    make_comparing(User)
-    # Its tests put the backend that they try behind the settings' own.
-    test_auth_backends.BaseModelBackendTest.backend = BACKEND
+make_comparing(User)
+# Its tests put the backend that they try behind the settings' own.
+test_auth_backends.BaseModelBackendTest.backend = BACKEND
 
 
 class Runner(DiscoverRunner):
@@ -103,13 +92,13 @@ class Runner(DiscoverRunner):
 
     def suite_result(self, suite, result, **kwargs):
         failed = {it.id().rpartition(".")[2] for it, _ in result.failures + result.errors}
-        expected = set() if DJANGOS else set(EXPECTED)
         print("skipped:", len(result.skipped), sorted({why for _, why in result.skipped}))
-        for name in sorted(failed & expected):
+        for name in sorted(failed & EXPECTED.keys()):
             print(f"fails as expected: {name}: {EXPECTED[name]}")
-        for name in sorted(failed ^ expected):
+        unexpected = failed ^ EXPECTED.keys()
+        for name in sorted(unexpected):
             print("NOT EXPECTED:", name, "failed" if name in failed else "passed")
-        return len(failed ^ expected)
+        return len(unexpected)
 
 
 words = [it for it in sys.argv[2:] if not it.startswith("-")]

@@ -3,9 +3,6 @@ PostgreSQL, random histories, and Django's own tests."""
 
 import functools
 import os
-import pathlib
-import re
-import subprocess
 import sys
 import tempfile
 import unittest
@@ -76,45 +73,7 @@ class Runs(unittest.TestCase):
     def test_djangos_own(self):
         """Those of auth, over this backend and these hashers."""
         need_module("django")
-        self.run_python("django_own.py", djangos_source())
-
-
-def djangos_source():
-    """The folder of the source of the Django that is there, with its tests.
-
-    DJANGO_SOURCE names it; otherwise Debian's source package is fetched into a cache, once.
-    """
-    named = os.environ.get("DJANGO_SOURCE")
-    if named:
-        return named
-    kept = pathlib.Path(os.environ.get("XDG_CACHE_HOME", "~/.cache")).expanduser()
-    import django
-
-    folder = kept / "rigzumal" / f"django-{django.__version__}"
-    if not (folder / "tests").is_dir():
-        fetch_source(folder, django.__version__)
-    return folder
-
-
-def fetch_source(folder, version):
-    """Debian's source package of this Django, by an apt of its own; a skipped test without it."""
-    system = pathlib.Path("/etc/os-release").read_text()
-    suite = re.search("^VERSION_CODENAME=(.*)$", system, re.M)
-    with tempfile.TemporaryDirectory(prefix="rigzumal-apt-") as name:
-        room = pathlib.Path(name)
-        for part in ("state/lists/partial", "cache/archives/partial"):
-            (room / part).mkdir(parents=True)
-        source = f"deb-src http://deb.debian.org/debian {suite[1] if suite else 'stable'} main\n"
-        (room / "list").write_text(source)
-        apt = ["apt-get", "-q", f"-oDir::Etc::sourcelist={room}/list"]
-        apt += ["-oDir::Etc::sourceparts=/dev/null"]
-        apt += [f"-oDir::State={room}/state", f"-oDir::Cache={room}/cache"]
-        quiet = {"check": True, "capture_output": True, "cwd": room, "timeout": 300}
-        try:
-            subprocess.run([*apt, "update"], **quiet)
-            subprocess.run([*apt, "source", "--download-only", "python-django"], **quiet)
-            (archive,) = room.glob(f"python-django_{version}*.orig.tar.*")
-        except (OSError, subprocess.SubprocessError, ValueError):
-            raise unittest.SkipTest("Django's source can't be fetched: DJANGO_SOURCE") from None
-        folder.mkdir(parents=True)
-        run("tar", "-x", "--strip-components=1", "-f", archive, "-C", folder)
+        source = os.environ.get("DJANGO_SOURCE")
+        if source is None:
+            self.skipTest("DJANGO_SOURCE names no folder of Django's source")
+        self.run_python("django_own.py", source)

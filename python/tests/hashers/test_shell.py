@@ -11,7 +11,7 @@ import unittest
 from records import LEAST, SMALL
 
 import rigzumal
-from rigzumal.__main__ import _memory
+from rigzumal._statuses import memory as memory_of
 
 
 LEAST_WORDS = "--memory 8 --passes 1 --lanes 1"
@@ -165,7 +165,7 @@ class Shell(unittest.TestCase):
         costs = run("calibrate --target-ms 10 --memory 19M --lanes 1")[1]
         self.assertEqual(costs, "$argon2id$v=19$m=19456,t=2,p=1\n")
         for text, memory in (("2G", 2097152), ("16", 16), ("16K", 16), ("16k", 16), ("1M", 1024)):
-            self.assertEqual(_memory(text), memory)
+            self.assertEqual(memory_of(text), memory)
 
     def test_the_version_is_the_headers(self):
         self.assertEqual(rigzumal.__version__, rigzumal.version())

@@ -45,8 +45,7 @@ def make(*words):
 def check_hashing(python, env, room):
     """A Python hashes by the package below the folder."""
     said = run(python, "-c", HASHES, env=env, at=ROOM)
-    if not said.startswith("True ") or str(room) not in said:
-        raise AssertionError(said)
+    assert said.startswith("True ") and str(room) in said, said
 
 
 def check_record(wheel):
@@ -59,8 +58,7 @@ def check_record(wheel):
             data = archive.read(name)
             digest = base64.urlsafe_b64encode(hashlib.sha256(data).digest()).decode().rstrip("=")
             wanted.add(f"{name},sha256={digest},{len(data)}")
-        if lines != wanted:
-            raise AssertionError(f"{wheel.name}: {lines ^ wanted}")
+        assert lines == wanted, lines ^ wanted
         return {name for name in archive.namelist() if ".dist-info/" not in name}
 
 
@@ -75,22 +73,17 @@ def new_environment(name):
 
 
 class Package(unittest.TestCase):
-    """As it is installed and packed, and how its sources look."""
-
     def test_installed(self):
         """Python over what `make install` put there, and where DESTDIR says."""
         prefix, room = ROOM / "installed", ROOM / "destination"
         make("install", f"PREFIX={prefix}")
         make("install", f"DESTDIR={room}", "PREFIX=/opt/rigzumal")
         for folder in (prefix, room / "opt/rigzumal"):
-            if files_below(folder) != {f"{INSTALLED}/{it}" for it in FILES}:
-                self.fail(f"{folder} holds {files_below(folder)}")
+            self.assertEqual(files_below(folder), {f"{INSTALLED}/{it}" for it in FILES})
         env = {**OVER_LIBRARY, "PYTHONPATH": str(prefix / INSTALLED)}
         check_hashing(sys.executable, env, prefix)
         names = "import rigzumal.argon2_cffi as it; print(it)"
-        said = run(sys.executable, "-c", names, env=env, at=ROOM)
-        if str(prefix) not in said:
-            self.fail(said)
+        self.assertIn(str(prefix), run(sys.executable, "-c", names, env=env, at=ROOM))
 
     def test_uninstalled(self):
         """`make uninstall` takes away what `make install` put there, and nothing of anyone else's."""
@@ -107,11 +100,8 @@ class Package(unittest.TestCase):
             for name in others if with_others else ():
                 (room / name).write_text("of another")
             make("uninstall", *words)
-            left = files_below(room)
-            if left != (others if with_others else set()):
-                self.fail(f"left after uninstall: {left}")
-            if not with_others and (packages / "rigzumal").exists():
-                self.fail("the package's folder is left")
+            self.assertEqual(files_below(room), others if with_others else set())
+            self.assertEqual((packages / "rigzumal").exists(), with_others)
 
     def test_wheel(self):
         """A virtual environment with the wheel alone imports and hashes, from nothing."""
@@ -119,11 +109,8 @@ class Package(unittest.TestCase):
             wheel.unlink()
         make("wheel")
         (wheel,) = (PYTHON / "out").glob("*.whl")
-        if not wheel.name.endswith("-py3-none-manylinux_2_34_x86_64.whl"):
-            self.fail(wheel.name)
-        held, wanted = check_record(wheel), {*FILES, "rigzumal/librigzumal.so.1"}
-        if held != wanted:
-            self.fail(f"{wheel.name}: {held ^ wanted}")
+        self.assertTrue(wheel.name.endswith("-py3-none-manylinux_2_34_x86_64.whl"), wheel.name)
+        self.assertEqual(check_record(wheel), {*FILES, "rigzumal/librigzumal.so.1"})
         room = new_environment("venv")
         pip = (room / "bin/pip", "install", "-q", "--no-index", "--force-reinstall")
         for what in (wheel, PYTHON):
@@ -146,19 +133,14 @@ class Package(unittest.TestCase):
             deb.unlink()
         make("deb")
         (deb,) = (PYTHON / "out").glob("*.deb")
-        said = run("lintian", "--fail-on", "error", deb)
+        run("lintian", "--fail-on", "error", deb)
         room = ROOM / "deb"
         run("dpkg-deb", "-R", deb, room)
         held = {it for it in files_below(room) if not it.startswith(("DEBIAN/", "usr/share/doc/"))}
-        wanted = {f"usr/lib/python3/dist-packages/{it}" for it in FILES}
-        if held != wanted:
-            self.fail(f"{deb.name}: {held ^ wanted}")
+        self.assertEqual(held, {f"usr/lib/python3/dist-packages/{it}" for it in FILES})
         for script, line in SCRIPTS.items():
-            if line not in (room / "DEBIAN" / script).read_text():
-                self.fail(f"{deb.name}: {script} lacks {line}")
-        depends = run("dpkg-deb", "-f", deb, "Depends")
-        if f"librigzumal1 (>= {VERSION})" not in depends:
-            self.fail(f"{deb.name} depends on {depends}")
+            self.assertIn(line, (room / "DEBIAN" / script).read_text())
+        self.assertIn(f"librigzumal1 (>= {VERSION})", run("dpkg-deb", "-f", deb, "Depends"))
         packages = str(room / "usr/lib/python3/dist-packages")
         check_hashing("/usr/bin/python3", {**OVER_LIBRARY, "PYTHONPATH": packages}, room)
 
