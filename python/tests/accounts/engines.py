@@ -25,6 +25,9 @@ class OnSqlite:
     # What is sent: a change at once, in a transaction, and an answer that is confirmed.
     one = several = confirmed = "BEGIN UPDATE SELECT COMMIT"
     levels = ("SELECT 1",)
+    check_number = "SQLITE_CONSTRAINT_CHECK"
+    holding = "SELECT 1 FROM users"
+    lock_timeout = statement_timeout = "PRAGMA busy_timeout = 10"
     # Columns of keys, with a key, and with another that no row has.
     keys = (("BIGINT", int, 7, 8), ("BLOB", bytes, b"\0\xff", b"x"))
     shouting = (
@@ -49,6 +52,7 @@ class OnSqlite:
 class OnServer:
     broken = lost_look = ConnectionError("planted")
     unknown = (broken,)
+    holding = "SELECT 1 FROM users FOR UPDATE"
 
 
 class OnPostgres(OnServer):

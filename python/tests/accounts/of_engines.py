@@ -10,7 +10,7 @@ import threading
 import time
 from unittest import mock
 
-from support import HIGH, LOW, after_hash, in_threads, losing, sent
+from support import HIGH, LOW, after_hash, counted, in_threads, losing, sent
 from rigzumal.accounts import Accounts, OutcomeUnknown, Reply, StoreFault, Unavailable
 from rigzumal.accounts.parts import NO_ROW, Kind, Request, Ticket
 
@@ -127,8 +127,7 @@ class Connections:
             ):
                 conn = self.another(autocommit=autocommit)
                 self.execute(begin, conn=conn)
-                with self.assertRaisesRegex(StoreFault, said):
-                    act(self.accounts(connect=lambda: conn))
+                self.assertRaisesRegex(StoreFault, said, act, self.accounts(connect=lambda: conn))
         manual = self.another(autocommit=False)
         with self.assertRaisesRegex(StoreFault, "the connections of the pool have to be in"):
             self.accounts(connect=lambda: manual).verify("ann", "one")
@@ -207,6 +206,50 @@ class Connections:
             self.assertEqual(in_threads(lambda n: accounts.login("ann", "one"), 8), [Reply.YES] * 8)
             self.assertIn("m=128,", self.stands())
 
+    def test_a_connection_is_as_before(self):
+        """No transaction is open after a change, a refusal or another's change."""
+        self.table("VARCHAR(512) CHECK (record LIKE '%m=64,%')")
+        self.put(LOW.hash("one"))
+        conn = self.another()
+        accounts, dearer = self.kept(conn=conn), self.kept(HIGH, conn)
+        worked = self.worked(accounts, Kind.CHANGE, "one", "two")
+        self.assertIs(accounts.change("ann", "one", "one"), Reply.REPLACED)
+        self.assertIs(accounts.commit(worked).reply, Reply.CHANGED)
+        for _ in range(2):
+            with self.assertRaisesRegex(StoreFault, self.check_number) as raised:
+                dearer.change("ann", "one", "two")
+            self.assert_no_record(raised.exception)
+            self.assertIs(dearer.login("ann", "one"), Reply.YES)
+
+    def held(self, seconds):
+        """Another's transaction holds the row for so long."""
+        holder = self.another()
+        self.execute(self.dialect.begin, conn=holder)
+        self.execute(self.holding, conn=holder)
+        timer = threading.Timer(seconds, lambda: self.execute("ROLLBACK", conn=holder))
+        timer.start()
+        self.addCleanup(timer.join)
+
+    def test_waits_that_the_engine_ends(self):
+        """Of a lock, and of a statement that takes too long: what was sent is undone, so it is
+        tried again within patience, on the same connection and with the same hash; then nothing
+        was done. A login goes on."""
+        for setting in {self.lock_timeout, self.statement_timeout}:
+            connect, made = self.setting(setting), []
+            patient = self.accounts(connect=lambda: made.append(1) or connect(), patience=20.0)
+            impatient = self.accounts(HIGH, connect=connect, patience=0.8)
+            for record in (LOW.hash("one"), None):
+                self.put(record)
+                self.held(2.6)
+                self.assertRaises(Unavailable, impatient.reset, "ann", "two")
+                reply = impatient.login("ann", "one")
+                self.assertIs(reply, Reply.YES if record else Reply.ABSENT)
+                self.assertEqual(self.stands(), record)
+                with counted() as hashes:
+                    reply = patient.reset("ann", "two")
+                self.assertIs(reply, Reply.REPLACED if record else Reply.ENROLLED)
+                self.assertEqual((hashes, len(made)), (["enrol"], 1))
+
     def test_rows_as_dictionaries(self):
         for conn in self.as_dictionaries():
             self.put(LOW.hash("one"))
@@ -226,8 +269,7 @@ class Connections:
                 self.assertIs(accounts.enrol(key, "one"), Reply.ENROLLED)
                 self.assertIs(accounts.login(key, "one"), Reply.YES)
                 self.assertIs(accounts.login(other, "one"), Reply.NO_ACCOUNT)
-                with self.assertRaises(TypeError):
-                    accounts.login(str(key), "one")
+                self.assertRaises(TypeError, accounts.login, str(key), "one")
 
     def test_a_key_of_two_rows(self):
         self.execute("DROP TABLE users")
@@ -236,11 +278,9 @@ class Connections:
         for _ in range(2):
             self.execute("INSERT INTO users VALUES ('ann', %s)", record)
         accounts = self.accounts()
-        with self.assertRaises(StoreFault):
-            accounts.verify("ann", "one")
+        self.assertRaises(StoreFault, accounts.verify, "ann", "one")
         worked = accounts.work(Ticket(Request(Kind.CHANGE, "ann", "one", "two"), record))
-        with self.assertRaises(StoreFault):
-            accounts.commit(worked)
+        self.assertRaises(StoreFault, accounts.commit, worked)
         self.assertEqual(self.execute("SELECT record FROM users"), [(record,)] * 2)
 
     def test_names_with_signs(self):
@@ -280,8 +320,7 @@ class Connections:
                     before = self.stands()
                     ticket = Ticket(Request(Kind.RESET, "ann", "", "two"), stands)
                     with self.subTest(column=column, mode=mode, stands=stands):
-                        with self.assertRaises(StoreFault):
-                            accounts.commit(accounts.work(ticket))
+                        self.assertRaises(StoreFault, accounts.commit, accounts.work(ticket))
                         self.assertEqual(self.stands(), before)
 
     def test_a_trigger_that_rewrites(self):
@@ -362,8 +401,7 @@ class LostAnswers:
                 return found
 
             table.look = slow
-            with self.assertRaises(OutcomeUnknown):
-                accounts.change("ann", "one", "two")
+            self.assertRaises(OutcomeUnknown, accounts.change, "ann", "one", "two")
             self.assertTrue(self.is_right("another"))
 
     def test_what_its_owner_has_removed_since(self):
@@ -462,27 +500,11 @@ class AtOnce:
         self.assertEqual(self.stands(), answer.after)
         self.assertTrue(LOW.verify(answer.after, "two"))
 
-    def test_a_connection_is_as_before(self):
-        """No transaction is open after a change, a refusal or another's change."""
-        self.put(LOW.hash("one"))
-        conn = self.another()
-        accounts, dearer = self.kept(conn=conn), self.kept(HIGH, conn)
-        worked = self.worked(accounts, Kind.CHANGE, "one", "two")
-        self.assertIs(accounts.change("ann", "one", "one"), Reply.REPLACED)
-        self.assertIs(accounts.commit(worked).reply, Reply.CHANGED)
-        self.execute("ALTER TABLE users ADD CHECK (record LIKE '%m=64,%')")
-        for _ in range(2):
-            with self.assertRaisesRegex(StoreFault, self.check_number) as raised:
-                dearer.change("ann", "one", "two")
-            self.assert_no_record(raised.exception)
-            self.assertIs(dearer.login("ann", "one"), Reply.YES)
-
     def test_who_may_not_update(self):
         """Nothing was done, and that is known."""
         self.put(LOW.hash("one"))
         accounts = self.accounts(connect=self.of_role("SELECT"))
-        with self.assertRaisesRegex(StoreFault, "42501|1142"):
-            accounts.change("ann", "one", "two")
+        self.assertRaisesRegex(StoreFault, "42501|1142", accounts.change, "ann", "one", "two")
 
 
 class RowsOfOnesOwn:
@@ -596,39 +618,13 @@ class RowsOfOnesOwn:
 class OnServers:
     """What a server does by itself: it ends waits, and restarts."""
 
-    def held(self, seconds):
-        """Another's transaction holds the row for so long."""
-        holder = self.another()
-        self.execute("BEGIN", conn=holder)
-        self.execute("SELECT 1 FROM users FOR UPDATE", conn=holder)
-        timer = threading.Timer(seconds, lambda: self.execute("ROLLBACK", conn=holder))
-        timer.start()
-        self.addCleanup(timer.join)
-
-    def test_waits_that_the_server_ends(self):
-        """Of a lock, and of a statement that takes too long: what was sent is undone, so it is
-        tried again within patience, on the same connection; then nothing was done."""
-        for setting in (self.lock_timeout, self.statement_timeout):
-            connect, made = self.setting(setting), []
-            patient = self.accounts(connect=lambda: made.append(1) or connect(), patience=20.0)
-            for record in (LOW.hash("one"), None):
-                self.put(record)
-                self.held(1.6)
-                with self.assertRaises(Unavailable):
-                    self.accounts(connect=connect, patience=0.8).reset("ann", "two")
-                self.assertEqual(self.stands(), record)
-                wanted = Reply.ENROLLED if record is None else Reply.REPLACED
-                self.assertIs(patient.reset("ann", "two"), wanted)
-                self.assertEqual(len(made), 1)
-
     def test_restart(self):
         """The pool's connection is gone after a restart: another is made."""
         self.put(LOW.hash("one"))
         accounts = self.accounts()
         self.assertIs(accounts.verify("ann", "one"), Reply.YES)
         self.server.end()
-        with self.assertRaises(Unavailable):
-            self.accounts(patience=0.3).verify("ann", "one")
+        self.assertRaises(Unavailable, self.accounts(patience=0.3).verify, "ann", "one")
         self.server.start()
         self.assertIs(accounts.change("ann", "one", "two"), Reply.REPLACED)
         self.assertIs(accounts.verify("ann", "two"), Reply.YES)
@@ -697,6 +693,5 @@ class OnServers:
         accounts = self.accounts(
             HIGH, dialect, lambda: made.append(self.connect()) or made[-1], patience=60.0
         )
-        with self.assertRaises(StoreFault):
-            accounts.change("ann", "one", "two")
+        self.assertRaises(StoreFault, accounts.change, "ann", "one", "two")
         self.assertLess(len(made), 5)

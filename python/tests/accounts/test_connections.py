@@ -76,8 +76,7 @@ class Patience(unittest.TestCase):
             raise BUSY
 
         runtime.use = hangs
-        with self.assertRaises(Unavailable):
-            run(connections.patiently(None))
+        self.assertRaises(Unavailable, run, connections.patiently(None))
         self.assertEqual(runtime.pauses, [])
 
     def test_what_would_be_refused_again_is_raised(self):
@@ -98,8 +97,7 @@ class Patience(unittest.TestCase):
         self.assertEqual(run(connections.at_replica(None)), "a record")
         for error in (REFUSED, StoreFault("x"), KeyError("x")):
             _, connections = self.connections(error, replica="replica")
-            with self.assertRaises(type(error)):
-                run(connections.at_replica(None))
+            self.assertRaises(type(error), run, connections.at_replica(None))
         runtime, connections = self.connections()
         self.assertIsInstance(run(connections.at_replica(None)), Undone)
         self.assertEqual(run(connections.patiently(None)), "done")

@@ -72,16 +72,14 @@ class MySQL(unittest.TestCase):
         database.connect()
         self.assertEqual(self.tried[3:], [("two", 7), ("three", 3306)])
         self.dead = {"one", "two", "three"}
-        with self.assertRaisesRegex(Refused, "two"):
-            database.connect()
+        self.assertRaisesRegex(Refused, "two", database.connect)
         self.assertEqual([it for it, _ in self.tried[5:]], ["three", "one", "two"])
         self.dead.clear()
         Database("mysql://one,two,three/d", 4).connect()
         self.assertEqual(self.tried[8:], [("two", 3306)])
 
     def test_what_is_no_url(self):
-        with self.assertRaises(ValueError):
-            Database("mysql://ada@db").connect()
+        self.assertRaises(ValueError, Database("mysql://ada@db").connect)
         self.assertEqual(self.tried, [])
         files = ("sqlite://", "sqlite:///", "sqlite:///:memory:")
         for url in (*files, "", "oracle://x", "sqlite", "/tmp/x.db"):

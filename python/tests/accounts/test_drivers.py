@@ -40,8 +40,7 @@ class Refused(unittest.TestCase):
             lambda: accounts.commit(worked),
             lambda: accounts.commit_in(conn, worked),
         ):
-            with self.assertRaisesRegex(StoreFault, said):
-                act()
+            self.assertRaisesRegex(StoreFault, said, act)
 
     def test_psycopg2(self):
         psycopg2 = module("psycopg2")
@@ -71,8 +70,7 @@ class Refused(unittest.TestCase):
                 await conn.close()
 
         accounts = Awaited(AsyncAccounts(pool, Postgres("users", "name", "record"), LOW))
-        with self.assertRaisesRegex(StoreFault, "the driver is asyncpg"):
-            accounts.verify("ann", "one")
+        self.assertRaisesRegex(StoreFault, "the driver is asyncpg", accounts.verify, "ann", "one")
 
     def test_others(self):
         """SQLAlchemy's own connections are named with what makes a pool of their engine."""

@@ -284,8 +284,7 @@ class OnMariaDB(OnServer, engines.OnMariaDB, support.Base):
             (f"{record} VARBINARY(512)", "varbinary(512)", "in None", "bytes"),
         )
         self.put(LOW.hash("one"))
-        with self.assertRaises(StoreFault):
-            self.accounts().verify("ann", "one")
+        self.assertRaises(StoreFault, self.accounts().verify, "ann", "one")
 
     def test_blanks_are_of_a_name(self):
         """In the table that is made for accounts, 'ann ' is another name than 'ann'."""

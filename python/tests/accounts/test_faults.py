@@ -23,8 +23,7 @@ class Faulty(Base):
         accounts = self.accounts(**given)
         with mock.patch.object(_connections.time, "monotonic", lambda: clock[0]):
             with mock.patch.object(type(accounts._runtime), "pause", pause):
-                with self.assertRaises(Unavailable):
-                    accounts.login("ann", "one")
+                self.assertRaises(Unavailable, accounts.login, "ann", "one")
         self.assertTrue(101.0 <= clock[0] < 101.9, clock)
 
     def test_a_connection_that_is_not_rolled_back_is_given_up(self):
@@ -79,33 +78,6 @@ class Faulty(Base):
 
         full._judge.work = no_memory
         self.assertIs(full.login("ann", "one"), Reply.YES)
-
-    def test_busy(self):
-        """A change waits, and nothing is hashed twice; a login goes on."""
-        self.put(LOW.hash("one"))
-        made = []
-
-        def connect():
-            made.append(self.connect(timeout=0.01))
-            return made[-1]
-
-        impatient = self.accounts(HIGH, connect=connect, patience=0.05)
-        self.conn.execute("BEGIN IMMEDIATE")
-        with self.assertRaises(Unavailable):
-            impatient.change("ann", "one", "two")
-        self.assertIs(impatient.login("ann", "one"), Reply.YES)
-        made.clear()
-        patient = self.accounts(connect=connect, patience=60.0)
-        pause = patient._runtime.pause
-
-        async def freed(runtime, seconds):
-            if self.conn.in_transaction:
-                self.conn.execute("ROLLBACK")
-            await pause(seconds)
-
-        with mock.patch.object(type(patient._runtime), "pause", freed), counted() as hashes:
-            self.assertIs(patient.change("ann", "one", "two"), Reply.REPLACED)
-        self.assertEqual((hashes, len(made)), (["change"], 1))
 
     def test_a_missing_table(self):
         self.conn.execute("DROP TABLE users")

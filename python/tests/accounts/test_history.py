@@ -412,5 +412,4 @@ class Logs(unittest.TestCase):
                 self.assertEqual(op.reply, "replaced" if record == "b" else None)
             self.assertIsNotNone(history.verdict(read(*lines[:2], end % "b", "")))
             for some in ((*lines[1:], end % "b"), (end % "b",), lines[:1]):
-                with self.assertRaises(ValueError):
-                    read(*some, "")
+                self.assertRaises(ValueError, read, *some, "")

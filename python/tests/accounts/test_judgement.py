@@ -98,8 +98,7 @@ class Foreign(Base):
 
     def test_no_hook(self):
         self.put("!shut")
-        with self.assertRaises(rigzumal.InvalidRecordError):
-            self.accounts().verify("ann", "x")
+        self.assertRaises(rigzumal.InvalidRecordError, self.accounts().verify, "ann", "x")
         self.assertIs(self.accounts().enrol("ann", "x"), Reply.EXISTS)
         self.assertEqual(self.stands(), "!shut")
 
@@ -152,8 +151,7 @@ class Steps(unittest.TestCase):
         bad = rigzumal.InvalidRecordError
         for kind in READS:
             for copy in ("garbage", "", LOW.hash("x") + "="):
-                with self.assertRaises(bad):
-                    _judgement.step(kind, copy, "x", "y", setting)
+                self.assertRaises(bad, _judgement.step, kind, copy, "x", "y", setting)
         for kind, copy in ((Kind.ENROL, None), (Kind.CHANGE, LOW.hash("x"))):
             with self.assertRaises(bad):
                 _judgement.step(kind, copy, "x", "y", "$argon2id$v=19$m=1,t=1,p=1$c29t")

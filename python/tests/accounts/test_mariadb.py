@@ -53,8 +53,7 @@ class OnMariaDB(engines.OnMariaDB, Base):
             lambda: run(self.dialect.prepare(support.Session(kept))),
             lambda: run(self.dialect.prepare(support.Session(kept))),
         ):
-            with self.assertRaisesRegex(StoreFault, "READ UNCOMMITTED"):
-                act()
+            self.assertRaisesRegex(StoreFault, "READ UNCOMMITTED", act)
         self.assertIn("READ UNCOMMITTED", self.said(accounts))
 
     def test_a_connection_is_asked_once(self):
@@ -89,10 +88,8 @@ class OnMariaDB(engines.OnMariaDB, Base):
         self.server.as_root("SET GLOBAL read_only = 1")
         self.addCleanup(self.server.as_root, "SET GLOBAL read_only = 0")
         impatient = self.accounts(patience=0.2)
-        with self.assertRaisesRegex(Unavailable, "1290"):
-            impatient.change("ann", "one", "two")
-        with self.assertRaisesRegex(Unavailable, "1290"):
-            impatient.enrol("ben", "two")
+        self.assertRaisesRegex(Unavailable, "1290", impatient.change, "ann", "one", "two")
+        self.assertRaisesRegex(Unavailable, "1290", impatient.enrol, "ben", "two")
         timer = threading.Timer(0.7, self.server.as_root, ["SET GLOBAL read_only = 0"])
         timer.start()
         accounts = self.accounts(patience=60.0)

@@ -257,8 +257,7 @@ class Awaited(Base):
             reply = asyncio.run(accounts.change("ann", "one", "one", also=also))
             self.assertIs(reply, Reply.REPLACED)
             self.assertIs(asyncio.run(accounts.login("ann", "one", also=also)), Reply.YES)
-        with self.assertRaises(KeyError):
-            asyncio.run(accounts.change("ann", "one", "two", also=fails))
+        self.assertRaises(KeyError, asyncio.run, accounts.change("ann", "one", "two", also=fails))
         self.assertTrue(self.is_right("one"))
         rows = [row for (row,) in self.conn.execute("SELECT reply FROM sessions")]
         self.assertEqual(rows, ["replaced", "yes"] * 2)

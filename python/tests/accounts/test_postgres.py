@@ -30,20 +30,6 @@ class OnPostgres(engines.OnPostgres, Base):
         )
         self.execute(f"CREATE {when} FOR EACH ROW EXECUTE FUNCTION made()")
 
-    def test_a_database_that_is_not_there(self):
-        """The server's reason is told."""
-        url = self.server.url.rpartition("/")[0] + "/nowhere"
-        accounts = self.accounts(
-            connect=lambda: psycopg.connect(url, autocommit=True), patience=0.0
-        )
-        with self.assertRaisesRegex(Unavailable, 'database "nowhere" does not exist'):
-            accounts.verify("ann", "x")
-
-    def test_a_record_in_a_column_without_case(self):
-        self.table("citext")
-        self.put(LOW.hash("one"))
-        self.assertIs(self.accounts().change("ann", "one", "two"), Reply.REPLACED)
-
     def test_a_constraint_that_is_judged_at_commit(self):
         """The server has rolled back: nothing is sent again, nor is it unknown."""
         self.put(LOW.hash("one"))
@@ -66,8 +52,7 @@ class OnPostgres(engines.OnPostgres, Base):
         )
         self.assertIn("trigger tr", self.said(self.accounts()))
         self.assertIs(self.accounts().change("ann", "one", "two"), Reply.REPLACED)
-        with self.assertRaises(InvalidRecordError):
-            self.accounts().verify("ann", "two")
+        self.assertRaises(InvalidRecordError, self.accounts().verify, "ann", "two")
 
     def test_levels_of_a_callers_transaction(self):
         """A change with an old snapshot wouldn't see the sessions that it has to end."""
@@ -158,10 +143,8 @@ class OnPostgres(engines.OnPostgres, Base):
         accounts = self.accounts(connect=standby.connect, patience=60.0)
         self.assertIs(accounts.login("ann", "one"), Reply.YES)
         impatient = self.accounts(connect=standby.connect, patience=0.2)
-        with self.assertRaises(Unavailable):
-            impatient.change("ann", "one", "two")
-        with self.assertRaises(Unavailable):
-            impatient.enrol("ben", "two")
+        self.assertRaises(Unavailable, impatient.change, "ann", "one", "two")
+        self.assertRaises(Unavailable, impatient.enrol, "ben", "two")
         timer = threading.Timer(1.0, standby.promote)
         timer.start()
         self.assertIs(accounts.change("ann", "one", "two"), Reply.REPLACED)
@@ -237,8 +220,7 @@ class OnPostgres(engines.OnPostgres, Base):
         plain, confirming = self.accounts(), self.accounts(confirm=True, patience=0.5)
         with self.cancelled_waits() as cancelled:
             self.assertIs(plain.verify("ann", "one"), Reply.YES)
-            with self.assertRaises(Unavailable):
-                confirming.verify("ann", "one")
+            self.assertRaises(Unavailable, confirming.verify, "ann", "one")
         self.assertTrue(cancelled)
         self.assertIs(confirming.verify("ann", "one"), Reply.YES)
 

@@ -17,7 +17,6 @@ from rigzumal.accounts import StoreFault, Unavailable
 from rigzumal.accounts.parts import NO_ROW, Answer, Kind, Request, Ticket, Worked
 from rigzumal.accounts._session import Result, run
 from rigzumal.accounts.dialects import MySQL, Verdict
-from rigzumal.accounts.dialects._dialect import is_of_driver
 
 
 class Arguments(Base):
@@ -27,8 +26,7 @@ class Arguments(Base):
         for kind in (Accounts, AsyncAccounts):
             for given in (self.conn, engine, "sqlite:///x"):
                 name = f"a pool is wanted, not a {type(given).__name__}: PerThread"
-                with self.assertRaisesRegex(TypeError, name):
-                    kind(given, self.dialect, LOW)
+                self.assertRaisesRegex(TypeError, name, kind, given, self.dialect, LOW)
                 with self.assertRaisesRegex(TypeError, name):
                     kind(self.no_connection, self.dialect, LOW, replica=given)
         with self.assertRaisesRegex(TypeError, "a PasswordHasher .* is wanted, not str"):
@@ -58,8 +56,7 @@ class Arguments(Base):
                         act()
                     self.assertEqual(hashes, [])
         for kind in (float, list, bool):
-            with self.assertRaises(TypeError):
-                self.another_dialect(key_type=kind)
+            self.assertRaises(TypeError, self.another_dialect, key_type=kind)
 
     def test_keys_that_no_column_holds(self):
         """They are asked of no server, whatever their copy is said to be."""
@@ -289,13 +286,6 @@ class Errors(Base):
         self.assertTrue(maria.refuses_at_once(Error(1064, "")))
         self.assertEqual(maria.at_once, "")
         self.assertEqual(MySQL("t", "k", "r").at_once, "")
-
-    def test_what_is_of_a_driver(self):
-        """All else is a fault of a program, and comes through as it is."""
-        for kind in (sqlite3.OperationalError, ConnectionResetError, TimeoutError):
-            self.assertTrue(is_of_driver(kind()))
-        for kind in (AttributeError, TypeError, KeyError, StoreFault):
-            self.assertFalse(is_of_driver(kind()))
 
     def test_a_warning_in_the_servers_language(self):
         """It is known by its severity as no language changes it."""

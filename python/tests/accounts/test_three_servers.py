@@ -103,5 +103,4 @@ class ThreeServers(unittest.TestCase):
     def test_a_table_that_pads_is_refused(self):
         with self.server.connect() as conn:
             conn.execute("ALTER TABLE users ALTER COLUMN email TYPE char(20)")
-        with self.assertRaisesRegex(SystemExit, "blanks"):
-            self.store.Store(self.server.url)
+        self.assertRaisesRegex(SystemExit, "blanks", self.store.Store, self.server.url)

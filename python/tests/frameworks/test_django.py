@@ -32,8 +32,7 @@ class Operations(Cheap, TestCase):
         self.assertFalse(passwords.verify_password(self.ann, "wrong"))
         self.assertTrue(self.right("old"))
         for operation in (passwords.check_password, passwords.set_password):
-            with self.assertRaises(ValueError):
-                operation(User(username="ben"), "old")
+            self.assertRaises(ValueError, operation, User(username="ben"), "old")
 
     def test_one_column_is_written_and_validators_hear_of_new_passwords(self):
         """An upgrade is none, and neither is a password that is taken away."""
@@ -193,8 +192,7 @@ class Costs(Cheap, TestCase):
                 return execute(*given)
 
             with connections["default"].execute_wrapper(broken):
-                with self.assertRaises(OperationalError):
-                    authenticate(username=name, password="secret")
+                self.assertRaises(OperationalError, authenticate, username=name, password="secret")
 
     def test_who_may_log_in(self):
         """A subclass says it, and whoever was inactive may come back."""

@@ -60,8 +60,7 @@ class Forms(Cheap, TestCase):
             with comparing() if code is None else contextlib.nullcontext():
                 found = self.valid(form, given)
                 if code:
-                    with self.assertRaises(ValueError):
-                        found.save(commit=False)
+                    self.assertRaises(ValueError, found.save, commit=False)
                     self.assertTrue(self.right("old"))
                 self.assertEqual(found.save(), self.ann)
                 self.assertTrue(self.right(NEW))
@@ -326,6 +325,5 @@ class Command(Cheap, TransactionTestCase):
 
     def test_what_djangos_own_refuses(self):
         for typed, name in (((NEW, NEW), "nobody"), (("one", "another") * 3, "ann")):
-            with self.assertRaises(CommandError):
-                self.call(*typed, name=name)
+            self.assertRaises(CommandError, self.call, *typed, name=name)
         self.assertTrue(self.right("old"))

@@ -79,8 +79,7 @@ class Written(Cheap):
             with undone():
                 again()
             self.reset("reset")
-            with self.assertRaises(RecordChanged):
-                again()
+            self.assertRaises(RecordChanged, again)
             self.assertTrue(self.right("reset"))
 
     def test_a_part_that_was_rolled_back(self):
@@ -110,8 +109,7 @@ class Compared(Written):
     def lose(self, user, **how):
         """A save that is lost: nothing is written."""
         before = stands(user)
-        with self.assertRaises(RecordChanged):
-            user.save(**how)
+        self.assertRaises(RecordChanged, user.save, **how)
         self.assertEqual(stands(user), before)
 
     def lazy(self):
@@ -337,8 +335,7 @@ class Committed(Compared, TransactionTestCase):
         ben.save(using="other")
         self.there.update(password="reset")
         ben.password = "mine"
-        with self.assertRaises(RecordChanged):
-            ben.save(using="other")
+        self.assertRaises(RecordChanged, ben.save, using="other")
         self.assertEqual(self.there.get().password, "reset")
 
     def test_nobody_is_told_of_a_password_that_was_never_put(self):
@@ -367,8 +364,7 @@ class Committed(Compared, TransactionTestCase):
                 ann.save(update_fields=fields)
                 self.assertEqual(Person.objects.using("default").get().email, "a@new.org")
                 ann.set_password("stale")
-                with self.assertRaises(RecordChanged):
-                    ann.save()
+                self.assertRaises(RecordChanged, ann.save)
                 ann.refresh_from_db(using="default")
                 ann.refresh_from_db(using="other")
             ann.save()

@@ -74,20 +74,17 @@ class AsDjangos(Cheap, TransactionTestCase):
         ann.set_password("new")
         model.objects.all().delete()
         for how in ({"force_update": True}, {"update_fields": ["password"]}):
-            with self.assertRaisesMessage(DatabaseError, "did not affect any rows"):
-                ann.save(**how)
+            self.assertRaisesMessage(DatabaseError, "did not affect any rows", ann.save, **how)
         ann.save()
         return is_right(ann, "new")
 
     @beside(True)
     def test_force(self, model, ann):
-        with self.assertRaises(IntegrityError):
-            ann.save(force_insert=True)
+        self.assertRaises(IntegrityError, ann.save, force_insert=True)
         ann.set_password("new")
         ann.save(False, True, "default")
         for wrong in ({"force_insert": True, "force_update": True}, {"update_fields": ["nothing"]}):
-            with self.assertRaises(ValueError):
-                ann.save(**wrong)
+            self.assertRaises(ValueError, ann.save, **wrong)
         return is_right(ann, "new")
 
     @beside(True)
@@ -120,8 +117,7 @@ class AsDjangos(Cheap, TransactionTestCase):
     def test_a_save_that_failed(self, model, ann):
         ann.set_password("new")
         with mock.patch.object(AbstractUser, "save", side_effect=OSError("no")):
-            with self.assertRaises(OSError):
-                ann.save()
+            self.assertRaises(OSError, ann.save)
         ann.save()
         return is_right(ann, "new")
 
@@ -200,18 +196,15 @@ class OwnMethods(Cheap, TestCase):
         before = self.ann.password
         for error, save in ((passwords.RecordChanged(), "lost"), (OSError("no"), "broken")):
             with mock.patch.object(AbstractUser, "save", side_effect=error):
-                with self.assertRaises(type(error)):
-                    passwords.set_password(self.ann, "new")
+                self.assertRaises(type(error), passwords.set_password, self.ann, "new")
             self.assertEqual((self.ann.password, self.ann._password), (before, None), save)
         self.reset("reset")
-        with self.assertRaises(passwords.RecordChanged):
-            passwords.set_password(self.ann, "new")
+        self.assertRaises(passwords.RecordChanged, passwords.set_password, self.ann, "new")
         self.ann.save()
         self.assertTrue(self.right("reset"))
 
     def test_what_would_be_passed_over_is_refused(self):
-        with self.assertRaises(ValueError):
-            passwords.set_password(Locked(username="ben"), "new")
+        self.assertRaises(ValueError, passwords.set_password, Locked(username="ben"), "new")
         for model in (Unmixed, Unreached):
             user = model(pk=1, username="ann", password=self.ann.password)
             for operation in (
@@ -220,7 +213,6 @@ class OwnMethods(Cheap, TestCase):
                 lambda: passwords.change_password(user, "old", "new"),
                 lambda: passwords.set_password(user, "new"),
             ):
-                with self.assertRaisesMessage(Exception, "Methods.check_password"):
-                    operation()
+                self.assertRaisesMessage(Exception, "Methods.check_password", operation)
         with users.comparing(Unmixed):
             self.assertEqual(users.unreached_methods(Unmixed), ["Methods.check_password"])

@@ -163,8 +163,7 @@ class Strings(unittest.TestCase):
         record = Argon2().encode("secret", "somesaltsomesalt")
         fault = rigzumal.OutOfMemoryError(8)
         with mock.patch.object(rigzumal, "argon2", side_effect=[fault, bytes(32)]):
-            with self.assertRaises(MemoryError):
-                Argon2().verify("secret", record)
+            self.assertRaises(MemoryError, Argon2().verify, "secret", record)
 
     def test_bad_arguments_and_no_password_in_an_exception(self):
         for hasher in (Argon2(), Scrypt()):

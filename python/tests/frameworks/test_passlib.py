@@ -125,8 +125,7 @@ class Ours(unittest.TestCase):
             for name in ("any", "default", "rigzumal"):
                 self.assertIs(handler.has_backend(name), True)
             self.assertIs(handler.has_backend("argon2_cffi"), False)
-            with self.assertRaises(MissingBackendError):
-                handler.set_backend("argon2_cffi")
+            self.assertRaises(MissingBackendError, handler.set_backend, "argon2_cffi")
 
     def test_they_are_registered_by_one_call(self):
         """Also after passlib's own were loaded."""

@@ -128,8 +128,7 @@ class Refusals(unittest.TestCase):
         ):
             self.refused(bad, word, call, "x", b"somesalt", **{**LEAST_COSTS, **change})
         self.refused(bad, "scryptcost", rigzumal.scrypt, "x", b"", log2_n=0, r=8, p=1)
-        with self.assertRaises(OverflowError):
-            rigzumal.scrypt("x", b"", log2_n=2**32 + 4, r=8, p=1)
+        self.assertRaises(OverflowError, rigzumal.scrypt, "x", b"", log2_n=2**32 + 4, r=8, p=1)
         with self.assertRaises(OverflowError):
             rigzumal.argon2("x", b"somesalt", **LEAST_COSTS, threads=-1)
 
