@@ -3,7 +3,8 @@
 from __future__ import annotations
 
 import secrets
-from typing import Final, Literal, Optional, Union
+from operator import attrgetter
+from typing import Any, Final, Literal, Optional, Union
 
 from rigzumal.argon2_cffi import profiles
 from rigzumal.argon2_cffi._encoded import Type
@@ -36,6 +37,11 @@ def _check_types(**given: tuple[object, type]) -> None:
         raise TypeError(", ".join(wrong) + ".")
 
 
+def _parameter(name: str) -> Any:
+    """A property that reads a hasher's parameter."""
+    return property(attrgetter(f"_parameters.{name}"))
+
+
 class PasswordHasher:
     """Makes and verifies encoded hashes of Argon2.
 
@@ -56,6 +62,13 @@ class PasswordHasher:
 
     _parameters: Parameters
     encoding: str
+
+    time_cost: int = _parameter("time_cost")
+    memory_cost: int = _parameter("memory_cost")
+    parallelism: int = _parameter("parallelism")
+    hash_len: int = _parameter("hash_len")
+    salt_len: int = _parameter("salt_len")
+    type: Type = _parameter("type")
 
     def __init__(
         self,
@@ -86,30 +99,6 @@ class PasswordHasher:
         """A hasher of these parameters, of version 0x13."""
         costs = params.time_cost, params.memory_cost, params.parallelism
         return cls(*costs, params.hash_len, params.salt_len, type=params.type)
-
-    @property
-    def time_cost(self) -> int:
-        return self._parameters.time_cost
-
-    @property
-    def memory_cost(self) -> int:
-        return self._parameters.memory_cost
-
-    @property
-    def parallelism(self) -> int:
-        return self._parameters.parallelism
-
-    @property
-    def hash_len(self) -> int:
-        return self._parameters.hash_len
-
-    @property
-    def salt_len(self) -> int:
-        return self._parameters.salt_len
-
-    @property
-    def type(self) -> Type:
-        return self._parameters.type
 
     def hash(self, password: Union[str, bytes], *, salt: Optional[bytes] = None) -> str:
         """A new encoded hash; the salt is drawn if it is left out.

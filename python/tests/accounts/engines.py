@@ -190,9 +190,12 @@ class OnSqliteTasks(OnSqlite):
     async def awaiting(self):
         return Awaiting(self.connect())
 
-    def accounts(self, hasher=LOW, dialect=None, **more):
-        pool, given = PerUse(self.awaiting), {"patience": 5.0, **more}
+    def over(self, pool, hasher=LOW, dialect=None, **more):
+        given = {"patience": 5.0, **more}
         return Awaited(AsyncAccounts(pool, dialect or self.dialect, hasher, **given))
+
+    def accounts(self, hasher=LOW, dialect=None, **more):
+        return self.over(PerUse(self.awaiting), hasher, dialect, **more)
 
 
 class OnPostgresTasks(OnPostgres):
@@ -201,4 +204,4 @@ class OnPostgresTasks(OnPostgres):
     async def awaiting(self):
         return await servers.psycopg.AsyncConnection.connect(self.server.url, autocommit=True)
 
-    accounts = OnSqliteTasks.accounts
+    over, accounts = OnSqliteTasks.over, OnSqliteTasks.accounts

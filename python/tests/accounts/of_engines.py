@@ -383,40 +383,35 @@ class LostAnswers:
                         self.assertNotEqual(self.stands(), record)
                     self.assertEqual(self.stands() is not None, is_record)
 
+    def at_second_look(self, accounts, act, is_after=False):
+        """Does `act` before one looks what stands, or between that and what is sent again."""
+        look, looks = accounts._table.look, []
+
+        async def looked(*given):
+            looks.append(1)
+            if len(looks) == 2 and not is_after:
+                act()
+            found = await look(*given)
+            if len(looks) == 2 and is_after:
+                act()
+            return found
+
+        accounts._table.look = looked
+
     def test_another_change_meanwhile(self):
         """The new record may have stood and been replaced: nobody knows, and nothing is put."""
-        for before, at in itertools.product((True, False), (1, 2)):
+        for before, is_after in itertools.product((True, False), (True, False)):
             self.put(LOW.hash("one"))
-            accounts, looks = self.losing(before), []
-            table, look = accounts._table, accounts._table.look
-
-            async def slow(session, key):
-                # Before one looks what stands, and between that and what is sent again.
-                looks.append(1)
-                if len(looks) == 2 and at == 1:
-                    self.put(LOW.hash("another"))
-                found = await look(session, key)
-                if len(looks) == 2 and at == 2:
-                    self.put(LOW.hash("another"))
-                return found
-
-            table.look = slow
+            accounts = self.losing(before)
+            self.at_second_look(accounts, lambda: self.put(LOW.hash("another")), is_after)
             self.assertRaises(OutcomeUnknown, accounts.change, "ann", "one", "two")
             self.assertTrue(self.is_right("another"))
 
     def test_what_its_owner_has_removed_since(self):
         """It stays removed, and its outcome is unknown."""
         self.put(None)
-        accounts, looks = self.losing(before=False), []
-        look = accounts._table.look
-
-        def removed(*given):
-            looks.append(1)
-            if len(looks) == 2:
-                self.put(None)
-            return look(*given)
-
-        accounts._table.look = removed
+        accounts = self.losing(before=False)
+        self.at_second_look(accounts, lambda: self.put(None))
         self.assertRaises(OutcomeUnknown, accounts.enrol, "ann", "new")
         self.assertIsNone(self.stands())
 
@@ -438,16 +433,8 @@ class LostAnswers:
         """The change stands, or may come to stand: it is unknown, and no StoreFault."""
         for before in (True, False):
             self.put(LOW.hash("one"))
-            accounts, looks = self.losing(before), []
-            look = accounts._table.look
-
-            def broken(*given):
-                looks.append(1)
-                if len(looks) > 1:
-                    raise StoreFault("the disk is full")
-                return look(*given)
-
-            accounts._table.look = broken
+            accounts = self.losing(before)
+            self.at_second_look(accounts, mock.Mock(side_effect=StoreFault("the disk is full")))
             with self.assertRaisesRegex(OutcomeUnknown, "StoreFault") as raised:
                 accounts.change("ann", "one", "two")
             self.assertIsNone(raised.exception.__context__)

@@ -109,10 +109,13 @@ class Base(unittest.TestCase):
 
         return connect
 
-    def accounts(self, hasher=LOW, dialect=None, connect=None, kind=Accounts, **more):
+    def over(self, pool, hasher=LOW, dialect=None, **more):
+        return Accounts(pool, dialect or self.dialect, hasher, **{"patience": 5.0, **more})
+
+    def accounts(self, hasher=LOW, dialect=None, connect=None, **more):
         pool = PerThread(connect or self.connect)
         self.addCleanup(pool.close)
-        return kind(pool, dialect or self.dialect, hasher, **{"patience": 5.0, **more})
+        return self.over(pool, hasher, dialect, **more)
 
     def kept(self, hasher=LOW, conn=None, **more):
         """Accounts over one connection that is kept, whatever comes, and was used once."""

@@ -81,23 +81,18 @@ def rolls_back(conn):
 WAYS = (raises_another, raises_at_any_end, swallows, rolls_back)
 
 
-class OfThreads(engines.OnSqlite):
+class OfThreads:
     """Accounts over a pool of some way."""
 
     way = staticmethod(rolls_back)
 
-    def over(self, pool, dialect=None, hasher=LOW, **more):
-        return Accounts(pool, dialect or self.dialect, hasher, **{"patience": 5.0, **more})
-
     def accounts(self, hasher=LOW, dialect=None, **more):
         self.pool = Pool(self.way, self.conn)
-        return self.over(self.pool, dialect, hasher, **more)
+        return self.over(self.pool, hasher, dialect, **more)
 
 
-class OfTasks(OfThreads):
-    def over(self, pool, dialect=None, hasher=LOW, **more):
-        given = {"patience": 5.0, **more}
-        return Awaited(AsyncAccounts(pool, dialect or self.dialect, hasher, **given))
+class OfTasks(OfThreads, engines.OnSqliteTasks):
+    """The same for asyncio."""
 
 
 class Endings:
@@ -160,7 +155,8 @@ class Endings:
 
 def made(suite, engine, **more):
     name = "".join(it.__name__ for it in (suite, engine, *more.values()))
-    return name, type(name, (engine, suite, Base), {it: staticmethod(more[it]) for it in more})
+    bases = (engine, suite, engines.OnSqlite, Base)
+    return name, type(name, bases, {it: staticmethod(more[it]) for it in more})
 
 
 globals().update(made(Endings, engine) for engine in (OfThreads, OfTasks))

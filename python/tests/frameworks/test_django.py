@@ -27,13 +27,6 @@ class Operations(Cheap, TestCase):
         super().setUp()
         self.ann = User.objects.create_user("ann", password="old")
 
-    def test_what_is_refused(self):
-        self.assertFalse(passwords.change_password(self.ann, "wrong", "new"))
-        self.assertFalse(passwords.verify_password(self.ann, "wrong"))
-        self.assertTrue(self.right("old"))
-        for operation in (passwords.check_password, passwords.set_password):
-            self.assertRaises(ValueError, operation, User(username="ben"), "old")
-
     def test_one_column_is_written_and_validators_hear_of_new_passwords(self):
         """An upgrade is none, and neither is a password that is taken away."""
         User.objects.update(email="new@example.org")
@@ -51,21 +44,6 @@ class Operations(Cheap, TestCase):
         User.objects.update(password=hashers.make_password("old", hasher="md5"))
         self.assertEqual(authenticate(username="ann", password="old"), self.ann)
         self.assertTrue(stands(self.ann).startswith("argon2$"))
-
-    def test_what_was_rolled_back_is_no_old_password(self):
-        """Whatever the user's copy says."""
-        with undone():
-            passwords.set_password(self.ann, "new")
-        self.assertFalse(passwords.change_password(self.ann, "new", "newer"))
-        self.assertTrue(self.right("old"))
-
-    def test_a_user_who_was_read_anew(self):
-        """What was put before is no copy any more."""
-        passwords.set_password(self.ann, "new")
-        self.reset("reset")
-        self.ann.refresh_from_db()
-        passwords.set_password(self.ann, "newer")
-        self.assertTrue(self.right("newer"))
 
 
 class Reports(Cheap, TransactionTestCase):

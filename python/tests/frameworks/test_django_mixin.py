@@ -80,6 +80,7 @@ class Written(Cheap):
                 again()
             self.reset("reset")
             self.assertRaises(RecordChanged, again)
+            self.assertFalse(passwords.change_password(self.ann, "new", "newer"))
             self.assertTrue(self.right("reset"))
 
     def test_a_part_that_was_rolled_back(self):

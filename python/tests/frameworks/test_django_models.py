@@ -1,11 +1,12 @@
 """A model with the mixin beside Django's own: it is the same in all but races, and a model's own
 methods are called."""
 
+import itertools
 from unittest import mock
 
 import project  # noqa: F401: Django, set up
 from django.contrib.auth import authenticate, hashers
-from django.contrib.auth.models import AbstractUser
+from django.contrib.auth.models import AbstractUser, User
 from django.core import serializers
 from django.db import DatabaseError, IntegrityError, transaction
 from django.db.migrations.state import ModelState, ProjectState
@@ -204,7 +205,11 @@ class OwnMethods(Cheap, TestCase):
         self.assertTrue(self.right("reset"))
 
     def test_what_would_be_passed_over_is_refused(self):
-        self.assertRaises(ValueError, passwords.set_password, Locked(username="ben"), "new")
+        for unsaved, act in itertools.product(
+            (Locked(username="ben"), User(username="ben")),
+            (passwords.check_password, passwords.set_password),
+        ):
+            self.assertRaises(ValueError, act, unsaved, "new")
         for model in (Unmixed, Unreached):
             user = model(pk=1, username="ann", password=self.ann.password)
             for operation in (

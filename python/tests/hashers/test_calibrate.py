@@ -54,16 +54,12 @@ class Trials(unittest.TestCase):
             (linear(1000), 1, 65536, 1, (8, 1)),
             (linear(1000), 1, 65536, 2, (16, 1)),
             (linear(1000), 1, 65536, 255, (2040, 1)),
+            (linear(1 / 64), 250, 65536, 4, (16000, 1)),
+            (with_a_slow_start, 250, 65536, 1, (65536, 19)),
             (with_a_slow_start, 59.9, 65536, 1, (8, 1)),
         ):
             last = tried(machine, target, memory, lanes)[-1].hasher
             self.assertEqual((last.memory_cost, last.time_cost), wanted, (target, lanes))
-
-    def test_memory_is_as_much_as_the_time_allows(self):
-        for target in (250, 100, 33.3, 7):
-            last = tried(linear(1 / 64), target, 65536, 4)[-1]
-            self.assertEqual(last.hasher.time_cost, 1)
-            self.assertTrue(0.9 * target < last.milliseconds <= target)
 
     def test_the_last_is_never_too_slow(self):
         for target in (50, 60, 64, 65, 100, 500, 2000):
@@ -71,10 +67,6 @@ class Trials(unittest.TestCase):
             self.assertLessEqual(found[-1].milliseconds, max(target, found[0].milliseconds))
             fits = [it for it in found if it.milliseconds <= target]
             self.assertEqual(found[-1], max(fits, key=lambda it: it.milliseconds))
-
-    def test_passes_are_raised_until_the_time_is_used(self):
-        found = tried(with_a_slow_start, 250, 65536, 1)
-        self.assertTrue(240 <= found[-1].milliseconds <= 250)
 
     def test_lanes_and_threads_are_those_given(self):
         for lanes, threads in ((1, 1), (4, 1), (4, 4), (7, 3)):

@@ -181,19 +181,6 @@ class Inputs(unittest.TestCase):
         wanted = hashlib.scrypt(b"password", salt=b"s", n=16, r=2, p=3, dklen=32)
         self.assertEqual(record, f"$scrypt$ln=4,r=2,p=3$cw${base64_of(wanted)}")
 
-    def test_each_part_counts(self):
-        """To its last byte."""
-        for size in (8, 48, 64, 65, 128, 129, 256, 1000, 70_000):
-            data, other, tags = bytes(size), bytes(size - 1) + b"\1", set()
-            for at in range(5):
-                given = [other if at == it else data for it in range(4)]
-                others = {"secret": given[2], "associated": given[3]}
-                tags.add(rigzumal.argon2(*given[:2], **others, **LEAST_COSTS))
-            self.assertEqual(len(tags), 5)
-            record = LEAST.hash(data)
-            found = [verdict(LEAST, record, it) for it in (data, other, data[1:], data + b"\0")]
-            self.assertEqual(found, [True, False, False, False])
-
 
 class Parts(unittest.TestCase):
     def test_each_number_is_in_its_place(self):

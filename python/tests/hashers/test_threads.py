@@ -14,20 +14,6 @@ COSTS = {"time_cost": 1, "memory_cost": 64, "parallelism": 4}
 
 
 class Threads(unittest.TestCase):
-    def test_a_record_is_the_same(self):
-        for secret in (None, b"pepper"):
-            one = PasswordHasher(1, 8192, 4, secret=secret)
-            four = one.replace(threads=4)
-            record = four.hash("password", salt=b"sixteen of salt.")
-            self.assertEqual(record, one.hash("password", salt=b"sixteen of salt."))
-            for hasher in (one, four):
-                self.assertFalse(hasher.check_needs_rehash(record))
-                found = [verdict(hasher, record, it) for it in ("password", "Password")]
-                self.assertEqual(found, [True, False])
-        costs = {**COSTS, "memory_cost": 8192}
-        tags = {rigzumal.argon2("x", b"somesalt", **costs, threads=n) for n in (1, 2, 4, 9)}
-        self.assertEqual(len(tags), 1)
-
     def test_those_that_are_asked_for(self):
         """One if none are."""
         names = "record check record_with_secret check_with_secret argon2".split()
