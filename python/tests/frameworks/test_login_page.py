@@ -14,11 +14,9 @@ from login_clients import CHEAP, DATABASE, EXAMPLE, IS_SQLITE, NEW, OLD
 from login_clients import ROOM, Case, Client, Direct, login_page, serving, store
 from markupsafe import escape
 
-from rigzumal import PasswordHasher
 from rigzumal.accounts._judgement import Judge
 from rigzumal.accounts.parts import Kind
 
-DEARER = PasswordHasher(memory_cost=128, time_cost=1, parallelism=1)
 HEADERS = {
     "Content-Security-Policy": "default-src 'none'; style-src 'self'; form-action 'self';"
     " frame-ancestors 'none'; base-uri 'none'",
@@ -285,16 +283,6 @@ class Sessions(Case):
             self.assertEqual(self.ann.change(), 500)
         self.assertNotIn(NEW, str(said.output) + self.ann.text)
         self.assertTrue(other.is_in() and self.opens(OLD))
-
-    def test_a_login_makes_a_record_of_less_anew(self):
-        """And ends no other session."""
-        with serving(DEARER) as port:
-            other = Client(port)
-            for password, status, memory in ((NEW, 200, "m=64,"), (OLD, 303, "m=128,")):
-                self.assertEqual(other.login(self.name, password), status)
-                (row,) = self.rows("SELECT record FROM account WHERE name = ?", self.name)
-                self.assertIn(memory, row[0])
-            self.assertTrue(other.is_in() and self.ann.is_in())
 
     def test_a_login_with_the_stolen_password_during_the_change(self):
         """The change comes between the login's hash and its commit."""
