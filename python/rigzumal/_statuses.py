@@ -1,11 +1,12 @@
-"""What the commands at the shell share: the exit statuses of credkeep(1), and words."""
+"""What the commands at the shell share: credkeep(1)'s exit statuses, and words."""
 
 from __future__ import annotations
 
 import argparse
 import enum
 import sys
-from typing import NoReturn, Union
+from collections.abc import Callable
+from typing import NoReturn, Optional, Union
 
 from rigzumal._hashers import PasswordHasher, ScryptHasher
 from rigzumal._library import NoRandomError, OutOfMemoryError
@@ -88,3 +89,19 @@ def hasher_of(given: argparse.Namespace) -> Union[PasswordHasher, ScryptHasher]:
     if given.scrypt:
         return ScryptHasher(log2_n=given.log2_n)
     return PasswordHasher(given.passes, given.memory, given.lanes)
+
+
+def hint(password: bytes, is_right: Callable[[bytes], bool]) -> Optional[str]:
+    """Advice about a wrong password that another end makes right; None if none does."""
+    newlines = "`printf %s` writes none, and `echo` one"
+    bare = password[:-1] if password.endswith(b"\n") else password
+    if bare != password:
+        ends = [(bare, "without the newline", newlines)]
+    else:
+        ends = [(password + b"\n", "with a newline", newlines)]
+    if bare.endswith(b"\r"):
+        ends += [(bare[:-1], "without the carriage return", "`tr -d '\\r'` removes it")]
+    for other, said, how in ends:
+        if is_right(other):
+            return f"the password is right {said} at its end: {how}"
+    return None

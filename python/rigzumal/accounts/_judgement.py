@@ -28,7 +28,6 @@ _TAG_SIZE: Final = 32
 # Their numbers in the library for C are their places.
 _OPERATIONS: Final = {kind: number for number, kind in enumerate(Kind, 1)}
 _REPLIES: Final = dict(enumerate(Reply, 1))
-_COPY_FAULT: Final = 24
 
 
 class Judge:
@@ -181,8 +180,6 @@ def step(
     words = given, ctypes.c_size_t(len(given)), new, ctypes.c_size_t(len(new))
     rigzumal_step = _library._library.rigzumal_step
     fault = rigzumal_step(*made, *asked, *words, text_bytes(setting))
-    if fault == _COPY_FAULT and copy is not None:
-        parts(copy)
     _library.raise_fault(fault)
     said = _REPLIES[reply.value]
     if not said.makes_change:

@@ -21,6 +21,7 @@ import time
 
 import support  # noqa: F401: finds the package
 import servers
+from runs import GALERA, MARIADB, POSTGRES, SQLITE
 from rigzumal import PasswordHasher
 from rigzumal.accounts import Accounts, PerThread
 from rigzumal.accounts._session import Session
@@ -186,7 +187,7 @@ def statements(load):
 
 def times():
     """How long a verify takes by what stands, in ms: medians of 60, with 8 MiB."""
-    load = Load(f"sqlite:///{servers.ROOM}/times.db")
+    load = Load(SQLITE())
     load.fill()
     accounts, took = load.over(MIDDLE), collections.defaultdict(list)
     accounts.reset("user0", "pw")
@@ -205,12 +206,7 @@ def times():
     print(f"\nA verify under 8 MiB takes, in ms: {said}.")
 
 
-URLS = {
-    "sqlite": lambda: f"sqlite:///{servers.ROOM}/bench.db",
-    "postgres": lambda: servers.PostgresServer("bench-postgres").start().url,
-    "mariadb": lambda: servers.MariaServer("bench-mariadb").start().url,
-    "galera": lambda: servers.cluster_url(servers.galera()),
-}
+URLS = {"sqlite": SQLITE, "postgres": POSTGRES, "mariadb": MARIADB, "galera": GALERA}
 
 
 def main():

@@ -10,9 +10,8 @@ import unittest
 
 import breaking
 from breaking import OWN, lossy, queued, queued_tasks
-from runs import GALERA, MARIADB, POSTGRES, SECONDS, SQLITE, Pair, Run, Tasks
+from runs import GALERA, MARIADB, POSTGRES, SECONDS, SQLITE, Crashes, Pair, Run, Tasks
 from runs import galera, killed_servers, lagging, legal, maria, maria_without_log, postgres, refused
-from shown_early import Crashes
 
 LOST = {"alter": lossy, "patience": 5.0}
 LOST_IN_POOLS = {"alter": queued, "patience": 5.0, "ways": OWN}

@@ -1,6 +1,5 @@
 """What a whole operation does at a copy, and what it costs."""
 
-import unittest
 from unittest import mock
 
 from support import HIGH, LOW, OLDER, READS, Base, counted
@@ -141,17 +140,3 @@ class Costs(Base):
             made = rigzumal.parts(hasher.hash("x"))
             self.assertEqual(rigzumal.parts(dummy), made)
             self.assertEqual(password, b"x")
-
-
-class Steps(unittest.TestCase):
-    """The library's step; its own tests have what it answers."""
-
-    def test_faults(self):
-        setting = LOW.costs + "$c29tZXNhbHRzb21lc2FsdA"
-        bad = rigzumal.InvalidRecordError
-        for kind in READS:
-            for copy in ("garbage", "", LOW.hash("x") + "="):
-                self.assertRaises(bad, _judgement.step, kind, copy, "x", "y", setting)
-        for kind, copy in ((Kind.ENROL, None), (Kind.CHANGE, LOW.hash("x"))):
-            with self.assertRaises(bad):
-                _judgement.step(kind, copy, "x", "y", "$argon2id$v=19$m=1,t=1,p=1$c29t")

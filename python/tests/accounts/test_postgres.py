@@ -247,18 +247,14 @@ class OnPostgres(engines.OnPostgres, Base):
         asyncio.run(act())
 
     def test_asyncio(self):
-        """Connections in each mode, and a server that isn't there."""
+        """A caller's own transaction; the engines' tests have the rest."""
         self.put(LOW.hash("one"))
 
-        def connect(**more):
-            given = {"autocommit": True, **more}
-            return psycopg.AsyncConnection.connect(self.server.url, **given)
-
-        def over(connect):
-            return AsyncAccounts(PerUse(connect), self.dialect, LOW, patience=0.5)
+        def connect(autocommit=True):
+            return psycopg.AsyncConnection.connect(self.server.url, autocommit=autocommit)
 
         async def act():
-            low = over(connect)
+            low = AsyncAccounts(PerUse(connect), self.dialect, LOW, patience=0.5)
             worked = await low.work(await low.begin(Request(Kind.CHANGE, "ann", "one", "two")))
             async with await connect() as conn:
                 with self.assertRaises(StoreFault):
@@ -267,12 +263,6 @@ class OnPostgres(engines.OnPostgres, Base):
                 self.assertIs((await low.commit_in(conn, worked)).reply, Reply.REPLACED)
                 await conn.rollback()
             self.assertIs((await low.commit(worked)).reply, Reply.REPLACED)
-            for connects, error in (
-                (lambda: connect(autocommit=False), StoreFault),
-                (lambda: psycopg.AsyncConnection.connect("host=127.0.0.1 port=1"), Unavailable),
-            ):
-                with self.assertRaises(error):
-                    await over(connects).verify("ann", "one")
 
         asyncio.run(act())
 

@@ -11,8 +11,8 @@ from django.test import RequestFactory, TestCase, TransactionTestCase, override_
 from django.test.utils import CaptureQueriesContext
 from django.utils.functional import SimpleLazyObject
 from django.views.debug import ExceptionReporter
-from meanwhile import Cheap, Router, cheap, reset_elsewhere, stands, undone
-from operations import ACTS, BACKEND, NEW, OF_MIXIN, OLD, SETS
+from meanwhile import Cheap, Router, cheap, reset_elsewhere, stands
+from meanwhile import ACTS, BACKEND, NEW, OF_MIXIN, OLD, SETS
 from users_app.models import ByMail, Person
 
 import rigzumal

@@ -10,7 +10,7 @@ from django.test import TransactionTestCase, override_settings
 from django.utils.functional import SimpleLazyObject
 from meanwhile import Cheap, before_update, cheap, comparing, delete_elsewhere
 from meanwhile import is_right, meanwhile, reset_elsewhere, rows, signed_up, stands
-from operations import ACTS, CHANGES, LOGINS, NEW, OF_MIXIN, OLD, SETS
+from meanwhile import ACTS, CHANGES, LOGINS, NEW, OF_MIXIN, OLD, SETS
 from users_app.models import ByMail, Hidden, Locked, Member, Person, Pupil, Staff
 
 from rigzumal.django.hashers import Argon2PasswordHasher

@@ -1,14 +1,12 @@
-"""Tests of where the library is looked for, of what it keeps, and of passlib's and argon2-cffi's own
-tests over it."""
+"""Tests of where the library is looked for, of what it keeps, and of argon2-cffi's own tests over it."""
 
 import os
 import pathlib
-import re
 import shutil
 import tempfile
 import unittest
 
-from records import HERE, LEAST, LIBRARIES, PYTHON, python
+from records import HERE, LIBRARIES, PYTHON, python
 
 import rigzumal
 from rigzumal import PasswordHasher, _library
@@ -17,9 +15,7 @@ from tests.helpers import need_module
 
 class Places(unittest.TestCase):
     def setUp(self):
-        folder = tempfile.TemporaryDirectory()
-        self.addCleanup(folder.cleanup)
-        self.room = pathlib.Path(folder.name)
+        self.room = pathlib.Path(self.enterContext(tempfile.TemporaryDirectory()))
 
     def test_a_missing_library(self):
         """A package without its library says how to build it, and so does what packs it."""
@@ -61,14 +57,9 @@ class Places(unittest.TestCase):
 
 class Kept(unittest.TestCase):
     def test_memory_is_given_back(self):
-        area = 2**24
         rigzumal.trim()
-        for hasher, kept in (
-            (PasswordHasher(1, 65536, 1), 4 * area),
-            (LEAST, 0),
-            (PasswordHasher(1, 1024, 1), area),
-        ):
-            hasher.hash("x")
+        for memory, kept in ((65536, 2**26), (8, 0), (1024, 2**24)):
+            PasswordHasher(1, memory, 1).hash("x")
             self.assertEqual((rigzumal.trim(), rigzumal.trim()), (kept, 0))
 
     def test_the_bound(self):
@@ -87,15 +78,3 @@ class OfOthers(unittest.TestCase):
         if source is None:
             self.skipTest("ARGON2_CFFI_SOURCE names no folder of argon2-cffi's source")
         python(HERE / "argon2_cffi_own.py", source)
-
-    def test_of_passlib_for_scrypt(self):
-        """With this library as a backend."""
-        need_module("passlib.tests.test_crypto_scrypt")
-        path = os.pathsep.join((str(PYTHON), str(HERE / "passlib_scrypt")))
-        script = "from passlib.crypto import scrypt; scrypt._set_backend('scrypt')"
-        said = python("-W", "ignore", "-c", f"{script}; print(scrypt.backend)", PYTHONPATH=path)
-        self.assertEqual(said, "scrypt\n")
-        for module in ("test_crypto_scrypt", "test_handlers_scrypt"):
-            words = ("-W", "ignore", "-m", "unittest", f"passlib.tests.{module}")
-            said = python(*words, PYTHONPATH=path)
-            self.assertRegex(said, re.compile(r"^Ran [1-9]\d* test", re.M))

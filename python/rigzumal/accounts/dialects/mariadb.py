@@ -184,6 +184,15 @@ class MariaDB(Dialect):
         yield from self.key_faults(key, key in kinds[self.key_type])
 
 
+class MySQL(MariaDB):
+    """MySQL by PyMySQL: as MariaDB, with no compound statement outside of a routine."""
+
+    key_sql = "VARCHAR(255) CHARACTER SET utf8mb4 COLLATE utf8mb4_0900_bin"
+
+    def _at_once(self, t: str, k: str, r: str) -> str:
+        return ""
+
+
 def shown_early(seen: dict[str, str]) -> tuple[Fault, ...]:
     """Without a binary log InnoDB shows a commit before its own log is on the disk."""
     if "ON" in (seen.get("log_bin"), seen.get("wsrep_on")):
