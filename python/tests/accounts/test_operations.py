@@ -119,23 +119,17 @@ class Operations(Base):
             "DELETE FROM old.users",
         )
         # What has no record there, or no row, may have one by now.
-        for sql, password, *calls in (
-            (one, "new", ("verify old", "no"), ("verify new", "yes")),
-            (one, "new", ("change old x", "wrong"), ("change new newer", "replaced")),
-            (
-                one,
-                None,
-                ("verify old", "absent"),
-                ("remove old", "absent"),
-                ("enrol x", "enrolled"),
-            ),
-            (none, "new", ("verify new", "yes"), ("login old", "no"), ("enrol x", "exists")),
-            (gone, "new", ("login new", "yes"), ("verify old", "no"), ("reset x", "replaced")),
+        for sql, password, calls in (
+            (one, "new", "verify old no; verify new yes"),
+            (one, "new", "change old x wrong; change new newer replaced"),
+            (one, None, "verify old absent; remove old absent; enrol x enrolled"),
+            (none, "new", "verify new yes; login old no; enrol x exists"),
+            (gone, "new", "login new yes; verify old no; reset x replaced"),
         ):
             stale.execute(sql)
             self.put(password and LOW.hash(password))
-            for call, reply in calls:
-                name, *given = call.split()
+            for call in calls.split("; "):
+                name, *given, reply = call.split()
                 self.assertEqual(getattr(accounts, name)("ann", *given).value, reply, (sql, call))
         self.conn.execute("DELETE FROM users")
         self.assertIs(accounts.verify("ann", "old"), Reply.NO_ACCOUNT)

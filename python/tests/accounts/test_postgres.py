@@ -7,7 +7,6 @@ import math
 import pathlib
 import tempfile
 import threading
-import time
 from unittest import mock
 
 import engines
@@ -151,42 +150,22 @@ class OnPostgres(engines.OnPostgres, Base):
         timer.join()
         self.assertIs(accounts.enrol("ben", "two"), Reply.ENROLLED)
 
-    def test_a_backend_that_is_ended_as_it_waits(self):
-        """The server says why it ends: the connection is lost, and nothing was done."""
-        self.put(LOW.hash("one"))
-        accounts, done = self.accounts(), []
-        self.execute("BEGIN")
-        self.execute("SELECT 1 FROM users FOR UPDATE")
-        thread = threading.Thread(target=lambda: done.append(accounts.change("ann", "one", "two")))
-        thread.start()
-        ended = []
-        while not ended:
-            time.sleep(0.1)
-            ended = self.execute(
-                "SELECT pg_terminate_backend(pid) FROM pg_stat_activity"
-                " WHERE wait_event_type = 'Lock'"
-            )
-        self.execute("ROLLBACK")
-        thread.join()
-        self.assertEqual(done, [Reply.REPLACED])
-
     # ---- a standby that doesn't answer
 
     @contextlib.contextmanager
-    def cancelled_waits(self, times=math.inf):
-        """So many waits for a standby are cancelled, as by a person; then none is needed."""
+    def cancelled_waits(self):
+        """Waits for a standby are cancelled, as by a person; then none is needed."""
         stop, cancelled, killer = threading.Event(), [], self.another()
         self.server.set(synchronous_standby_names="nobody")
 
         def cancel():
-            while not stop.wait(0.1) and len(cancelled) < times:
+            while not stop.wait(0.1):
                 cancelled.extend(
                     killer.execute(
                         "SELECT pg_cancel_backend(pid) FROM pg_stat_activity"
                         " WHERE wait_event = 'SyncRep'"
                     ).fetchall()
                 )
-            time.sleep(0 if stop.is_set() else 0.5)
             self.server.set(synchronous_standby_names="")
 
         thread = threading.Thread(target=cancel)
@@ -204,15 +183,6 @@ class OnPostgres(engines.OnPostgres, Base):
             with self.assertRaises(OutcomeUnknown):
                 self.accounts(patience=2.0).change("ann", "one", "two")
         self.assertGreater(len(cancelled), 1)
-
-    def test_a_wait_that_is_cancelled_once(self):
-        """The new record is put over itself, and that COMMIT waits again."""
-        self.put(LOW.hash("one"))
-        begun = time.monotonic()
-        with self.cancelled_waits(times=1):
-            self.assertIs(self.accounts().change("ann", "one", "two"), Reply.REPLACED)
-        self.assertGreater(time.monotonic() - begun, 0.5)
-        self.assertTrue(self.is_right("two"))
 
     def test_it_waits_for_the_standby(self):
         """A look answers by what may not be there; a confirmed one never does."""

@@ -14,12 +14,12 @@ EXAMPLE = pathlib.Path(__file__).resolve().parents[3] / "examples/postgres"
 ADA = "ada@example.org"
 
 
-def open_store(dsn, memory):
+def open_store(dsn):
     """Begins a web server's process, with a store of its own."""
     global STORE
     import store
 
-    store.PasswordHasher = lambda: PasswordHasher(time_cost=1, memory_cost=memory)
+    store.PasswordHasher = lambda: PasswordHasher(time_cost=1, memory_cost=64)
     STORE = store.Store(dsn)
 
 
@@ -30,15 +30,12 @@ def call(name, *words):
 class WebServer:
     """One process of the service."""
 
-    def __init__(self, dsn, memory):
-        given = {"mp_context": multiprocessing.get_context("spawn"), "initargs": (dsn, memory)}
+    def __init__(self, dsn):
+        given = {"mp_context": multiprocessing.get_context("spawn"), "initargs": (dsn,)}
         self.process = ProcessPoolExecutor(1, initializer=open_store, **given)
 
-    def begin(self, *words):
-        return self.process.submit(call, *words)
-
     def ask(self, *words):
-        return self.begin(*words).result()
+        return self.process.submit(call, *words).result()
 
 
 class ThreeServers(unittest.TestCase):
@@ -54,8 +51,8 @@ class ThreeServers(unittest.TestCase):
             conn.execute("DROP TABLE IF EXISTS users")
         store.make_table(self.server.url)
 
-    def web_server(self, memory=64):
-        made = WebServer(self.server.url, memory)
+    def web_server(self):
+        made = WebServer(self.server.url)
         self.addCleanup(made.process.shutdown)
         return made
 
@@ -85,20 +82,6 @@ class ThreeServers(unittest.TestCase):
         for name in (ADA, "invited@example.org"):
             self.assertFalse(shop.ask("sign_up", name, "evil"))
             self.assertFalse(shop.ask("log_in", name, "evil"))
-
-    def test_logins_never_undo_a_change(self):
-        """Two servers ask for higher costs, so each of their logins is an upgrade, while the
-        third changes the password: after each round the new one stands alone."""
-        changing = self.web_server()
-        upgrading = [self.web_server(memory=1024), self.web_server(memory=2048)]
-        self.assertTrue(changing.ask("sign_up", ADA, "0"))
-        for turn in range(40):
-            logins = [it.begin("log_in", ADA, str(turn)) for it in upgrading]
-            self.assertTrue(changing.ask("change", ADA, str(turn), str(turn + 1)))
-            for login in logins:
-                login.result()
-            self.assertTrue(changing.ask("log_in", ADA, str(turn + 1)))
-            self.assertFalse(changing.ask("log_in", ADA, str(turn)))
 
     def test_a_table_that_pads_is_refused(self):
         with self.server.connect() as conn:

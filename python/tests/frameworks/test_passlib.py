@@ -13,7 +13,6 @@ try:
     import passlib.hash
 except ImportError:
     raise unittest.SkipTest("python3-passlib is not there") from None
-from passlib.context import CryptContext
 from passlib.exc import MissingBackendError, PasswordSizeError
 from passlib.tests import test_handlers_argon2 as argon2_tests
 from passlib.tests import test_handlers_scrypt as scrypt_tests
@@ -132,22 +131,6 @@ class Ours(unittest.TestCase):
         for front in ("", "import passlib.hash; passlib.hash.argon2; passlib.hash.scrypt"):
             said = run(sys.executable, "-W", "ignore", "-c", front + REGISTERED)
             self.assertEqual(said.split()[-4:], ["rigzumal"] * 4)  # after passlib's own warning
-
-    def test_contexts(self):
-        context = CryptContext([ours, our_scrypt], argon2__memory_cost=64, argon2__rounds=1)
-        record = context.hash("secret")
-        self.assertEqual(context.verify_and_update("secret", record), (True, None))
-        self.assertEqual(context.verify_and_update("guess", record), (False, None))
-        for newer, old, front in (
-            (context.copy(argon2__memory_cost=128), record, "$argon2id$v=19$m=128,t=1,"),
-            (
-                context.copy(deprecated=["scrypt"]),
-                our_scrypt.using(rounds=4).hash("secret"),
-                "$arg",
-            ),
-        ):
-            right, new = newer.verify_and_update("secret", old)
-            self.assertTrue(right and new.startswith(front))
 
 
 REGISTERED = """

@@ -171,7 +171,3 @@ class Package(unittest.TestCase):
         # Of waitress it knows that there are stubs, which nobody needs to have.
         words = (*mypy, "--disable-error-code=import", "login_page.py")
         run(*words, at=REPOSITORY / "examples/login_page", env={"MYPYPATH": str(PYTHON)})
-
-
-if __name__ == "__main__":
-    unittest.main()
