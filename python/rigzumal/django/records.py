@@ -175,11 +175,9 @@ def _at_what_stands(user: Any, judge: Callable[[str], tuple[bool, str]]) -> Judg
 
 def judge_alone(user: Any, password: Any) -> Judged:
     """A check of the password that doesn't rehash."""
-
-    def judge(copy: str) -> tuple[bool, str]:
-        return hashers.check_password(password, copy), copy
-
-    return _at_what_stands(user, judge)
+    return _at_what_stands(
+        user, lambda copy: (hashers.check_password(password, copy), copy)
+    )
 
 
 def judge_login(user: Any, password: Any) -> Judged:

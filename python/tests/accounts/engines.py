@@ -6,7 +6,7 @@ import sqlite3
 import uuid
 
 import servers
-from support import LOW, Awaiting
+from support import LOW, Awaiting, Base
 from rigzumal.accounts import AsyncAccounts, MariaDB, MySQL, Postgres, Sqlite
 from rigzumal.accounts.pools import PerUse
 
@@ -84,9 +84,17 @@ class OnPostgres(OnServer):
     folding, changing = ("text COLLATE ci", "citext", "char(20)"), ("char(300)", "varchar(60)")
     modes = ("SELECT 1",)
 
+    only_reads = "ReadOnlySqlTransaction 25006|ConnectionError"
+
     @property
     def again(self):
         return servers.psycopg.errors.DeadlockDetected("planted")
+
+    def reading(self):
+        """What connects to a standby, as an address that moved early does, and what promotes it."""
+        standby = servers.PostgresServer("standby", self.server).start()
+        self.addCleanup(standby.kill)
+        return standby.connect, standby.promote
 
     def create(self):
         """With the extension and the collation that some tests need."""
@@ -138,9 +146,21 @@ class OnMariaDB(OnServer):
     # Without strict mode the server cuts off what is too long.
     modes = ("SET sql_mode = 'STRICT_TRANS_TABLES'", "SET sql_mode = ''")
 
+    only_reads = "1290"
+
     @property
     def again(self):
         return servers.pymysql.err.OperationalError(1213, "planted")
+
+    def reading(self):
+        """What connects to a server that is read only, and what ends that."""
+
+        def set_to(value):
+            self.server.as_root(f"SET GLOBAL read_only = {value}")
+
+        set_to(1)
+        self.addCleanup(set_to, 0)
+        return self.connect, lambda: set_to(0)
 
     def end_sessions(self):
         for (number,) in self.execute(
@@ -169,6 +189,13 @@ class OnMySQL(OnMariaDB):
     one = OnMariaDB.several
     check_number = "3819"
     statement_timeout = OnMariaDB.lock_timeout  # max_execution_time is of SELECT alone
+
+
+def made(suite, *bases, **more):
+    """The name and the class of a suite's tests over an engine, for a module's globals."""
+    name = "".join(it.__name__ for it in (suite, *bases, *more.values()))
+    held = {it: staticmethod(more[it]) for it in more}
+    return name, type(name, (*bases, suite, Base), {"__doc__": suite.__doc__, **held})
 
 
 class Awaited:

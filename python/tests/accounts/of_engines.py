@@ -616,6 +616,25 @@ class OnServers:
         self.assertIs(accounts.change("ann", "one", "two"), Reply.REPLACED)
         self.assertIs(accounts.verify("ann", "two"), Reply.YES)
 
+    def test_a_server_that_only_reads(self):
+        """As in a failover that is under way: it is waited for, and nothing was done."""
+        self.put(LOW.hash("one"))
+        self.put(None, "ben")
+        connect, frees = self.reading()
+        accounts = self.accounts(connect=connect, patience=60.0)
+        impatient = self.accounts(connect=connect, patience=0.2)
+        self.assertIs(accounts.login("ann", "one"), Reply.YES)
+        for act in (
+            lambda: impatient.change("ann", "one", "two"),
+            lambda: impatient.enrol("ben", "x"),
+        ):
+            self.assertRaisesRegex(Unavailable, self.only_reads, act)
+        timer = threading.Timer(1.0, frees)
+        timer.start()
+        self.assertIs(accounts.change("ann", "one", "two"), Reply.REPLACED)
+        timer.join()
+        self.assertIs(accounts.enrol("ben", "x"), Reply.ENROLLED)
+
     def test_connections_of_a_pool_that_all_died(self):
         """Each is taken and given up, with no pause that grows."""
         self.put(LOW.hash("one"))

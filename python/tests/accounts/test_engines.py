@@ -13,13 +13,8 @@ ENGINES = (engines.OnSqlite, *SERVERS)
 TASKS = (engines.OnSqliteTasks, engines.OnPostgresTasks)
 
 
-def made(suite, engine):
-    name = suite.__name__ + engine.__name__
-    return name, type(name, (engine, suite, Base), {"__doc__": suite.__doc__})
-
-
 globals().update(
-    made(suite, engine)
+    engines.made(suite, engine)
     for suite, on in (
         (of_engines.Operations, (*ENGINES, *TASKS)),
         (of_engines.LostAnswers, (*ENGINES, *TASKS)),

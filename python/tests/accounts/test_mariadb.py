@@ -5,13 +5,12 @@ import io
 import subprocess
 import sys
 import tempfile
-import threading
 from unittest import mock
 
 import engines
 import support
 from support import LOW, Base, Scripted, run, sent
-from rigzumal.accounts import AsyncAccounts, MariaDB, Reply, StoreFault, Unavailable, cli, torture
+from rigzumal.accounts import AsyncAccounts, MariaDB, Reply, StoreFault, cli, torture
 from rigzumal.accounts._session import Result
 from rigzumal.accounts.dialects import mariadb
 from rigzumal.accounts.parts import Kind
@@ -80,21 +79,6 @@ class OnMariaDB(engines.OnMariaDB, Base):
                     run(put)
                 self.assertEqual(self.dialect.gave_up(raised.exception), stands == "old")
             self.assertEqual(session.statements[1][0], "ROLLBACK")
-
-    def test_a_server_that_only_reads(self):
-        """As in a failover that is under way: it is waited for, and nothing was done."""
-        for name, record in (("ann", LOW.hash("one")), ("ben", None)):
-            self.put(record, name)
-        self.server.as_root("SET GLOBAL read_only = 1")
-        self.addCleanup(self.server.as_root, "SET GLOBAL read_only = 0")
-        impatient = self.accounts(patience=0.2)
-        self.assertRaisesRegex(Unavailable, "1290", impatient.change, "ann", "one", "two")
-        self.assertRaisesRegex(Unavailable, "1290", impatient.enrol, "ben", "two")
-        timer = threading.Timer(0.7, self.server.as_root, ["SET GLOBAL read_only = 0"])
-        timer.start()
-        accounts = self.accounts(patience=60.0)
-        self.assertIs(accounts.change("ann", "one", "two"), Reply.REPLACED)
-        timer.join()
 
     def test_found_rows(self):
         from pymysql.constants import CLIENT

@@ -81,7 +81,7 @@ def rolls_back(conn):
 WAYS = (raises_another, raises_at_any_end, swallows, rolls_back)
 
 
-class OfThreads:
+class OfThreads(engines.OnSqlite):
     """Accounts over a pool of some way."""
 
     way = staticmethod(rolls_back)
@@ -153,15 +153,9 @@ class Endings:
         self.assertRaises(TypeError, accounts.examine)
 
 
-def made(suite, engine, **more):
-    name = "".join(it.__name__ for it in (suite, engine, *more.values()))
-    bases = (engine, suite, engines.OnSqlite, Base)
-    return name, type(name, bases, {it: staticmethod(more[it]) for it in more})
-
-
-globals().update(made(Endings, engine) for engine in (OfThreads, OfTasks))
+globals().update(engines.made(Endings, engine) for engine in (OfThreads, OfTasks))
 globals().update(
-    made(of_engines.LostAnswers, engine, way=way)
+    engines.made(of_engines.LostAnswers, engine, way=way)
     for engine, way in itertools.product((OfThreads, OfTasks), WAYS)
 )
 

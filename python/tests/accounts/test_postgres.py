@@ -130,26 +130,6 @@ class OnPostgres(engines.OnPostgres, Base):
         self.assertEqual(self.accounts().examine(), [])
         self.assertIs(self.accounts().change("ann", "one", "two"), Reply.REPLACED)
 
-    def test_a_standby_that_is_promoted_a_moment_later(self):
-        """As an address that moved early leads there: it is waited for."""
-        primary = servers.PostgresServer("of-standby").start()
-        self.addCleanup(primary.kill)
-        with primary.connect() as conn:
-            conn.execute(self.dialect.create())
-            conn.execute("INSERT INTO users VALUES ('ann', %s), ('ben', NULL)", (LOW.hash("one"),))
-        standby = servers.PostgresServer("standby", primary).start()
-        self.addCleanup(standby.kill)
-        accounts = self.accounts(connect=standby.connect, patience=60.0)
-        self.assertIs(accounts.login("ann", "one"), Reply.YES)
-        impatient = self.accounts(connect=standby.connect, patience=0.2)
-        self.assertRaises(Unavailable, impatient.change, "ann", "one", "two")
-        self.assertRaises(Unavailable, impatient.enrol, "ben", "two")
-        timer = threading.Timer(1.0, standby.promote)
-        timer.start()
-        self.assertIs(accounts.change("ann", "one", "two"), Reply.REPLACED)
-        timer.join()
-        self.assertIs(accounts.enrol("ben", "two"), Reply.ENROLLED)
-
     # ---- a standby that doesn't answer
 
     @contextlib.contextmanager
