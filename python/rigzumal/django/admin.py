@@ -9,7 +9,6 @@ With RIGZUMAL_USER_COMPARES a stock User has it already, instead of Django's own
 
 from __future__ import annotations
 
-import copy
 from typing import Any
 
 from django.conf import settings
@@ -47,29 +46,18 @@ class UserAdmin(admin.UserAdmin):
         try:
             return super().changeform_view(request, *given, **named)
         except RecordChanged:
-            self.message_user(request, forms.CHANGED, messages.ERROR)
-            return HttpResponseRedirect(request.get_full_path())
+            return self._again(request)
 
     def user_change_password(self, request: Any, id: str, form_url: str = "") -> Any:
-        """The page that sets a password, with an error if another was set meanwhile."""
+        """The page that sets a password, which is shown again if another was set meanwhile."""
         try:
-            with forms.lost_as_error():
-                return super().user_change_password(request, id, form_url)
-        except ValidationError as error:
-            again = copy.copy(self)
-            again.change_password_form = _refused(self.change_password_form, error)
-            return super(UserAdmin, again).user_change_password(request, id, form_url)
+            return super().user_change_password(request, id, form_url)
+        except (RecordChanged, ValidationError):
+            return self._again(request)
 
-
-def _refused(form: Any, error: ValidationError) -> Any:
-    """The form, which isn't valid and says why."""
-
-    class Refused(form):
-        def full_clean(self) -> None:
-            super().full_clean()
-            forms.show(self, error)
-
-    return Refused
+    def _again(self, request: Any) -> HttpResponseRedirect:
+        self.message_user(request, forms.CHANGED, messages.ERROR)
+        return HttpResponseRedirect(request.get_full_path())
 
 
 if getattr(settings, "RIGZUMAL_USER_COMPARES", False):

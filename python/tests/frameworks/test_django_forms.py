@@ -248,7 +248,7 @@ class Admin(Cheap, TestCase):
         change = f"{self.page}password/"
         self.assertEqual(self.client.get(change).status_code, 200)
         with self.lost(password="reset"):
-            page = self.client.post(change, BY_ADMIN)
+            page = self.client.post(change, BY_ADMIN, follow=True)
         self.assertContains(page, CHANGED)
         self.assertNotContains(page, NEW)
         self.assertEqual(self.client.post(change, BY_ADMIN).status_code, 302)

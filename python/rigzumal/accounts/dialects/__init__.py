@@ -1,4 +1,4 @@
-"""The differences between databases: a file for each engine.
+"""The differences between databases: a file for each driver.
 
 Your own dialect is a subclass of `Dialect`; docs/SCALE.md lists its parts. The tests of
 every engine, `python/tests/accounts/of_engines.py`, can run over it.
