@@ -21,7 +21,7 @@ from rigzumal import _library
 from rigzumal._calibrate import LEAST_SAFE_MEMORY, trials, why_busy
 from rigzumal._parts import none_of_ours
 from rigzumal._statuses import Refusal, Status, Words, add_costs, hasher_of, hint
-from rigzumal._statuses import memory, positive, status_of
+from rigzumal._statuses import memory, positive, say, status_of
 
 _LEAST_TARGET, _MOST_TARGET = 10, 60_000
 
@@ -85,10 +85,6 @@ def _words() -> argparse.ArgumentParser:
     return words
 
 
-def _say(text: str) -> None:
-    print(f"rigzumal: {text}", file=sys.stderr)
-
-
 def _password(is_new: bool) -> bytes:
     """The password that is typed, or all of standard input."""
     if not sys.stdin.isatty():
@@ -121,7 +117,7 @@ def _verify(record: str) -> int:
         print("no")
         said = hint(password, is_right)
         if said:
-            _say(said)
+            say(said)
         return Status.NO
     print("yes")
     return Status.DONE
@@ -138,9 +134,9 @@ def _calibrate(given: argparse.Namespace) -> None:
         print(f"# {found.hasher.costs}: {found.milliseconds:.1f} ms", file=sys.stderr)
     if found.milliseconds > given.target_ms:
         lower = "" if given.below else "; --below allows lower ones"
-        _say(f"the least costs take {found.milliseconds:.0f} ms here{lower}")
+        say(f"the least costs take {found.milliseconds:.0f} ms here{lower}")
     if busy:
-        _say(f"{busy}: it does more when it is idle")
+        say(f"{busy}: it does more when it is idle")
     print(found.hasher.costs)
 
 
@@ -157,18 +153,18 @@ def _run(given: argparse.Namespace) -> int:
     except RigzumalError as fault:
         said = none_of_ours(getattr(given, "record", ""))
         said = f"{fault}{said and f' ({said})'}"
-        _say(f"{fault.number} {fault.word}: {said}")
+        say(f"{fault.number} {fault.word}: {said}")
         return status_of(fault)
     except Refusal as refusal:
-        _say(str(refusal))
+        say(str(refusal))
         return refusal.status
     except EOFError:
-        _say("no password was typed")
+        say("no password was typed")
         return Status.INPUT
     except KeyboardInterrupt:
         return 130
     except OSError as fault:
-        _say(fault.strerror or str(fault))
+        say(fault.strerror or str(fault))
         return Status.STREAM
 
 
@@ -186,7 +182,7 @@ def main() -> int:
         # The rest of the output goes nowhere.
         os.dup2(os.open(os.devnull, os.O_WRONLY), sys.stdout.fileno())
         if status == Status.DONE and not isinstance(fault, BrokenPipeError):
-            _say(fault.strerror or str(fault))
+            say(fault.strerror or str(fault))
         status = Status.STREAM
     return status
 

@@ -105,3 +105,8 @@ def hint(password: bytes, is_right: Callable[[bytes], bool]) -> Optional[str]:
         if is_right(other):
             return f"the password is right {said} at its end: {how}"
     return None
+
+
+def say(text: str) -> None:
+    """Writes a line on standard error."""
+    print(f"rigzumal: {text}", file=sys.stderr)

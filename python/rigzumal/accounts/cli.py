@@ -25,7 +25,7 @@ from typing import Any, Final, Optional
 from rigzumal import RigzumalError
 from rigzumal._library import InvalidRecordError, bytes_of
 from rigzumal._statuses import Refusal, Status, Words, add_costs, hasher_of, hint
-from rigzumal._statuses import positive, status_of
+from rigzumal._statuses import positive, say, status_of
 from rigzumal.accounts._accounts import Accounts
 from rigzumal.accounts._import import Import, costs_of, shown, why
 from rigzumal.accounts._session import Session, run
@@ -47,18 +47,18 @@ def main(words: Optional[Sequence[str]] = None) -> int:
     except BrokenPipeError:
         return Status.STREAM
     except Refusal as refusal:
-        _say(str(refusal))
+        say(str(refusal))
         return refusal.status
     except AccountsError as fault:
-        _say(str(fault))
+        say(str(fault))
     except ImportError as fault:
-        _say(f"the driver isn't installed: {fault}")
+        say(f"the driver isn't installed: {fault}")
     except OSError as fault:
         name = f"{fault.filename}: " if fault.filename else ""
-        _say(f"{name}{fault.strerror or fault}")
+        say(f"{name}{fault.strerror or fault}")
         return Status.STREAM
     except (RigzumalError, ValueError, TypeError) as fault:
-        _say(str(fault))
+        say(str(fault))
         return status_of(fault)
     except KeyboardInterrupt:
         return 130
@@ -66,12 +66,8 @@ def main(words: Optional[Sequence[str]] = None) -> int:
         if type(fault).__module__.partition(".")[0] not in DRIVERS:
             raise
         first, *_ = [*str(fault).strip().splitlines(), ""]  # others may have a row
-        _say(f"{type(fault).__name__}: {first}")
+        say(f"{type(fault).__name__}: {first}")
     return Status.DATABASE
-
-
-def _say(text: str) -> None:
-    print(f"rigzumal: {text}", file=sys.stderr)
 
 
 class _Command:
@@ -148,7 +144,7 @@ class _Command:
         if reply is Reply.NO and len(password) < LONGEST_PASSWORD:
             said = hint(password, lambda it: accounts.verify(key, it) is Reply.YES)
             if said:
-                _say(said)
+                say(said)
         return self.say(reply, Reply.YES)
 
     def reset(self) -> int:

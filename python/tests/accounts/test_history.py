@@ -269,7 +269,9 @@ def account(first, last, text):
 
 
 LOOKS = "; ".join(f"e{it} verify 1-2 yes x>x; l{it} verify 20-21 no Y>Y" for it in range(1000))
-GONE = "and nothing replaced it"
+ENROLLED = "a enrol 1-2 enrolled .>x"
+GONE, RING = "and nothing replaced it", "replaced each other in a ring"
+LATE = "a was answered before b was called, and can come after it alone"
 # What stands at first and at the end, the operations, and those without an answer that took place.
 LEGAL = (
     # Of an operation's attempts the last alone is open: those before were known not to be done.
@@ -305,31 +307,12 @@ ILLEGAL = (
     ("x", "y", "a remove 1-2 removed x>y", "a was answered removed, and put y", "a"),
     ("x", "x", "a verify 1-2 noaccount x>x", "a (verify) was answered noaccount at x", "a"),
     # A login with the old password, whose upgrade writes over a change.
-    (
-        *(
-            "x",
-            "u",
-            "a upgrade 1-9 upgraded x>u; b change 2-3 replaced x>Y; c verify 20-21 yes u>u",
-        ),
-        *("a and b both replaced x", "a b"),
-    ),
+    ("x", "u", "a upgrade 1-9 upgraded x>u; b change 2-3 replaced x>Y", "both replaced x", "a b"),
     # A stale answer among two thousand looks.
-    (
-        *("x", "Y", f"a change 10-11 replaced x>Y; {LOOKS}; b verify 12-13 yes x>x"),
-        *("a was answered before b was called, and can come after it alone", "a b"),
-    ),
-    (
-        *("x", "y", "a remove 1-2 removed x>.; b enrol 3-4 enrolled .>y; c verify 5-6 yes x>x"),
-        *("can come after it alone", "a c"),
-    ),
-    (
-        *("r", "r", "a change 1-8 replaced x>y; b change 1-8 replaced y>x"),
-        *("records replaced each other in a ring", "a b"),
-    ),
-    (
-        *(None, "x", "a enrol 1-2 enrolled .>x; b verify 3-4 absent .>.; c verify 5-6 yes x>x"),
-        *("stand at a time", "a b c"),
-    ),
+    ("x", "Y", f"a change 10-11 replaced x>Y; {LOOKS}; b verify 12-13 yes x>x", LATE, "a b"),
+    ("x", None, "a remove 1-2 removed x>.; c verify 5-6 yes x>x", "can come after it alone", "a c"),
+    ("r", "r", "a change 1-8 replaced x>y; b change 1-8 replaced y>x", f"records {RING}", "a b"),
+    (None, "x", f"{ENROLLED}; b verify 3-4 absent .>.; c verify 5-6 yes x>x", "at a time", "a b c"),
 )
 
 

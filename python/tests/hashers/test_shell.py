@@ -11,7 +11,7 @@ import unittest
 from records import LEAST, SMALL
 
 import rigzumal
-from rigzumal._statuses import memory as memory_of
+from rigzumal._statuses import hint, memory as memory_of
 
 
 LEAST_WORDS = "--memory 8 --passes 1 --lanes 1"
@@ -64,17 +64,17 @@ class Shell(unittest.TestCase):
             self.assertIn(f"(the record's scheme is {name})" if name else "rigzumal: ", said)
 
     def test_a_newline_that_was_meant_to_end_the_password(self):
-        record = LEAST.hash("hunter2")
-        for given, advice in (
-            (b"hunter2\n", "without the newline"),
-            (b"hunter2\r", "without the carriage return"),
-            (b"hunter2\r\n", "without the carriage return"),
-            (b"hunter3\n", ""),
+        for right, given, advice in (
+            (b"one\n", b"one", "with a newline"),
+            (b"one", b"one\n", "without the newline"),
+            (b"one", b"one\r", "without the carriage return"),
+            (b"one", b"one\r\n", "without the carriage return"),
+            (b"one", b"two\n", "None"),
         ):
-            status, out, said = run(["verify", record], given)
-            self.assertEqual((status, out), (4, "no\n"))
-            self.assertEqual((advice in said, bool(said)), (True, bool(advice)))
-            self.assertNotIn("hunter2", said)
+            self.assertIn(advice, str(hint(given, right.__eq__)))
+        status, out, said = run(["verify", LEAST.hash("hunter2")], b"hunter2\n")
+        self.assertEqual((status, out, said.count("\n")), (4, "no\n", 1))
+        self.assertNotIn("hunter2", said)
 
     def test_costs(self):
         for given, costs in (
