@@ -20,8 +20,8 @@ from rigzumal import PasswordHasher, RigzumalError, VerifyMismatchError
 from rigzumal import _library
 from rigzumal._calibrate import LEAST_SAFE_MEMORY, trials, why_busy
 from rigzumal._parts import none_of_ours
-from rigzumal._statuses import Refusal, Status, Words, add_costs, hasher_of, hint
-from rigzumal._statuses import memory, positive, say, status_of
+from rigzumal._commands import Refusal, Status, Words, add_costs, hasher_of, hint
+from rigzumal._commands import memory, positive, say, status_of
 
 _LEAST_TARGET, _MOST_TARGET = 10, 60_000
 

@@ -11,7 +11,7 @@ from typing import Optional
 
 from rigzumal._library import InvalidRecordError
 from rigzumal._parts import none_of_ours, parts
-from rigzumal._statuses import Refusal, Status
+from rigzumal._commands import Refusal, Status
 from rigzumal.accounts._accounts import Accounts
 from rigzumal.accounts._session import Session, run
 from rigzumal.accounts.parts import Key, Reply

@@ -24,8 +24,8 @@ from typing import Any, Final, Optional
 
 from rigzumal import RigzumalError
 from rigzumal._library import InvalidRecordError, bytes_of
-from rigzumal._statuses import Refusal, Status, Words, add_costs, hasher_of, hint
-from rigzumal._statuses import positive, say, status_of
+from rigzumal._commands import Refusal, Status, Words, add_costs, hasher_of, hint
+from rigzumal._commands import positive, say, status_of
 from rigzumal.accounts._accounts import Accounts
 from rigzumal.accounts._import import Import, costs_of, shown, why
 from rigzumal.accounts._session import Session, run

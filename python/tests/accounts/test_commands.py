@@ -6,7 +6,6 @@ import json
 import os
 import pathlib
 import sqlite3
-import subprocess
 import sys
 from unittest import mock
 
@@ -15,7 +14,6 @@ from rigzumal.accounts import cli
 from rigzumal.accounts.database import Database
 
 COSTS = "--memory 64 --passes 1 --lanes 1".split()
-SHELL = [sys.executable, "-m", "rigzumal", "accounts", *COSTS]
 FOREIGN = "$2y$05$" + "a" * 53
 RECORD = LOW.hash("one")
 
@@ -44,10 +42,6 @@ class Commands(Base):
 
     def run_command(self, *words, **more):
         return "".join(self.streams(*words, **more))
-
-    def shell(self, *words, **more):
-        """The command as a process."""
-        return subprocess.run([*SHELL, *words], capture_output=True, **more)
 
     def file(self, *lines):
         file = pathlib.Path(f"{self.server.path}.names")
@@ -147,16 +141,14 @@ class Commands(Base):
         found = [(it["severity"], it["code"]) for it in told("examine", status=5)]
         self.assertIn(("error", "key-not-unique"), found)
 
-    def test_a_process(self):
-        """A file that is mistyped isn't made."""
-        url = {**os.environ, "RIGZUMAL_DATABASE": f"{self.server.url}.typo"}
-        done = self.shell("list", env=url)
-        self.assertEqual(done.returncode, 5)
-        self.assertIn(b"typo: no such file; init makes one", done.stderr)
-        self.assertFalse(os.path.exists(f"{self.server.path}.typo"))
-        # A table that is made has what SCALE.md asks of SQLite.
-        self.assertEqual(self.shell("init", env=url).returncode, 0)
-        with contextlib.closing(sqlite3.connect(f"{self.server.path}.typo")) as conn:
+    def test_a_file_that_is_mistyped(self):
+        """It isn't made; what `init` makes has what SCALE.md asks of SQLite."""
+        path, typo = f"{self.server.path}.typo", ("--database", f"{self.server.url}.typo")
+        said = self.run_command(*typo, "list", status=5)
+        self.assertIn("typo: no such file; init makes one", said)
+        self.assertFalse(os.path.exists(path))
+        self.run_command(*typo, "init")
+        with contextlib.closing(sqlite3.connect(path)) as conn:
             self.assertEqual(conn.execute("PRAGMA journal_mode").fetchone(), ("wal",))
 
     def test_imports(self):

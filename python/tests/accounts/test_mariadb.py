@@ -146,21 +146,6 @@ class OnMariaDB(engines.OnMariaDB, Base):
                 self.assertEqual((reply, " ".join(found)), (Reply.REPLACED, words))
             self.assertTrue(self.is_right("two"))
 
-    def test_a_confirmed_look_writes(self):
-        """An UPDATE of a record to itself writes no log; a confirmed look does."""
-
-        def written():
-            said = self.execute("SHOW SESSION STATUS LIKE 'Handler_update'", conn=conn)
-            return int(said[0][1])
-
-        for stands in (LOW.hash("one"), None):
-            self.put(stands)
-            conn = self.another()
-            for confirm in (False, True):
-                accounts, before = self.kept(conn=conn, confirm=confirm), written()
-                accounts.verify("ann", "one")
-                self.assertEqual(written() - before, 2 if confirm else 0)
-
     def test_what_is_shown_early(self):
         """A fault where looks aren't confirmed: --confirm is for examine and torture too."""
         said = "log_bin is OFF: a crash may lose a change by which a login was answered"

@@ -277,16 +277,6 @@ class Errors(Base):
             conn = mock.Mock(in_transaction=False, autocommit=autocommit, isolation_level=level)
             self.assertEqual(self.dialect.mode(conn).is_autocommit, wanted)
 
-    def test_what_a_transaction_does_better(self):
-        """Of one statement's errors: those that say nothing of what another server does."""
-        maria = MariaDB("t", "k", "r")
-        self.assertTrue(maria.at_once)
-        for number, better in ((4025, True), (1644, True), (1213, False), (1290, False)):
-            self.assertEqual(maria.refuses_at_once(Error(number, "")), better, number)
-        self.assertTrue(maria.refuses_at_once(Error(1064, "")))
-        self.assertEqual(maria.at_once, "")
-        self.assertEqual(MySQL("t", "k", "r").at_once, "")
-
     def test_a_warning_in_the_servers_language(self):
         """It is known by its severity as no language changes it."""
         dialect = Postgres("t", "k", "r")

@@ -11,7 +11,7 @@ import unittest
 from records import LEAST, SMALL
 
 import rigzumal
-from rigzumal._statuses import hint, memory as memory_of
+from rigzumal._commands import hint, memory as memory_of
 
 
 LEAST_WORDS = "--memory 8 --passes 1 --lanes 1"
@@ -146,6 +146,7 @@ class Shell(unittest.TestCase):
         """Each is named, unless it may be a password; none ends in a traceback."""
         for words, said in (
             ("hash hunter2", "a password is never an argument"),
+            ("accounts --database= list", "no database: --database URL"),
             ("hash --lanes 0", "rigzumal: 14 lanes: parallelism is to be 1 to 255, and not 0\n"),
             ("calibrate --lanes 0", "lanes"),
             ("calibrate --memory 4M --lanes 1", "--memory is below 19456 KiB; --below allows it\n"),

@@ -1,4 +1,4 @@
-"""What the commands at the shell share: credkeep(1)'s exit statuses, and words."""
+"""What the commands at the shell share: exit statuses, as of credkeep(1), and words."""
 
 from __future__ import annotations
 
