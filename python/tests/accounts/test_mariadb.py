@@ -2,8 +2,6 @@
 
 import contextlib
 import io
-import subprocess
-import sys
 import tempfile
 from unittest import mock
 
@@ -101,11 +99,10 @@ class OnMariaDB(engines.OnMariaDB, Base):
             file.write(f"{'n' * 300} {LOW.hash('x')}\n")
             file.flush()
             for words in (("add", "m" * 300), ("import", file.name)):
-                command = [sys.executable, "-m", "rigzumal", "accounts"]
-                words = [*command, "--database", self.server.url, *words]
-                done = subprocess.run(words, input=b"pw", capture_output=True)
-                self.assertEqual(done.returncode, 5, done)
-                self.assertIn(b"the server keeps another name", done.stderr)
+                said, stdin = io.StringIO(), mock.Mock(buffer=io.BytesIO(b"pw"), isatty=bool)
+                with contextlib.redirect_stderr(said), mock.patch.object(cli.sys, "stdin", stdin):
+                    self.assertEqual(cli.main(["--database", self.server.url, *words]), 5)
+                self.assertIn("the server keeps another name", said.getvalue())
                 self.assertEqual(self.execute("SELECT * FROM accounts"), [])
 
     def test_what_examine_says_of_a_session(self):

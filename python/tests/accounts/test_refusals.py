@@ -2,15 +2,9 @@
 
 import contextlib
 import enum
-import os
-import shutil
 import sqlite3
-import subprocess
-import tempfile
-import unittest
 from unittest import mock
 
-import support
 from support import HIGH, LOW, Base, counted
 from rigzumal.accounts import Accounts, AsyncAccounts, MariaDB, OutcomeUnknown, Postgres, Reply
 from rigzumal.accounts import StoreFault, Unavailable
@@ -157,27 +151,6 @@ class Replies(Base):
                     self.fail("it was let in")
         for reply in Reply:
             self.assertRaises(TypeError, bool, reply)
-
-    @unittest.skipUnless(shutil.which("mypy"), "mypy is not there")
-    def test_mypy_finds_a_reply_that_is_not_compared(self):
-        code = (
-            "from rigzumal.accounts import Accounts, Reply\n"
-            "def let_in(accounts: Accounts) -> bool:\n"
-            "    if accounts.login('ann', 'x') is Reply.YES: return True\n"
-            "    return True if accounts.login('ann', 'x') else False\n"
-        )
-        with tempfile.NamedTemporaryFile("w", suffix=".py") as file:
-            file.write(code)
-            file.flush()
-            done = subprocess.run(
-                ["mypy", "--enable-error-code=truthy-bool", "--cache-dir=/dev/null", file.name],
-                capture_output=True,
-                text=True,
-                env={**os.environ, "MYPYPATH": str(support.PACKAGE), "PYTHONPATH": ""},
-            )
-        found = [line for line in done.stdout.splitlines() if "[truthy-bool]" in line]
-        self.assertEqual(len(found), 1, done.stdout + done.stderr)
-        self.assertIn(":4: error:", found[0])
 
 
 class Error(Exception):

@@ -34,6 +34,11 @@ HASHES = (
     "import rigzumal; h = rigzumal.PasswordHasher(1, 64, 1)"
     "; print(h.verify(h.hash('x'), 'x'), rigzumal.__file__)"
 )
+LETS_IN = """from rigzumal.accounts import Accounts, Reply
+def let_in(accounts: Accounts) -> bool:
+    if accounts.login("ann", "x") is Reply.YES: return True
+    return True if accounts.login("ann", "x") else False
+"""
 CLEAN = {"PYTHONPATH": "", "LD_LIBRARY_PATH": "", "RIGZUMAL_LIBRARY": ""}
 OVER_LIBRARY = {**CLEAN, "LD_LIBRARY_PATH": str(LIBRARIES)}
 
@@ -160,6 +165,16 @@ class Package(unittest.TestCase):
         cache = f"--cache-dir={ROOM / 'mypy'}"
         need("mypy")
         run("mypy", "--strict", cache, "rigzumal", at=PYTHON)
+
+    def test_types_of_a_reply(self):
+        """mypy names a reply of accounts that is taken for a truth value."""
+        need("mypy")
+        file = ROOM / "let_in.py"
+        file.write_text(LETS_IN)
+        words = ("mypy", "--enable-error-code=truthy-bool", f"--cache-dir={ROOM / 'mypy'}", file)
+        said = run(*words, env={"MYPYPATH": str(PYTHON)}, status=1)
+        (found,) = [line for line in said.splitlines() if "[truthy-bool]" in line]
+        self.assertIn(":4: error:", found)
 
     def test_types_of_frameworks(self):
         """mypy --strict, as far as libraries that have no stubs here let it, with the login page."""
