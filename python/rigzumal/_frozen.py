@@ -25,7 +25,9 @@ class Frozen:
         """The same with other values of some attributes."""
         return type(self)(**{**vars(self), **changes})
 
-    __replace__ = replace  # copy.replace, of Python 3.13
+    def __replace__(self: Self, **changes: Any) -> Self:
+        """For copy.replace, of Python 3.13."""
+        return self.replace(**changes)
 
     def __setattr__(self, name: str, *value: object) -> NoReturn:
         raise AttributeError(f"a {type(self).__name__} doesn't change")

@@ -208,8 +208,6 @@ class PasswordHasher(_Hasher):
             changes = {"secret": None, **changes}
         return super().replace(**changes)
 
-    __replace__ = replace
-
     def _shown(self) -> dict[str, object]:
         hidden = ("secret", "secrets")
         return {name: it for name, it in vars(self).items() if name not in hidden}

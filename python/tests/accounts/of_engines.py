@@ -507,15 +507,19 @@ class RowsOfOnesOwn:
         self.calls.append(reply)
         self.execute("INSERT INTO sessions VALUES ('ann', %s)", reply.value, conn=conn)
 
+    def begin(self, record):
+        """With this record and no row."""
+        self.put(record)
+        self.execute("DELETE FROM sessions")
+        self.calls.clear()
+
     def rows(self):
         return [value for (value,) in self.execute("SELECT reply FROM sessions")]
 
     def test_each_reply(self):
         """It is told what its caller is, and its row is committed."""
         for hasher, stands, text, reply in (*CALLS, (LOW, None, "login b\0b one", "noaccount")):
-            self.put(stands and LOW.hash(stands))
-            self.execute("DELETE FROM sessions")
-            self.calls.clear()
+            self.begin(stands and LOW.hash(stands))
             with self.subTest(text=text):
                 self.assertEqual(called(self.accounts(hasher), text, also=self.also), reply)
                 self.assertEqual(self.calls, [Reply(reply)])
@@ -538,8 +542,7 @@ class RowsOfOnesOwn:
         for error in (KeyError("mine"), FileNotFoundError("mine"), RuntimeError("mine"), None):
             also = raising(error)
             for text in ("change ann one two", "login ann one", "remove ann one"):
-                self.put(record)
-                self.calls.clear()
+                self.begin(record)
                 with self.assertRaises(Exception) as raised:
                     called(accounts, text, also=also)
                 self.assertNotIsInstance(raised.exception, (StoreFault, Unavailable))
@@ -552,8 +555,7 @@ class RowsOfOnesOwn:
         """Another record stands at the first commit: its row was undone with it."""
         accounts, owner = self.accounts(HIGH), self.accounts()
         for text, reply in (("login ann one", "no"), ("change ann one x", "wrong")):
-            self.put(LOW.hash("one"))
-            self.execute("DELETE FROM sessions")
+            self.begin(LOW.hash("one"))
             after_hash(accounts, lambda: owner.reset("ann", "two"))
             self.assertEqual(called(accounts, text, also=self.also), reply)
             self.assertEqual(self.rows(), [reply])
@@ -562,9 +564,7 @@ class RowsOfOnesOwn:
         """From its BEGIN: what the server undid, and what broke with its connection."""
         accounts = self.accounts()
         for error in (self.again, self.lost_look):
-            self.put(LOW.hash("one"))
-            self.execute("DELETE FROM sessions")
-            self.calls.clear()
+            self.begin(LOW.hash("one"))
             errors = [error]
 
             def fails(conn, reply):
@@ -579,8 +579,7 @@ class RowsOfOnesOwn:
     def test_a_commit_without_an_answer(self):
         """Of a change one row stands, as the record does; otherwise nobody knows."""
         for before in (True, False):
-            self.put(LOW.hash("one"))
-            self.execute("DELETE FROM sessions")
+            self.begin(LOW.hash("one"))
             reply = self.losing(before).change("ann", "one", "two", also=self.also)
             self.assertIs(reply, Reply.REPLACED)
             self.assertEqual(self.rows(), ["replaced"])

@@ -129,6 +129,19 @@ class Base(unittest.TestCase):
         dialect = losing(self.another_dialect(), before, times, error or self.broken)
         return self.accounts(dialect=dialect, **{"patience": 0.5, **more})
 
+    def assert_given_up(self, pool, *kinds):
+        """A connection is kept for the next use, and given up after each of these exceptions."""
+        for kind in kinds:
+            made = []
+            for _ in range(2):
+                with pool() as conn:
+                    made.append(conn)
+            self.assertIs(made[0], made[1])
+            with self.assertRaises(kind), pool() as conn:
+                raise kind
+            with pool() as conn:
+                self.assertIsNot(conn, made[0])
+
     def put(self, record, name="ann"):
         self.execute("DELETE FROM users WHERE name = %s", name)
         self.execute("INSERT INTO users (name, record) VALUES (%s, %s)", name, record)

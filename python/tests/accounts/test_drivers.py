@@ -124,16 +124,7 @@ class Engines:
 
     def test_a_connection_is_given_up_after_an_exception(self):
         engine = self.engine(pool_size=1)
-        pool, made = of_engine(engine), []
-        for error in (KeyError, KeyboardInterrupt):
-            for _ in range(2):
-                with pool() as conn:
-                    made.append(conn)
-            self.assertIs(made[-1], made[-2])
-            with self.assertRaises(error), pool() as conn:
-                raise error
-            with pool() as conn:
-                self.assertIsNot(conn, made[-1])
+        self.assert_given_up(of_engine(engine), KeyError, KeyboardInterrupt)
         self.assertEqual(engine.pool.checkedout(), 0)
 
     def test_a_pool_that_is_empty_is_no_lost_connection(self):

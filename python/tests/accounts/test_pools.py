@@ -278,21 +278,14 @@ class OnePerThread(Base):
         self.assertEqual(ended, [])
 
     def test_a_connection_is_given_up_after_an_exception(self):
-        """After those, too, by which a thread is interrupted and a task cancelled."""
-        for kind in (KeyError, KeyboardInterrupt, asyncio.CancelledError, Alarm):
-            pool, made = PerThread(lambda: self.connect()), []
-            for _ in range(2):
-                with pool() as conn:
-                    made.append(conn)
-            self.assertIs(made[0], made[1])
-            with self.assertRaises(kind), pool() as conn:
-                conn.execute("BEGIN IMMEDIATE")
-                raise kind
-            self.assertRaises(sqlite3.ProgrammingError, conn.execute, "SELECT 1")
-            with pool() as conn:
-                self.assertIsNot(conn, made[0])
-                self.assertFalse(conn.in_transaction)
-            pool.close()
+        """After those, too, by which a thread is interrupted and a task cancelled; it is closed."""
+        pool = PerThread(self.connect)
+        self.assert_given_up(pool, KeyError, KeyboardInterrupt, asyncio.CancelledError, Alarm)
+        with self.assertRaises(KeyError), pool() as conn:
+            conn.execute("BEGIN IMMEDIATE")
+            raise KeyError
+        self.assertRaises(sqlite3.ProgrammingError, conn.execute, "SELECT 1")
+        pool.close()
 
     def test_a_connection_for_each_use_is_closed(self):
         """Of a task, after a fault too."""
