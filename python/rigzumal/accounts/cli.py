@@ -242,7 +242,7 @@ _COMMANDS: Final[dict[str, tuple[Callable[[_Command], int], str]]] = {
     "add": (_Command.add, "add an account with a password"),
     "check": (_Command.check, "write yes, or no with status 4"),
     "reset": (_Command.reset, "give an account another password"),
-    "import": (_Command.take, "add the accounts of a file, all of a bad file or none"),
+    "import": (_Command.take, "add a file's new accounts, of a bad file none"),
     "list": (_Command.show, "write each account, and the costs of its record"),
     "examine": (_Command.examine, "name faults of the table and the server"),
     "torture": (
