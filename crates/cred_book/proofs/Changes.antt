@@ -9,7 +9,7 @@ use Rattle.cred_book.specs.Commits.{commit_outcome, commit_outcome_at, commit_ou
 use Rattle.cred_book.specs.{Names.name_cmp, Works.Task, Works.name_of, Works.same, Works.same_scheme, Works.whole, Works.makes_change, Works.right}
 use Rattle.cred_book.specs.{declared.reply.Reply.Reply, declared.request.Request.Request}
 use Rattle.cred_book.specs.declared.request.Request.TheVariants.{Enrol, Verify, Change as Replace, Upgrade, Remove}
-use Rattle.cred_book.proofs.Equality.{same-Decides}
+use Rattle.cred_book.proofs.{Equality.same-Decides, Rows.row_again}
 
 abbrev Outcome : Type 0
 Outcome = Reply × Option RecordValue
@@ -64,14 +64,8 @@ module _ (book : Accounts) (work : Task) where
   told change = told_at (map.get book (name_of work.0)) change
 
   module _ (now : Option RecordValue) (found : map.get book (name_of work.0) ≡ Some now) where
-    tied : (q : List ℕ) (r : Ordering) → name_cmp q (name_of work.0) ≡ r → cond (is_eq r) (Some now) (map.get book q) ≡ map.get book q
-    tied q Less is = refl
-    tied q Equal is = sym found ∙ map.get_tied nat_list_cmp_total book q (name_of work.0) is
-    tied q Greater is = refl
-
-    -- what stands at a name may be put there again
     pub insert_again : map.insert book (name_of work.0) now ≡ book
-    insert_again = map.same_map nat_list_cmp_total (map.slice_cmp-IsAntisymmetric map.nat_cmp-IsAntisymmetric) _ _ (λ q. map.get-insert nat_list_cmp_total book (name_of work.0) now q ∙ tied q _ refl)
+    insert_again = row_again book (name_of work.0) (Some now) found
 
     stays_whole : makes_change (whole work.0 now).0 ≡ false → map.insert book (name_of work.0) (whole work.0 now).1 ≡ book
     stays_whole is = ap (map.insert book (name_of work.0)) (whole_stays work.0 now is) ∙ insert_again

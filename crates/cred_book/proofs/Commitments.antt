@@ -54,30 +54,3 @@ not_shown book name error.Exists h = absurd h
 not_shown book name error.Full h = absurd h
 not_shown book name error.Name h = absurd h
 not_shown book name error.Memory h = absurd h
-
--- whether a name is there, by whether it is shown
-pub shown_there : (book : Accounts) (name : List ℕ) (r : Result (Option RecordValue) BookError) → Shows book name r → is_ok r ≡ true → map.contains_key book name ≡ true
-shown_there book name (Ok stored) h is = ap is_some h
-shown_there book name (Err e) h is = absurd cc
-
-pub shown_absent : (book : Accounts) (name : List ℕ) (r : Result (Option RecordValue) BookError) → Shows book name r → is_ok r ≡ false → map.contains_key book name ≡ false
-shown_absent book name (Ok stored) h is = absurd cc
-shown_absent book name (Err e) h is = ap is_some (not_shown book name e h)
-
--- putting a record at a name loads it
-module _ (old new : Accounts) (name : List ℕ) (stored : RecordValue) where
-  pub set_loads : (r : Result (Unit {0}) BookError) → Sets old new name (Some stored) r → Loads old new name stored r
-  set_loads (Ok x) h = h
-  set_loads (Err error.NoAccount) h = h
-  set_loads (Err error.Memory) h = absurd h
-  set_loads (Err error.Name) h = absurd h
-  set_loads (Err error.Exists) h = absurd h
-  set_loads (Err error.Full) h = absurd h
-
-  pub set_granted : (r : Result (Unit {0}) BookError) → Sets old new name (Some stored) r → r ≡ Err error.Memory → ⊥
-  set_granted (Ok x) h is = cc is
-  set_granted (Err error.NoAccount) h is = cc is
-  set_granted (Err error.Memory) h is = h
-  set_granted (Err error.Name) h is = h
-  set_granted (Err error.Exists) h is = h
-  set_granted (Err error.Full) h is = h

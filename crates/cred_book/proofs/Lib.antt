@@ -6,5 +6,6 @@ pub mod Entries
 pub mod Equality
 pub mod Kept
 pub mod Passwords
-pub mod Updating
 pub mod Registered
+pub mod Rows
+pub mod Updating

@@ -8,31 +8,7 @@ use Rattle.cred_book.specs.{Accounts.Accounts, Commits.commit_outcome, Commits.c
 use Rattle.cred_book.specs.Updates.{HasDone, IsConditional, IsExact, IsLog, IsWorked, Rows, Update, answer, operation_of, operations_done, outcome_at, outcome_on, refusal, replies_done, seq_after, seq_replies, standing, store_after, update_of, updated, with_row}
 use Rattle.cred_book.specs.{Works.Task, Works.name_of, Works.same, Works.seq, Works.seq_at, declared.reply.Reply.Reply}
 use Rattle.cred_book.specs.{declared.reply.Reply.TheVariants.NoAccount, declared.request.Request.Request}
-use Rattle.cred_book.proofs.Equality.{same-Decides}
-
--- ---- one row
-
--- names are the same exactly if they compare so
-names_are : map.IsAntisymmetric name_cmp
-names_are = map.slice_cmp-IsAntisymmetric map.nat_cmp-IsAntisymmetric
-
-module _ {V : Type 0} (rows : Rows V) (key : List ℕ) where
-  get_row : (row : Option V) (q : List ℕ) → map.get (with_row rows key row) q ≡ cond (is_eq (name_cmp q key)) row (map.get rows q)
-  get_row None q = map.get-remove nat_list_cmp_total rows key q
-  get_row (Some row) q = map.get-insert nat_list_cmp_total rows key row q
-
-  -- another key's row stays
-  get_other : (row : Option V) (q : List ℕ) → is_eq (name_cmp q key) ≡ false → map.get (with_row rows key row) q ≡ map.get rows q
-  get_other row q other = get_row row q ∙ ap (λ same. cond same row (map.get rows q)) other
-
-  -- what stands may be put there again
-  tied : (row : Option V) → map.get rows key ≡ row → (q : List ℕ) (r : Ordering) → name_cmp q key ≡ r → cond (is_eq r) row (map.get rows q) ≡ map.get rows q
-  tied row is q Less c = refl
-  tied row is q Equal c = sym is ∙ map.get_tied nat_list_cmp_total rows q key c
-  tied row is q Greater c = refl
-
-  pub row_again : (row : Option V) → map.get rows key ≡ row → with_row rows key row ≡ rows
-  row_again row is = map.same_map nat_list_cmp_total names_are _ _ (λ q. get_row row q ∙ tied row is q _ refl)
+use Rattle.cred_book.proofs.{Equality.same-Decides, Rows.get_row, Rows.row_again, Rows.same_names}
 
 -- ---- one update
 
@@ -97,6 +73,10 @@ kept rows (update ∷ updates) log =
 
 -- ---- refused updates
 
+-- another key's row stays
+get_other : {V : Type 0} (rows : Rows V) (key : List ℕ) (row : Option V) (q : List ℕ) → is_eq (name_cmp q key) ≡ false → map.get (with_row rows key row) q ≡ map.get rows q
+get_other rows key row q other = get_row rows key row q ∙ ap (λ same. cond same row (map.get rows q)) other
+
 or_else : {A B C : Type 0} → A ⊎ B → (B → C) → A ⊎ C
 or_else (inl a) f = inl a
 or_else (inr b) f = inr (f b)
@@ -106,7 +86,7 @@ module _ {V R : Type 0} (update : Update V R) where
   passed : (rows : Rows V) (between : Update V R) (done : Bool) (order : Ordering) → between.is_done ≡ done → name_cmp update.operation.key between.operation.key ≡ order
       → ((between.is_done ≡ true) × (between.operation.key ≡ update.operation.key)) ⊎ (standing (updated rows between) update ≡ standing rows update)
   passed rows between false order is cmp = inr (ap (λ s. standing s update) (left rows between is))
-  passed rows between true Equal is cmp = inl (is, sym (names_are _ _ cmp))
+  passed rows between true Equal is cmp = inl (is, sym (same_names _ _ cmp))
   passed rows between true Less is cmp =
       inr (ap (λ done. standing (updated_if rows between done) update) is ∙ get_other rows between.operation.key between.after update.operation.key (ap is_eq cmp))
   passed rows between true Greater is cmp =

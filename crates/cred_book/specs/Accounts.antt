@@ -1,5 +1,5 @@
 -- A book: a finite map from names to at most one record each.
-use Rattle.std.specs.Prelude.{ℕ, ◌≤◌, List, length, Option, IsTrue, nat_lt, ◌||◌, if◌then◌else◌}
+use Rattle.std.specs.Prelude.{ℕ, ◌≤◌, List, length, Option, T, nat_lt, ◌||◌, if◌then◌else◌}
 use Rattle.std.specs.FinMap as map
 use Rattle.cred_phc.specs.Values.{RecordValue}
 use Rattle.cred_book.specs.Names.{name_cmp}
@@ -19,7 +19,7 @@ with_entry book name now =
 
 -- how the code keeps it: entries in the order of their names, with room for all that may come
 pub record IsKept (entries : List (List ℕ × Option RecordValue)) (capacity : ℕ) : Type 0 where
-  pub sorted : IsTrue (map.is_sorted name_cmp entries)
+  pub sorted : T (map.is_sorted name_cmp entries)
   pub few : length entries ≤ most_accounts
   pub room : most_accounts ≤ capacity
 
@@ -29,5 +29,5 @@ register_capacity = 16777216
 
 -- how a register keeps it: entries in the order of their names, and not too many
 pub record IsRegister (entries : List (List ℕ × Option RecordValue)) : Type 0 where
-  pub sorted : IsTrue (map.is_sorted name_cmp entries)
+  pub sorted : T (map.is_sorted name_cmp entries)
   pub few : length entries ≤ register_capacity

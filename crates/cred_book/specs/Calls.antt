@@ -17,8 +17,7 @@ EntersWithin room old new name now (Err error.Full) =
     (map.contains_key old name ≡ false) × (room ≤ map.len old) × (new ≡ old)
 EntersWithin room old new name now (Err error.Memory) =
     (map.contains_key old name ≡ false) × (map.len old < room) × (new ≡ old)
-EntersWithin room old new name now (Err error.Name) = ⊥
-EntersWithin room old new name now (Err error.NoAccount) = ⊥
+EntersWithin room old new name now (Err _) = ⊥
 
 -- likewise, with no record
 abbrev pub AdmitsWithin : ℕ → Accounts → Accounts → List ℕ → Result (Unit {0}) BookError → Type 0
@@ -34,15 +33,10 @@ Loads old new name stored (Ok _) =
     (map.contains_key old name ≡ true) × (new ≡ map.insert old name (Some stored))
 Loads old new name stored (Err error.NoAccount) = (map.contains_key old name ≡ false) × (new ≡ old)
 Loads old new name stored (Err error.Memory) = (map.contains_key old name ≡ true) × (new ≡ old)
-Loads old new name stored (Err error.Name) = ⊥
-Loads old new name stored (Err error.Exists) = ⊥
-Loads old new name stored (Err error.Full) = ⊥
+Loads old new name stored (Err _) = ⊥
 
 -- the record that stands at the name
 abbrev pub Shows : Accounts → List ℕ → Result (Option RecordValue) BookError → Type 0
 Shows book name (Ok stored) = map.get book name ≡ Some stored
 Shows book name (Err error.NoAccount) = map.get book name ≡ None
-Shows book name (Err error.Memory) = ⊥
-Shows book name (Err error.Name) = ⊥
-Shows book name (Err error.Exists) = ⊥
-Shows book name (Err error.Full) = ⊥
+Shows book name (Err _) = ⊥

@@ -47,17 +47,11 @@ commit_outcome book work = commit_outcome_at book work (map.get book (name_of wo
 abbrev pub Commits : Accounts → Accounts → Task → Result Reply (Task × BookError) → Type 0
 Commits old new work (Ok r) = (r, new) ≡ commit_outcome old work
 Commits old new work (Err (back, error.Memory)) = (back ≡ work) × (new ≡ old)
-Commits old new work (Err (back, error.Exists)) = ⊥
-Commits old new work (Err (back, error.Full)) = ⊥
-Commits old new work (Err (back, error.Name)) = ⊥
-Commits old new work (Err (back, error.NoAccount)) = ⊥
+Commits old new work (Err (back, _)) = ⊥
 
 -- an entry is put at a name that is there
 abbrev pub Sets : Accounts → Accounts → List ℕ → Option RecordValue
     → Result (Unit {0}) BookError → Type 0
 Sets old new name now (Ok _) = (map.contains_key old name ≡ true) × (new ≡ map.insert old name now)
 Sets old new name now (Err error.NoAccount) = (map.contains_key old name ≡ false) × (new ≡ old)
-Sets old new name now (Err error.Memory) = ⊥
-Sets old new name now (Err error.Name) = ⊥
-Sets old new name now (Err error.Exists) = ⊥
-Sets old new name now (Err error.Full) = ⊥
+Sets old new name now (Err _) = ⊥

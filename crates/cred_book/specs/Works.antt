@@ -16,8 +16,7 @@ use Rattle.cred_book.specs.declared.reply.Reply.TheVariants as reply
 abbrev pub same_version : Version → Version → Bool
 same_version V10 V10 = true
 same_version V13 V13 = true
-same_version V10 V13 = false
-same_version V13 V10 = false
+same_version _ _ = false
 
 abbrev pub same_variant : Variant → Variant → Bool
 same_variant D D = true
@@ -29,8 +28,7 @@ abbrev pub same_scheme : Scheme → Scheme → Bool
 same_scheme (Argon2 v k m t p) (Argon2 v' k' m' t' p') =
     same_version v v' && (same_variant k k' && ((m == m') && ((t == t') && (p == p'))))
 same_scheme (Scrypt ln r p) (Scrypt ln' r' p') = (ln == ln') && ((r == r') && (p == p'))
-same_scheme (Argon2 v k m t p) (Scrypt ln r p') = false
-same_scheme (Scrypt ln r p) (Argon2 v k m t p') = false
+same_scheme _ _ = false
 
 abbrev pub same_record : RecordValue → RecordValue → Bool
 same_record a b =
@@ -40,8 +38,7 @@ same_record a b =
 abbrev pub same : Option RecordValue → Option RecordValue → Bool
 same None None = true
 same (Some a) (Some b) = same_record a b
-same None (Some b) = false
-same (Some a) None = false
+same _ _ = false
 
 -- ---- whole operations
 
@@ -61,11 +58,8 @@ name_of (Upgrade name pw setting) = name
 name_of (Remove name pw) = name
 
 abbrev pub is_verify : Request → Bool
-is_verify (Enrol name pw setting) = false
 is_verify (Verify name pw) = true
-is_verify (Change name pw new setting) = false
-is_verify (Upgrade name pw setting) = false
-is_verify (Remove name pw) = false
+is_verify _ = false
 
 -- the setting of a new record isn't of the version of old ones
 abbrev pub is_for_current : Request → Bool

@@ -1,6 +1,6 @@
 //! The book: the names of all accounts, and the record of each.
 
-ghost use Rattle.std.specs.Prelude.{◌≡◌, ◌⊎◌, ◌<◌, ◌≤◌, IfOk, IfErr, IsTrue, MatchBool, MatchResult, true};
+ghost use Rattle.std.specs.Prelude.{◌≡◌, ◌⊎◌, ◌<◌, ◌≤◌, IfOk, IfErr, MatchBool, MatchResult, T, true};
 ghost use Rattle.std.specs.FinMap as map;
 ghost use Rattle.std.specs.Slice.Iter.{iter_rest};
 ghost use Rattle.cred_book.specs.{Accounts.most_accounts, Accounts.with_entry, Calls.Admits, Calls.Loads, Calls.Shows};
@@ -101,7 +101,7 @@ impl Book {
         ensures { MatchBool result (most_accounts ≤ map.len self.now)
             (map.len self.now < most_accounts) }
     {
-        self.accounts.len() == MOST_ACCOUNTS
+        self.len() >= MOST_ACCOUNTS
     }
 
     /// How many names there are, at most 4096.
@@ -202,7 +202,7 @@ impl Book {
         match place_of(&self.accounts, name) {
             Ok(place) => self.accounts[place].1 = now,
             Err(place) => {
-                if self.accounts.len() < MOST_ACCOUNTS {
+                if !self.is_full() {
                     match self.accounts.insert(place, (*name, now)) {
                         Ok(()) => {}
                         Err(_) => unreachable!(),
@@ -239,7 +239,7 @@ impl Book {
 
 /// The index of the name, or the index at which it would be inserted.
 fn place_of(accounts: &[(Name, Option<Record>)], name: &Name) -> Result<usize, usize>
-    requires { IsTrue (map.is_sorted name_cmp accounts.now) }
+    requires { T (map.is_sorted name_cmp accounts.now) }
     ensures { MatchResult result (IsPlaceOf name_cmp accounts.now name.now)
         (IsGapFor name_cmp accounts.now name.now) }
 {

@@ -71,15 +71,25 @@ impl Register {
     pub fn enter(&mut self, name: Name, stored: Option<Record>) -> Result<(), BookError>
         ensures { EntersWithin register_capacity self.old self.new name stored result }
     {
-        if self.contains(&name) {
-            return Err(BookError::Exists);
-        }
         if self.is_full() {
+            if self.contains(&name) {
+                return Err(BookError::Exists);
+            }
             return Err(BookError::Full);
         }
-        let slot = Slot::new(self.alloc, stored)?;
+        let Ok(slot) = Slot::new(self.alloc, stored) else {
+            if self.contains(&name) {
+                return Err(BookError::Exists);
+            }
+            return Err(BookError::Memory);
+        };
+        // One search of the tree adds a new name. If the name was there, its record is put back.
         match self.accounts.insert(name, slot) {
-            Ok(_) => Ok(()),
+            Ok(None) => Ok(()),
+            Ok(Some(there)) => {
+                self.replace(&name, there.stored());
+                Err(BookError::Exists)
+            }
             Err(_) => Err(BookError::Memory),
         }
     }
@@ -103,7 +113,7 @@ impl Register {
         ensures { MatchBool result (register_capacity ≤ map.len self.now)
             (map.len self.now < register_capacity) }
     {
-        self.accounts.len() >= CAPACITY
+        self.len() >= CAPACITY
     }
 
     /// How many more names there is room for.

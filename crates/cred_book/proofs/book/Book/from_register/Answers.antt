@@ -1,10 +1,10 @@
-use Rattle.std.proofs.Common.{ap, arith, length}
-use Rattle.cred_book.proofs.Registered.{entries_end, kept_whole, view_whole}
+use Rattle.std.proofs.Common.{arith}
+use Rattle.cred_book.proofs.Kept.{entries_end, kept_whole, view_whole}
 use Rattle.cred_book.proofs.book.Book.from_register.Goals as goal
 
 pub invariant_of-result : goal.invariant_of-result
 invariant_of-result c =
-    kept_whole _ _ _ (entries_end _ _ _ c.loop-name.invariant.all (ap length c.in-None.ensures.steps.0)) (omega (arith, c.if-len-gt-MOST_ACCOUNTS.false, c.len.ensures.len)) c.loop-name.invariant.room
+    kept_whole _ _ (entries_end _ _ _ c.loop-name.invariant.all c.in-None.ensures.steps.0) _ (omega (arith, c.if-len-gt-MOST_ACCOUNTS.false, c.len.ensures.len)) c.loop-name.invariant.room
 
 pub returns-clause-equal : goal.returns-clause-equal
-returns-clause-equal c = view_whole _ _ (entries_end _ _ _ c.loop-name.invariant.all (ap length c.in-None.ensures.steps.0))
+returns-clause-equal c = view_whole _ _ (entries_end _ _ _ c.loop-name.invariant.all c.in-None.ensures.steps.0)

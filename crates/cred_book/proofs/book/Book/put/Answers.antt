@@ -1,5 +1,5 @@
 use Rattle.std.proofs.Common.{◌∙◌, arith, sym}
-use Rattle.cred_book.proofs.Kept.{is_there, is_absent, set_there, kept_set, insert_there, kept_insert, len-kept, with_known, with_new, with_none}
+use Rattle.cred_book.proofs.Kept.{is_there, is_absent, set_there, kept_set, insert_there, kept_insert, len_of, with_known, with_new, with_none}
 use Rattle.cred_book.proofs.book.Book.put.Goals as goal
 
 pub invariant_of-self : goal.invariant_of-self
@@ -10,7 +10,10 @@ invariant_of-self c =
 pub invariant_of-self-in-Ok-insert : goal.invariant_of-self-in-Ok-insert
 invariant_of-self-in-Ok-insert c =
     let gap = rw c.deref.ensures.value at c.in-Err.ensures in
-    rw c.in-Ok-insert.ensures.items (kept_insert _ _ c.self.invariant _ c.self.view_is _ _ gap _ _ (omega (arith, c.if-len-lt-MOST_ACCOUNTS.true, c.self.inside.accounts.ok.0)) (omega (arith, c.in-Ok-insert.ensures.capacity, c.self.invariant.room)))
+    rw c.in-Ok-insert.ensures.items (kept_insert _ _ c.self.invariant _ c.self.view_is _ _ gap _ _ c.if-not-is_full.ensures (omega (arith, c.in-Ok-insert.ensures.capacity, c.self.invariant.room)))
+
+pub unreachable-requires : goal.unreachable-requires
+unreachable-requires c = omega (arith, c.in-Err-insert.ensures.full, len_of _ c.self.invariant.sorted _ c.self.view_is, c.if-not-is_full.ensures, c.self.invariant.room, c.self.inside.accounts.ok.0)
 
 pub returns-in-Ok : goal.returns-in-Ok
 returns-in-Ok c =
@@ -21,14 +24,10 @@ returns-in-Ok c =
 pub returns-in-Ok-insert : goal.returns-in-Ok-insert
 returns-in-Ok-insert c =
     let gap = rw c.deref.ensures.value at c.in-Err.ensures in
-    let len = len-kept _ _ c.self.invariant _ c.self.view_is c.args.name.now in
     let absent = is_absent _ _ c.self.invariant _ c.self.view_is _ _ gap in
-    rw c.in-Ok-insert.ensures.items (insert_there _ _ c.self.invariant _ c.self.view_is _ _ gap _)
-    ∙ sym (with_new _ _ _ absent (omega (arith, len, c.if-len-lt-MOST_ACCOUNTS.true, c.self.inside.accounts.ok.0)))
+    rw c.in-Ok-insert.ensures.items (insert_there _ _ c.self.invariant _ c.self.view_is _ _ gap _) ∙ sym (with_new _ _ _ absent c.if-not-is_full.ensures)
 
-pub returns-else-len-lt-MOST_ACCOUNTS : goal.returns-else-len-lt-MOST_ACCOUNTS
-returns-else-len-lt-MOST_ACCOUNTS c =
+pub returns-else-not-is_full : goal.returns-else-not-is_full
+returns-else-not-is_full c =
     let gap = rw c.deref.ensures.value at c.in-Err.ensures in
-    let len = len-kept _ _ c.self.invariant _ c.self.view_is c.args.name.now in
-    let absent = is_absent _ _ c.self.invariant _ c.self.view_is _ _ gap in
-    sym (with_none _ _ _ absent (omega (arith, len, c.if-len-lt-MOST_ACCOUNTS.false, c.self.inside.accounts.ok.0)))
+    sym (with_none _ _ _ (is_absent _ _ c.self.invariant _ c.self.view_is _ _ gap) c.if-not-is_full.ensures)

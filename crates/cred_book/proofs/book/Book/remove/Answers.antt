@@ -1,5 +1,5 @@
 use Rattle.std.proofs.Common.{sym}
-use Rattle.cred_book.proofs.{Kept.is_absent, Kept.kept_remove, Kept.remove_there, Registered.remove_absent}
+use Rattle.cred_book.proofs.{Kept.is_absent, Kept.kept_remove, Kept.remove_there, Rows.remove_absent}
 use Rattle.cred_book.proofs.book.Book.remove.Goals as goal
 
 pub invariant_of-self : goal.invariant_of-self

@@ -1,19 +1,38 @@
-use Rattle.std.proofs.Common.{◌∙◌, ap, arith, sym}
+use Rattle.std.proofs.Common.{◌∙◌, Some, ap, arith, is_some, refl, sym}
 use Rattle.std.specs.FinMap as map
-use Rattle.cred_book.specs.Names.{name_cmp}
-use Rattle.cred_book.proofs.Registered.{sorted_of, insert_of, len_of, grown}
+use Rattle.cred_book.proofs.Kept.{len_of}
+use Rattle.cred_book.proofs.Registered.{get_of, has_of, kept_of, written_of}
+use Rattle.cred_book.proofs.Rows.{put_back}
 use Rattle.cred_book.proofs.register.Register.enter.Goals as goal
 
 pub invariant_of-self : goal.invariant_of-self
 invariant_of-self c =
-    let len = len_of _ c.self.invariant _ c.self.view_is in
-    record {
-      sorted = sorted_of name_cmp _ c.insert.ensures.ordered;
-      few = grown _ _ _ c.in-Ok.ensures.len (omega (arith, len, c.if-is_full.ensures));
-    }
+    kept_of _ c.insert.ensures.ordered (omega (arith, rw c.in-Ok-None.field-0-is at c.in-Ok-None.ensures.len, len_of _ c.self.invariant.sorted _ c.self.view_is, c.if-is_full.ensures))
 
-pub returns-in-Ok : goal.returns-in-Ok
-returns-in-Ok c =
-    let absent = sym c.contains.ensures ∙ c.if-contains.false in
-    let entered = insert_of _ c.self.invariant _ c.self.view_is _ (invariant_of-self c) _ _ c.in-Ok.ensures.updates.0 in
-    (absent, c.if-is_full.ensures, entered ∙ ap (map.insert c.args.self.now c.args.name) c.in_ok-slot.ensures)
+pub returns-in-Ok-None : goal.returns-in-Ok-None
+returns-in-Ok-None c =
+    let absent = ap is_some (get_of _ c.self.invariant _ c.self.view_is c.args.name ∙ sym (rw c.in-Ok-None.field-0-is at c.in-Ok-None.ensures.old)) in
+    let entered = written_of _ c.self.invariant _ c.self.view_is _ (invariant_of-self c) _ (Some _) c.in-Ok-None.ensures.updates.0 in
+    (absent, c.if-is_full.ensures, entered ∙ ap (map.insert c.args.self.now c.args.name) c.in-Ok.ensures)
+
+pub invariant_of-self-in-Ok-Some : goal.invariant_of-self-in-Ok-Some
+invariant_of-self-in-Ok-Some c = kept_of _ c.insert.ensures.ordered (omega (arith, rw c.in-Ok-Some.field-0-is at c.in-Ok-Some.ensures.len, c.self.invariant.few))
+
+pub replace-requires : goal.replace-requires
+replace-requires c =
+    let kept = kept_of c.insert.new.self.entries c.insert.ensures.ordered (omega (arith, rw c.in-Ok-Some.field-0-is at c.in-Ok-Some.ensures.len, c.self.invariant.few)) in
+    sym (has_of _ kept _ refl c.args.name) ∙ ap is_some c.in-Ok-Some.ensures.updates.1
+
+pub returns-in-Ok-Some : goal.returns-in-Ok-Some
+returns-in-Ok-Some c =
+    let kept = kept_of c.insert.new.self.entries c.insert.ensures.ordered (omega (arith, rw c.in-Ok-Some.field-0-is at c.in-Ok-Some.ensures.len, c.self.invariant.few)) in
+    let stood = get_of _ c.self.invariant _ c.self.view_is c.args.name ∙ sym (rw c.in-Ok-Some.field-0-is at c.in-Ok-Some.ensures.old) ∙ ap Some (sym c.stored.ensures) in
+    let entered = written_of _ c.self.invariant _ c.self.view_is _ kept _ (Some _) c.in-Ok-Some.ensures.updates.0 in
+    (ap is_some stood, c.replace.ensures ∙ ap (λ b. map.insert b c.args.name c.stored.result) entered ∙ put_back c.args.self.now c.args.name _ c.stored.result stood)
+
+pub returns : goal.returns
+returns c = (
+  ap is_some (get_of _ c.self.invariant _ c.self.view_is c.args.name ∙ c.in-Err.ensures.absent),
+  c.if-is_full.ensures,
+  ap (λ es. map.from_sorted es) c.in-Err.ensures.err ∙ c.self.view_is,
+)
