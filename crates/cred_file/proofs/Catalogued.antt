@@ -9,6 +9,7 @@ use Rattle.sqlite_trees.specs.Objects.{catalog_tree}
 use Rattle.sqlite_schema.specs.declared.schema.Index.{Index}
 use Rattle.sqlite_catalog.specs.Listing.{IsSound, IsTableRow, IsIndexRow, IsViewRow, IsDefined, automatic, is_index_row, is_view_row}
 use Rattle.cred_file.specs.Schema.{AreBookTables, IsBookSchema, account, key_index, statistics}
+use Rattle.cred_file.proofs.TableLemmas.{all_once}
 
 same_tree : (v : Value) (a b : ℕ) → v ≡ Int (pos (a + 1)) → v ≡ Int (pos (b + 1)) → a ≡ b
 same_tree v a b p q = let e = sym p ∙ q in let n : a + 1 ≡ b + 1 = cc in omega (arith, n)
@@ -83,14 +84,6 @@ the_key tables are (r ∷ []) [] p q = absurd p
 the_key tables are (r ∷ []) (i ∷ []) p q = ap (λ (i : Index). i ∷ []) (one_key tables are r i p.0 q.0)
 the_key tables are (r ∷ []) (i ∷ j ∷ is) p q = absurd p.1
 the_key tables are (r ∷ s ∷ rs) is p q = absurd q.1
-
-all_once : {A B : Type 0} (R : A → B → Type 0) → ((a : A) (b c : B) → R a b → R a c → b ≡ c) → (xs : List A) (ys zs : List B) → AllZip R xs ys → AllZip R xs zs → ys ≡ zs
-all_once R one [] [] [] p q = refl
-all_once R one [] [] (z ∷ zs) p q = absurd q
-all_once R one [] (y ∷ ys) zs p q = absurd p
-all_once R one (x ∷ xs) [] zs p q = absurd p
-all_once R one (x ∷ xs) (y ∷ ys) [] p q = absurd q
-all_once R one (x ∷ xs) (y ∷ ys) (z ∷ zs) p q = λ i. one x y z p.0 q.0 i ∷ all_once R one xs ys zs p.1 q.1 i
 
 none_more : {A B : Type 0} (R : A → B → Type 0) (xs : List A) (zs : List B) → AllZip R xs [] → AllZip R xs zs → zs ≡ []
 none_more R [] [] p q = refl

@@ -5,14 +5,6 @@ use Rattle.sqlite.specs.{Held.Held, Held.state, State.State, State.HasCleanDisk,
 use Rattle.cred_book.specs.Accounts.{Accounts, register_capacity}
 use Rattle.cred_file.specs.{Copies.MayCopy, Keeps.HoldsBook, Keeps.IsTableOf, Keeps.Keeps, Keeps.LeavesOnly}
 
--- the table stands for the copy, and a crash leaves it
-pub keeps_copy : {S : Type 0} (g : Ghosts S) (new : Held S) (book : Accounts) → fin.len book ≤ register_capacity → (HasCleanDisk (state g new) → IsTableOf (state g new) book) → Keeps g new book None
-keeps_copy g new book low made = record {
-  table = λ clean none. made clean;
-  left = λ clean. (made clean).left;
-  few = λ b is. subst (λ b. fin.len b ≤ register_capacity) (sym is) low;
-}
-
 either : (db : Trees) (first after copy : Accounts) → first ≡ fin.empty → after ≡ copy → (book : Accounts) → (book ≡ first) ⊎ (book ≡ after) → HoldsBook db book → HoldsBook db fin.empty ⊎ HoldsBook db copy
 either db first after copy none all book (inl is) holds = inl (subst (λ b. HoldsBook db b) (is ∙ none) holds)
 either db first after copy none all book (inr is) holds = inr (subst (λ b. HoldsBook db b) (is ∙ all) holds)

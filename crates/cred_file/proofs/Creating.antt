@@ -1,24 +1,17 @@
 -- What CREATE TABLE does to an empty database.
-use Rattle.std.proofs.Common.{◌≡◌, ◌⊎◌, inl, inr, ℕ, List, [], false, if◌then◌else◌, Option, None, Ok, Err, Result, refl, sym, ap, subst, ◌∙◌}
+use Rattle.std.proofs.Common.{◌≡◌, ◌⊎◌, inl, inr, ℕ, List, [], false, if◌then◌else◌, Option, None, Ok, refl, sym, ap, subst, ◌∙◌}
 use Rattle.std.specs.FinMap as fin
 use Rattle.sqlite.specs.{Command.TheVariants.CreateTable, Change.created, Change.next_tree, Does.Tally, Does.Does, Does.lacks_sequence, Effect.Database}
-use Rattle.sqlite.specs.State.{State, HasCleanDisk, Survives, CommitsBy, MayCommit, MayWrite, Writes, Executes, mode_of}
+use Rattle.sqlite.specs.State.{State, HasCleanDisk, Survives, CommitsBy, MayWrite, Writes, Executes, mode_of}
 use Rattle.sqlite.specs.{declared.run.Mode.Mode, Tree.Trees}
 use Rattle.sqlite.proofs.Callers.{runs_as}
 use Rattle.cred_file.specs.{Schema.IsBookSchema, Schema.account, Schema.book_schema, Schema.create_text, Schema.no_schema, Table.StandsFor}
 use Rattle.cred_file.specs.Keeps.{HoldsBook, IsTableOf}
-use Rattle.cred_file.proofs.{Keeping.IsSettled, Keeping.holds, Keeping.commits_as, Texts.create_is, Texts.create_plain, Texts.created_is}
-
-went : {B E R : Type 0} {b : B} {Stops : E → Type 0} → ((stop : E) × Stops stop × (Ok b ≡ Err stop)) ⊎ R → R
-went (inl stopped) = absurd (let e = stopped.2 in cc)
-went (inr on) = on
+use Rattle.cred_file.proofs.{Changes.same_value, Changes.went, Keeping.IsSettled, Keeping.holds, Keeping.commits_as, Keeping.only_writes, Texts.create_is, Texts.create_plain, Texts.created_is}
 
 -- a table that was just made is a book's
 made_book : IsBookSchema (book_schema [])
 made_book = record { tables = inl refl; indexes = refl; views = refl }
-
-same_value : {B E : Type 0} {a b : B} → ◌≡◌ {A = Result B E} (Ok a) (Ok b) → a ≡ b
-same_value e = cc
 
 -- it makes the table, with no row
 does_create : (limit : Option ℕ) (mode : Mode) (db after : Database) (tally : Tally) → db.schema ≡ no_schema
@@ -48,16 +41,12 @@ creates old new count settled has autocommit h =
       left = λ db may. (fin.empty, refl, holds db fin.empty new.now (subst IsBookSchema (sym made.0) made_book) w.sound made.1 (settled db w.shown.is_open may ∙ ap (λ (d : Database). d.trees) committed));
     }
 
-create_may : (s : State) (text : List ℕ) (db : Trees) → MayCommit s None CreateTable text [] db → MayWrite s None CreateTable text [] db
-create_may s text db (inl h) = absurd (elim h.0 [ inl e ↦ cc | inr e ↦ let e = e.2 in cc ])
-create_may s text db (inr h) = h
-
 pub create_left : (old new : State) → HasCleanDisk new → old.now.schema ≡ no_schema → Survives old new (CommitsBy create_text [] old) → (db : Trees) → new.may_leave db
     → old.may_leave db ⊎ HoldsBook db fin.empty
 create_left old new clean has s db may = elim (s.crash clean db may) [
   | inl before ↦ inl before
   | inr commits ↦
-      let m = subst (λ t. MayWrite old None CreateTable t [] db) create_is.1 (create_may old _ db (commits_as create_text [] no_schema CreateTable create_is.0 create_plain old has db commits)) in
+      let m = subst (λ t. MayWrite old None CreateTable t [] db) create_is.1 (only_writes [] (λ e. cc, λ n e. cc) old _ db (commits_as create_text [] no_schema CreateTable create_is.0 create_plain old has db commits)) in
       let made = does_create old.step_limit (mode_of old) old.now m.2 m.1 has m.3 in
       inr (holds db fin.empty m.2 (subst IsBookSchema (sym made.0) made_book) m.4 made.1 m.5)
 ]

@@ -1,19 +1,20 @@
 -- The accounts of two books, as those of one are added to the other and taken out again.
-use Rattle.std.proofs.Common.{◌≡◌, ◌+◌, ◌≤◌, ℕ, List, [], ◌∷◌, ◌++◌, length, append_assoc, append-nil, Bool, true, false, cond, ◌||◌, ◌&&◌, T, Option, Some, None, is_some, refl, sym, ap, subst, ◌∙◌, arith}
-use Rattle.std.proofs.lemmas.List.{length-append}
-use Rattle.std.specs.{Ordering.eq_by_cmp, Ordering.is_eq, Ordering.is_lt, Ordering.ordering_reverse, declared.cmp.Ordering.Ordering}
+use Rattle.std.proofs.Common.{◌≡◌, ◌⊎◌, inl, inr, ◌+◌, ◌≤◌, ℕ, List, [], ◌∷◌, ◌++◌, length, Bool, true, false, cond, ◌||◌, ◌&&◌, T, Option, Some, None, is_some, refl, sym, ap, subst, ◌∙◌, arith}
+use Rattle.std.proofs.lemmas.{List.length-append, Bool.or_right}
+use Rattle.std.specs.{Option.option_or, Ordering.eq_by_cmp, Ordering.is_eq, Ordering.is_lt, declared.cmp.Ordering.Ordering}
 use Rattle.std.specs.declared.cmp.Ordering.TheVariants.{Less, Equal, Greater}
 use Rattle.std.specs.Cmp.{eq_by_cmp_equiv}
 use Rattle.std.specs.FinMap as fin
 use Rattle.std.specs.FinMap.Entries.{below_all}
-use Rattle.std.specs.FinMap.{get-entries, get-from_entries, get-insert, get-remove, len-empty, len-entries, len-insert, same_map}
+use Rattle.std.specs.FinMap.{get-empty, get-entries, get-from_entries, get-insert, get-remove, len-empty, len-entries, len-insert}
 use Rattle.std.specs.Cmp.Lexicographic.{nat_list_cmp_total}
 use Rattle.sqlite.specs.State.{State, HasCleanDisk}
 use Rattle.cred_phc.specs.Values.{RecordValue}
+use Rattle.cred_book.proofs.Rows.{no_some, same_rows}
 use Rattle.cred_book.specs.{Accounts.Accounts, Names.name_cmp}
 use Rattle.cred_file.specs.{Edits.AreApart, Edits.AreThere, Edits.joined, Edits.taken_in, Keeps.Has}
-use Rattle.cred_file.specs.Together.{IsPartOf, IsUnderWay, MakesWithin}
-use Rattle.cred_file.proofs.TableLemmas.{no_some, same_names}
+use Rattle.cred_file.specs.Together.{IsUnderWay, KeepsOthers, MakesWithin}
+use Rattle.cred_file.proofs.TableLemmas.{is_equal}
 
 abbrev pub Entries : Type 0
 Entries = List (List ℕ × Option RecordValue)
@@ -24,74 +25,43 @@ find q es = fin.find name_cmp q es
 abbrev ties : List ℕ → List ℕ → Bool
 ties q name = eq_by_cmp name_cmp q name
 
--- ---- what is found in entries
+-- names that tie are in a book both or neither
+pub tied : (book : Accounts) (key q : List ℕ) → ties q key ≡ true → fin.get book q ≡ fin.get book key
+tied book key q e = fin.get_tied nat_list_cmp_total book key q (is_equal _ (sym ((eq_by_cmp_equiv nat_list_cmp_total).symm q key) ∙ e))
 
-outer : {X : Type 0} (c : Bool) (x : X) (o : Option X) → is_some (cond c (Some x) o) ≡ false → (c ≡ false) × (is_some o ≡ false)
-outer true x o e = absurd cc
-outer false x o e = (refl, e)
+-- ---- what is found in two books
 
-swapped : {X : Type 0} (a b c : Bool) → (b ≡ true → a ≡ c) → c ≡ false → (x v : X) (deep o : Option X) → deep ≡ cond b (Some v) o → cond a (Some x) deep ≡ cond b (Some v) (cond a (Some x) o)
-swapped a false c same off x v deep o is = ap (cond a (Some x)) is
-swapped false true c same off x v deep o is = is
-swapped true true c same off x v deep o is = absurd (let e = same refl ∙ off in cc)
+deeper : {X : Type 0} (c : Bool) (x : X) (o p : Option X) → cond c (Some x) (option_or o p) ≡ option_or (cond c (Some x) o) p
+deeper true x o p = refl
+deeper false x o p = refl
 
--- a new entry behind the first ones
-find_behind : (front more : Entries) (k : List ℕ) (v : Option RecordValue) (q : List ℕ) → is_some (find k front) ≡ false → find q (front ++ (k, v) ∷ more) ≡ cond (ties q k) (Some v) (find q (front ++ more))
-find_behind [] more k v q none = refl
-find_behind (f ∷ fs) more k v q none =
-    let deeper = outer (ties k f.0) f.1 (find k fs) none in
-    swapped (ties q f.0) (ties q k) (ties k f.0) ((eq_by_cmp_equiv nat_list_cmp_total).congr q k f.0) deeper.0 f.1 v _ _ (find_behind fs more k v q deeper.1)
+find_append : (front more : Entries) (q : List ℕ) → find q (front ++ more) ≡ option_or (find q front) (find q more)
+find_append [] more q = refl
+find_append (f ∷ fs) more q = ap (cond (ties q f.0) (Some f.1)) (find_append fs more q) ∙ deeper (ties q f.0) f.1 (find q fs) (find q more)
 
-either_some : {X : Type 0} (c : Bool) (x : X) (o p : Option X) (b : Bool) → is_some o ≡ (is_some p || b) → is_some (cond c (Some x) o) ≡ (is_some (cond c (Some x) p) || b)
-either_some true x o p b is = refl
-either_some false x o p b is = is
+get_behind : (front : Entries) (book : Accounts) (q : List ℕ) → fin.get (fin.from_entries {R = name_cmp} (front ++ fin.entries book)) q ≡ option_or (find q front) (fin.get book q)
+get_behind front book q =
+    get-from_entries nat_list_cmp_total (front ++ fin.entries book) q ∙ find_append front (fin.entries book) q ∙ ap (option_or (find q front)) (sym (get-entries book q))
 
-has_append : (front more : Entries) (q : List ℕ) → is_some (find q (front ++ more)) ≡ (is_some (find q front) || is_some (find q more))
-has_append [] more q = refl
-has_append (f ∷ fs) more q = either_some (ties q f.0) f.1 (find q (fs ++ more)) (find q fs) (is_some (find q more)) (has_append fs more q)
+get_joined : (old more : Accounts) (q : List ℕ) → fin.get (joined old more) q ≡ option_or (fin.get more q) (fin.get old q)
+get_joined old more q = get_behind (fin.entries more) old q ∙ ap (λ o. option_or o (fin.get old q)) (sym (get-entries more q))
 
-skip_front : (front more : Entries) (q : List ℕ) → is_some (find q front) ≡ false → find q (front ++ more) ≡ find q more
-skip_front [] more q none = refl
-skip_front (f ∷ fs) more q none =
-    let deeper = outer (ties q f.0) f.1 (find q fs) none in
-    ap (λ b. cond b (Some f.1) (find q (fs ++ more))) deeper.0 ∙ skip_front fs more q deeper.1
+beside : {X : Type 0} (c : Bool) (x : X) (o : Option X) → is_some o ≡ true → is_some (cond c (Some x) o) ≡ true
+beside true x o is = refl
+beside false x o is = is
 
-no_left : (a b : Bool) → (a || b) ≡ false → a ≡ false
-no_left true b e = e
-no_left false b e = refl
+either_some : {X : Type 0} (o p : Option X) → is_some p ≡ true → is_some (option_or o p) ≡ true
+either_some None p is = is
+either_some (Some x) p is = refl
 
-has_entries : (book : Accounts) (q : List ℕ) → is_some (find q (fin.entries book)) ≡ fin.contains_key book q
-has_entries book q = ap is_some (sym (get-entries book q))
+-- accounts that are added leave the others there
+pub there_still : (old more changed : Accounts) → AreThere old changed → AreThere (joined old more) changed
+there_still old more changed there q is = ap is_some (get_joined old more q) ∙ either_some (fin.get more q) (fin.get old q) (there q is)
 
-or_true : (a b : Bool) → b ≡ true → (a || b) ≡ true
-or_true true b e = refl
-or_true false b e = e
+pub joined_keeps : (old more : Accounts) → KeepsOthers old more (joined old more)
+joined_keeps old more q absent = get_joined old more q ∙ ap (λ o. option_or o (fin.get old q)) (no_some _ absent)
 
--- the first of the entries that are left is one of the book
-among : (book : Accounts) (front rest left : Entries) (k : List ℕ) (slot : Option RecordValue) → front ++ rest ≡ fin.entries book → rest ≡ (k, slot) ∷ left → fin.contains_key book k ≡ true
-among book front rest left k slot cut is = sym (has_entries book k) ∙ ap (λ es. is_some (find k es)) (sym cut ∙ ap (λ es. front ++ es) is) ∙ has_append front ((k, slot) ∷ left) k ∙ or_true (is_some (find k front)) _ here
-  where
-    here : is_some (find k ((k, slot) ∷ left)) ≡ true
-    here = ap (λ b. is_some (cond b (Some slot) (find k left))) ((eq_by_cmp_equiv nat_list_cmp_total).refl k)
-
--- ---- the accounts that are added in turn
-
--- the first of the entries are added, and these are left
-pub record AreEntered (old more now : Accounts) (rest : Entries) : Type 0 where
-  pub front : Entries
-  pub cut : front ++ rest ≡ fin.entries more
-  pub now_is : now ≡ fin.from_entries (front ++ fin.entries old)
-
-again : (old : Accounts) → old ≡ fin.from_entries (fin.entries old)
-again old = same_map nat_list_cmp_total same_names _ _ (λ q. get-entries old q ∙ sym (get-from_entries nat_list_cmp_total (fin.entries old) q))
-
-pub none_entered : (old more : Accounts) → AreEntered old more old (fin.entries more)
-none_entered old more = record { front = []; cut = refl; now_is = again old }
-
-behind : (front left all : Entries) (e : List ℕ × Option RecordValue) (rest : Entries) → front ++ rest ≡ all → rest ≡ e ∷ left → (front ++ e ∷ []) ++ left ≡ all
-behind front left all e rest cut is = append_assoc front (e ∷ []) left ∙ ap (λ es. front ++ es) (sym is) ∙ cut
-
--- ---- names come once
+-- ---- the entries that are left
 
 first_of : (a b : Bool) → T (a && b) → T a
 first_of true b p = tt
@@ -101,166 +71,185 @@ second_of : (a b : Bool) → T (a && b) → T b
 second_of true b p = p
 second_of false b p = absurd p
 
-less : (o : Ordering) → T (is_lt o) → o ≡ Less
+less : (o : Ordering) → T (is_lt o) → is_eq o ≡ false
 less Less p = refl
 less Equal p = absurd p
 less Greater p = absurd p
 
-later : (x k : List ℕ) → T (is_lt (name_cmp x k)) → ties k x ≡ false
-later x k p = ap is_eq (nat_list_cmp_total.antisymm k x ∙ ap ordering_reverse (less _ p))
+-- below all names there is none that ties
+find_below : (x : List ℕ) (es : Entries) → T (below_all name_cmp x es) → (q : List ℕ) → ties q x ≡ true → find q es ≡ None
+find_below x [] h q tie = refl
+find_below x (e ∷ es) h q tie =
+    let apart : ties q e.0 ≡ false = (eq_by_cmp_equiv nat_list_cmp_total).congr q x e.0 tie ∙ less _ (first_of _ _ h) in
+    ap (λ b. cond b (Some e.1) (find q es)) apart ∙ find_below x es (second_of _ _ h) q tie
 
-reached : (x k : List ℕ) (v : Option RecordValue) (fs left : Entries) → T (below_all name_cmp x (fs ++ (k, v) ∷ left)) → T (is_lt (name_cmp x k))
-reached x k v [] left h = first_of _ _ h
-reached x k v (f ∷ fs) left h = reached x k v fs left (second_of _ _ h)
+-- these are entries of a book, in order
+pub record AreLeft (more : Accounts) (rest : Entries) : Type 0 where
+  pub sorted : T (fin.is_sorted name_cmp rest)
+  pub each : (q : List ℕ) → is_some (find q rest) ≡ true → fin.contains_key more q ≡ true
 
-unmet : (front left : Entries) (k : List ℕ) (v : Option RecordValue) → T (fin.is_sorted name_cmp (front ++ (k, v) ∷ left)) → is_some (find k front) ≡ false
-unmet [] left k v h = refl
-unmet (f ∷ fs) left k v h =
-    ap (λ b. is_some (cond b (Some f.1) (find k fs))) (later f.0 k (reached f.0 k v fs left (first_of _ _ h))) ∙ unmet fs left k v (second_of _ _ h)
+pub all_left : (more : Accounts) → AreLeft more (fin.entries more)
+all_left more = record { sorted = fin.entries_sorted more; each = λ q is. ap is_some (get-entries more q) ∙ is }
 
--- an entry of a book isn't among those before it
-once : (book : Accounts) (front rest left : Entries) (k : List ℕ) (v : Option RecordValue) → front ++ rest ≡ fin.entries book → rest ≡ (k, v) ∷ left → is_some (find k front) ≡ false
-once book front rest left k v cut is =
-    unmet front left k v (subst (λ es. T (fin.is_sorted name_cmp es)) (sym (ap (λ es. front ++ es) (sym is) ∙ cut)) (fin.entries_sorted book))
+module _ (more : Accounts) (k : List ℕ) (slot : Option RecordValue) (left : Entries) (are : AreLeft more ((k, slot) ∷ left)) where
+  pub still_left : AreLeft more left
+  still_left = record { sorted = second_of _ _ are.sorted; each = λ q is. are.each q (beside (ties q k) slot (find q left) is) }
 
--- an entry more, in front of the others
-pub one_more : (front more : Entries) (k : List ℕ) (v : Option RecordValue) → is_some (find k front) ≡ false
-    → fin.insert (fin.from_entries {R = name_cmp} (front ++ more)) k v ≡ fin.from_entries {R = name_cmp} ((front ++ (k, v) ∷ []) ++ more)
-one_more front more k v none = same_map nat_list_cmp_total same_names _ _ (λ q.
-    get-insert nat_list_cmp_total (fin.from_entries (front ++ more)) k v q
-    ∙ ap (cond (ties q k) (Some v)) (get-from_entries nat_list_cmp_total (front ++ more) q)
-    ∙ sym (find_behind front more k v q none)
-    ∙ ap (find q) (sym (append_assoc front ((k, v) ∷ []) more))
-    ∙ sym (get-from_entries nat_list_cmp_total ((front ++ (k, v) ∷ []) ++ more) q))
+  -- the first of them
+  pub among : fin.contains_key more k ≡ true
+  among = are.each k (ap (λ b. is_some (cond b (Some slot) (find k left))) ((eq_by_cmp_equiv nat_list_cmp_total).refl k))
+
+  none_again : (q : List ℕ) → ties q k ≡ true → find q left ≡ None
+  none_again = find_below k left (first_of _ _ are.sorted)
+
+-- ---- the accounts that are added in turn
+
+-- with those that are left, the book is the joined one; others are as they were
+pub record AreEntered (old more now : Accounts) (rest : Entries) : Type 0 where
+  pub are : AreLeft more rest
+  pub joins : fin.from_entries {R = name_cmp} (rest ++ fin.entries now) ≡ joined old more
+  pub others : KeepsOthers old more now
+
+pub none_entered : (old more : Accounts) → AreEntered old more old (fin.entries more)
+none_entered old more = record { are = all_left more; joins = refl; others = λ q absent. refl }
 
 pub one_entered : (old more now after : Accounts) (rest left : Entries) (k : List ℕ) (v slot : Option RecordValue) → AreEntered old more now rest → rest ≡ (k, slot) ∷ left → v ≡ slot → after ≡ fin.insert now k v
     → AreEntered old more after left
-one_entered old more now after rest left k v slot was is same put = record {
-  front = was.front ++ (k, v) ∷ [];
-  cut = behind was.front left _ (k, v) rest was.cut (is ∙ ap (λ s. (k, s) ∷ left) (sym same));
-  now_is = put ∙ ap (λ (b : Accounts). fin.insert b k v) was.now_is ∙ one_more was.front (fin.entries old) k v (once more was.front rest left k slot was.cut is);
+one_entered old more now after rest left k v slot was is same put =
+    subst (λ b. AreEntered old more b left) (sym (put ∙ ap (fin.insert now k) same)) (record {
+      are = still_left more k slot left are;
+      joins = same_rows _ _ (λ q.
+          get_behind left (fin.insert now k slot) q ∙ ap (option_or (find q left)) (get-insert nat_list_cmp_total now k slot q)
+          ∙ in_front (ties q k) (find q left) (none_again more k slot left are q) (fin.get now q)
+          ∙ sym (get-insert nat_list_cmp_total (fin.from_entries (left ++ fin.entries now)) k slot q ∙ ap (cond (ties q k) (Some slot)) (get_behind left now q)))
+          ∙ ap (λ es. fin.from_entries {R = name_cmp} (es ++ fin.entries now)) (sym is) ∙ was.joins;
+      others = λ q absent. get-insert nat_list_cmp_total now k slot q ∙ apart q absent (ties q k) refl ∙ was.others q absent;
+    })
+  where
+    are : AreLeft more ((k, slot) ∷ left)
+    are = subst (AreLeft more) is was.are
+
+    in_front : (b : Bool) (o : Option (Option RecordValue)) → (b ≡ true → o ≡ None) → (there : Option (Option RecordValue)) → option_or o (cond b (Some slot) there) ≡ cond b (Some slot) (option_or o there)
+    in_front true o none there = ap (λ o. option_or o (Some slot)) (none refl)
+    in_front false o none there = refl
+
+    apart : (q : List ℕ) → fin.contains_key more q ≡ false → (b : Bool) → ties q k ≡ b → cond b (Some slot) (fin.get now q) ≡ fin.get now q
+    apart q absent false tie = refl
+    apart q absent true tie = absurd (let there = sym (ap is_some (tied more k q tie) ∙ among more k slot left are) ∙ absent in cc)
+
+again : (old : Accounts) → fin.from_entries (fin.entries old) ≡ old
+again old = same_rows _ _ (get_behind [] old)
+
+pub all_entered : (old more now : Accounts) (rest : Entries) → AreEntered old more now rest → rest ≡ [] → now ≡ joined old more
+all_entered old more now rest was none = sym (again now) ∙ ap (λ es. fin.from_entries {R = name_cmp} (es ++ fin.entries now)) (sym none) ∙ was.joins
+
+-- the names of a book that are there stay there
+there_put : (now more : Accounts) (k : List ℕ) (v : Option RecordValue) → AreThere now more → AreThere (fin.insert now k v) more
+there_put now more k v there q is = ap is_some (get-insert nat_list_cmp_total now k v q) ∙ beside (ties q k) v (fin.get now q) (there q is)
+
+-- ---- the records that are replaced in turn
+
+pub record AreReplaced (old more now : Accounts) (rest : Entries) : Type 0 where
+  pub entered : AreEntered old more now rest
+  pub there : AreThere now more
+
+pub none_replaced : (old more : Accounts) → AreThere old more → AreReplaced old more old (fin.entries more)
+none_replaced old more there = record { entered = none_entered old more; there = there }
+
+-- a name that is left is there
+pub still_there : (old more now : Accounts) (rest left : Entries) (k : List ℕ) (slot : Option RecordValue) → AreReplaced old more now rest → rest ≡ (k, slot) ∷ left → fin.contains_key now k ≡ true
+still_there old more now rest left k slot was is = was.there k (among more k slot left (subst (AreLeft more) is was.entered.are))
+
+pub one_replaced : (old more now after : Accounts) (rest left : Entries) (k : List ℕ) (v slot : Option RecordValue) → AreReplaced old more now rest → rest ≡ (k, slot) ∷ left → v ≡ slot → after ≡ fin.insert now k v
+    → AreReplaced old more after left
+one_replaced old more now after rest left k v slot was is same put = record {
+  entered = one_entered old more now after rest left k v slot was.entered is same put;
+  there = subst (λ b. AreThere b more) (sym put) (there_put now more k v was.there);
 }
 
-whole : (front rest all : Entries) → front ++ rest ≡ all → length rest ≡ 0 → front ≡ all
-whole front [] all cut none = sym (append-nil front) ∙ cut
-whole front (e ∷ es) all cut none = absurd cc
-
-pub all_entered : (old more now : Accounts) (rest : Entries) → AreEntered old more now rest → length rest ≡ 0 → now ≡ joined old more
-all_entered old more now rest was none = was.now_is ∙ ap (λ es. fin.from_entries {R = name_cmp} (es ++ fin.entries old)) (whole was.front rest _ was.cut none)
-
--- a name that is there stays there
-pub still_there : (old more now : Accounts) (rest left : Entries) (k : List ℕ) (slot : Option RecordValue) → AreEntered old more now rest → rest ≡ (k, slot) ∷ left → AreThere old more → fin.contains_key now k ≡ true
-still_there old more now rest left k slot was is there =
-    ap (λ (b : Accounts). fin.contains_key b k) was.now_is ∙ ap is_some (get-from_entries nat_list_cmp_total (was.front ++ fin.entries old) k) ∙ has_append was.front (fin.entries old) k
-    ∙ or_true (is_some (find k was.front)) _ (has_entries old k ∙ there k (among more was.front rest left k slot was.cut is))
-
--- ---- what happens to a table as the records of accounts are replaced
-
-pub record AreUpdated (old new : State) (more : Accounts) (rest : Entries) : Type 0 where
-  pub front : Entries
-  pub cut : front ++ rest ≡ fin.entries more
-  pub under : HasCleanDisk new → (first book : Accounts) → AreThere book more → IsUnderWay old first book
-      → IsUnderWay new first (fin.from_entries (front ++ fin.entries book))
+-- and so it is with the table, whatever book it stood for
+abbrev pub AreUpdated : State → State → Accounts → Entries → Type 0
+AreUpdated old new more rest =
+    HasCleanDisk new → (first book : Accounts) → AreThere book more → IsUnderWay old first book → (now : Accounts) × IsUnderWay new first now × AreReplaced book more now rest
 
 pub none_updated : (s : State) (more : Accounts) → AreUpdated s s more (fin.entries more)
-none_updated s more = record { front = []; cut = refl; under = λ clean first book there begun. subst (IsUnderWay s first) (again book) begun }
+none_updated s more clean first book there begun = (book, begun, none_replaced book more there)
 
 pub one_updated : (old mid new : State) (more : Accounts) (rest left : Entries) (k : List ℕ) (v slot : Option RecordValue) → AreUpdated old mid more rest → rest ≡ (k, slot) ∷ left → v ≡ slot → (HasCleanDisk new → HasCleanDisk mid)
     → (HasCleanDisk new → MakesWithin mid new (Has k) (λ b. fin.insert b k v)) → AreUpdated old new more left
-one_updated old mid new more rest left k v slot was is same early does = record {
-  front = was.front ++ (k, v) ∷ [];
-  cut = behind was.front left _ (k, v) rest was.cut (is ∙ ap (λ s. (k, s) ∷ left) (sym same));
-  under = λ clean first book there begun.
-      let now : AreEntered book more (fin.from_entries (was.front ++ fin.entries book)) rest = record { front = was.front; cut = was.cut; now_is = refl } in
-      subst (IsUnderWay new first) (one_more was.front (fin.entries book) k v (once more was.front rest left k slot was.cut is))
-      (does clean first (fin.from_entries (was.front ++ fin.entries book)) (still_there book more _ rest left k slot now is there) (was.under (early clean) first book there begun));
-}
+one_updated old mid new more rest left k v slot was is same early does clean first book there begun =
+    let now = was (early clean) first book there begun in
+    (_, does clean first now.0 (still_there book more now.0 rest left k slot now.2 is) now.1, one_replaced book more now.0 _ rest left k v slot now.2 is same refl)
 
-pub all_updated : (old new : State) (more : Accounts) (rest : Entries) → AreUpdated old new more rest → length rest ≡ 0 → HasCleanDisk new → MakesWithin old new (λ b. AreThere b more) (λ b. joined b more)
+pub all_updated : (old new : State) (more : Accounts) (rest : Entries) → AreUpdated old new more rest → rest ≡ [] → HasCleanDisk new → MakesWithin old new (λ b. AreThere b more) (λ b. joined b more)
 all_updated old new more rest was none clean first book there begun =
-    subst (IsUnderWay new first) (ap (λ es. fin.from_entries {R = name_cmp} (es ++ fin.entries book)) (whole was.front rest _ was.cut none)) (was.under clean first book there begun)
-
--- accounts that are added leave the others there
-pub there_still : (old more changed : Accounts) → AreThere old changed → AreThere (joined old more) changed
-there_still old more changed there q is =
-    ap is_some (get-from_entries nat_list_cmp_total (fin.entries more ++ fin.entries old) q) ∙ has_append (fin.entries more) (fin.entries old) q ∙ or_true (is_some (find q (fin.entries more))) _ (has_entries old q ∙ there q is)
-
--- all of them are a part
-pub all_part : (old more : Accounts) → IsPartOf old more (joined old more)
-all_part old more = record { front = fin.entries more; rest = []; cut = append-nil (fin.entries more); now_is = refl }
+    let now = was clean first book there begun in
+    subst (IsUnderWay new first) (all_entered book more now.0 rest now.2.entered none) now.1
 
 -- ---- and taken out again
 
--- the first names are taken out
-pub record AreRemoved (old more now : Accounts) (rest : Entries) : Type 0 where
-  pub front : Entries
-  pub cut : front ++ rest ≡ fin.entries more
-  pub gone : (q : List ℕ) → fin.get now q ≡ cond (is_some (find q front)) None (fin.get old q)
+-- without those that are left, the book lacks all of them
+unfoldable pub AreRemoved : Accounts → Accounts → Accounts → Entries → Type 0
+AreRemoved old more now rest = (q : List ℕ) → cond (is_some (find q rest)) None (fin.get now q) ≡ cond (fin.contains_key more q) None (fin.get old q)
 
-twice : {X Y : Type 0} (a b c : Bool) (v : Y) (o : Option X) → c ≡ (a || is_some (cond b (Some v) None)) → cond b None (cond a None o) ≡ cond c None o
-twice true true c v o is = ap (λ c. cond c None o) (sym is)
-twice true false c v o is = ap (λ c. cond c None o) (sym is)
-twice false true c v o is = ap (λ c. cond c None o) (sym is)
-twice false false c v o is = ap (λ c. cond c None o) (sym is)
+pub none_removed : (old more : Accounts) → AreRemoved old more old (fin.entries more)
+unfolding AreRemoved
+none_removed old more q = ap (λ o. cond (is_some o) None (fin.get old q)) (sym (get-entries more q))
 
 pub one_removed : (old more now after : Accounts) (rest left : Entries) (k : List ℕ) (slot : Option RecordValue) → AreRemoved old more now rest → rest ≡ (k, slot) ∷ left → after ≡ fin.remove now k → AreRemoved old more after left
-one_removed old more now after rest left k slot was is put = record {
-  front = was.front ++ (k, slot) ∷ [];
-  cut = behind was.front left _ (k, slot) rest was.cut is;
-  gone = λ q.
-      ap (λ (b : Accounts). fin.get b q) put ∙ get-remove nat_list_cmp_total now k q ∙ ap (cond (ties q k) None) (was.gone q)
-      ∙ twice (is_some (find q was.front)) (ties q k) _ slot (fin.get old q) (has_append was.front ((k, slot) ∷ []) q);
-}
+unfolding AreRemoved
+one_removed old more now after rest left k slot was is put q =
+    ap (λ (b : Accounts). cond (is_some (find q left)) None (fin.get b q)) put ∙ ap (cond (is_some (find q left)) None) (get-remove nat_list_cmp_total now k q)
+    ∙ by_tie (ties q k) (find q left) (fin.get now q) ∙ ap (λ es. cond (is_some (find q es)) None (fin.get now q)) (sym is) ∙ was q
+  where
+    by_tie : (b : Bool) (o there : Option (Option RecordValue)) → cond (is_some o) None (cond b None there) ≡ cond (is_some (cond b (Some slot) o)) None there
+    by_tie true None there = refl
+    by_tie true (Some x) there = refl
+    by_tie false o there = refl
 
-pub all_removed : (old more now : Accounts) (rest : Entries) → AreRemoved old more now rest → length rest ≡ 0 → (q : List ℕ) → fin.get now q ≡ cond (fin.contains_key more q) None (fin.get old q)
-all_removed old more now rest was none q = was.gone q ∙ ap (λ b. cond b None (fin.get old q)) (ap (λ es. is_some (find q es)) (whole was.front rest _ was.cut none) ∙ has_entries more q)
+pub all_removed : (old more now : Accounts) (rest : Entries) → AreRemoved old more now rest → rest ≡ [] → (q : List ℕ) → fin.get now q ≡ cond (fin.contains_key more q) None (fin.get old q)
+unfolding AreRemoved
+all_removed old more now rest was none q = ap (λ es. cond (is_some (find q es)) None (fin.get now q)) (sym none) ∙ was q
 
 -- what is left then is what there was
-pub undone : (old more now after : Accounts) → AreApart old more → IsPartOf old more now → ((q : List ℕ) → fin.get after q ≡ cond (fin.contains_key more q) None (fin.get now q)) → after ≡ old
-undone old more now after apart part gone = same_map nat_list_cmp_total same_names _ _ (λ q. gone q ∙ at q (fin.contains_key more q) refl)
+pub undone : (old more now after : Accounts) → AreApart old more → KeepsOthers old more now → ((q : List ℕ) → fin.get after q ≡ cond (fin.contains_key more q) None (fin.get now q)) → after ≡ old
+undone old more now after apart others gone = same_rows _ _ (λ q. gone q ∙ at q (fin.contains_key more q) refl)
   where
     at : (q : List ℕ) (b : Bool) → fin.contains_key more q ≡ b → cond b None (fin.get now q) ≡ fin.get old q
     at q true e = sym (no_some _ (apart q e))
-    at q false e =
-        let none = no_left _ _ (sym (has_append part.front part.rest q) ∙ ap (λ es. is_some (find q es)) part.cut ∙ has_entries more q ∙ e) in
-        ap (λ (b : Accounts). fin.get b q) part.now_is ∙ get-from_entries nat_list_cmp_total (part.front ++ fin.entries old) q ∙ skip_front part.front (fin.entries old) q none ∙ sym (get-entries old q)
+    at q false e = others q e
 
 -- ---- whether a name is in both
 
--- the first names are in the book, or none of them is
+-- all but those that are left are in the book, or none of them is
 pub record AreAll (is_there : Bool) (book more : Accounts) (rest : Entries) : Type 0 where
-  pub front : Entries
-  pub cut : front ++ rest ≡ fin.entries more
-  pub each : (q : List ℕ) → is_some (find q front) ≡ true → fin.contains_key book q ≡ is_there
+  pub are : AreLeft more rest
+  pub each : (q : List ℕ) → fin.contains_key more q ≡ true → (is_some (find q rest) ≡ true) ⊎ (fin.contains_key book q ≡ is_there)
 
 pub none_yet : (is_there : Bool) (book more : Accounts) → AreAll is_there book more (fin.entries more)
-none_yet is_there book more = record { front = []; cut = refl; each = λ q e. absurd cc }
+none_yet is_there book more = record { are = all_left more; each = λ q has. inl (ap is_some (sym (get-entries more q)) ∙ has) }
 
 pub one_so : (is_there : Bool) (book more : Accounts) (rest left : Entries) (k : List ℕ) (slot : Option RecordValue) → AreAll is_there book more rest → rest ≡ (k, slot) ∷ left → fin.contains_key book k ≡ is_there
     → AreAll is_there book more left
 one_so is_there book more rest left k slot was is so = record {
-  front = was.front ++ (k, slot) ∷ [];
-  cut = behind was.front left _ (k, slot) rest was.cut is;
-  each = λ q e. at q (is_some (find q was.front)) (ties q k) refl refl (sym (has_append was.front ((k, slot) ∷ []) q) ∙ e);
+  are = still_left more k slot left (subst (AreLeft more) is was.are);
+  each = λ q has. elim (was.each q has) [
+    | inl in_rest ↦ at q (ties q k) refl (ap (λ es. is_some (find q es)) (sym is) ∙ in_rest)
+    | inr done ↦ inr done
+  ];
 }
   where
-    equal : (r : Ordering) → is_eq r ≡ true → r ≡ Equal
-    equal Less e = absurd cc
-    equal Equal e = refl
-    equal Greater e = absurd cc
+    at : (q : List ℕ) (b : Bool) → ties q k ≡ b → is_some (cond b (Some slot) (find q left)) ≡ true → (is_some (find q left) ≡ true) ⊎ (fin.contains_key book q ≡ is_there)
+    at q true tie has = inr (ap is_some (tied book k q tie) ∙ so)
+    at q false tie has = inl has
 
-    at : (q : List ℕ) (a b : Bool) → is_some (find q was.front) ≡ a → ties q k ≡ b → (a || is_some (cond b (Some slot) None)) ≡ true → fin.contains_key book q ≡ is_there
-    at q true b is tie e = was.each q is
-    at q false true is tie e = ap is_some (fin.get_tied nat_list_cmp_total book k q (equal _ (sym ((eq_by_cmp_equiv nat_list_cmp_total).symm q k) ∙ tie))) ∙ so
-    at q false false is tie e = absurd cc
-
-pub all_so : (is_there : Bool) (book more : Accounts) (rest : Entries) → AreAll is_there book more rest → length rest ≡ 0 → (q : List ℕ) → fin.contains_key more q ≡ true → fin.contains_key book q ≡ is_there
-all_so is_there book more rest was none q there = was.each q (ap (λ es. is_some (find q es)) (whole was.front rest _ was.cut none) ∙ has_entries more q ∙ there)
+pub all_so : (is_there : Bool) (book more : Accounts) (rest : Entries) → AreAll is_there book more rest → rest ≡ [] → (q : List ℕ) → fin.contains_key more q ≡ true → fin.contains_key book q ≡ is_there
+all_so is_there book more rest was none q has = elim (was.each q has) [ inl in_rest ↦ absurd (let e = ap (λ es. is_some (find q es)) (sym none) ∙ in_rest in cc) | inr done ↦ done ]
 
 -- but this one isn't so
 pub one_other : (is_there other : Bool) (book more : Accounts) (rest left : Entries) (k : List ℕ) (slot : Option RecordValue) → AreAll is_there book more rest → rest ≡ (k, slot) ∷ left → fin.contains_key book k ≡ other
     → (name : List ℕ) × (fin.contains_key more name ≡ true) × (fin.contains_key book name ≡ other)
-one_other is_there other book more rest left k slot was is so = (k, among more was.front rest left k slot was.cut is, so)
+one_other is_there other book more rest left k slot was is so = (k, among more k slot left (subst (AreLeft more) is was.are), so)
 
 -- ---- how many accounts there are
 
@@ -268,56 +257,33 @@ grown : (b : Bool) (n m l : ℕ) → m ≡ cond b n (n + 1) → n ≤ l → m �
 grown true n m l is low = omega (arith, is, low)
 grown false n m l is low = omega (arith, is, low)
 
-few_from : (es : Entries) → fin.len (fin.from_entries {R = name_cmp} es) ≤ length es
-few_from [] = omega (arith, len-empty name_cmp (Option RecordValue))
-few_from (e ∷ es) = omega (arith, grown (fin.contains_key (fin.from_entries {R = name_cmp} es) e.0) _ _ (length es) (len-insert nat_list_cmp_total (fin.from_entries es) e.0 e.1) (few_from es))
-
-pub len_joined : (old more : Accounts) → fin.len (joined old more) ≤ fin.len old + fin.len more
-len_joined old more = omega (arith, few_from (fin.entries more ++ fin.entries old), length-append (fin.entries more) (fin.entries old), len-entries more, len-entries old)
-
-same_size : (b : Bool) (n m : ℕ) → m ≡ cond b n (n + 1) → b ≡ true → m ≡ n
-same_size b n m is there = is ∙ ap (λ b. cond b n (n + 1)) there
-
--- each of the first names is there
-kept_from : (es more : Entries) → ((q : List ℕ) → is_some (find q es) ≡ true → is_some (find q more) ≡ true) → fin.len (fin.from_entries {R = name_cmp} (es ++ more)) ≡ fin.len (fin.from_entries {R = name_cmp} more)
-kept_from [] more there = refl
-kept_from (e ∷ es) more there =
-    same_size _ _ _ (len-insert nat_list_cmp_total (fin.from_entries (es ++ more)) e.0 e.1)
-    (ap is_some (get-from_entries nat_list_cmp_total (es ++ more) e.0) ∙ has_append es more e.0 ∙ or_true (is_some (find e.0 es)) _ (there e.0 (ap (λ b. is_some (cond b (Some e.1) (find e.0 es))) ((eq_by_cmp_equiv nat_list_cmp_total).refl e.0))))
-    ∙ kept_from es more (λ q is. there q (deeper (ties q e.0) e.1 (find q es) is))
-  where
-    deeper : {X : Type 0} (c : Bool) (x : X) (o : Option X) → is_some o ≡ true → is_some (cond c (Some x) o) ≡ true
-    deeper true x o is = refl
-    deeper false x o is = is
+few_from : (es : Entries) (book : Accounts) → fin.len (fin.from_entries {R = name_cmp} (es ++ fin.entries book)) ≤ length es + fin.len book
+few_from [] book = omega (arith, ap (λ (b : Accounts). fin.len b) (again book))
+few_from (e ∷ es) book = omega (arith, grown (fin.contains_key (fin.from_entries {R = name_cmp} (es ++ fin.entries book)) e.0) _ _ _ (len-insert nat_list_cmp_total (fin.from_entries (es ++ fin.entries book)) e.0 e.1) (few_from es book))
 
 -- records that are replaced make no accounts
-pub len_changed : (old changed : Accounts) → AreThere old changed → fin.len (joined old changed) ≡ fin.len old
-len_changed old changed there =
-    kept_from (fin.entries changed) (fin.entries old) (λ q is. has_entries old q ∙ there q (sym (has_entries changed q) ∙ is))
-    ∙ ap (λ (b : Accounts). fin.len b) (sym (again old))
+kept_from : (es : Entries) (book : Accounts) → ((q : List ℕ) → is_some (find q es) ≡ true → fin.contains_key book q ≡ true) → fin.len (fin.from_entries {R = name_cmp} (es ++ fin.entries book)) ≡ fin.len book
+kept_from [] book there = ap (λ (b : Accounts). fin.len b) (again book)
+kept_from (e ∷ es) book there =
+    let rest = fin.from_entries {R = name_cmp} (es ++ fin.entries book) in
+    let own = there e.0 (ap (λ b. is_some (cond b (Some e.1) (find e.0 es))) ((eq_by_cmp_equiv nat_list_cmp_total).refl e.0)) in
+    let here : fin.contains_key rest e.0 ≡ true = ap is_some (get_behind es book e.0) ∙ either_some (find e.0 es) (fin.get book e.0) own in
+    len-insert nat_list_cmp_total rest e.0 e.1 ∙ ap (λ b. cond b (fin.len rest) (fin.len rest + 1)) here ∙ kept_from es book (λ q is. there q (beside (ties q e.0) e.1 (find q es) is))
 
-pub len_taken : (old added changed : Accounts) → AreThere old changed → fin.len (joined (joined old added) changed) ≤ fin.len old + fin.len added
-len_taken old added changed there = omega (arith, len_changed (joined old added) changed (there_still old added changed there), len_joined old added)
+pub len_taken : (old added changed : Accounts) → AreThere old changed → fin.len (taken_in old added changed) ≤ fin.len old + fin.len added
+len_taken old added changed there =
+    omega (arith, kept_from (fin.entries changed) (joined old added) (λ q is. there_still old added changed there q (ap is_some (get-entries changed q) ∙ is)), few_from (fin.entries added) old, len-entries added)
 
 -- ---- what an empty book becomes
 
-no_entries : (es : Entries) → length es ≡ 0 → es ≡ []
-no_entries [] none = refl
-no_entries (e ∷ es) none = absurd cc
-
-joined_empty : (more : Accounts) → joined fin.empty more ≡ more
-joined_empty more =
-    let none : length (fin.entries (fin.empty {K = List ℕ} {X = Option RecordValue} {R = name_cmp})) ≡ 0 = omega (arith, len-entries (fin.empty {K = List ℕ} {X = Option RecordValue} {R = name_cmp}), len-empty name_cmp (Option RecordValue)) in
-    ap (λ es. fin.from_entries {R = name_cmp} (fin.entries more ++ es)) (no_entries _ none) ∙ ap (λ es. fin.from_entries {R = name_cmp} es) (append-nil (fin.entries more)) ∙ sym (again more)
-
-joined_none : (old : Accounts) → joined old fin.empty ≡ old
-joined_none old =
-    let none : length (fin.entries (fin.empty {K = List ℕ} {X = Option RecordValue} {R = name_cmp})) ≡ 0 = omega (arith, len-entries (fin.empty {K = List ℕ} {X = Option RecordValue} {R = name_cmp}), len-empty name_cmp (Option RecordValue)) in
-    ap (λ es. fin.from_entries {R = name_cmp} (es ++ fin.entries old)) (no_entries _ none) ∙ sym (again old)
-
 pub taken_whole : (old none more : Accounts) → old ≡ fin.empty → none ≡ fin.empty → taken_in old more none ≡ more
-taken_whole old none more is nothing =
-    ap (λ (b : Accounts). taken_in b more none) is ∙ ap (λ (n : Accounts). taken_in fin.empty more n) nothing ∙ joined_none (joined fin.empty more) ∙ joined_empty more
+taken_whole old none more is nothing = same_rows _ _ (λ q.
+    get_joined (joined old more) none q ∙ ap (λ o. option_or o (fin.get (joined old more) q)) (ap (λ (b : Accounts). fin.get b q) nothing ∙ get-empty name_cmp q)
+    ∙ get_joined old more q ∙ ap (option_or (fin.get more q)) (ap (λ (b : Accounts). fin.get b q) is ∙ get-empty name_cmp q) ∙ or_none (fin.get more q))
+  where
+    or_none : (o : Option (Option RecordValue)) → option_or o None ≡ o
+    or_none None = refl
+    or_none (Some x) = refl
 
 pub there_same : (old none : Accounts) → old ≡ none → AreThere old none
 there_same old none is q has = subst (λ (b : Accounts). fin.contains_key b q ≡ true) (sym is) has

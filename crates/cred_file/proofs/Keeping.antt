@@ -1,11 +1,11 @@
 -- What the statements do to a connection that keeps a book.
-use Rattle.std.proofs.Common.{is_ok, is_err, is_some, arith, ◌≤◌, ◌≡◌, ◌⊎◌, inl, inr, ℕ, List, [], ◌∷◌, append-nil, true, false, if◌then◌else◌, cond, ◌+◌, Some, None, Option, Ok, Err, Result, IsTrue, refl, sym, ap, subst, subst₂, ◌∙◌}
+use Rattle.std.proofs.Common.{is_some, arith, ◌≤◌, ◌≡◌, ◌⊎◌, inl, inr, ℕ, List, [], ◌∷◌, append-nil, true, false, if◌then◌else◌, cond, ◌+◌, Some, None, Option, Ok, Err, Result, IsTrue, refl, sym, ap, subst, subst₂, ◌∙◌}
 use Rattle.std.specs.FinMap as fin
 use Rattle.std.specs.{FinMap.len-insert, Cmp.Lexicographic.nat_list_cmp_total}
 use Rattle.sqlite.specs.declared.types.Value.{Value}
 use Rattle.sqlite.specs.declared.types.Value.TheVariants.{Null, Int, Real, Text, Blob}
-use Rattle.sqlite.specs.{Values.bound_value, Order.Row, Tree.Trees, Schema.Schema}
-use Rattle.sqlite.specs.{Command.TheVariants.Insert, Command.TheVariants.Update, Command.TheVariants.Delete, Source.Source, Source.TheVariants.Values, Query.Query, Table.Table, Effect.Database}
+use Rattle.sqlite.specs.{declared.error.Error.Error, Values.bound_value, Order.Row, Tree.Trees, Schema.Schema}
+use Rattle.sqlite.specs.{Command.TheVariants.Commit, Command.TheVariants.Insert, Command.TheVariants.Release, Command.TheVariants.Update, Command.TheVariants.Delete, Source.TheVariants.Values, Table.Table, Effect.Database}
 use Rattle.sqlite.specs.Listing.{understood}
 use Rattle.sqlite.specs.State.{State, HasCleanDisk, Survives, Executes, CommitsBy, MayCommit, MayWrite, Writes, Runs, mode_of}
 use Rattle.sqlite.specs.{declared.run.Mode.Mode, Does.Does, Does.Tally, Held.Held, Held.state, Store.Ghosts}
@@ -14,14 +14,15 @@ use Rattle.sqlite.proofs.Callers.{IsPlain, command_of, statement_of, runs_as}
 use Rattle.cred_phc.specs.{Values.IsRecord, Values.RecordValue, Text.record_text, Reading.read_record}
 use Rattle.cred_phc.proofs.RecordLaws.{read_back}
 use Rattle.std.proofs.{Common.nat_lt, Common.◌<◌, Common.false, Common.◌||◌, Common.OnOk, Common.IfErr, Common.IfOk, lemmas.Bool.lt-ltb, lemmas.Bool.le-ltb}
-use Rattle.cred_book.specs.{Accounts.Accounts, Accounts.register_capacity, Calls.EntersWithin, Calls.Shows, Names.is_name, declared.error.BookError.BookError}
+use Rattle.cred_book.specs.{Accounts.Accounts, Accounts.register_capacity, Calls.EntersWithin, Names.is_name, declared.error.BookError.BookError}
 use Rattle.sqlite_catalog.specs.Listing.{IsSound}
 use Rattle.cred_file.specs.Schema.{IsBookSchema, book_schema, statistics, insert_text, update_text, delete_text, rename_text}
 use Rattle.cred_file.specs.{Table.StandsFor, Table.IsTextOf, Table.Tells, Edits.after_edit, Edits.renamed, Edits.PutsEntry}
 use Rattle.cred_file.specs.{Keeps.HoldsBook, Keeps.IsTableOf, Keeps.IsRenamable, Keeps.LeavesOnly, Keeps.Keeps, Keeps.IsOrWith, declared.fault.Lost.Lost}
 use Rattle.sqlite_trees.specs.View.{doubt}
 use Rattle.cred_book.specs.declared.error.BookError.TheVariants as error
-use Rattle.cred_file.proofs.Texts.{of_book, insert_is, update_is, delete_is, rename_is, insert_plain, update_plain, delete_plain, rename_plain, matched, deleting, renaming, terms}
+use Rattle.cred_book.proofs.Rows.{no_some}
+use Rattle.cred_file.proofs.Texts.{Means, of_book, insert_is, update_is, delete_is, rename_is, matched, deleting, renaming, terms}
 use Rattle.cred_file.proofs.Changes.{AreQuiet, does_insert, does_update, does_delete, does_rename}
 
 -- while the store is open, a crash leaves the last commit
@@ -45,20 +46,32 @@ module _ (sql : List ℕ) (params : Row) (schema : Schema) (command : Command) (
       let bare = subst IsPlain (sym known) plain in
       subst₂ (λ k t. MayCommit s None k t params db) (ap command_of known ∙ is) (ap (statement_of sql) known) (rw (bare.0, bare.1, append-nil params) at h.2)
 
+-- what ends no transaction commits only what it writes
+pub only_writes : {command : Command} (params : Row) → (command ≡ Commit → ⊥) × ((name : List ℕ) → command ≡ Release name → ⊥) → (s : State) (text : List ℕ) (db : Trees) → MayCommit s None command text params db
+    → MayWrite s None command text params db
+only_writes params ends_nothing s text db (inl h) = absurd (elim h.0 [ inl e ↦ ends_nothing.0 e | inr e ↦ ends_nothing.1 e.0 e.2 ])
+only_writes params ends_nothing s text db (inr h) = h
+
 -- a statement that makes one book of another
 pub record IsStep (sql : List ℕ) (params : Row) (command : Command) (from to : Accounts) : Type 1 where
-  pub is : (schema : Schema) → IsBookSchema schema → command_of (understood schema sql) ≡ command
-  pub plain : (schema : Schema) → IsBookSchema schema → IsPlain (understood schema sql)
-  pub does : (schema : Schema) → IsBookSchema schema → (limit : Option ℕ) (mode : Mode) (db after : Database) (text : List ℕ) (tally : Tally) → db.schema ≡ schema → StandsFor (db.trees 0) from
-      → Does limit mode params db text None command (Ok (tally, after)) → (after.schema ≡ schema) × StandsFor (after.trees 0) to
+  pub means : (schema : Schema) → IsBookSchema schema → Means schema sql command
+  pub does : (beside : List Table) → AreQuiet beside → (limit : Option ℕ) (mode : Mode) (db after : Database) (text : List ℕ) (tally : Tally) → db.schema ≡ book_schema beside → StandsFor (db.trees 0) from
+      → Does limit mode params db text None command (Ok (tally, after)) → (after.schema ≡ book_schema beside) × StandsFor (after.trees 0) to
   pub runs : (old new : State) (text : List ℕ) (count : ℕ) → Runs old new None command text params count → Writes old new None command text params count
-  pub writes : (s : State) (text : List ℕ) (db : Trees) → MayCommit s None command text params db → MayWrite s None command text params db
+  pub ends_nothing : (command ≡ Commit → ⊥) × ((name : List ℕ) → command ≡ Release name → ⊥)
+
+module _ {sql : List ℕ} {params : Row} {command : Command} {from to : Accounts} (it : IsStep sql params command from to) where
+  -- with the statistics and without them
+  pub step_does : (schema : Schema) → IsBookSchema schema → (limit : Option ℕ) (mode : Mode) (db after : Database) (text : List ℕ) (tally : Tally) → db.schema ≡ schema → StandsFor (db.trees 0) from
+      → Does limit mode params db text None command (Ok (tally, after)) → (after.schema ≡ schema) × StandsFor (after.trees 0) to
+  step_does schema is limit mode db after text tally has stands d = of_book (λ s. db.schema ≡ s → (after.schema ≡ s) × StandsFor (after.trees 0) to)
+      (λ has. it.does [] (λ k d e. refl) limit mode db after text tally has stands d) (λ has. it.does (statistics ∷ []) (λ k d e. refl) limit mode db after text tally has stands d) schema is has
 
 module _ {sql : List ℕ} {params : Row} {command : Command} {from to : Accounts} (it : IsStep sql params command from to) (old new : State) where
   pub step_done : (count : ℕ) → IsSettled new → IsTableOf old from → Executes sql params old new (Ok count) → IsTableOf new to
   step_done count settled was h =
-      let w = it.runs old new _ count (runs_as sql params old new old.now.schema refl command (it.is _ was.schema) (it.plain _ was.schema) count h) in
-      let made = it.does old.now.schema was.schema old.step_limit (mode_of old) old.now new.now (statement_of sql (understood old.now.schema sql)) w.tally refl was.stands w.changed in
+      let w = it.runs old new _ count (runs_as sql params old new old.now.schema refl command (it.means _ was.schema).0 (it.means _ was.schema).1 count h) in
+      let made = step_does it old.now.schema was.schema old.step_limit (mode_of old) old.now new.now (statement_of sql (understood old.now.schema sql)) w.tally refl was.stands w.changed in
       let schema = subst IsBookSchema (sym made.0) was.schema in
       let committed : new.committed ≡ new.now = w.shown.committed_is ∙ ap (λ b. if b then old.committed else new.now) was.autocommit in
       record {
@@ -74,8 +87,8 @@ module _ {sql : List ℕ} {params : Row} {command : Command} {from to : Accounts
       elim (s.crash clean db may) [
         | inl before ↦ let l = was.left db before in (l.0, inl l.1, l.2)
         | inr commits ↦
-            let m = it.writes old _ db (commits_as sql params old.now.schema command (it.is _ was.schema) (it.plain _ was.schema) old refl db commits) in
-            let made = it.does old.now.schema was.schema old.step_limit (mode_of old) old.now m.2 (statement_of sql (understood old.now.schema sql)) m.1 refl was.stands m.3 in
+            let m = only_writes params it.ends_nothing old _ db (commits_as sql params old.now.schema command (it.means _ was.schema).0 (it.means _ was.schema).1 old refl db commits) in
+            let made = step_does it old.now.schema was.schema old.step_limit (mode_of old) old.now m.2 (statement_of sql (understood old.now.schema sql)) m.1 refl was.stands m.3 in
             (to, inr refl, holds db to m.2 (subst IsBookSchema (sym made.0) was.schema) m.4 made.1 m.5)
       ]
 
@@ -97,103 +110,88 @@ bound_told (Blob b) v tells = absurd tells
 
 -- ---- the statements
 
-insert_may : (source : Source) (params : Row) (s : State) (text : List ℕ) (db : Trees) → MayCommit s None (Insert 0 source) text params db → MayWrite s None (Insert 0 source) text params db
-insert_may source params s text db (inl h) = absurd (elim h.0 [ inl e ↦ cc | inr e ↦ let e = e.2 in cc ])
-insert_may source params s text db (inr h) = h
+-- what follows of a count, and of an error
+pub when_ok : {P : Type 0} (r : Result ℕ Error) → ((count : ℕ) → r ≡ Ok count → P) → OnOk r P
+when_ok (Ok count) f = f count refl
+when_ok (Err e) f = tt
 
-update_may : (body : Query) (params : Row) (s : State) (text : List ℕ) (db : Trees) → MayCommit s None (Update 0 (record { lets = []; body = body })) text params db → MayWrite s None (Update 0 (record { lets = []; body = body })) text params db
-update_may body params s text db (inl h) = absurd (elim h.0 [ inl e ↦ cc | inr e ↦ let e = e.2 in cc ])
-update_may body params s text db (inr h) = h
-
-delete_may : (body : Query) (params : Row) (s : State) (text : List ℕ) (db : Trees) → MayCommit s None (Delete 0 (record { lets = []; body = body })) text params db → MayWrite s None (Delete 0 (record { lets = []; body = body })) text params db
-delete_may body params s text db (inl h) = absurd (elim h.0 [ inl e ↦ cc | inr e ↦ let e = e.2 in cc ])
-delete_may body params s text db (inr h) = h
-
--- with the statistics and without them
-by_tables : (P : Schema → Type 0) → ((beside : List Table) → AreQuiet beside → P (book_schema beside)) → (s : Schema) → IsBookSchema s → P s
-by_tables P each = of_book P (each [] (λ k d e. refl)) (each (statistics ∷ []) (λ k d e. refl))
+pub when_err : {P : Error → Type 0} (r : Result ℕ Error) → ((e : Error) → r ≡ Err e → P e) → IfErr r P
+when_err (Ok count) f = tt
+when_err (Err e) f = f e refl
 
 module _ (book : Accounts) (name : List ℕ) where
   pub insert_step : (value : Value) (v : Option RecordValue) → IsTrue (is_name name) → Tells value v → fin.contains_key book name ≡ false
       → IsStep insert_text (Text name ∷ value ∷ []) (Insert 0 (Values terms 3)) book (fin.insert book name v)
   insert_step value v named tells absent = record {
-    is = insert_is;
-    plain = insert_plain;
-    does = λ schema is limit mode db after text tally has stands d. by_tables (λ s. db.schema ≡ s → (after.schema ≡ s) × StandsFor (after.trees 0) (fin.insert book name v))
-        (λ beside quiet has. does_insert beside quiet limit mode name named value v db after text tally book tells has stands absent d) schema is has;
+    means = insert_is;
+    does = λ beside quiet limit mode db after text tally has stands. does_insert beside quiet limit mode name db after text tally book has stands named value v tells absent;
     runs = λ o n t c h. h;
-    writes = insert_may (Values terms 3) (Text name ∷ value ∷ []);
+    ends_nothing = (λ e. cc, λ n e. cc);
   }
 
   pub update_step : (value : Value) (v : Option RecordValue) → Tells value v → fin.contains_key book name ≡ true
       → IsStep update_text (Text name ∷ value ∷ []) (Update 0 (record { lets = []; body = matched })) book (fin.insert book name v)
   update_step value v tells there = record {
-    is = update_is;
-    plain = update_plain;
-    does = λ schema is limit mode db after text tally has stands d. by_tables (λ s. db.schema ≡ s → (after.schema ≡ s) × StandsFor (after.trees 0) (fin.insert book name v))
-        (λ beside quiet has. does_update beside quiet limit mode name value v db after text tally book tells has stands there d) schema is has;
+    means = update_is;
+    does = λ beside quiet limit mode db after text tally has stands. does_update beside quiet limit mode name db after text tally book has stands value v tells there;
     runs = λ o n t c h. h;
-    writes = update_may matched (Text name ∷ value ∷ []);
+    ends_nothing = (λ e. cc, λ n e. cc);
   }
 
   pub delete_step : fin.contains_key book name ≡ true
       → IsStep delete_text (Text name ∷ []) (Delete 0 (record { lets = []; body = deleting })) book (fin.remove book name)
   delete_step there = record {
-    is = delete_is;
-    plain = delete_plain;
-    does = λ schema is limit mode db after text tally has stands d. by_tables (λ s. db.schema ≡ s → (after.schema ≡ s) × StandsFor (after.trees 0) (fin.remove book name))
-        (λ beside quiet has. does_delete beside quiet limit mode name db after text tally book has stands there d) schema is has;
+    means = delete_is;
+    does = λ beside quiet limit mode db after text tally has stands. does_delete beside quiet limit mode name db after text tally book has stands there;
     runs = λ o n t c h. h;
-    writes = delete_may deleting (Text name ∷ []);
+    ends_nothing = (λ e. cc, λ n e. cc);
   }
 
   pub rename_step : (other : List ℕ) → IsTrue (is_name other) → IsRenamable name other book
       → IsStep rename_text (Text name ∷ Text other ∷ []) (Update 0 (record { lets = []; body = renaming })) book (renamed book name other)
   rename_step other named fits = record {
-    is = rename_is;
-    plain = rename_plain;
-    does = λ schema is limit mode db after text tally has stands d. by_tables (λ s. db.schema ≡ s → (after.schema ≡ s) × StandsFor (after.trees 0) (renamed book name other))
-        (λ beside quiet has. does_rename beside quiet limit mode name other named db after text tally book has stands fits.0 fits.1 d) schema is has;
+    means = rename_is;
+    does = λ beside quiet limit mode db after text tally has stands. does_rename beside quiet limit mode name db after text tally book has stands other named fits.0 fits.1;
     runs = λ o n t c h. h;
-    writes = update_may renaming (Text name ∷ Text other ∷ []);
+    ends_nothing = (λ e. cc, λ n e. cc);
   }
 
 -- ---- what a book in a database keeps true
 
-module _ {S : Type 0} (g : Ghosts S) (old new : Held S) (book : Accounts) (lost : Option Lost) (keeps : Keeps g old book lost) (none : lost ≡ None)
-    (clean : doubt (state g old).is_clean ≤ doubt (state g new).is_clean) where
+-- a table of the book, with no change lost
+pub keeps_first : {S : Type 0} (g : Ghosts S) (new : Held S) (book : Accounts) → fin.len book ≤ register_capacity → (HasCleanDisk (state g new) → IsTableOf (state g new) book) → Keeps g new book None
+keeps_first g new book low made = record {
+  table = λ clean none. made clean;
+  left = λ clean. (made clean).left;
+  few = λ b is. subst (λ b. fin.len b ≤ register_capacity) (sym is) low;
+}
+
+-- the book fits, as it is kept
+pub fits : {S : Type 0} {g : Ghosts S} {conn : Held S} {book : Accounts} (lost : Option Lost) → Keeps g conn book lost → false ≡ is_some lost → fin.len book ≤ register_capacity
+fits {book = book} lost keeps whole = keeps.few book (subst (λ l. IsOrWith book l book) (sym (no_some lost (sym whole))) refl)
+
+module _ {S : Type 0} (g : Ghosts S) (old new : Held S) (book : Accounts) (lost : Option Lost) (keeps : Keeps g old book lost) (whole : false ≡ is_some lost)
+    (clean : doubt (state g old).is_clean ≤ doubt (state g new).is_clean) (now after : Accounts) where
+  none : lost ≡ None
+  none = no_some lost (sym whole)
+
   early : HasCleanDisk (state g new) → HasCleanDisk (state g old)
-  early now = omega (arith, clean)
+  early late = omega (arith, clean)
 
-  pub keeps_done : (after : Accounts) → fin.len after ≤ register_capacity → (HasCleanDisk (state g new) → IsTableOf (state g old) book → IsTableOf (state g new) after) → Keeps g new after lost
-  keeps_done after low does = record {
-    few = subst (λ l. (b : Accounts) → IsOrWith after l b → fin.len b ≤ register_capacity) (sym none) (λ b is. subst (λ b. fin.len b ≤ register_capacity) (sym is) low);
-    table = λ now _. does now (keeps.table (early now) none);
-    left = λ now. subst (λ l. LeavesOnly (state g new) (IsOrWith after l)) (sym none) (does now (keeps.table (early now) none)).left;
-  }
+  pub keeps_done : now ≡ after → fin.len after ≤ register_capacity → (HasCleanDisk (state g new) → IsTableOf (state g old) book → IsTableOf (state g new) after) → Keeps g new now lost
+  keeps_done is low does = subst (λ b. Keeps g new b lost) (sym is) (subst (Keeps g new after) (sym none) (record {
+    few = λ b same. subst (λ b. fin.len b ≤ register_capacity) (sym same) low;
+    table = λ late _. does late (keeps.table (early late) none);
+    left = λ late. (does late (keeps.table (early late) none)).left;
+  }))
 
-  -- the book fits, as it is kept
-  pub fits : fin.len book ≤ register_capacity
-  fits = keeps.few book (subst (λ l. IsOrWith book l book) (sym none) refl)
-
-  pub keeps_lost : (l : Lost) → fin.len (after_edit book l.edit) ≤ register_capacity → (HasCleanDisk (state g new) → IsTableOf (state g old) book → LeavesOnly (state g new) (λ b. (b ≡ book) ⊎ (b ≡ after_edit book l.edit))) → Keeps g new book (Some l)
-  keeps_lost l low does = record {
-    few = λ b is. elim is [ inl same ↦ subst (λ b. fin.len b ≤ register_capacity) (sym same) fits | inr more ↦ subst (λ b. fin.len b ≤ register_capacity) (sym more) low ];
-    table = λ now e. absurd cc;
-    left = λ now. does now (keeps.table (early now) none);
-  }
-
-pub shown_absent : (book : Accounts) (name : List ℕ) (r : Result (Option RecordValue) BookError) → Shows book name r → is_ok r ≡ false → fin.contains_key book name ≡ false
-shown_absent book name (Ok v) h e = absurd cc
-shown_absent book name (Err error.NoAccount) h e = ap is_some h
-shown_absent book name (Err error.Memory) h e = absurd h
-shown_absent book name (Err error.Name) h e = absurd h
-shown_absent book name (Err error.Exists) h e = absurd h
-shown_absent book name (Err error.Full) h e = absurd h
-
-pub shown_there : (book : Accounts) (name : List ℕ) (r : Result (Option RecordValue) BookError) → Shows book name r → is_err r ≡ false → fin.contains_key book name ≡ true
-shown_there book name (Ok v) h e = ap is_some h
-shown_there book name (Err x) h e = absurd cc
+  pub keeps_lost : now ≡ book → (loss l : Lost) → loss ≡ l → fin.len (after_edit book l.edit) ≤ register_capacity
+      → (HasCleanDisk (state g new) → IsTableOf (state g old) book → LeavesOnly (state g new) (λ b. (b ≡ book) ⊎ (b ≡ after_edit book l.edit))) → Keeps g new now (Some loss)
+  keeps_lost is loss l said low does = subst (λ b. Keeps g new b (Some loss)) (sym is) (subst (λ l. Keeps g new book (Some l)) (sym said) (record {
+    few = λ b is. elim is [ inl same ↦ subst (λ b. fin.len b ≤ register_capacity) (sym same) (fits lost keeps whole) | inr more ↦ subst (λ b. fin.len b ≤ register_capacity) (sym more) low ];
+    table = λ late e. absurd cc;
+    left = λ late. does late (keeps.table (early late) none);
+  }))
 
 -- how many accounts there are with a new name, and with an old one
 pub len_new : (book : Accounts) (name : List ℕ) (v : Option RecordValue) → fin.contains_key book name ≡ false → fin.len book < register_capacity → fin.len (fin.insert book name v) ≤ register_capacity
@@ -212,10 +210,7 @@ not_entered room old new name v error.Memory h = h.2
 not_entered room old new name v error.Name h = absurd h
 not_entered room old new name v error.NoAccount h = absurd h
 
--- what is known of a name that was asked for, or wasn't entered
-pub ruleset shown_so = (not_entered, shown_there, shown_absent)
-
--- so is one that is replaced
+-- a name that is replaced is put
 pub put_replaced : (room : ℕ) (old new : Accounts) (name : List ℕ) (v : Option RecordValue) (r : Result (Unit {0}) BookError) → fin.contains_key old name ≡ true → OnOk r (new ≡ fin.insert old name v) → IfErr r (λ e. (e ≡ error.Memory) × (new ≡ old)) → PutsEntry room old new name v r
 put_replaced room old new name v (Ok u) there done memory = (ap (λ b. b || nat_lt (fin.len old) room) there, done)
 put_replaced room old new name v (Err e) there done memory = subst (λ e. PutsEntry room old new name v (Err e)) (sym memory.0) (ap (λ b. b || nat_lt (fin.len old) room) there, memory.1)

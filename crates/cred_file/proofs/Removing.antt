@@ -7,11 +7,8 @@ use Rattle.std.specs.{FinMap.len-insert, FinMap.len-remove, FinMap.get-remove, F
 use Rattle.cred_phc.specs.Values.{RecordValue}
 use Rattle.cred_book.specs.{Accounts.Accounts, Accounts.register_capacity, Names.name_cmp}
 use Rattle.cred_file.specs.Edits.{renamed}
-use Rattle.cred_file.proofs.TableLemmas.{is_equal, no_some, same_names}
-
--- a book has one record at names that tie
-tied : (book : Accounts) (key q : List ℕ) → eq_by_cmp name_cmp q key ≡ true → fin.get book q ≡ fin.get book key
-tied book key q e = fin.get_tied nat_list_cmp_total book key q (is_equal _ (sym ((eq_by_cmp_equiv nat_list_cmp_total).symm q key) ∙ e))
+use Rattle.cred_book.proofs.Rows.{no_some, same_rows}
+use Rattle.cred_file.proofs.Joined.{tied}
 
 less : (b : Bool) (n m : ℕ) → m ≡ cond b (n - 1) n → n ≤ register_capacity → m ≤ register_capacity
 less true n m e low = omega (arith, e, low)
@@ -38,7 +35,7 @@ module _ (book : Accounts) (name other : List ℕ) (there : fin.contains_key boo
 
 -- the record is put at the other name, and then the name is taken out
 pub renamed_is : (book : Accounts) (name other : List ℕ) (stored : Option RecordValue) → fin.get book name ≡ Some stored → fin.contains_key book other ≡ false → fin.remove (fin.insert book other stored) name ≡ renamed book name other
-renamed_is book name other stored is absent = fin.same_map nat_list_cmp_total same_names _ _ (λ q.
+renamed_is book name other stored is absent = same_rows _ _ (λ q.
     get-remove nat_list_cmp_total (fin.insert book other stored) name q
     ∙ ap (cond (ties name q) None) (get-insert nat_list_cmp_total book other stored q)
     ∙ swapped q (ties name q) (ties other q) refl refl

@@ -1,8 +1,9 @@
 -- What the query of all rows answers, and that it changes nothing.
-use Rattle.std.proofs.Common.{◌≡◌, inl, inr, arith, List, [], ◌∷◌, map, flat_map, IsTrue, false, refl, sym, ap, subst, ◌∙◌}
-use Rattle.std.proofs.lemmas.List.Sorted.{IsPermutation-map, IsPermutation-sym}
-use Rattle.std.specs.List.Sorted.{IsPermutation}
-use Rattle.sqlite.specs.{declared.types.Value.TheVariants.Null, Order.Row, Query.IsAnswer, Query.output, Query.Output, Program.overlay}
+use Rattle.std.proofs.Common.{◌≡◌, ◌+◌, ◌<◌, inl, inr, arith, List, [], ◌∷◌, map, length, get_or, flat_map, IsTrue, false, refl, sym, ap, subst, subst₂, ◌∙◌}
+use Rattle.std.proofs.lemmas.{List.length-map, List.get_or-map, List.Elements.All-map, List.Sorted.All-permutation, List.Sorted.IsPermutation-map, List.Sorted.IsPermutation-sym}
+use Rattle.std.specs.{List.All, List.Sorted.IsPermutation, List.Sorted.IsSorted, Ordering.is_lt}
+use Rattle.sqlite.specs.{declared.types.Value.TheVariants.Null, Order.Row, Order.column, Order.value_cmp, Query.IsAnswer, Query.output, Query.output_cmp, Query.Output, Program.overlay}
+use Rattle.sqlite_value.proofs.OrderLemmas.{then-Equal}
 use Rattle.sqlite.specs.{Effect.Database, Effect.IsDatabase, State.State, State.Shown, State.IsUnchanged, State.CommitsShowing, State.Survives}
 use Rattle.sqlite.proofs.Callers.{IsPlain, reads_as, never_commits}
 use Rattle.cred_book.specs.Accounts.{Accounts}
@@ -17,24 +18,42 @@ outputs : (rows : List Row) → map (λ (o : Output). o.1) (map (output all_rows
 outputs [] = refl
 outputs (r ∷ rs) = ap (λ es. shown r ∷ es) (outputs rs)
 
+-- the rowids rise
+abbrev pub IsRising : List Row → Type 0
+IsRising = IsSorted (λ a b. value_cmp (column a 0) (column b 0))
+
+-- what an output is sorted by is the rowid that it shows
+abbrev IsKeyed : Output → Type 0
+IsKeyed o = o.0 ≡ column o.1 0 ∷ []
+
+keyed_cmp : (x y : Output) → IsKeyed x → IsKeyed y → output_cmp all_rows x y ≡ value_cmp (column x.1 0) (column y.1 0)
+keyed_cmp x y p q =
+    then-Equal (value_cmp (column x.0 0) (column y.0 0)) ∙ ap (λ r. value_cmp (column r 0) (column y.0 0)) p ∙ ap (λ r. value_cmp (column x.1 0) (column r 0)) q
+
+shown_rises : (os : List Output) → All IsKeyed os → IsSorted (output_cmp all_rows) os → IsRising (map (λ (o : Output). o.1) os)
+shown_rises os keyed sorted k d low lt =
+    let e : Output = ([], d) in
+    let within : k + 1 < length os = omega (arith, length-map os (λ (o : Output). o.1), lt) in
+    let here = get_or-map (λ (o : Output). o.1) os k e d (omega arith) in
+    let next = get_or-map (λ (o : Output). o.1) os (k + 1) e d within in
+    subst₂ (λ a b. is_lt (value_cmp (column a 0) (column b 0)) ≡ false) (sym next) (sym here)
+    (ap is_lt (sym (keyed_cmp (get_or os (k + 1) e) (get_or os k e) (keyed (k + 1) e within) (keyed k e (omega arith)))) ∙ sorted k e low within)
+
 module _ (old new : State) (has : IsBookSchema old.now.schema) where
-  -- the table's rows, in some order
-  pub selected : (rows : List Row) → Shown rows_text [] old new rows → IsPermutation rows (map shown (old.now.trees 0))
+  -- the table's rows, in the order of their rowids
+  pub selected : (rows : List Row) → Shown rows_text [] old new rows → IsPermutation rows (map shown (old.now.trees 0)) × IsRising rows
   selected rows h =
       let it = reads_as rows_text [] old new old.now.schema refl _ (rows_is _ has) (rows_plain _ has) (rows_listed _ has) rows h in
       let a : IsAnswer all_rows (overlay old.now.trees []) [] rows = it.answer Null in
-      let staged : a.staged ≡ map (λ r. [] ∷ r ∷ []) (old.now.trees 0) = a.grouped ∙ each (old.now.trees 0) in
-      let kept : map (λ (o : Output). o.1) a.kept ≡ map shown (old.now.trees 0) = ap (map (λ (o : Output). o.1)) (a.distinct ∙ ap (map (output all_rows)) staged) ∙ outputs (old.now.trees 0) in
+      let envs = map (λ r. [] ∷ r ∷ []) (old.now.trees 0) in
+      let staged : a.staged ≡ envs = a.grouped ∙ each (old.now.trees 0) in
+      let outs : a.kept ≡ map (output all_rows) envs = a.distinct ∙ ap (map (output all_rows)) staged in
+      let kept : map (λ (o : Output). o.1) a.kept ≡ map shown (old.now.trees 0) = ap (map (λ (o : Output). o.1)) outs ∙ outputs (old.now.trees 0) in
       let shows : rows ≡ map (λ (o : Output). o.1) a.ordered = a.shown in
       let there : IsPermutation (map shown (old.now.trees 0)) rows = subst (λ ks. IsPermutation ks rows) kept
       (subst (λ rs. IsPermutation (map (λ (o : Output). o.1) a.kept) rs) (sym shows) (IsPermutation-map (λ (o : Output). o.1) a.kept a.ordered a.same)) in
-      IsPermutation-sym _ _ there
-
-  pub unchanged : (rows : List Row) → Shown rows_text [] old new rows → IsUnchanged old new
-  unfolding Shown
-  unchanged rows h =
-      let bare = subst IsPlain h.1.is (rows_plain _ has) in
-      (rw bare.0 at h.2).3
+      let keyed : All IsKeyed a.kept = subst (All IsKeyed) (sym outs) (All-map IsKeyed (output all_rows) envs (All-map (λ e. IsKeyed (output all_rows e)) (λ r. [] ∷ r ∷ []) (old.now.trees 0) (λ k d low. refl))) in
+      (IsPermutation-sym _ _ there, subst IsRising (sym shows) (shown_rises a.ordered (All-permutation IsKeyed a.kept a.ordered a.same keyed) a.sorted))
 
   pub survived : Survives old new (CommitsShowing rows_text [] old) → Survives old new (λ _. ⊥)
   survived s = record {
@@ -54,9 +73,6 @@ both_true a b p q = search
 
 pub as_before : (old new : State) → IsUnchanged old new → IsAsBefore old new
 as_before old new same = record { now = same.0.now_is; committed = same.0.committed_is; mode = same.0.mode; is_open = both_true old.is_open new.is_open same.0.was_open same.0.is_open }
-
-pub nothing_yet : (s : State) → IsAsBefore s s
-nothing_yet s = record { now = refl; committed = refl; mode = refl; is_open = refl }
 
 -- a sound database at rest, whose table stands for the book
 pub is_table : (s : State) (book : Accounts) → IsSettled s → IsTrue s.is_open → s.in_transaction ≡ false → s.now ≡ s.committed → IsDatabase s.now → IsBookSchema s.now.schema

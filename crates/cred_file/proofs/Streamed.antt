@@ -1,5 +1,5 @@
 -- What rows that are read one at a time say of the table.
-use Rattle.std.proofs.Common.{◌≡◌, ◌<◌, List, [], ◌∷◌, ◌++◌, length, take, get_or, Ok, None, inl, inr, ◌≤◌, refl, sym, ap, subst, ◌∙◌, arith, length-append}
+use Rattle.std.proofs.Common.{◌≡◌, List, [], ◌∷◌, ◌++◌, append_assoc, Ok, None, Option, inl, inr, ◌≤◌, refl, sym, ap, subst, ◌∙◌}
 use Rattle.std.specs.{List.Sorted.IsPermutation, Prelude.ℤ, Prelude.map}
 use Rattle.sqlite.specs.{Order.Row, Held.Held, Held.state, Store.Ghosts, Given.HasGiven, Listing.understood, Listing.IsSourceOf, Listing.reads_listing}
 use Rattle.sqlite.specs.Effect.{Database, RefusesToRead}
@@ -12,26 +12,8 @@ use Rattle.sqlite.proofs.StreamLemmas.{fails_since}
 use Rattle.cred_book.specs.Accounts.{Accounts}
 use Rattle.cred_file.specs.{declared.fault.OpenFault.OpenFault, Schema.IsBookSchema, Table.StandsFor, Drafts.IsDraftOf, Drafts.IsNotAdded}
 use Rattle.cred_file.specs.Opening.{AreAtFault, rows_text}
-use Rattle.cred_file.proofs.{LeftOut.left_out, Selected.selected, Shuffled.fault_unshown, Shuffled.shown, Shuffled.stands_unshown}
+use Rattle.cred_file.proofs.{LeftOut.left_out, Selected.IsRising, Selected.selected, Shuffled.fault_unshown, Shuffled.shown, Shuffled.stands_unshown}
 use Rattle.cred_file.proofs.Texts.{rows_is, rows_plain}
-
-take_front : {A : Type 0} (xs : List A) (y : A) (ys : List A) → take (length xs) ((xs ++ y ∷ []) ++ ys) ≡ xs
-take_front [] y ys = refl
-take_front (x ∷ xs) y ys = ap (λ zs. x ∷ zs) (take_front xs y ys)
-
-get_front : {A : Type 0} (xs : List A) (y : A) (ys : List A) (d : A) → get_or ((xs ++ y ∷ []) ++ ys) (length xs) d ≡ y
-get_front [] y ys d = refl
-get_front (x ∷ xs) y ys d = get_front xs y ys d
-
-low : {A : Type 0} (xs : List A) (y : A) (ys : List A) → length xs < length ((xs ++ y ∷ []) ++ ys)
-low xs y ys = omega (arith, length-append (xs ++ y ∷ []) ys, length-append xs (y ∷ []))
-
--- a row that is left out is at fault among all rows that come before and after it
-pub left_out_among : (prior tail : List Row) (row : Row) (book : Accounts) (ids : List ℤ) → IsDraftOf prior book ids → (why : OpenFault) → IsNotAdded row book ids why
-    → AreAtFault ((prior ++ row ∷ []) ++ tail) why
-left_out_among prior tail row book ids draft why h =
-    left_out ((prior ++ row ∷ []) ++ tail) (length prior) (low prior row tail) row (get_front prior row tail row) book ids
-    (subst (λ rows. IsDraftOf rows book ids) (sym (take_front prior row tail)) draft) why h
 
 -- the query has no recursion
 ends : (s : State) → IsBookSchema s.now.schema → (c : Compiled) (db : Database) → IsStatement s rows_text [] c → (params : Row) → EndsIn c.command db params
@@ -49,22 +31,24 @@ module _ {S : Type 0} (g : Ghosts S) (old : State) (h : Held S) (has : IsBookSch
   has_now = subst (λ (d : Database). IsBookSchema d.schema) (sym same.0.now_is) has
 
   -- the rows so far are the first of the table's, in some order
-  pub first_of : (given : List Row) → HasGiven g rows_text [] h given → (tail : List Row) × IsPermutation (given ++ tail) (map shown (old.now.trees 0))
+  pub first_of : (given : List Row) → HasGiven g rows_text [] h given → (tail : List Row) × IsPermutation (given ++ tail) (map shown (old.now.trees 0)) × IsRising (given ++ tail)
   first_of given it =
       let r = begins_shown rows_text [] now now given (given_begin g rows_text [] h given it) (still old now same) (λ c db is from. ends now has_now c db is _) in
-      (r.0, subst (λ (d : Database). IsPermutation (given ++ r.0) (map shown (d.trees 0))) same.0.now_is (selected now now has_now (given ++ r.0) r.1))
+      let s = selected now now has_now (given ++ r.0) r.1 in
+      (r.0, subst (λ (d : Database). IsPermutation (given ++ r.0) (map shown (d.trees 0))) same.0.now_is s.0, s.1)
 
   -- so one that is left out is at fault in the table
-  pub fault_first : (prior : List Row) (row : Row) → HasGiven g rows_text [] h (prior ++ row ∷ []) → (book : Accounts) (ids : List ℤ) → IsDraftOf prior book ids
-      → (why : OpenFault) → IsNotAdded row book ids why → AreAtFault (old.now.trees 0) why
-  fault_first prior row it book ids draft why h =
+  pub fault_first : (prior : List Row) (row : Row) → HasGiven g rows_text [] h (prior ++ row ∷ []) → (book : Accounts) (last : Option ℤ) → IsDraftOf prior book last
+      → (why : OpenFault) → IsNotAdded row book last why → AreAtFault (old.now.trees 0) why
+  fault_first prior row it book last draft why h =
       let f = first_of (prior ++ row ∷ []) it in
-      fault_unshown (old.now.trees 0) ((prior ++ row ∷ []) ++ f.0) f.1 why (left_out_among prior f.0 row book ids draft why h)
+      let all = append_assoc prior (row ∷ []) f.0 in
+      fault_unshown (old.now.trees 0) (prior ++ row ∷ f.0) (subst (λ rows. IsPermutation rows (map shown (old.now.trees 0))) all f.1) why (left_out prior f.0 row book last draft (subst IsRising all f.2) why h)
 
   -- and once all are given, the book is the table's
   pub stands_last : (new : State) (given : List Row) → Shown rows_text [] now new given → (book : Accounts) → StandsFor given book → StandsFor (old.now.trees 0) book
   stands_last new given shows book stands =
-      let p = selected now new has_now given shows in
+      let p = (selected now new has_now given shows).0 in
       subst (λ (d : Database). StandsFor (d.trees 0) book) same.0.now_is (stands_unshown (now.now.trees 0) given book p stands)
 
 -- the query that failed after some rows had failed from the first on

@@ -1,5 +1,5 @@
 -- What happens to the table within a transaction, and as it is committed.
-use Rattle.std.proofs.Common.{◌≡◌, ◌⊎◌, inl, inr, ℕ, List, true, false, OnErr, OnOk, Ok, Err, Result, refl, sym, ap, subst, ◌∙◌}
+use Rattle.std.proofs.Common.{◌≡◌, ◌⊎◌, inl, inr, ℕ, List, true, false, OnErr, Ok, Err, Result, refl, sym, ap, subst, ◌∙◌}
 use Rattle.sqlite.specs.{Order.Row, Tree.Trees, Effect.Database, Listing.understood}
 use Rattle.sqlite_schema.specs.declared.command.Command.{Command}
 use Rattle.sqlite.specs.{State.State, State.HasCleanDisk, State.Survives, State.Executes, State.Shows, State.mode_of, Held.Held, Held.state, Store.Ghosts}
@@ -8,7 +8,7 @@ use Rattle.sqlite_catalog.specs.Listing.{IsSound}
 use Rattle.cred_book.specs.{Accounts.Accounts}
 use Rattle.cred_file.specs.{Schema.IsBookSchema, Table.StandsFor, Keeps.IsTableOf, Keeps.LeavesOnly}
 use Rattle.cred_file.specs.Together.{IsUnderWay}
-use Rattle.cred_file.proofs.Keeping.{IsSettled, IsStep, holds}
+use Rattle.cred_file.proofs.Keeping.{IsSettled, IsStep, holds, step_does}
 
 -- nothing is committed until the commit
 pub still : (old new : State) (P : Accounts → Type 0) → HasCleanDisk new → Survives old new (λ _. ⊥) → LeavesOnly old P → LeavesOnly new P
@@ -21,8 +21,8 @@ begun g conn book was = record { schema = was.schema; stands = was.stands; sound
 module _ {sql : List ℕ} {params : Row} {command : Command} {from to : Accounts} (it : IsStep sql params command from to) (old new : State) (first : Accounts) where
   pub within : (count : ℕ) → HasCleanDisk new → Survives old new (λ _. ⊥) → IsUnderWay old first from → Executes sql params old new (Ok count) → IsUnderWay new first to
   within count clean s was h =
-      let w = it.runs old new _ count (runs_as sql params old new old.now.schema refl command (it.is _ was.schema) (it.plain _ was.schema) count h) in
-      let made = it.does old.now.schema was.schema old.step_limit (mode_of old) old.now new.now (statement_of sql (understood old.now.schema sql)) w.tally refl was.stands w.changed in
+      let w = it.runs old new _ count (runs_as sql params old new old.now.schema refl command (it.means _ was.schema).0 (it.means _ was.schema).1 count h) in
+      let made = step_does it old.now.schema was.schema old.step_limit (mode_of old) old.now new.now (statement_of sql (understood old.now.schema sql)) w.tally refl was.stands w.changed in
       record {
         schema = subst IsBookSchema (sym made.0) was.schema;
         stands = made.1;
@@ -57,11 +57,6 @@ commit_left old new first book clean was s db may = elim (s.crash clean db may) 
   | inl before ↦ let l = was.left db before in (l.0, inl l.1, l.2)
   | inr is ↦ (book, inr refl, record { schema = old.now.schema; of_book = was.schema; sound = subst (IsSound old.now.schema) (sym is) was.sound; stands = subst (λ (t : Trees). StandsFor (t 0) book) (sym is) was.stands })
 ]
-
--- of an answer that is Ok
-pub on_ok : {A E P Q : Type 0} (r : Result A E) → (P → Q) → OnOk r P → OnOk r Q
-on_ok (Ok a) f p = f p
-on_ok (Err e) f p = tt
 
 -- what holds anyway holds of an answer that is Err
 pub on_any : {A E P : Type 0} (r : Result A E) → P → OnErr r P

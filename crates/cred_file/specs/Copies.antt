@@ -11,13 +11,9 @@ use Rattle.cred_file.specs.{Keeps.HoldsBook, Schema.no_schema}
 -- database failed.
 abbrev pub IsUncopied : {S : Type 0} → Ghosts S → Held S → Held S → OpenFault → Type 0
 IsUncopied g old new fault.NotEmpty = ((state g old).now.schema ≢ no_schema) × (new ≡ old)
-IsUncopied g old new fault.NoBook = ⊥
-IsUncopied g old new (fault.NoName id) = ⊥
-IsUncopied g old new (fault.NoRecord id why) = ⊥
-IsUncopied g old new (fault.Twice id) = ⊥
-IsUncopied g old new fault.TooMany = ⊥
 IsUncopied g old new fault.Memory = (state g old).now.schema ≡ no_schema
 IsUncopied g old new (fault.Database e) = (state g old).now.schema ≡ no_schema
+IsUncopied g old new _ = ⊥
 
 -- a crash leaves what it could leave before, an empty book, or the whole copy
 abbrev pub MayCopy : State → State → Accounts → Type 0

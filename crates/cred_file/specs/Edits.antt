@@ -39,18 +39,14 @@ PutsEntry room old new name stored (Err error.Full) =
     (has_room_for room old name ≡ false) × (new ≡ old)
 PutsEntry room old new name stored (Err error.Memory) =
     (has_room_for room old name ≡ true) × (new ≡ old)
-PutsEntry room old new name stored (Err error.Name) = ⊥
-PutsEntry room old new name stored (Err error.Exists) = ⊥
-PutsEntry room old new name stored (Err error.NoAccount) = ⊥
+PutsEntry room old new name stored (Err _) = ⊥
 
 -- the name is taken out; memory runs out only if it is there
 abbrev pub Deletes : Accounts → Accounts → List ℕ → Result (Unit {0}) BookError → Type 0
 Deletes old new name (Ok _) = (fin.contains_key old name ≡ true) × (new ≡ fin.remove old name)
 Deletes old new name (Err error.NoAccount) = (fin.contains_key old name ≡ false) × (new ≡ old)
 Deletes old new name (Err error.Memory) = (fin.contains_key old name ≡ true) × (new ≡ old)
-Deletes old new name (Err error.Name) = ⊥
-Deletes old new name (Err error.Exists) = ⊥
-Deletes old new name (Err error.Full) = ⊥
+Deletes old new name (Err _) = ⊥
 
 -- the one name is there, and the other is not
 abbrev pub MayRename : Accounts → List ℕ → List ℕ → Type 0

@@ -18,14 +18,10 @@ Refuses g old new sql params e =
 -- as the table was to be made.
 abbrev pub IsUnbegun : {S : Type 0} → Ghosts S → Held S → Held S → OpenFault → Type 0
 IsUnbegun g old new fault.NotEmpty = ((state g old).now.schema ≢ no_schema) × (new ≡ old)
-IsUnbegun g old new fault.NoBook = ⊥
-IsUnbegun g old new (fault.NoName id) = ⊥
-IsUnbegun g old new (fault.NoRecord id why) = ⊥
-IsUnbegun g old new (fault.Twice id) = ⊥
-IsUnbegun g old new fault.TooMany = ⊥
 IsUnbegun g old new fault.Memory = ((state g old).now.schema ≡ no_schema) × (new ≡ old)
 IsUnbegun g old new (fault.Database e) =
     ((state g old).now.schema ≡ no_schema) × Refuses g old new create_text [] e
+IsUnbegun g old new _ = ⊥
 
 -- by whether the name is there
 abbrev pub put_text : Bool → List ℕ

@@ -13,15 +13,12 @@ use Rattle.cred_file.specs.declared.fault.OpenFault.TheVariants as fault
 use Rattle.cred_file.specs.{Schema.IsBookSchema, Table.StandsFor}
 
 abbrev pub rows_text : List ℕ
-rows_text = codes "SELECT rowid, name, record FROM account"
+rows_text = codes "SELECT rowid, name, record FROM account ORDER BY rowid"
 
 -- anything but the text of a name
 abbrev pub is_no_name : Value → Bool
 is_no_name (Text t) = not (is_name t)
-is_no_name Null = true
-is_no_name (Int n) = true
-is_no_name (Real x) = true
-is_no_name (Blob b) = true
+is_no_name _ = true
 
 -- it has this fault
 abbrev pub is_refused : PhcError → Result RecordValue PhcError → Bool
@@ -30,19 +27,14 @@ is_refused why (Err e) = error_number e == error_number why
 
 -- a text that is refused as a record, with this fault
 abbrev pub is_bad_text : PhcError → Value → Bool
-is_bad_text why Null = false
 is_bad_text why (Text t) = is_refused why (read_record t)
-is_bad_text why (Int n) = false
-is_bad_text why (Real x) = false
-is_bad_text why (Blob b) = false
+is_bad_text why _ = false
 
 -- neither NULL nor a text
 abbrev pub is_no_text : Value → Bool
 is_no_text Null = false
 is_no_text (Text t) = false
-is_no_text (Int n) = true
-is_no_text (Real x) = true
-is_no_text (Blob b) = true
+is_no_text _ = true
 
 -- anything but NULL or the text of a record, and why it is no record
 abbrev pub is_no_record : Option PhcError → Value → Bool
@@ -68,8 +60,6 @@ HasBadIds rows =
 
 -- what is wrong with the rows of the table
 abbrev pub AreAtFault : List Row → OpenFault → Type 0
-AreAtFault rows fault.NotEmpty = ⊥
-AreAtFault rows fault.NoBook = ⊥
 AreAtFault rows (fault.NoName id) =
     list_any (λ row. has_rowid id row && is_no_name (column row 1)) rows ≡ true
 AreAtFault rows (fault.NoRecord id why) =
@@ -79,17 +69,13 @@ AreAtFault rows (fault.Twice id) =
 AreAtFault rows fault.TooMany = register_capacity < length rows
 AreAtFault rows fault.Memory = ⊤
 AreAtFault rows (fault.Database e) = (e ≡ corrupt) × HasBadIds rows
+AreAtFault rows _ = ⊥
 
 -- memory ran out, or the database failed: nothing is said against the tables and rows
 abbrev pub IsForWant : OpenFault → Type 0
-IsForWant fault.NotEmpty = ⊥
-IsForWant fault.NoBook = ⊥
-IsForWant (fault.NoName id) = ⊥
-IsForWant (fault.NoRecord id why) = ⊥
-IsForWant (fault.Twice id) = ⊥
-IsForWant fault.TooMany = ⊥
 IsForWant fault.Memory = ⊤
 IsForWant (fault.Database e) = ⊤
+IsForWant _ = ⊥
 
 -- what is seen and what is committed are as before
 pub record IsAsBefore (old new : State) : Type 0 where

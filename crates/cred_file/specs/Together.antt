@@ -1,9 +1,8 @@
 -- Accounts that are added together, in one transaction.
-use Rattle.std.specs.Prelude.{◌≡◌, ℕ, ◌++◌, List, true, Option}
+use Rattle.std.specs.Prelude.{◌≡◌, ℕ, List, true, false}
 use Rattle.std.specs.FinMap as fin
 use Rattle.sqlite.specs.State.{State}
 use Rattle.sqlite_catalog.specs.Listing.{IsSound}
-use Rattle.cred_phc.specs.Values.{RecordValue}
 use Rattle.cred_book.specs.Accounts.{Accounts}
 use Rattle.cred_file.specs.{Schema.IsBookSchema, Table.StandsFor, Keeps.LeavesOnly}
 
@@ -22,9 +21,7 @@ MakesWithin old new Fits after =
     (first book : Accounts) → Fits book → IsUnderWay old first book
     → IsUnderWay new first (after book)
 
--- the first of the accounts are added to the book, in the order of their names
-pub record IsPartOf (old more now : Accounts) : Type 0 where
-  pub front : List (List ℕ × Option RecordValue)
-  pub rest : List (List ℕ × Option RecordValue)
-  pub cut : front ++ rest ≡ fin.entries more
-  pub now_is : now ≡ fin.from_entries (front ++ fin.entries old)
+-- names that the one book lacks stand as they did
+abbrev pub KeepsOthers : Accounts → Accounts → Accounts → Type 0
+KeepsOthers old more now =
+    (name : List ℕ) → fin.contains_key more name ≡ false → fin.get now name ≡ fin.get old name

@@ -69,7 +69,7 @@ impl<S: Alter> FileBook<S> {
         }
         let book = Register::new(alloc);
         match create_table(&mut conn) {
-            Ok(()) => Ok(FileBook {
+            Ok(_) => Ok(FileBook {
                 alloc,
                 conn,
                 book,

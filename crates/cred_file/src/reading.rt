@@ -1,8 +1,8 @@
 //! The book that the rows of a table hold.
 
-ghost use Rattle.std.specs.Prelude.{◌≡◌, ◌≤◌, [], true, IfErr, IfOk, IsTrue, MatchOption, MatchResult};
-ghost use Rattle.cred_book.specs.{Accounts.register_capacity, Names.is_name};
-ghost use Rattle.cred_file.specs.Drafts.{IsAdded, IsNotAdded, IsUnread};
+ghost use Rattle.std.specs.Prelude.{◌≡◌, ◌≤◌, ℤ, true, IfErr, IfOk, IsTrue, MatchOption, MatchResult, None, Option};
+ghost use Rattle.cred_book.specs.{Accounts.Accounts, Accounts.register_capacity, Names.is_name};
+ghost use Rattle.cred_file.specs.Drafts.{IsAdded, IsNotAdded, is_past};
 ghost use Rattle.cred_file.specs.{Opening.AreAtFault, Opening.corrupt, Opening.is_no_name, Opening.is_no_record, Table.Says, Table.StandsFor, Table.Tells};
 ghost use Rattle.sqlite.specs.{declared.types.Value.TheVariants.Text, Order.column};
 ghost use Rattle.sqlite_value.specs.Value.{owned};
@@ -14,7 +14,6 @@ use cred_phc::{PhcError, Record, parse_record};
 use sqlite::types::ValueRef;
 use sqlite::{Error, ErrorCode, Row};
 use std::alloc::Global;
-use std::collections::BTreeSet;
 
 /// What a row of the table says.
 #[derive(Clone, Copy)]
@@ -24,20 +23,21 @@ struct Entry {
     stored: Option<Record>,
 }
 
-/// The book of the rows so far, and their ids.
+/// The book of the rows so far, and the id of the last one. The rows come in the order of their
+/// ids, so an id that isn't above the last is that one again.
 #[derive(Drop)]
 pub(crate) struct Draft {
     book: Register,
-    ids: BTreeSet<i64>,
+    last: Option<i64>,
 }
 
 impl Draft {
     pub(crate) fn new(alloc: Global) -> Draft
-        ensures { (result.book ≡ fin.empty) × (result.ids.keys ≡ []) }
+        ensures { (result.book ≡ fin.empty) × (result.last ≡ None) }
     {
         Draft {
             book: Register::new(alloc),
-            ids: BTreeSet::new(alloc),
+            last: None,
         }
     }
 
@@ -51,16 +51,15 @@ impl Draft {
     }
 
     pub(crate) fn add(&mut self, row: &Row) -> Result<(), OpenFault>
-        ensures added { IfOk result (λ _. IsAdded row.now self.old.book self.old.ids.keys
-            self.new.book self.new.ids.keys) }
-        ensures left_out { IfErr result (IsNotAdded row.now self.old.book self.old.ids.keys) }
+        ensures added { IfOk result (λ _. IsAdded row.now self.old.book self.old.last
+            self.new.book self.new.last) }
+        ensures left_out { IfErr result (IsNotAdded row.now self.old.book self.old.last) }
     {
         let entry = read_entry(row)?;
-        match self.ids.insert(entry.id) {
-            Ok(true) => {}
-            Ok(false) => return Err(OpenFault::Database(corrupt_error())),
-            Err(_) => return Err(OpenFault::Memory),
+        if !is_past(self.last, entry.id) {
+            return Err(OpenFault::Database(corrupt_error()));
         }
+        self.last = Some(entry.id);
         match self.book.enter(entry.name, entry.stored) {
             Ok(()) => Ok(()),
             Err(BookError::Exists) => Err(OpenFault::Twice(entry.id)),
@@ -70,10 +69,20 @@ impl Draft {
     }
 }
 
+fn is_past(last: Option<i64>, id: i64) -> bool
+    ensures { result ≡ is_past last id }
+{
+    match last {
+        None => true,
+        Some(last) => last < id,
+    }
+}
+
 fn read_entry(row: &Row) -> Result<Entry, OpenFault>
     ensures says { IfOk result (λ e. Says row.now
         (record { id = e.id; name = e.name; stored = e.stored })) }
-    ensures unread { IfErr result (IsUnread row.now) }
+    ensures unread { (book : Accounts) (last : Option ℤ)
+        → IfErr result (IsNotAdded row.now book last) }
 {
     let ValueRef::Int(id) = value_at(row, 0) else {
         return Err(OpenFault::Database(corrupt_error()));

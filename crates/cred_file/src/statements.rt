@@ -46,7 +46,7 @@ pub(crate) fn insert_row<S: Alter>(
     conn: &mut Connection<S>,
     name: &Name,
     value: ValueRef<'_>,
-) -> Result<(), Error>
+) -> Result<usize, Error>
     ensures inserted { HasCleanDisk (state S.Store conn.new) → OnOk result
         ((v : Option RecordValue) → Tells (owned value.entry) v
         → Makes (state S.Store conn.old) (state S.Store conn.new) (Lacks name.now)
@@ -63,8 +63,7 @@ pub(crate) fn insert_row<S: Alter>(
     conn.execute(
         "INSERT INTO account (name, record) VALUES (?1, ?2)",
         &[ValueRef::Text(name.bytes()), value],
-    )?;
-    Ok(())
+    )
 }
 
 /// Puts a record's text, or NULL, at an existing name.
@@ -72,7 +71,7 @@ pub(crate) fn update_row<S: Alter>(
     conn: &mut Connection<S>,
     name: &Name,
     value: ValueRef<'_>,
-) -> Result<(), Error>
+) -> Result<usize, Error>
     ensures updated { HasCleanDisk (state S.Store conn.new) → OnOk result
         ((v : Option RecordValue) → Tells (owned value.entry) v
         → Makes (state S.Store conn.old) (state S.Store conn.new) (Has name.now)
@@ -89,12 +88,11 @@ pub(crate) fn update_row<S: Alter>(
     conn.execute(
         "UPDATE account SET record = ?2 WHERE name = ?1",
         &[ValueRef::Text(name.bytes()), value],
-    )?;
-    Ok(())
+    )
 }
 
 /// Deletes the row of an existing name.
-pub(crate) fn delete_row<S: Alter>(conn: &mut Connection<S>, name: &Name) -> Result<(), Error>
+pub(crate) fn delete_row<S: Alter>(conn: &mut Connection<S>, name: &Name) -> Result<usize, Error>
     ensures deleted { HasCleanDisk (state S.Store conn.new) → OnOk result
         (Makes (state S.Store conn.old) (state S.Store conn.new) (Has name.now)
         (λ book. fin.remove book name.now)) }
@@ -108,8 +106,7 @@ pub(crate) fn delete_row<S: Alter>(conn: &mut Connection<S>, name: &Name) -> Res
     conn.execute(
         "DELETE FROM account WHERE name = ?1",
         &[ValueRef::Text(name.bytes())],
-    )?;
-    Ok(())
+    )
 }
 
 /// Puts another name in place of one that is there.
@@ -117,7 +114,7 @@ pub(crate) fn rename_row<S: Alter>(
     conn: &mut Connection<S>,
     name: &Name,
     other: &Name,
-) -> Result<(), Error>
+) -> Result<usize, Error>
     ensures renamed { HasCleanDisk (state S.Store conn.new) → OnOk result
         (Makes (state S.Store conn.old) (state S.Store conn.new) (IsRenamable name.now other.now)
         (λ book. renamed book name.now other.now)) }
@@ -131,12 +128,11 @@ pub(crate) fn rename_row<S: Alter>(
     conn.execute(
         "UPDATE account SET name = ?2 WHERE name = ?1",
         &[ValueRef::Text(name.bytes()), ValueRef::Text(other.bytes())],
-    )?;
-    Ok(())
+    )
 }
 
 /// Makes the table in an empty database.
-pub(crate) fn create_table<S: Alter>(conn: &mut Connection<S>) -> Result<(), Error>
+pub(crate) fn create_table<S: Alter>(conn: &mut Connection<S>) -> Result<usize, Error>
     requires schema { (state S.Store conn.old).now.schema ≡ no_schema }
     requires autocommit { conn.old.in_transaction ≡ false }
     ensures made { HasCleanDisk (state S.Store conn.new)
@@ -148,8 +144,7 @@ pub(crate) fn create_table<S: Alter>(conn: &mut Connection<S>) -> Result<(), Err
     conn.execute(
         "CREATE TABLE account (name TEXT NOT NULL PRIMARY KEY, record TEXT) STRICT",
         &[],
-    )?;
-    Ok(())
+    )
 }
 
 /// The book that the rows of the table hold.
@@ -187,7 +182,8 @@ fn read_rows<S: Alter>(alloc: Global, conn: &mut Connection<S>) -> Result<Regist
     ensures left { Survives (state S.Store conn.old) (state S.Store conn.new) (λ _. ⊥) }
 {
     let mut draft = Draft::new(alloc);
-    let mut rows = match conn.query("SELECT rowid, name, record FROM account", &[]) {
+    let text = "SELECT rowid, name, record FROM account ORDER BY rowid";
+    let mut rows = match conn.query(text, &[]) {
         Ok(rows) => rows,
         Err(error) => return Err(OpenFault::Database(error)),
     };

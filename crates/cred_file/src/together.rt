@@ -4,7 +4,7 @@ ghost use Rattle.std.specs.Prelude.{◌≡◌, ◌⊎◌, ◌≤◌, ◌+◌, co
 ghost use Rattle.std.specs.FinMap as fin;
 ghost use Rattle.cred_phc.specs.Values.{RecordValue};
 ghost use Rattle.cred_file.specs.{Edits.AreThere, Edits.joined, Edits.taken_in, Keeps.Has, Keeps.IsTableOf, Keeps.Lacks, Keeps.LeavesOnly, Table.Tells};
-ghost use Rattle.cred_file.specs.Together.{IsPartOf, MakesWithin};
+ghost use Rattle.cred_file.specs.Together.{KeepsOthers, MakesWithin};
 ghost use Rattle.sqlite.specs.{State.HasCleanDisk, State.Shows, State.Survives, Held.state};
 ghost use Rattle.sqlite_value.specs.Value.{owned};
 ghost use Rattle.sqlite_trees.specs.View.{doubt};
@@ -29,7 +29,7 @@ pub(crate) fn take_together<S: Alter>(
     requires autocommit { conn.old.in_transaction ≡ false }
     requires there { AreThere book.old changed.now }
     ensures book { OnOk result (book.new ≡ taken_in book.old added.now changed.now) }
-    ensures part { OnErr result (IsPartOf book.old added.now book.new) }
+    ensures part { OnErr result (KeepsOthers book.old added.now book.new) }
     ensures taken { HasCleanDisk (state S.Store conn.new) → OnOk result
         (IsTableOf (state S.Store conn.old) book.old
         → IsTableOf (state S.Store conn.new) (taken_in book.old added.now changed.now)) }
@@ -57,7 +57,7 @@ fn write_together<S: Alter>(
     requires autocommit { conn.old.in_transaction ≡ false }
     requires there { AreThere book.old changed.now }
     ensures book { OnOk result (book.new ≡ joined book.old added.now) }
-    ensures part { OnErr result (IsPartOf book.old added.now book.new) }
+    ensures part { OnErr result (KeepsOthers book.old added.now book.new) }
     ensures taken { HasCleanDisk (state S.Store conn.new) → OnOk result
         (IsTableOf (state S.Store conn.old) book.old
         → IsTableOf (state S.Store conn.new) (taken_in book.old added.now changed.now)) }
@@ -94,7 +94,7 @@ fn enter_each<S: Alter>(
 ) -> Result<(), Error>
     ensures same_reference { tx.new.conn.ghost_name ≡ tx.old.conn.ghost_name }
     ensures book { OnOk result (book.new ≡ joined book.old more.now) }
-    ensures part { OnErr result (IsPartOf book.old more.now book.new) }
+    ensures part { OnErr result (KeepsOthers book.old more.now book.new) }
     ensures entered { HasCleanDisk (state S.Store tx.new.conn.now) → OnOk result
         (MakesWithin (state S.Store tx.old.conn.now) (state S.Store tx.new.conn.now)
         (λ b. b ≡ book.old) (λ b. joined b more.now)) }

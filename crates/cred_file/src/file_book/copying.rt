@@ -34,7 +34,7 @@ impl<S: Alter> FileBook<S> {
             return Err((OpenFault::NotEmpty, conn));
         }
         match create_table(&mut conn) {
-            Ok(()) => {}
+            Ok(_) => {}
             Err(error) => return Err((OpenFault::Database(error), conn)),
         }
         if !conn.is_autocommit() {

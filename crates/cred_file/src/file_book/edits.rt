@@ -33,14 +33,13 @@ impl<S: Alter> FileBook<S> {
     /// Gives the account this record, in place of any other.
     ///
     /// Errors: `NoAccount` if the book doesn't have the name; `Memory` as in `admit`.
-    #[tactic(auto, using(crate::proofs::Keeping::shown_there))]
     pub fn load(&mut self, name: &Name, stored: Record) -> Result<(), BookError>
         ensures done { Loads self.old.book self.new.book name.now stored result }
         ensures remembers { Remembers (Edit.Put name.now (Some stored))
             (FailsToPut S.Store self.old.conn self.new.conn true name.now (Some stored))
             self.old self.new result }
     {
-        if self.book.show(name).is_err() {
+        if !self.book.contains(name) {
             return Err(BookError::NoAccount);
         }
         self.replace(name, Some(stored))
@@ -98,14 +97,14 @@ impl<S: Alter> FileBook<S> {
             (FailsToDelete S.Store self.old.conn self.new.conn name.now)
             self.old self.new result }
     {
-        if self.book.show(name).is_err() {
+        if !self.book.contains(name) {
             return Err(BookError::NoAccount);
         }
         if self.lost.is_some() {
             return Err(BookError::Memory);
         }
         match delete_row(&mut self.conn, name) {
-            Ok(()) => {
+            Ok(_) => {
                 self.book.remove(name);
                 Ok(())
             }
@@ -122,7 +121,7 @@ impl<S: Alter> FileBook<S> {
     /// Errors: `NoAccount` if the name isn't there; `Exists` if the other one is; `Full` if there
     /// are 2^24 names, since both are in memory for a moment; `Memory` if it runs out, if the
     /// database fails, and if a change is lost.
-    #[tactic(auto, using(crate::proofs::Keeping::shown_so))]
+    #[tactic(auto, using(crate::proofs::Keeping::not_entered))]
     pub fn rename(&mut self, name: &Name, other: &Name) -> Result<(), BookError>
         ensures done { Renames register_capacity self.old.book self.new.book name.now other.now
             result }
@@ -133,7 +132,7 @@ impl<S: Alter> FileBook<S> {
         let Ok(stored) = self.book.show(name) else {
             return Err(BookError::NoAccount);
         };
-        if self.book.show(other).is_ok() {
+        if self.book.contains(other) {
             return Err(BookError::Exists);
         }
         if self.book.is_full() {
@@ -147,7 +146,7 @@ impl<S: Alter> FileBook<S> {
             Err(_) => return Err(BookError::Memory),
         }
         match rename_row(&mut self.conn, name, other) {
-            Ok(()) => {
+            Ok(_) => {
                 self.book.remove(name);
                 Ok(())
             }
@@ -188,7 +187,7 @@ impl<S: Alter> FileBook<S> {
             Err(refusal) => return Err(refusal),
         }
         match insert_row(&mut self.conn, &name, value_of(&text, &stored)) {
-            Ok(()) => Ok(()),
+            Ok(_) => Ok(()),
             Err(error) => {
                 self.book.remove(&name);
                 self.lost = Some(Lost::put(error, name, stored));
@@ -214,7 +213,7 @@ impl<S: Alter> FileBook<S> {
             return Err(BookError::Memory);
         };
         match update_row(&mut self.conn, name, value_of(&text, &stored)) {
-            Ok(()) => {
+            Ok(_) => {
                 self.book.replace(name, stored);
                 Ok(())
             }

@@ -22,7 +22,7 @@ rows-init g c =
       survived old (state g.S.Store c.in-Ok.rows.conn.now) c.requires made.survives,
       λ clean.
           let begun = begun_plain g.S.Store rows_text [] c.args.conn.now c.in-Ok.rows.conn.now (rows_plain _ c.requires) (made.begun clean) in
-          (begun.1, ([], begun.0, no_rows c.new-draft.result.book c.new-draft.result.ids.keys c.new-draft.ensures.0 c.new-draft.ensures.1)),
+          (begun.1, ([], begun.0, no_rows c.new-draft.result.book c.new-draft.result.last c.new-draft.ensures.0 c.new-draft.ensures.1)),
     )
 
 pub returns-in-Ok-None-clause-stands : goal.returns-in-Ok-None-clause-stands
@@ -61,7 +61,7 @@ returns-in_err-add-clause-fault g c clean =
     let was = c.rows.invariant.2 (omega (arith, moved.survives.clean)) in
     let more = (rw (c.in-Ok-Some.is, c.in-Ok-Some.field-0-is) at (moved.ok late)) rows_text [] was.1.0 was.1.1 in
     let same = unchanged_then old mid (state g.S.Store now) was.0 (rw c.in-Ok-Some.is at (moved.same late)) in
-    let fault = fault_first g.S.Store old now c.requires same was.1.0 _ more c.rows.draft.book c.rows.draft.ids.keys was.1.2 c.in_err-add.field-0.0 c.in_err-add.ensures.left_out in
+    let fault = fault_first g.S.Store old now c.requires same was.1.0 _ more c.rows.draft.book c.rows.draft.last was.1.2 c.in_err-add.field-0.0 c.in_err-add.ensures.left_out in
     let unopened : IsUnopened old (state g.S.Store now) c.in_err-add.field-0.0 = inr (inl (fault, as_before old (state g.S.Store now) same)) in
     search rules
 
@@ -77,6 +77,6 @@ rows-preserved g c =
           let was = c.rows.invariant.2 (omega (arith, moved.survives.clean)) in
           let more = (rw (c.in-Ok-Some.is, c.in-Ok-Some.field-0-is) at (moved.ok late)) rows_text [] was.1.0 was.1.1 in (
             unchanged_then old mid (state g.S.Store now) was.0 (rw c.in-Ok-Some.is at (moved.same late)),
-            (_, more, draft_push was.1.0 c.rows.draft.book c.rows.draft.ids.keys _ c.add.new.self.book c.add.new.self.ids.keys was.1.2 c.in_ok-add.ensures.added),
+            (_, more, draft_push was.1.0 c.rows.draft.book c.rows.draft.last _ c.add.new.self.book c.add.new.self.last was.1.2 c.in_ok-add.ensures.added),
           ),
     )

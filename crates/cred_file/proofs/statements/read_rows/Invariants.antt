@@ -8,4 +8,4 @@ invariant-rows g l =
     let old = state g.S.Store l.fn.conn in
     let now = state g.S.Store l.rows.conn.now in
     (l.rows.conn.ghost_name ≡ l.initial.rows.conn.ghost_name) × Survives old now (λ _. ⊥)
-    × (HasCleanDisk now → IsUnchanged old now × ((given : List Row) × HasGiven g.S.Store rows_text [] l.rows.conn.now given × IsDraftOf given l.draft.book l.draft.ids.keys))
+    × (HasCleanDisk now → IsUnchanged old now × ((given : List Row) × HasGiven g.S.Store rows_text [] l.rows.conn.now given × IsDraftOf given l.draft.book l.draft.last))

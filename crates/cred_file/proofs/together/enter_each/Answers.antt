@@ -1,4 +1,4 @@
-use Rattle.std.proofs.Common.{◌∙◌, ap, arith, length, rules, subst, sym}
+use Rattle.std.proofs.Common.{◌∙◌, ap, arith, rules, subst, sym}
 use Rattle.sqlite.specs.{Held.state, State.HasCleanDisk}
 use Rattle.sqlite.proofs.StateLemmas.{survives_then}
 use Rattle.cred_file.specs.{Edits.joined, Together.IsUnderWay}
@@ -29,11 +29,11 @@ loop-name-preserved g c =
     }
 
 pub returns-clause-book : goal.returns-clause-book
-returns-clause-book g c = all_entered _ _ _ _ c.loop-name.invariant.entered (ap length c.in-None.ensures.steps.0)
+returns-clause-book g c = all_entered _ _ _ _ c.loop-name.invariant.entered c.in-None.ensures.steps.0
 
 pub returns-clause-entered : goal.returns-clause-entered
 returns-clause-entered g c clean first book is begun =
     let was = c.loop-name.invariant in
     let new = state g.S.Store c.loop-name.tx.conn.now in
-    subst (IsUnderWay new first) (all_entered _ _ _ _ was.entered (ap length c.in-None.ensures.steps.0) ∙ ap (λ b. joined b c.args.more.now) (sym is))
+    subst (IsUnderWay new first) (all_entered _ _ _ _ was.entered c.in-None.ensures.steps.0 ∙ ap (λ b. joined b c.args.more.now) (sym is))
     (was.under clean first (subst (IsUnderWay (state g.S.Store c.args.tx.now.conn.now) first) is begun))

@@ -1,7 +1,7 @@
 use Rattle.std.proofs.Common.{◌∙◌, ap}
 use Rattle.std.specs.FinMap as fin
 use Rattle.cred_book.specs.Accounts.{Accounts}
-use Rattle.cred_book.proofs.Registered.{remove_again}
+use Rattle.cred_book.proofs.Rows.{remove_again}
 use Rattle.cred_file.proofs.together.enter_one.Goals as goal
 
 pub returns-in-Err-insert_stored-clause-same : goal.returns-in-Err-insert_stored-clause-same

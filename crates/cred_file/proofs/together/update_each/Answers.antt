@@ -1,4 +1,4 @@
-use Rattle.std.proofs.Common.{◌∙◌, ap, arith, length, rules, subst}
+use Rattle.std.proofs.Common.{◌∙◌, arith, rules, subst}
 use Rattle.sqlite.specs.Held.{state}
 use Rattle.sqlite.proofs.StateLemmas.{survives_then}
 use Rattle.cred_file.proofs.Joined.{AreUpdated, all_updated, none_updated, one_updated}
@@ -23,4 +23,4 @@ loop-name-preserved g c =
     }
 
 pub returns-clause-updated : goal.returns-clause-updated
-returns-clause-updated g c clean = all_updated _ _ _ _ c.loop-name.invariant.updated (ap length c.in-None.ensures.steps.0) clean
+returns-clause-updated g c clean = all_updated _ _ _ _ c.loop-name.invariant.updated c.in-None.ensures.steps.0 clean

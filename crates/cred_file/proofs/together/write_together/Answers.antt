@@ -1,8 +1,9 @@
 use Rattle.std.proofs.Common.{◌≡◌, ◌⊎◌, sym, subst, refl, arith, rules}
+use Rattle.std.proofs.lemmas.Result.{on_ok_weaker}
 use Rattle.sqlite.specs.{Held.state, State.HasCleanDisk}
-use Rattle.cred_file.specs.{Keeps.IsTableOf, Keeps.LeavesOnly, Together.IsPartOf, Together.IsUnderWay, Edits.joined, Edits.taken_in}
-use Rattle.cred_file.proofs.Joined.{all_part, there_still}
-use Rattle.cred_file.proofs.Within.{begun, still, committed, commit_left, on_any, on_ok, or_other}
+use Rattle.cred_file.specs.{Keeps.IsTableOf, Keeps.LeavesOnly, Together.KeepsOthers, Together.IsUnderWay, Edits.joined, Edits.taken_in}
+use Rattle.cred_file.proofs.Joined.{joined_keeps, there_still}
+use Rattle.cred_file.proofs.Within.{begun, still, committed, commit_left, on_any, or_other}
 use Rattle.cred_file.proofs.together.write_together.Goals as goal
 
 pub returns-in_err-enter_each-clause-left : goal.returns-in_err-enter_each-clause-left
@@ -19,7 +20,7 @@ returns-in_err-enter_each-clause-left g c clean was =
 
 pub returns-in_err-update_each-clause-part : goal.returns-in_err-update_each-clause-part
 returns-in_err-update_each-clause-part g c =
-    on_any c.from_residual-in_err-update_each.result (subst (IsPartOf c.args.book.now c.args.added.now) (sym c.in_ok-enter_each.ensures.book) (all_part c.args.book.now c.args.added.now))
+    on_any c.from_residual-in_err-update_each.result (subst (λ b. KeepsOthers c.args.book.now c.args.added.now b) (sym c.in_ok-enter_each.ensures.book) (joined_keeps c.args.book.now c.args.added.now))
 
 pub returns-in_err-update_each-clause-left : goal.returns-in_err-update_each-clause-left
 returns-in_err-update_each-clause-left g c clean was =
@@ -37,7 +38,7 @@ returns-in_err-update_each-clause-left g c clean was =
     subst (λ h. LeavesOnly (state g.S.Store h) (λ b. (b ≡ book) ⊎ (b ≡ taken_in book c.args.added.now c.args.changed.now))) same (or_other (state g.S.Store end) book _ last)
 
 pub returns-clause-part : goal.returns-clause-part
-returns-clause-part g c = on_any c.finish.result (subst (IsPartOf c.args.book.now c.args.added.now) (sym c.in_ok-enter_each.ensures.book) (all_part c.args.book.now c.args.added.now))
+returns-clause-part g c = on_any c.finish.result (subst (λ b. KeepsOthers c.args.book.now c.args.added.now b) (sym c.in_ok-enter_each.ensures.book) (joined_keeps c.args.book.now c.args.added.now))
 
 pub returns-clause-taken : goal.returns-clause-taken
 returns-clause-taken g c clean =
@@ -49,7 +50,7 @@ returns-clause-taken g c clean =
     let late : HasCleanDisk (state g.S.Store end) = subst (λ h. HasCleanDisk (state g.S.Store h)) (sym same) clean in
     let later : HasCleanDisk more = omega (arith, c.finish.ensures.survives.clean, late) in
     let early : HasCleanDisk mid = omega (arith, c.update_each.ensures.survives.clean, later) in
-    on_ok c.finish.result
+    on_ok_weaker c.finish.result
     (λ ok was.
     let first : IsUnderWay (state g.S.Store c.transaction-tx.result.conn.now) book book = subst (λ h. IsUnderWay (state g.S.Store h) book book) (sym c.transaction-tx.ensures.begun) (begun g.S.Store c.args.conn.now book was) in
     let entered = c.in_ok-enter_each.ensures.entered early book book refl first in

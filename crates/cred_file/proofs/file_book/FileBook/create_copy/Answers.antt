@@ -3,7 +3,7 @@ use Rattle.std.specs.FinMap as fin
 use Rattle.sqlite.specs.{Held.state, State.HasCleanDisk}
 use Rattle.cred_book.specs.Accounts.{register_capacity}
 use Rattle.cred_file.specs.Keeps.{IsTableOf}
-use Rattle.cred_file.proofs.{Copied.keeps_copy, Copied.may_copy, Joined.taken_whole, Joined.there_same}
+use Rattle.cred_file.proofs.{Copied.may_copy, Keeping.keeps_first, Joined.taken_whole, Joined.there_same}
 use Rattle.cred_file.proofs.file_book.FileBook.create_copy.Goals as goal
 
 pub take_together-requires-clause-there : goal.take_together-requires-clause-there
@@ -15,7 +15,7 @@ invariant_of-result g c =
     let new = c.take_together.new.conn in
     let is = c.in-Ok-take_together.ensures.book ∙ taken_whole _ _ c.args.accounts.now c.new-book.ensures c.new-none.ensures in
     let low : fin.len c.take_together.new.book ≤ register_capacity = subst (λ b. fin.len b ≤ register_capacity) (sym is) c.len-few.ensures.few in
-    keeps_copy g.S.Store new c.take_together.new.book low (λ clean.
+    keeps_first g.S.Store new c.take_together.new.book low (λ clean.
     let early : HasCleanDisk (state g.S.Store old) = omega (arith, c.in-Ok-take_together.ensures.clean, clean) in
     let was = subst (λ b. IsTableOf (state g.S.Store old) b) (sym c.new-book.ensures) (c.in-Ok.ensures.made early) in
     subst (λ b. IsTableOf (state g.S.Store new) b) (sym c.in-Ok-take_together.ensures.book) (c.in-Ok-take_together.ensures.taken clean was))

@@ -1,29 +1,23 @@
 use Rattle.cred_file.proofs.Keeping.{keeps_done, keeps_lost, fits, len_old}
-use Rattle.cred_file.specs.{declared.fault.Edit.TheVariants.Put, declared.fault.Lost.Lost, Failures.FailsToPut, Keeps.Keeps}
+use Rattle.cred_file.specs.{declared.fault.Edit.TheVariants.Put, declared.fault.Lost.Lost, Failures.FailsToPut}
 use Rattle.std.specs.FinMap as fin
-use Rattle.std.proofs.Common.{◌≡◌, IfSome, Some, true, sym, ap, ◌∙◌, subst}
-use Rattle.cred_file.proofs.TableLemmas.{no_some}
+use Rattle.std.proofs.Common.{◌≡◌, IfSome, Some, true, refl, sym, ap, ◌∙◌, subst}
+use Rattle.cred_book.proofs.Rows.{no_some}
 use Rattle.cred_file.proofs.file_book.FileBook.replace.Goals as goal
 
 pub invariant_of-self : goal.invariant_of-self
 invariant_of-self g c =
+    let book = c.self.inside.book in
     let there = subst (λ b. fin.contains_key b c.args.name.now ≡ true) (sym (ap (λ v. v.book) c.self.view_is)) c.requires in
-    let none = no_some c.self.inside.lost (sym c.if-is_some.ensures) in
-    subst (λ b. Keeps g.S.Store c.update_row.new.conn b c.self.inside.lost) (sym c.replace.ensures)
-    (keeps_done g.S.Store c.self.inside.conn c.update_row.new.conn c.self.inside.book c.self.inside.lost c.self.invariant none c.in-Ok-update_row.ensures.clean
-    (fin.insert c.self.inside.book c.args.name.now c.args.stored)
-    (len_old c.self.inside.book c.args.name.now c.args.stored there (fits g.S.Store c.self.inside.conn c.update_row.new.conn c.self.inside.book c.self.inside.lost c.self.invariant none c.in-Ok-update_row.ensures.clean))
-    (λ clean was. c.in-Ok-update_row.ensures.updated clean c.args.stored c.value_of.ensures c.self.inside.book there was))
+    keeps_done g.S.Store c.self.inside.conn c.update_row.new.conn book _ c.self.invariant c.if-is_some.ensures c.in-Ok-update_row.ensures.clean _ (fin.insert book c.args.name.now c.args.stored) c.replace.ensures
+    (len_old book c.args.name.now c.args.stored there (fits _ c.self.invariant c.if-is_some.ensures)) (λ clean was. c.in-Ok-update_row.ensures.updated clean c.args.stored c.value_of.ensures book there was)
 
 pub invariant_of-self-in-Err : goal.invariant_of-self-in-Err
 invariant_of-self-in-Err g c =
+    let book = c.self.inside.book in
     let there = subst (λ b. fin.contains_key b c.args.name.now ≡ true) (sym (ap (λ v. v.book) c.self.view_is)) c.requires in
-    let none = no_some c.self.inside.lost (sym c.if-is_some.ensures) in
-    subst (λ l. Keeps g.S.Store c.update_row.new.conn c.self.inside.book (Some l)) (sym c.put.ensures)
-    (keeps_lost g.S.Store c.self.inside.conn c.update_row.new.conn c.self.inside.book c.self.inside.lost c.self.invariant none c.in-Err.ensures.clean
-    (record { error = c.in-Err.error; edit = Put c.args.name.now c.args.stored })
-    (len_old c.self.inside.book c.args.name.now c.args.stored there (fits g.S.Store c.self.inside.conn c.update_row.new.conn c.self.inside.book c.self.inside.lost c.self.invariant none c.in-Err.ensures.clean))
-    (λ clean was. c.in-Err.ensures.left clean c.args.stored c.value_of.ensures c.self.inside.book there was))
+    keeps_lost g.S.Store c.self.inside.conn c.update_row.new.conn book _ c.self.invariant c.if-is_some.ensures c.in-Err.ensures.clean _ book refl _ (record { error = c.in-Err.error; edit = Put c.args.name.now c.args.stored }) c.put.ensures
+    (len_old book c.args.name.now c.args.stored there (fits _ c.self.invariant c.if-is_some.ensures)) (λ clean was. c.in-Err.ensures.left clean c.args.stored c.value_of.ensures book there was)
 
 pub returns-clause-remembers : goal.returns-clause-remembers
 returns-clause-remembers g c =

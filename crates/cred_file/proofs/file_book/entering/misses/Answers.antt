@@ -1,4 +1,4 @@
-use Rattle.std.proofs.Common.{ap, false, length, rules, subst, sym, true}
+use Rattle.std.proofs.Common.{false, rules, subst, sym, true}
 use Rattle.cred_file.proofs.Joined.{AreAll, all_so, none_yet, one_other, one_so}
 use Rattle.cred_file.proofs.file_book.entering.misses.Goals as goal
 
@@ -12,4 +12,4 @@ pub returns-then-not-contains : goal.returns-then-not-contains
 returns-then-not-contains c = one_other true false _ _ _ _ _ _ c.loop-name.invariant c.in-Some.ensures.steps (sym c.if-not-contains.ensures)
 
 pub returns : goal.returns
-returns c = all_so true _ _ _ c.loop-name.invariant (ap length c.in-None.ensures.steps.0)
+returns c = all_so true _ _ _ c.loop-name.invariant c.in-None.ensures.steps.0
