@@ -6,7 +6,7 @@ use Rattle.cred_book.specs.Accounts.{Accounts}
 use Rattle.cred_cli.specs.{Calls.Call, Feeding.standing, Outcome.HasCause, Outcome.IsAnsweredAs, Script.out, Script.script_start, Steps.WriteFails}
 use Rattle.cred_cli.specs.Watched.{Basis, Contract, Transcript, Fits, GivesAsContracted, IsWritten, Reading, TakesAsContracted, call_on, ended_of, failed_of, transcript_reading, given_of, held_on, inner_of, left_on, log_on, log_of, name_of, reading_on, taken_of}
 use Rattle.cred_cli.specs.{declared.fault.ScriptFault.ScriptFault, declared.run.Run.Run, declared.script.End.End, declared.watched.Watched.Watched}
-use Rattle.cred_cli.proofs.{Prompts.Finds, Writes.taken_later}
+use Rattle.cred_cli.proofs.{Prompts.IsCalled, Writes.taken_later}
 
 -- ---- what a writer took
 
@@ -66,10 +66,6 @@ pub none_logged : (basis : Basis) (calls : List Call) → calls ≡ [] → log_o
 none_logged Contract calls none = none
 none_logged (Transcript all) calls none = ap (map (call_on (Transcript all))) none
 
-pub one_logged : (basis : Basis) (call : Call) (earlier calls : List Call) → calls ≡ call ∷ earlier → log_on basis calls ≡ call_on basis call ∷ log_on basis earlier
-one_logged Contract call earlier calls more = more
-one_logged (Transcript all) call earlier calls more = ap (map (call_on (Transcript all))) more
-
 -- the call as it is logged
 abbrev pub call_of : {R W : Type 0} → (R → Option (List ℕ)) → (W → Option (List ℕ)) → Watched R → Watched W → Accounts → Call
 call_of remaining contents reader writer accounts = record {
@@ -81,11 +77,19 @@ call_of remaining contents reader writer accounts = record {
   accounts = accounts;
 }
 
--- what the call found is seen in the basis too
-pub found_on : {R W : Type 0} (remaining : R → Option (List ℕ)) (contents : W → Option (List ℕ)) (reader : Watched R) (writer : Watched W) (accounts : Accounts) (run : Run) (name : ℕ) (basis : Basis) → name_of writer ≡ name →
-    Finds (left_on basis remaining reader) name (standing (held_on basis contents writer) accounts run) (call_on basis (call_of remaining contents reader writer accounts))
-found_on remaining contents reader writer accounts run name Contract named = record { left_is = refl; beside_is = named; written_is = refl; accounts_are = refl }
-found_on remaining contents reader writer accounts run name (Transcript all) named = record { left_is = refl; beside_is = named; written_is = refl; accounts_are = refl }
+-- what a call found is seen in the basis too
+pub called_on : {R W : Type 0} (remaining : R → Option (List ℕ)) (contents : W → Option (List ℕ)) (reader : Watched R) (writer : Watched W) (accounts : Accounts) (run : Run) (name : ℕ) (basis : Basis) (calls : List Call) → name_of writer ≡ name →
+    calls ≡ call_of remaining contents reader writer accounts ∷ log_of reader → IsCalled (left_on basis remaining reader) name (standing (held_on basis contents writer) accounts run) (log_on basis (log_of reader)) (log_on basis calls)
+called_on remaining contents reader writer accounts run name Contract calls named more =
+    record { call = call_of remaining contents reader writer accounts; are = more; left_is = refl; beside_is = named; written_is = refl; accounts_are = refl }
+called_on remaining contents reader writer accounts run name (Transcript all) calls named more = record {
+  call = call_on (Transcript all) (call_of remaining contents reader writer accounts);
+  are = ap (map (call_on (Transcript all))) more;
+  left_is = refl;
+  beside_is = named;
+  written_is = refl;
+  accounts_are = refl;
+}
 
 -- ---- a new reader, whatever it is
 

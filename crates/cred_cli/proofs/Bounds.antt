@@ -1,36 +1,25 @@
 -- Events within bounds.
-use Rattle.std.proofs.Common.{◌≡◌, ℕ, suc, List, [], ◌∷◌, ◌++◌, length, map, Some, Bool, true, false, if◌then◌else◌, option_map, refl, ap, ◌∙◌, slice_get, codes}
+use Rattle.std.proofs.Common.{◌≡◌, ℕ, suc, List, [], ◌∷◌, ◌++◌, length, Some, Bool, true, false, if◌then◌else◌, option_map, refl, ap, ◌∙◌, slice_get, codes}
 use Rattle.std.proofs.{lemmas.List.length-map, lemmas.Option.slice_get-map}
 use Rattle.std.specs.Fmt.{digits}
 use Rattle.cred_book.specs.Accounts.{Accounts}
-use Rattle.cred_book.specs.declared.request.Request.TheVariants.{Enrol, Verify, Change, Upgrade, Remove}
+use Rattle.cred_book.specs.declared.request.Request.TheVariants.{Verify}
 use Rattle.cred_cli.specs.{declared.costs.CostBounds.CostBounds, declared.event.Event.Event}
-use Rattle.cred_cli.specs.declared.event.Event.TheVariants.{Account, Load, Show, Begin, Commit, Bad}
+use Rattle.cred_cli.specs.declared.event.Event.TheVariants.{Account, Begin, Bad}
 use Rattle.cred_cli.specs.{declared.refusal.Refusal.Refusal, declared.refusal.Refusal.TheVariants.Costly, Costs.events_within, Costs.is_costly, Costs.no_bounds, Costs.within}
 use Rattle.cred_cli.specs.History.{after, answer_at, answer_of, book_at, deed_of, deeds_before, names_at, open_after, open_at}
-use Rattle.cred_cli.specs.{Script.events_of, Starving.events_by, Starving.unended, declared.mode.Mode.TheVariants.Script, Texts.line_of}
-use Rattle.cred_cli.proofs.{Names.book_at-suc, Openings.open_at-suc, Unended.unended_same}
+use Rattle.cred_cli.specs.{Script.events_of, Starving.events_by, Starving.unended, declared.policy.Mode.TheVariants.Script, Texts.line_of}
+use Rattle.cred_cli.proofs.{Names.book_at-suc, Openings.open_at-suc, Unended.map_same, Unended.unended_same}
 
 -- nothing is too costly without bounds
 cheap : (event : Event) → is_costly no_bounds event ≡ false
 cheap (Account name) = refl
-cheap (Load name stored) = refl
-cheap (Show name) = refl
-cheap (Begin key (Enrol name pw setting)) = refl
 cheap (Begin key (Verify name pw)) = refl
-cheap (Begin key (Change name pw new setting)) = refl
-cheap (Begin key (Upgrade name pw setting)) = refl
-cheap (Begin key (Remove name pw)) = refl
-cheap (Commit key) = refl
-cheap (Bad why) = refl
-
-map_unbounded : (events : List Event) → map (within no_bounds) events ≡ events
-map_unbounded [] = refl
-map_unbounded (e ∷ es) = rw (cheap e) (ap (λ rest. e ∷ rest) (map_unbounded es))
+cheap _ = refl
 
 -- without bounds each line of a script comes to what it asks for
 pub unbounded : (bytes : List ℕ) → events_by Script no_bounds bytes ≡ events_of bytes
-unbounded bytes = unended_same (unended Script) bytes (events_within no_bounds bytes) (λ event. refl) ∙ map_unbounded (events_of bytes)
+unbounded bytes = unended_same (unended Script) bytes (events_within no_bounds bytes) (λ event. refl) ∙ map_same (within no_bounds) (λ event. ap (λ test. if test then Bad Costly else event) (cheap event)) (events_of bytes)
 
 -- there are as many
 pub length-within : (most : CostBounds) (bytes : List ℕ) → length (events_within most bytes) ≡ length (events_of bytes)
@@ -65,3 +54,5 @@ refused-open capacity book events i key why refused =
 pub costly-answer : (capacity : ℕ) (book : Accounts) (events : List Event) (i : ℕ) → slice_get events i ≡ Some (Bad Costly) → line_of (answer_at capacity book events i) ≡ codes "bad 18 costly" ++ 10 ∷ []
 unfolding digits
 costly-answer capacity book events i refused = ap (λ e. line_of (answer_of capacity book events i e)) refused ∙ refl
+
+pub ruleset costly_laws = (brings_no_more, costly_refused, refused-book, refused-open, costly-answer)

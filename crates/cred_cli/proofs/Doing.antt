@@ -79,15 +79,5 @@ opened_again slots left back key task some closed again =
 
 -- a reply's line is that of its answer
 pub line_of_reply : (r : Reply) → reply_line r ≡ line_of (reply_answer r)
-line_of_reply reply.Enrolled = refl
-line_of_reply reply.Exists = refl
-line_of_reply reply.Yes = refl
-line_of_reply reply.No = refl
-line_of_reply reply.Absent = refl
-line_of_reply reply.Replaced = refl
-line_of_reply reply.Wrong = refl
-line_of_reply reply.Upgraded = refl
-line_of_reply reply.Kept = refl
-line_of_reply reply.Removed = refl
 line_of_reply (reply.Changed now) = refl
-line_of_reply reply.NoAccount = refl
+line_of_reply other = refl

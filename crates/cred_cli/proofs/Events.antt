@@ -6,15 +6,8 @@ use Rattle.cred_cli.specs.{Events.event_of, Events.event_of_pieces, Events.longe
 use Rattle.cred_cli.specs.{declared.event.Event.TheVariants.Bad, declared.refusal.Refusal.Refusal, declared.refusal.Refusal.TheVariants.Long}
 
 first_pieces_tell : (line : List (List ℕ)) → event_of_pieces (take most_pieces line) ≡ event_of_pieces line
-first_pieces_tell [] = refl
-first_pieces_tell (a ∷ []) = refl
-first_pieces_tell (a ∷ b ∷ []) = refl
-first_pieces_tell (a ∷ b ∷ c ∷ []) = refl
-first_pieces_tell (a ∷ b ∷ c ∷ d ∷ []) = refl
-first_pieces_tell (a ∷ b ∷ c ∷ d ∷ e ∷ []) = refl
-first_pieces_tell (a ∷ b ∷ c ∷ d ∷ e ∷ f ∷ []) = refl
-first_pieces_tell (a ∷ b ∷ c ∷ d ∷ e ∷ f ∷ g ∷ []) = refl
 first_pieces_tell (a ∷ b ∷ c ∷ d ∷ e ∷ f ∷ g ∷ h ∷ more) = refl
+first_pieces_tell _ = refl
 
 -- what the first pieces ask for is what the line asks for
 pub line_read : (line : List ℕ) (kept : List (List ℕ)) (read : Result Event Refusal) → false ≡ nat_lt longest_line (length line) → kept ≡ take most_pieces (pieces 32 line) →

@@ -1,9 +1,9 @@
 -- What a byte more, or the end, makes of a script.
 use Rattle.std.proofs.Common.{◌≡◌, ℕ, suc, ◌+◌, ◌<◌, List, [], ◌∷◌, ◌++◌, length, take, map, option_map, Some, refl, sym, ap, ◌∙◌, arith, slice_get, get_or, drop, append_assoc, take-append-drop, inl, inr}
 use Rattle.std.proofs.{Math.Seq.drop-cons, lemmas.Bool.cases_lt}
-use Rattle.std.proofs.lemmas.List.{length-append, length-map, length-take, take-append-le, take_all, take_more}
+use Rattle.std.proofs.lemmas.List.{length-append, length-map, length-take, take-append-le, take_all}
 use Rattle.cred_cli.specs.{Costs.events_within, Costs.within, Events.event_of, Events.most_kept, Feeding.unfinished_from, Script.lines_of, Script.line_ends}
-use Rattle.cred_cli.specs.{Starving.events_by, Starving.unended, declared.costs.CostBounds.CostBounds, declared.mode.Mode.Mode}
+use Rattle.cred_cli.specs.{Starving.events_by, Starving.unended, declared.costs.CostBounds.CostBounds, declared.policy.Mode.Mode}
 use Rattle.cred_cli.proofs.{Bounds.length-within, Bounds.within_at, Unended.ends_sooner, Unended.length-unended, Unended.unended_at, Unended.unended_last}
 use Rattle.cred_cli.proofs.Lines.{whole_from, lines_of-line_end, lines_of-ended, lines_of-unfinished, length-whole_from, event_of-kept}
 
@@ -67,13 +67,9 @@ take-kept n line b = elim (cases_lt (length line) n) [
       ∙ sym (take-append-le n line (b ∷ []) long)
 ]
 
--- where the bytes of the script are cut, byte by byte
-pub cut_at : (all front bytes rest : List ℕ) (i : ℕ) → all ≡ (front ++ bytes) ++ rest → i < length bytes → all ≡ ((front ++ take i bytes) ++ get_or bytes i 0 ∷ []) ++ (drop (suc i) bytes ++ rest)
-cut_at all front bytes rest i cut within =
-    cut ∙ ap (λ xs. (front ++ xs) ++ rest) (sym (take-append-drop i bytes) ∙ ap (λ xs. take i bytes ++ xs) (drop-cons bytes i 0 within)) ∙ simp append_assoc
-
-pub front_more : (front bytes : List ℕ) (i : ℕ) → i < length bytes → front ++ take (i + 1) bytes ≡ (front ++ take i bytes) ++ get_or bytes i 0 ∷ []
-front_more front bytes i within = ap (λ xs. front ++ xs) (take_more bytes i 0 within) ∙ sym (append_assoc front (take i bytes) (get_or bytes i 0 ∷ []))
+-- where bytes are cut, one by one
+pub cut_at : (bytes : List ℕ) (i : ℕ) → i < length bytes → (take i bytes ++ get_or bytes i 0 ∷ []) ++ drop (suc i) bytes ≡ bytes
+cut_at bytes i within = append_assoc (take i bytes) (get_or bytes i 0 ∷ []) (drop (suc i) bytes) ∙ ap (λ xs. take i bytes ++ xs) (sym (drop-cons bytes i 0 within)) ∙ take-append-drop i bytes
 
 pub take_front : (all front rest : List ℕ) (n : ℕ) → all ≡ front ++ rest → length front ≡ n → take n all ≡ front
 take_front all front rest n cut size = ap (take n) cut ∙ take-append-le n front rest (omega (arith, size)) ∙ take_all n front (omega (arith, size))

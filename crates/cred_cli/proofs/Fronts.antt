@@ -1,64 +1,56 @@
 -- What stands at a place of a history is told by the events before it.
-use Rattle.std.proofs.Common.{◌≡◌, ℕ, zero, suc, ◌<◌, ◌≤◌, List, ◌∷◌, [], Option, Some, None, refl, sym, ap, ◌∙◌, arith, slice_get, set, length, ◌≢◌}
+use Rattle.std.proofs.Common.{◌≡◌, ℕ, zero, suc, ◌<◌, List, ◌∷◌, [], Option, Some, None, refl, sym, ap, ◌∙◌, arith, slice_get, set, length, ◌≢◌}
 use Rattle.std.specs.FinMap as map
 use Rattle.cred_book.specs.{Accounts.Accounts, Works.Task, Works.name_of}
 use Rattle.cred_cli.specs.declared.event.Event.{Event}
-use Rattle.cred_cli.specs.declared.event.Event.TheVariants.{Account, Load, Show, Begin, Commit, Bad}
+use Rattle.cred_cli.specs.declared.event.Event.TheVariants.{Account, Load, Show, Begin, Commit}
 use Rattle.cred_cli.specs.History.{Deed, Opened, answer_at, answer_of, book_after, book_at, commit_deed, deed_of, deeds_before, is_stale, names_at, open_at, show_answer}
 use Rattle.cred_cli.specs.{Outcome.StandsAfter, Script.answers_before, Starving.IsSameBefore, Starving.NeedsHash, Tickets.HoldTickets, Tickets.IsTicketOf}
-use Rattle.cred_cli.proofs.Names.{done-suc, done-zero, names_at-suc, names_at-zero}
-use Rattle.cred_cli.proofs.{Openings.known_at, Openings.open_at-suc, Openings.open_at-zero, Answered.answers_before-suc, Answered.answers_before-zero}
-
-pub sooner : (i j : ℕ) (old new : List Event) → i ≤ j → IsSameBefore j old new → IsSameBefore i old new
-sooner i j old new le same = λ k before. same k (omega (arith, le, before))
+use Rattle.cred_cli.proofs.Openings.{known_at}
 
 module _ (capacity : ℕ) (book : Accounts) (old new : List Event) where
-  names_front : (i : ℕ) → IsSameBefore i old new → names_at capacity book new i ≡ names_at capacity book old i
-  names_front zero same = names_at-zero capacity book new ∙ sym (names_at-zero capacity book old)
-  names_front (suc i) same =
-      names_at-suc capacity book new i ∙ rw (names_front i (sooner i (suc i) old new (omega arith) same), same i (omega arith)) refl ∙ sym (names_at-suc capacity book old i)
+  -- what the events before place i make of the names, the open numbers and the deeds
+  record SameAt (i : ℕ) : Type 0 where
+    pub names : names_at capacity book new i ≡ names_at capacity book old i
+    pub opens : (key : ℕ) → open_at capacity book new i key ≡ open_at capacity book old i key
+    pub deeds : deeds_before capacity book new i ≡ deeds_before capacity book old i
 
-  open_front : (i key : ℕ) → IsSameBefore i old new → open_at capacity book new i key ≡ open_at capacity book old i key
-  open_front zero key same = open_at-zero capacity book new key ∙ sym (open_at-zero capacity book old key)
-  open_front (suc i) key same =
-      let before = sooner i (suc i) old new (omega arith) same in
-      open_at-suc capacity book new i key ∙ rw (names_front i before, open_front i key before, same i (omega arith)) refl ∙ sym (open_at-suc capacity book old i key)
+  deed_front : (i : ℕ) → SameAt i → (past : List (Option Deed)) (event : Option Event) → deed_of capacity book new i past event ≡ deed_of capacity book old i past event
+  deed_front i at past (Some (Account name)) = rw at.names refl
+  deed_front i at past (Some (Load name stored)) = rw at.names refl
+  deed_front i at past (Some (Commit key)) = ap (commit_deed book past) (at.opens key)
+  deed_front i at past _ = refl
 
-  deed_front : (i : ℕ) → IsSameBefore i old new → (past : List (Option Deed)) (event : Option Event) → deed_of capacity book new i past event ≡ deed_of capacity book old i past event
-  deed_front i same past None = refl
-  deed_front i same past (Some (Account name)) = rw (names_front i same) refl
-  deed_front i same past (Some (Load name stored)) = rw (names_front i same) refl
-  deed_front i same past (Some (Show name)) = refl
-  deed_front i same past (Some (Begin key request)) = refl
-  deed_front i same past (Some (Commit key)) = ap (commit_deed book past) (open_front i key same)
-  deed_front i same past (Some (Bad why)) = refl
-
-  deeds_front : (i : ℕ) → IsSameBefore i old new → deeds_before capacity book new i ≡ deeds_before capacity book old i
-  deeds_front zero same = done-zero capacity book new ∙ sym (done-zero capacity book old)
-  deeds_front (suc i) same =
-      let before = sooner i (suc i) old new (omega arith) same in
-      done-suc capacity book new i
-      ∙ rw (deeds_front i before, same i (omega arith), deed_front i before (deeds_before capacity book old i) (slice_get old i)) refl
-      ∙ sym (done-suc capacity book old i)
+  front : (i : ℕ) → IsSameBefore i old new → SameAt i
+  unfolding names_at open_at deeds_before
+  front zero same = record { names = refl; opens = λ key. refl; deeds = refl }
+  front (suc i) same =
+      let at = front i (λ j before. same j (omega (arith, before))) in
+      let here : slice_get new i ≡ slice_get old i = same i (omega arith) in
+      record {
+        names = rw (at.names, here) refl;
+        opens = λ key. rw (at.names, at.opens key, here) refl;
+        deeds = rw (at.deeds, here, deed_front i at (deeds_before capacity book old i) (slice_get old i)) refl;
+      }
 
   book_front : (i : ℕ) → IsSameBefore i old new → book_at capacity book new i ≡ book_at capacity book old i
-  book_front i same = ap (book_after book) (deeds_front i same)
+  book_front i same = ap (book_after book) (front i same).deeds
 
   answer_front : (i : ℕ) → IsSameBefore i old new → (event : Option Event) → answer_of capacity book new i event ≡ answer_of capacity book old i event
-  answer_front i same None = refl
-  answer_front i same (Some (Account name)) = rw (names_front i same) refl
-  answer_front i same (Some (Load name stored)) = rw (names_front i same) refl
+  answer_front i same (Some (Account name)) = rw (front i same).names refl
+  answer_front i same (Some (Load name stored)) = rw (front i same).names refl
   answer_front i same (Some (Show name)) = ap (λ b. show_answer (map.get b name)) (book_front i same)
-  answer_front i same (Some (Begin key request)) = rw (open_front i key same, names_front i same) refl
-  answer_front i same (Some (Commit key)) = rw (deeds_front i same, open_front i key same) refl
-  answer_front i same (Some (Bad why)) = refl
+  answer_front i same (Some (Begin key request)) = let at = front i same in rw (at.opens key, at.names) refl
+  answer_front i same (Some (Commit key)) = let at = front i same in rw (at.deeds, at.opens key) refl
+  answer_front i same _ = refl
 
   answers_front : (i : ℕ) → IsSameBefore i old new → answers_before capacity book new i ≡ answers_before capacity book old i
-  answers_front zero same = answers_before-zero capacity book new ∙ sym (answers_before-zero capacity book old)
+  unfolding answers_before
+  answers_front zero same = refl
   answers_front (suc i) same =
-      let before = sooner i (suc i) old new (omega arith) same in
+      let before : IsSameBefore i old new = λ j less. same j (omega (arith, less)) in
       let answer : answer_at capacity book new i ≡ answer_at capacity book old i = ap (answer_of capacity book new i) (same i (omega arith)) ∙ answer_front i before (slice_get old i) in
-      answers_before-suc capacity book new i ∙ rw (answers_front i before, answer) refl ∙ sym (answers_before-suc capacity book old i)
+      rw (answers_front i before, answer) refl
 
   pub stands_front : (i : ℕ) → IsSameBefore i old new → (before now : Option (List ℕ)) (accounts : Accounts) → StandsAfter capacity book old i before now accounts → StandsAfter capacity book new i before now accounts
   stands_front i same before now accounts stands =
@@ -66,12 +58,11 @@ module _ (capacity : ℕ) (book : Accounts) (old new : List Event) where
 
   ticket_front : (i key : ℕ) → IsSameBefore i old new → (opened : Option Opened) → open_at capacity book old i key ≡ opened → (task : Option Task) → IsTicketOf capacity book old opened task →
       IsTicketOf capacity book new (open_at capacity book new i key) task
-  ticket_front i key same None is None h = rw (open_front i key same, is) tt
-  ticket_front i key same None is (Some task) h = absurd h
-  ticket_front i key same (Some opened) is None h = absurd h
+  ticket_front i key same None is None h = rw ((front i same).opens key, is) tt
   ticket_front i key same (Some opened) is (Some task) h =
       let known = known_at capacity book old i key opened is in
-      rw (open_front i key same, is) (h.0, ap (λ b. map.get b (name_of opened.request)) (book_front opened.place (sooner opened.place i old new (omega (arith, known.earlier)) same)) ∙ h.1)
+      rw ((front i same).opens key, is) (h.0, ap (λ b. map.get b (name_of opened.request)) (book_front opened.place (λ j before. same j (omega (arith, before, known.earlier)))) ∙ h.1)
+  ticket_front i key same _ is _ h = absurd h
 
   pub tickets_front : (i : ℕ) → IsSameBefore i old new → (slots : List (Option Task)) → HoldTickets capacity book old i slots → HoldTickets capacity book new i slots
   tickets_front i same slots held =
@@ -80,8 +71,8 @@ module _ (capacity : ℕ) (book : Accounts) (old new : List Event) where
   pub needs_front : (i key : ℕ) → IsSameBefore i old new → NeedsHash capacity book old i key → NeedsHash capacity book new i key
   needs_front i key same needs = record {
     opened = needs.opened;
-    is_open = open_front i key same ∙ needs.is_open;
-    fresh = ap (λ past. is_stale book past needs.opened) (deeds_front i same) ∙ needs.fresh;
+    is_open = (front i same).opens key ∙ needs.is_open;
+    fresh = ap (λ past. is_stale book past needs.opened) (front i same).deeds ∙ needs.fresh;
     stored = needs.stored;
     stands = ap (λ b. map.get b (name_of needs.opened.request)) (book_front i same) ∙ needs.stands;
     hashed = needs.hashed;

@@ -1,5 +1,4 @@
 -- The lemmas that the proofs of the script engine cite.
-pub mod Answered
 pub mod Bounds
 pub mod Doing
 pub mod Building

@@ -7,7 +7,7 @@ use Rattle.cred_phc.specs.Values.{RecordValue}
 use Rattle.cred_book.specs.{Accounts.Accounts, Names.name_cmp, Works.name_of, Works.seq, Works.seq_at, Works.whole, declared.request.Request.Request}
 use Rattle.cred_cli.specs.History.{is_among, names_after, names_at, Opened, open_at, Deed, Admission, Loading, Whole, commit_deed, is_stale, deed_of, deeds_before, after, book_after, book_at}
 use Rattle.cred_cli.specs.declared.event.Event.{Event}
-use Rattle.cred_cli.specs.declared.event.Event.TheVariants.{Account, Load, Show, Begin, Commit, Bad}
+use Rattle.cred_cli.specs.declared.event.Event.TheVariants.{Account, Load, Commit}
 use Rattle.std.specs.FinMap as map
 
 -- the names are those of the book
@@ -78,11 +78,7 @@ closed_one names opening book past (Some opened) same = by_case (is_stale openin
 -- one event more
 next : (capacity : ℕ) (opening book : Accounts) (events : List Event) (i : ℕ) (past : List (Option Deed)) (event : Option Event) → SameNames (names_at capacity opening events i) book →
     SameNames (names_after capacity (names_at capacity opening events i) event) (after book (deed_of capacity opening events i past event))
-next capacity opening book events i past None same = same
-next capacity opening book events i past (Some (Show name)) same = same
-next capacity opening book events i past (Some (Begin key request)) same = same
 next capacity opening book events i past (Some (Commit key)) same = closed_one (names_at capacity opening events i) opening book past (open_at capacity opening events i key) same
-next capacity opening book events i past (Some (Bad why)) same = same
 next capacity opening book events i past (Some (Account name)) same = by_case (is_among (names_at capacity opening events i) name) refl (nat_lt (length (names_at capacity opening events i)) capacity)
   where
     by_case : (b : Bool) → is_among (names_at capacity opening events i) name ≡ b → (c : Bool) →
@@ -95,6 +91,7 @@ next capacity opening book events i past (Some (Load name stored)) same = by_cas
     by_case : (b : Bool) → is_among (names_at capacity opening events i) name ≡ b → SameNames (names_at capacity opening events i) (after book (if b then Some (Loading name stored) else None))
     by_case true there = put (names_at capacity opening events i) book name (Some stored) same there
     by_case false there = same
+next capacity opening book events i past _ same = same
 
 -- ---- the recursion on the place
 
@@ -139,15 +136,15 @@ length-done capacity book events zero = ap length (done-zero capacity book event
 length-done capacity book events (suc i) = ap length (done-suc capacity book events i) ∙ length-append (deeds_before capacity book events i) _ ∙ omega (arith, length-done capacity book events i)
 
 -- a front of a history is the earlier history
-pub take-done : (capacity : ℕ) (book : Accounts) (events : List Event) (j i : ℕ) → j ≤ i → take j (deeds_before capacity book events i) ≡ deeds_before capacity book events j
-take-done capacity book events zero i le = sym (done-zero capacity book events)
-take-done capacity book events (suc j) zero le = absurd (omega (arith, le))
-take-done capacity book events (suc j) (suc i) le = elim (cases_lt i (suc j)) [
+pub take_done : (capacity : ℕ) (book : Accounts) (events : List Event) (j i : ℕ) → j ≤ i → take j (deeds_before capacity book events i) ≡ deeds_before capacity book events j
+take_done capacity book events zero i le = sym (done-zero capacity book events)
+take_done capacity book events (suc j) zero le = absurd (omega (arith, le))
+take_done capacity book events (suc j) (suc i) le = elim (cases_lt i (suc j)) [
   | inl last ↦
       let same : j ≡ i = omega (arith, last, le) in
       rw same (take_all (suc i) (deeds_before capacity book events (suc i)) (omega (arith, length-done capacity book events (suc i))))
   | inr earlier ↦
       ap (take (suc j)) (done-suc capacity book events i)
       ∙ take-append-le (suc j) (deeds_before capacity book events i) _ (omega (arith, earlier, length-done capacity book events i))
-      ∙ take-done capacity book events (suc j) i earlier
+      ∙ take_done capacity book events (suc j) i earlier
 ]

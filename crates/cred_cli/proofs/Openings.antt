@@ -3,7 +3,7 @@ use Rattle.std.proofs.Common.{◌≡◌, ℕ, zero, suc, ◌<◌, List, [], ◌�
 use Rattle.std.specs.{Bool.◌==◌, Str.bytes_eq}
 use Rattle.cred_book.specs.{Accounts.Accounts, Works.name_of}
 use Rattle.cred_cli.specs.declared.event.Event.{Event}
-use Rattle.cred_cli.specs.declared.event.Event.TheVariants.{Account, Load, Show, Begin, Commit, Bad}
+use Rattle.cred_cli.specs.declared.event.Event.TheVariants.{Account, Begin, Commit}
 use Rattle.cred_cli.specs.History.{is_among, names_after, names_at, Opened, open_after, open_at}
 use Rattle.cred_cli.proofs.Names.{names_at-suc, any_more}
 
@@ -17,12 +17,6 @@ open_at-suc capacity book events i key = refl
 
 -- a name that is there stays
 still_among : (capacity : ℕ) (names : List (List ℕ)) (event : Option Event) (name : List ℕ) → is_among names name ≡ true → is_among (names_after capacity names event) name ≡ true
-still_among capacity names None name there = there
-still_among capacity names (Some (Load n r)) name there = there
-still_among capacity names (Some (Show n)) name there = there
-still_among capacity names (Some (Begin k r)) name there = there
-still_among capacity names (Some (Commit k)) name there = there
-still_among capacity names (Some (Bad why)) name there = there
 still_among capacity names (Some (Account new)) name there = by_case (is_among names new) (nat_lt (length names) capacity)
   where
     either : (b c : Bool) → c ≡ true → b || c ≡ true
@@ -33,6 +27,7 @@ still_among capacity names (Some (Account new)) name there = by_case (is_among n
     by_case true c = there
     by_case false true = any_more (bytes_eq name) names new ∙ either (bytes_eq name new) (is_among names name) there
     by_case false false = there
+still_among capacity names _ name there = there
 
 -- an open number's begin came before, and its name is there
 pub record IsKnown (capacity : ℕ) (book : Accounts) (events : List Event) (i : ℕ) (opened : Opened) : Type 0 where
@@ -55,11 +50,6 @@ second false b e = cc
 -- what an event leaves open was open, or begins there
 by_event : (capacity : ℕ) (book : Accounts) (events : List Event) (i key : ℕ) (opened : Opened) → ((o : Opened) → open_at capacity book events i key ≡ Some o → IsKnown capacity book events i o) → (event : Option Event) →
     open_after (names_at capacity book events i) i key (open_at capacity book events i key) event ≡ Some opened → IsKnown capacity book events (suc i) opened
-by_event capacity book events i key opened known None e = later capacity book events i opened (known opened e)
-by_event capacity book events i key opened known (Some (Account name)) e = later capacity book events i opened (known opened e)
-by_event capacity book events i key opened known (Some (Load name r)) e = later capacity book events i opened (known opened e)
-by_event capacity book events i key opened known (Some (Show name)) e = later capacity book events i opened (known opened e)
-by_event capacity book events i key opened known (Some (Bad why)) e = later capacity book events i opened (known opened e)
 by_event capacity book events i key opened known (Some (Commit k)) e = by_case (k == key) e
   where
     by_case : (b : Bool) → (if b then None else open_at capacity book events i key) ≡ Some opened → IsKnown capacity book events (suc i) opened
@@ -77,6 +67,7 @@ by_event capacity book events i key opened known (Some (Begin k request)) e = by
           earlier = omega arith;
           there = ap (λ names. is_among names (name_of request)) (names_at-suc capacity book events i) ∙ still_among capacity (names_at capacity book events i) (slice_get events i) (name_of request) among;
         })
+by_event capacity book events i key opened known _ e = later capacity book events i opened (known opened e)
 
 pub known_at : (capacity : ℕ) (book : Accounts) (events : List Event) (i key : ℕ) (opened : Opened) → open_at capacity book events i key ≡ Some opened → IsKnown capacity book events i opened
 known_at capacity book events zero key opened is = absurd (some_is opened (open_at capacity book events 0 key) is (ap is_none (open_at-zero capacity book events key)))

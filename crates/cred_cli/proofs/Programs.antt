@@ -1,20 +1,14 @@
 -- How the program ends.
-use Rattle.std.proofs.Common.{◌≡◌, ℕ, List, [], Option, Some, Bool, Ok, Err, IfSome, inl, inr, refl, sym}
+use Rattle.std.proofs.Common.{◌≡◌, ℕ, List, [], Option, Some, Bool, Ok, Err, IfSome, inl, inr, refl}
 use Rattle.std.specs.FinMap as map
-use Rattle.std.proofs.{KnownBytes.Appends-nil, lemmas.Option.IfSome_then}
+use Rattle.std.proofs.lemmas.Option.{IfSome_then}
 use Rattle.cred_book.specs.Accounts.{Accounts, most_accounts}
 use Rattle.cred_cli.specs.{declared.fault.ScriptFault.ScriptFault, declared.fault.ScriptFault.TheVariants.Memory, Statuses.status_number, Statuses.status_of}
 use Rattle.cred_cli.specs.{Commands.Runs, declared.exit_status.ExitStatus.TheVariants.Done, declared.script.End.End, Calls.Call}
-use Rattle.cred_cli.specs.{Outcome.HasCause, Outcome.ScriptFails, Outcome.StandsAfter, Outcome.longest_script, Prompt.IsPrompt}
+use Rattle.cred_cli.specs.{Outcome.HasCause, Outcome.ScriptFails, Outcome.longest_script, Prompt.IsPrompt}
 use Rattle.cred_cli.specs.{Script.events_of, Script.script_start, Script.start_as, Starving.EndsAs, Starving.IsHistory, Starving.events_by}
 use Rattle.cred_cli.specs.{declared.event.Event.Event, declared.policy.Policy.Policy, Watched.Reading, Watched.Writing}
-use Rattle.cred_cli.proofs.{Starvings.history_asked, Names.book_at-zero, Prompts.no_calls, Readings.if_known, Answered.answers_before-zero}
-
-pub nothing_done : (capacity : ℕ) (book : Accounts) (events : List Event) (before : Option (List ℕ)) → StandsAfter capacity book events 0 before before book
-nothing_done capacity book events before = record {
-  written = rw (answers_before-zero capacity book events) (Appends-nil before);
-  accounts_are = sym (book_at-zero capacity book events);
-}
+use Rattle.cred_cli.proofs.{Starvings.history_asked, Prompts.no_calls, Readings.if_known, Readings.nothing_done}
 
 -- there was no memory to begin a script with
 pub unbegun : (policy : Policy) (longest capacity : ℕ) (book : Accounts) (before : Option (List ℕ)) (failed : Bool) (name : ℕ) (r : Reading) → r.log ≡ [] → IfSome r.input (λ bytes. (events : List Event)

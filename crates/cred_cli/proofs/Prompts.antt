@@ -1,12 +1,14 @@
 -- What a run's calls of its reader find, and how many there are.
-use Rattle.std.proofs.Common.{◌≡◌, ℕ, ◌+◌, ◌≤◌, ◌<◌, arith, List, [], ◌∷◌, ◌++◌, length, Option, Some, None, IfSome, refl, sym, ap, ◌∙◌}
+use Rattle.std.proofs.Common.{◌≡◌, ℕ, ◌+◌, ◌≤◌, ◌<◌, arith, List, [], ◌∷◌, ◌++◌, length, Option, Some, None, IfSome, Result, Ok, Err, append-nil, refl, sym, ap, ◌∙◌}
 use Rattle.std.proofs.lemmas.List.{append_cancel_right, length-append}
 use Rattle.std.specs.Io.KnownBytes.{Consumes}
 use Rattle.cred_book.specs.Accounts.{Accounts}
-use Rattle.cred_cli.specs.{Calls.Call, Feeding.IsAt, Feeding.Standing, History.book_at, Prompt.HasFewer, Prompt.IsPrompt, Prompt.IsPromptAt, Prompt.left_length}
+use Rattle.cred_cli.specs.Feeding.{Finishes, GoesOn, IsAt, Standing}
+use Rattle.cred_cli.specs.{Calls.Call, History.book_at, Outcome.IsAnsweredAs, Prompt.HasFewer, Prompt.IsPrompt, Prompt.IsPromptAt, Prompt.left_length}
 use Rattle.cred_cli.specs.Script.{ScriptStart, answers_before, events_of, line_ends, script_start, with_events}
-use Rattle.cred_cli.specs.{Starving.GoesOn, Starving.IsSameBefore, declared.event.Event.Event, declared.policy.Policy.Policy}
-use Rattle.cred_cli.proofs.{Fronts.stands_front, Lines.line_ends_longer, Starvings.at_again, Readings.HasCome, Readings.cut_behind, Readings.if_known}
+use Rattle.cred_cli.specs.Starving.{EndsAs, IsHistory, IsSameBefore, events_by}
+use Rattle.cred_cli.specs.{Watched.Reading, Watched.Writing, declared.event.Event.Event, declared.fault.ScriptFault.ScriptFault, declared.policy.Policy.Policy}
+use Rattle.cred_cli.proofs.{Fronts.stands_front, Lines.line_ends_longer, Readings.HasCome, Readings.cut_behind, Readings.if_known}
 
 -- ---- while a script is read
 
@@ -30,43 +32,63 @@ read_to_start policy capacity script name left s calls known at none = record {
   cut = refl;
   left_is = known;
   events = script.events;
-  at = at_again policy capacity script [] s at;
+  at = at;
   prompt = λ later same. rw none tt;
   fewer = rw none tt;
 }
 
--- a call found this
-pub record Finds (left : Option (List ℕ)) (name : ℕ) (s : Standing) (call : Call) : Type 0 where
+-- one call more was made, and found this
+pub record IsCalled (left : Option (List ℕ)) (name : ℕ) (s : Standing) (earlier calls : List Call) : Type 0 where
+  pub call : Call
+  pub are : calls ≡ call ∷ earlier
   pub left_is : call.left ≡ left
   pub beside_is : call.beside ≡ name
   pub written_is : call.written ≡ s.written
   pub accounts_are : call.accounts ≡ s.accounts
 
--- one call more is prompt, whatever comes of it
-pub prompt_call : {policy : Policy} {capacity : ℕ} {script : ScriptStart} {name : ℕ} {left : Option (List ℕ)} {s : Standing} {earlier calls : List Call} (call : Call) (read : IsReadTo policy capacity script name left s earlier)
-    → Finds left name s call → calls ≡ call ∷ earlier → (later : List Event) → IsSameBefore (line_ends read.front) read.events later → IsPrompt capacity (with_events script later) name calls
-prompt_call {capacity = capacity} {script = script} {s = s} call read found are later same =
-    let stands = stands_front capacity script.book read.events later (line_ends read.front) same script.before s.written s.accounts (rw (← read.at.lines_are) read.at.stands) in
-    rw are (
-      record { front = read.front; came = rw (found.left_is, read.left_is) read.cut; beside = found.beside_is; stands = rw (found.written_is, found.accounts_are) stands },
-      rw (found.left_is, read.left_is) read.fewer,
-      read.prompt later same,
-    )
+module _ {policy : Policy} {capacity : ℕ} {script : ScriptStart} {name : ℕ} {left : Option (List ℕ)} {s : Standing} {earlier calls : List Call} (read : IsReadTo policy capacity script name left s earlier)
+    (called : IsCalled left name s earlier calls) where
+  -- it is prompt, whatever comes of it
+  pub prompt_call : (later : List Event) → IsSameBefore (line_ends read.front) read.events later → IsPrompt capacity (with_events script later) name calls
+  prompt_call later same =
+      let stands = stands_front capacity script.book read.events later (line_ends read.front) same script.before s.written s.accounts read.at.place.0.stands in
+      rw called.are (
+        record { front = read.front; came = rw (called.left_is, read.left_is) read.cut; beside = called.beside_is; stands = rw (called.written_is, called.accounts_are) stands },
+        rw (called.left_is, read.left_is) read.fewer,
+        read.prompt later same,
+      )
 
--- and where it gave bytes that are taken, the script is read behind them
-pub read_on : {policy : Policy} {capacity : ℕ} {script : ScriptStart} {name : ℕ} {left now : Option (List ℕ)} {old new : Standing} {earlier calls : List Call} (call : Call) (bytes : List ℕ) (read : IsReadTo policy capacity script name left old earlier)
-    → HasCome read.rest bytes now → 0 < length bytes → Finds left name old call → calls ≡ call ∷ earlier → (events : List Event) → GoesOn policy capacity (with_events script read.events) (line_ends read.front) events
-    → IsAt policy capacity (with_events script events) (read.front ++ bytes) new → IsReadTo policy capacity script name now new calls
-read_on {script = script} call bytes read more some found are events goes_on fed = record {
-  front = read.front ++ bytes;
-  rest = more.left;
-  cut = cut_behind script.bytes read.front read.rest bytes more.left read.cut more.cut;
-  left_is = more.now_is;
-  events = events;
-  at = fed;
-  prompt = λ later same. prompt_call call read found are later (λ j before. same j (omega (arith, before, line_ends_longer read.front bytes)) ∙ goes_on.same j before);
-  fewer = rw (are, found.left_is, read.left_is) (omega (arith, some, ap length more.cut, length-append bytes more.left));
-}
+  -- and where it gave bytes that are taken, the script is read behind them
+  pub read_on : {now : Option (List ℕ)} {new : Standing} (bytes : List ℕ) → HasCome read.rest bytes now → 0 < length bytes
+      → GoesOn {A = Unit {0}} policy capacity (with_events script read.events) (line_ends read.front) (λ after _. IsAt policy capacity after (read.front ++ bytes) new) s new (Ok tt) → IsReadTo policy capacity script name now new calls
+  read_on bytes more some fed = record {
+    front = read.front ++ bytes;
+    rest = more.left;
+    cut = cut_behind script.bytes read.front read.rest bytes more.left read.cut more.cut;
+    left_is = more.now_is;
+    events = fed.events;
+    at = fed.ended;
+    prompt = λ later same. prompt_call later (λ j before. same j (omega (arith, before, line_ends_longer read.front bytes)) ∙ fed.same j before);
+    fewer = rw (called.are, called.left_is, read.left_is) (omega (arith, some, ap length more.cut, length-append bytes more.left));
+  }
+
+  -- a fault comes of it
+  pub run_breaks : {A : Type 0} {new : Standing} {done : ScriptStart → A → Type 0} (r : Reading) (w : Writing) (e : ScriptFault) → r.log ≡ calls → w.name ≡ name → w.now ≡ new.written
+      → GoesOn policy capacity (with_events script read.events) (line_ends read.front) done s new (Err e)
+      → (events : List Event) × IsHistory policy.mode capacity script.book (events_by policy.mode policy.most script.bytes) events × EndsAs s.progress.limit capacity (with_events script events) r w new.accounts (Err e)
+  run_breaks r w e log named now broken = (
+    broken.events,
+    broken.history,
+    record { done = tt; fault = rw now (broken.ended r.left); short = tt; prompt = rw (named, log) (prompt_call broken.events broken.same) },
+  )
+
+-- the end was met, and the last line is answered
+pub run_ends : {policy : Policy} {capacity : ℕ} {script : ScriptStart} {name : ℕ} {left : Option (List ℕ)} {s new : Standing} {earlier : List Call} {r : Result ℕ ScriptFault} (read : IsReadTo policy capacity script name left s earlier)
+    → read.rest ≡ [] → Finishes policy capacity s new r
+    → GoesOn policy capacity (with_events script read.events) (line_ends read.front) (λ after lines. IsAnsweredAs capacity after new.written new.accounts lines) s new r
+run_ends {script = script} read none finishes =
+    let whole : read.front ≡ script.bytes = sym (rw (none, append-nil) at read.cut) in
+    rw whole (finishes (with_events script read.events) (rw whole at read.at))
 
 -- no call was made, and so none too early
 pub no_calls : (capacity : ℕ) (book : Accounts) (name : ℕ) (before known : Option (List ℕ)) (calls : List Call) → calls ≡ [] → IfSome known (λ bytes. IsPrompt capacity (script_start book bytes before) name calls)
@@ -101,3 +123,5 @@ pub length-prompt : (capacity : ℕ) (script : ScriptStart) (name : ℕ) (calls 
 length-prompt capacity script name [] prompt = omega arith
 length-prompt capacity script name (call ∷ earlier) (at, before, prompt) =
     omega (arith, fewer_calls capacity script name earlier call.left prompt before (left_within script.bytes at.front call.left at.came))
+
+pub ruleset prompt_laws = (length-prompt)

@@ -3,9 +3,9 @@ use Rattle.std.proofs.Common.{◌≡◌, ℕ, ◌-◌, replicate, List, [], ◌+
 use Rattle.std.proofs.{KnownBytes.Appends-nil, lemmas.List.get_or-replicate, lemmas.List.length-replicate}
 use Rattle.std.specs.Io.KnownBytes.{Consumes, IsAtEnd, Keeps}
 use Rattle.cred_book.specs.{Accounts.Accounts, Works.Task}
-use Rattle.cred_cli.specs.{declared.progress.Progress.Progress, declared.event.Event.Event, Feeding.IsAt, Tickets.HoldTickets, Script.start_as}
+use Rattle.cred_cli.specs.{declared.progress.Progress.Progress, declared.event.Event.Event, Feeding.IsAt, Outcome.StandsAfter, Tickets.HoldTickets, Script.answers_before, Script.start_as}
 use Rattle.cred_cli.specs.{Starving.events_by, declared.policy.Policy.Policy}
-use Rattle.cred_cli.proofs.{Openings.open_at-zero, Names.book_at-zero, Answered.answers_before-zero, Starvings.history_asked}
+use Rattle.cred_cli.proofs.{Openings.open_at-zero, Names.book_at-zero, Starvings.history_asked}
 
 no_tickets : (capacity : ℕ) (book : Accounts) (events : List Event) (slots : List (Option Task)) → slots ≡ replicate 64 None → HoldTickets capacity book events 0 slots
 no_tickets capacity book events slots empty = record {
@@ -13,17 +13,25 @@ no_tickets capacity book events slots empty = record {
   each = λ key low high. rw (open_at-zero capacity book events key, empty, get_or-replicate {A = Option Task} 64 (key - 1) None None (omega (arith, low, high))) tt;
 }
 
+pub nothing_done : (capacity : ℕ) (book : Accounts) (events : List Event) (before : Option (List ℕ)) → StandsAfter capacity book events 0 before before book
+unfolding answers_before
+nothing_done capacity book events before = record {
+  written = Appends-nil before;
+  accounts_are = sym (book_at-zero capacity book events);
+}
+
 -- no byte was taken
 pub opening : (policy : Policy) (capacity : ℕ) (book : Accounts) (all : List ℕ) (before : Option (List ℕ)) (slots : List (Option Task)) (progress : Progress) → slots ≡ replicate 64 None → progress.start ≡ [] → progress.lines ≡ 0 → progress.taken ≡ 0 →
     IsAt policy capacity (start_as book all before (events_by policy.mode policy.most all)) [] (record { written = before; accounts = book; slots = slots; progress = progress })
 opening policy capacity book all before slots progress empty start lines taken = record {
-  history = history_asked policy.mode capacity book (events_by policy.mode policy.most all);
-  behind = λ i after. refl;
-  stands = record {
-    written = rw (lines, answers_before-zero capacity book (events_by policy.mode policy.most all)) (Appends-nil before);
-    accounts_are = rw lines (sym (book_at-zero capacity book (events_by policy.mode policy.most all)));
-  };
-  tickets = rw lines (no_tickets capacity book (events_by policy.mode policy.most all) slots empty);
+  place = (
+    record {
+      history = history_asked policy.mode capacity book (events_by policy.mode policy.most all);
+      stands = nothing_done capacity book (events_by policy.mode policy.most all) before;
+      tickets = no_tickets capacity book (events_by policy.mode policy.most all) slots empty;
+    },
+    λ i after. refl,
+  );
   lines_are = lines;
   start_is = start;
   taken_is = taken;

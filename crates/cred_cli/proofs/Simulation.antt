@@ -12,7 +12,7 @@ use Rattle.cred_cli.specs.History.{Answer, Done, Replied, Refused, Deed, Admissi
 use Rattle.cred_cli.specs.Steps.{Step, step, stay, slot, begin_step, begin_step_at, commit_step, commit_step_at, reply_answer}
 use Rattle.cred_cli.specs.declared.event.Event.TheVariants.{Account, Load, Show, Begin, Commit, Bad}
 use Rattle.cred_cli.specs.declared.refusal.Refusal.TheVariants.{Book, Busy, Idle}
-use Rattle.cred_cli.proofs.{Names.same_names, Names.book_at-suc, Names.take-done, Openings.IsKnown, Openings.known_at, Openings.open_at-suc}
+use Rattle.cred_cli.proofs.{Names.same_names, Names.book_at-suc, Names.take_done, Openings.known_at, Openings.open_at-suc}
 use Rattle.std.specs.FinMap as map
 use Rattle.cred_book.specs.declared.reply.Reply.TheVariants as reply
 use Rattle.cred_book.specs.declared.request.Request.TheVariants as request
@@ -33,21 +33,17 @@ either true x y h k = h
 either false x y h k = k
 
 pub whole_replies : (request : Request) (now : Option RecordValue) → IsReplied (whole request now)
-whole_replies (request.Enrol name pw setting) None = refl
-whole_replies (request.Enrol name pw setting) (Some stored) = refl
-whole_replies (request.Verify name pw) None = refl
 whole_replies (request.Verify name pw) (Some stored) = by_case (right stored pw)
   where
     by_case : (b : Bool) → reply_answer (if b then reply.Yes else reply.No) ≡ Replied (if b then reply.Yes else reply.No)
     by_case true = refl
     by_case false = refl
-whole_replies (request.Change name pw new setting) None = refl
 whole_replies (request.Change name pw new setting) (Some stored) = either (right stored pw) _ _ refl refl
-whole_replies (request.Upgrade name pw setting) None = refl
 whole_replies (request.Upgrade name pw setting) (Some stored) =
     either (not (right stored pw)) _ _ refl (either (same_scheme stored.setting.scheme setting.scheme) _ _ refl refl)
-whole_replies (request.Remove name pw) None = refl
 whole_replies (request.Remove name pw) (Some stored) = either (right stored pw) _ _ refl refl
+whole_replies (request.Enrol name pw setting) (Some stored) = refl
+whole_replies _ _ = refl
 
 -- ---- slots
 
@@ -73,19 +69,16 @@ module _ (capacity : ℕ) (book : Accounts) (events : List Event) (i : ℕ) (slo
     ];
   }
 
-  stays : (answer : Answer) → answer ≡ answer_of capacity book events i (Some event) → deed_of capacity book events i (deeds_before capacity book events i) (Some event) ≡ None → HoldTickets capacity book events (suc i) slots → IsStep capacity book events i (stay answer (book_at capacity book events i) slots)
-  stays answer said none tickets = record {
-    answer = said ∙ ap (answer_of capacity book events i) (sym here);
-    book_is = sym (book_at-suc capacity book events i ∙ ap (λ e. after (book_at capacity book events i) (deed_of capacity book events i (deeds_before capacity book events i) e)) here ∙ ap (after (book_at capacity book events i)) none);
-    tickets = tickets;
-  }
-
   moves : (step : Step) → step.answer ≡ answer_of capacity book events i (Some event) → step.book ≡ after (book_at capacity book events i) (deed_of capacity book events i (deeds_before capacity book events i) (Some event)) → HoldTickets capacity book events (suc i) step.slots → IsStep capacity book events i step
   moves step said put tickets = record {
     answer = said ∙ ap (answer_of capacity book events i) (sym here);
     book_is = put ∙ ap (λ e. after (book_at capacity book events i) (deed_of capacity book events i (deeds_before capacity book events i) e)) (sym here) ∙ sym (book_at-suc capacity book events i);
     tickets = tickets;
   }
+
+  stays : (answer : Answer) → answer ≡ answer_of capacity book events i (Some event) → deed_of capacity book events i (deeds_before capacity book events i) (Some event) ≡ None → HoldTickets capacity book events (suc i) slots → IsStep capacity book events i (stay answer (book_at capacity book events i) slots)
+  stays answer said none tickets =
+      moves (stay answer (book_at capacity book events i) slots) said (sym (ap (after (book_at capacity book events i)) none)) tickets
 
 -- ---- the events that leave the tickets
 
@@ -98,21 +91,17 @@ admission : (book : Accounts) (slots : List (Option Task)) (name : List ℕ) (b 
     (if b' then Refused (Book Exists) else if c' then Done else Refused (Book Full))
     (if b' then None else if c' then Some (Admission name) else None)
 admission book slots name true true e c c' d = (refl, refl, refl)
-admission book slots name true false e c c' d = (cc, cc, cc)
-admission book slots name false true e c c' d = (cc, cc, cc)
 admission book slots name false false e true true d = (refl, refl, refl)
-admission book slots name false false e true false d = (cc, cc, cc)
-admission book slots name false false e false true d = (cc, cc, cc)
 admission book slots name false false e false false d = (refl, refl, refl)
+admission book slots name _ _ e _ _ d = (cc, cc, cc)
 
 loading : (book : Accounts) (slots : List (Option Task)) (name : List ℕ) (stored : RecordValue) (b b' : Bool) → b ≡ b' →
     Agree book slots (if b then stay Done (map.insert book name (Some stored)) slots else stay (Refused (Book NoAccount)) book slots)
     (if b' then Done else Refused (Book NoAccount))
     (if b' then Some (Loading name stored) else None)
 loading book slots name stored true true e = (refl, refl, refl)
-loading book slots name stored true false e = (cc, cc, cc)
-loading book slots name stored false true e = (cc, cc, cc)
 loading book slots name stored false false e = (refl, refl, refl)
+loading book slots name stored _ _ e = (cc, cc, cc)
 
 -- ---- begins
 
@@ -134,9 +123,6 @@ opens_nothing capacity book events i key request refuses k = elim (eqb_tells key
 
 module _ (capacity : ℕ) (book : Accounts) (events : List Event) (i : ℕ) (slots : List (Option Task)) (held : HoldTickets capacity book events i slots) (key : ℕ) (low : 1 ≤ key) (high : key ≤ 64) (request : Request)
     (here : slice_get events i ≡ Some (Begin key request)) where
-  now : Accounts
-  now = book_at capacity book events i
-
   among : is_among (names_at capacity book events i) (name_of request) ≡ is_some (map.get (book_at capacity book events i) (name_of request))
   among = sym ((same_names capacity book events i).among (name_of request))
 
@@ -144,12 +130,6 @@ module _ (capacity : ℕ) (book : Accounts) (events : List Event) (i : ℕ) (slo
   begin_refused answer said refuses =
       stays capacity book events i slots held (Begin key request) here answer said refl
       (tickets_stay capacity book events i slots held (Begin key request) here (opens_nothing capacity book events i key request refuses))
-
-  begin_busy : (opened : Opened) → open_at capacity book events i key ≡ Some opened → IsStep capacity book events i (stay (Refused Busy) (book_at capacity book events i) slots)
-  begin_busy opened is = begin_refused (Refused Busy) (rw is refl) (rw is refl)
-
-  begin_absent : open_at capacity book events i key ≡ None → map.get (book_at capacity book events i) (name_of request) ≡ None → IsStep capacity book events i (stay (Refused (Book NoAccount)) (book_at capacity book events i) slots)
-  begin_absent is found = begin_refused (Refused (Book NoAccount)) (rw (is, among, found) refl) (rw (is, among, found) refl)
 
   begin_done : (copy : Option RecordValue) → open_at capacity book events i key ≡ None → map.get (book_at capacity book events i) (name_of request) ≡ Some copy →
       IsStep capacity book events i (begin_step_at (book_at capacity book events i) slots key request None (Some copy))
@@ -162,19 +142,16 @@ module _ (capacity : ℕ) (book : Accounts) (events : List Event) (i : ℕ) (slo
       (λ k apart. open_next capacity book events i slots held (Begin key request) here k ∙ rw (ne_eqb key k apart) refl))
 
   begins : IsStep capacity book events i (begin_step (book_at capacity book events i) slots key request)
-  begins = by_opened (open_at capacity book events i key) refl (slot slots key) refl (held.each key low high)
+  begins = by_case (open_at capacity book events i key) refl (slot slots key) refl (held.each key low high) (map.get (book_at capacity book events i) (name_of request)) refl
     where
-      by_entry : open_at capacity book events i key ≡ None → slot slots key ≡ None → (entry : Option (Option RecordValue)) → map.get (book_at capacity book events i) (name_of request) ≡ entry →
-          IsStep capacity book events i (begin_step (book_at capacity book events i) slots key request)
-      by_entry is none None found = rw (begun-at (book_at capacity book events i) slots key request None None none found) (begin_absent is found)
-      by_entry is none (Some copy) found = rw (begun-at (book_at capacity book events i) slots key request None (Some copy) none found) (begin_done copy is found)
-
-      by_opened : (opened : Option Opened) → open_at capacity book events i key ≡ opened → (task : Option Task) → slot slots key ≡ task → IsTicketOf capacity book events opened task →
-          IsStep capacity book events i (begin_step (book_at capacity book events i) slots key request)
-      by_opened None is None none h = by_entry is none (map.get (book_at capacity book events i) (name_of request)) refl
-      by_opened None is (Some task) none h = absurd h
-      by_opened (Some opened) is None none h = absurd h
-      by_opened (Some opened) is (Some task) some h = rw (begun-at (book_at capacity book events i) slots key request (Some task) _ some refl) (begin_busy opened is)
+      by_case : (opened : Option Opened) → open_at capacity book events i key ≡ opened → (task : Option Task) → slot slots key ≡ task → IsTicketOf capacity book events opened task →
+          (entry : Option (Option RecordValue)) → map.get (book_at capacity book events i) (name_of request) ≡ entry → IsStep capacity book events i (begin_step (book_at capacity book events i) slots key request)
+      by_case None is None none h None found =
+          rw (begun-at (book_at capacity book events i) slots key request None None none found) (begin_refused (Refused (Book NoAccount)) (rw (is, among, found) refl) (rw (is, among, found) refl))
+      by_case None is None none h (Some copy) found = rw (begun-at (book_at capacity book events i) slots key request None (Some copy) none found) (begin_done copy is found)
+      by_case (Some opened) is (Some task) some h entry found =
+          rw (begun-at (book_at capacity book events i) slots key request (Some task) entry some found) (begin_refused (Refused Busy) (rw is refl) (rw is refl))
+      by_case _ is _ some h entry found = absurd h
 
 -- ---- commits
 
@@ -214,11 +191,8 @@ module _ (capacity : ℕ) (book : Accounts) (events : List Event) (i : ℕ) (slo
 
   module _ (opened : Opened) (task : Task) (is : open_at capacity book events i key ≡ Some opened) (asked : task.0 ≡ opened.request)
       (copied : map.get (book_at capacity book events opened.place) (name_of opened.request) ≡ Some task.1) (now : Option RecordValue) (found : map.get (book_at capacity book events i) (name_of opened.request) ≡ Some now) where
-    known : IsKnown capacity book events i opened
-    known = known_at capacity book events i key opened is
-
     began : map.get (book_after book (take opened.place (deeds_before capacity book events i))) (name_of opened.request) ≡ Some task.1
-    began = ap (λ past. map.get (book_after book past) (name_of opened.request)) (take-done capacity book events opened.place i (omega (arith, known.earlier))) ∙ copied
+    began = ap (λ past. map.get (book_after book past) (name_of opened.request)) (take_done capacity book events opened.place i (omega (arith, (known_at capacity book events i key opened is).earlier))) ∙ copied
 
     pub stale : is_stale book (deeds_before capacity book events i) opened ≡ not (same now task.1)
     stale = stale-at book (deeds_before capacity book events i) opened now task.1 found began
@@ -235,35 +209,25 @@ module _ (capacity : ℕ) (book : Accounts) (events : List Event) (i : ℕ) (slo
     seq_now : seq (book_at capacity book events i) opened.request ≡ seq_at (book_at capacity book events i) opened.request (Some now)
     seq_now = seq-at (book_at capacity book events i) opened.request (Some now) found
 
-    deed_stale : same now task.1 ≡ false → deed_of capacity book events i (deeds_before capacity book events i) (Some (Commit key)) ≡ None
-    deed_stale e = deed ∙ rw (stale, e) refl
-
-    deed_fresh : same now task.1 ≡ true → deed_of capacity book events i (deeds_before capacity book events i) (Some (Commit key)) ≡ Some (Whole opened.request)
-    deed_fresh e = deed ∙ rw (stale, e) refl
-
-    commit_stale : same now task.1 ≡ false → IsStep capacity book events i (commit_step_at (book_at capacity book events i) slots key (Some task))
-    commit_stale e =
-        let done : commit_outcome (book_at capacity book events i) task ≡ (reply.Changed now, book_at capacity book events i) = commits ∙ rw e refl in
-        moves capacity book events i slots held (Commit key) here (commit_step_at (book_at capacity book events i) slots key (Some task))
-        (ap (λ c. reply_answer c.0) done ∙ sym (told ∙ rw (stale, e) refl))
-        (ap (λ c. c.1) done ∙ sym (ap (after (book_at capacity book events i)) (deed_stale e)))
-        closed_tickets
-
-    commit_fresh : same now task.1 ≡ true → IsStep capacity book events i (commit_step_at (book_at capacity book events i) slots key (Some task))
-    commit_fresh e =
-        let done : commit_outcome (book_at capacity book events i) task ≡ seq (book_at capacity book events i) opened.request = commits ∙ rw (e, asked) (sym seq_now) in
-        let replied : reply_answer (seq (book_at capacity book events i) opened.request).0 ≡ Replied (seq (book_at capacity book events i) opened.request).0 = rw seq_now (whole_replies opened.request now) in
-        moves capacity book events i slots held (Commit key) here (commit_step_at (book_at capacity book events i) slots key (Some task))
-        (ap (λ c. reply_answer c.0) done ∙ replied ∙ sym (told ∙ rw (stale, e) refl))
-        (ap (λ c. c.1) done ∙ sym (ap (after (book_at capacity book events i)) (deed_fresh e)))
-        closed_tickets
-
     commit_at : IsStep capacity book events i (commit_step_at (book_at capacity book events i) slots key (Some task))
     commit_at = by_case (same now task.1) refl
       where
         by_case : (b : Bool) → same now task.1 ≡ b → IsStep capacity book events i (commit_step_at (book_at capacity book events i) slots key (Some task))
-        by_case true e = commit_fresh e
-        by_case false e = commit_stale e
+        by_case false e =
+            let done : commit_outcome (book_at capacity book events i) task ≡ (reply.Changed now, book_at capacity book events i) = commits ∙ rw e refl in
+            let none : deed_of capacity book events i (deeds_before capacity book events i) (Some (Commit key)) ≡ None = deed ∙ rw (stale, e) refl in
+            moves capacity book events i slots held (Commit key) here (commit_step_at (book_at capacity book events i) slots key (Some task))
+            (ap (λ c. reply_answer c.0) done ∙ sym (told ∙ rw (stale, e) refl))
+            (ap (λ c. c.1) done ∙ sym (ap (after (book_at capacity book events i)) none))
+            closed_tickets
+        by_case true e =
+            let done : commit_outcome (book_at capacity book events i) task ≡ seq (book_at capacity book events i) opened.request = commits ∙ rw (e, asked) (sym seq_now) in
+            let whole : deed_of capacity book events i (deeds_before capacity book events i) (Some (Commit key)) ≡ Some (Whole opened.request) = deed ∙ rw (stale, e) refl in
+            let replied : reply_answer (seq (book_at capacity book events i) opened.request).0 ≡ Replied (seq (book_at capacity book events i) opened.request).0 = rw seq_now (whole_replies opened.request now) in
+            moves capacity book events i slots held (Commit key) here (commit_step_at (book_at capacity book events i) slots key (Some task))
+            (ap (λ c. reply_answer c.0) done ∙ replied ∙ sym (told ∙ rw (stale, e) refl))
+            (ap (λ c. c.1) done ∙ sym (ap (after (book_at capacity book events i)) whole))
+            closed_tickets
 
   -- an open number's name is there
   entry_there : (opened : Opened) → open_at capacity book events i key ≡ Some opened → is_some (map.get (book_at capacity book events i) (name_of opened.request)) ≡ true
@@ -280,9 +244,8 @@ module _ (capacity : ℕ) (book : Accounts) (events : List Event) (i : ℕ) (slo
       by_opened : (opened : Option Opened) → open_at capacity book events i key ≡ opened → (task : Option Task) → slot slots key ≡ task → IsTicketOf capacity book events opened task →
           IsStep capacity book events i (commit_step (book_at capacity book events i) slots key)
       by_opened None is None none h = rw (committing-at (book_at capacity book events i) slots key None none) (commit_idle is)
-      by_opened None is (Some task) none h = absurd h
-      by_opened (Some opened) is None none h = absurd h
       by_opened (Some opened) is (Some task) some h = by_entry opened task is some h (map.get (book_at capacity book events i) (name_of opened.request)) refl (entry_there opened is)
+      by_opened _ is _ some h = absurd h
 
 -- ---- any event
 

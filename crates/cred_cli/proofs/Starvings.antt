@@ -1,20 +1,20 @@
 -- A commit that is starved, and the history that it leaves.
-use Rattle.std.proofs.Common.{◌≡◌, ℕ, suc, ◌≤◌, ◌<◌, List, Option, Some, None, Bool, not, refl, sym, ap, ◌∙◌, arith, slice_get, set, length, inl, inr, ◌⊎◌, Result, Ok, Err, IfOk, OnOk, IfErr, IfSome, codes, ◌++◌, ◌∷◌, []}
+use Rattle.std.proofs.Common.{◌≡◌, ℕ, suc, ◌≤◌, ◌<◌, List, Option, Some, None, Bool, not, refl, sym, ap, ◌∙◌, arith, slice_get, get_or, take, drop, set, length, inl, inr, ◌⊎◌, Result, Ok, Err, IfOk, OnOk, IfErr, IfSome, MatchResult, subst, codes, ◌++◌, ◌∷◌, [], append_assoc, append-nil}
 use Rattle.std.proofs.{Math.ListN.length-set, lemmas.Bool.cases_lt, lemmas.Option.slice_get_within}
 use Rattle.std.specs.{Fmt.digits, Io.KnownBytes.Appends}
 use Rattle.cred_book.specs.{Accounts.Accounts, Works.Task, Works.name_of, Works.same}
 use Rattle.cred_book.proofs.Equality.{same-Decides}
 use Rattle.cred_cli.specs.{Answers.IsDoneOrStarved, Answers.MayStarve, Answers.line_bytes, Costs.no_bounds, Events.IsSound, declared.script.End.End}
-use Rattle.cred_cli.specs.Feeding.{IsAt, Standing, TakesLineAs, between}
+use Rattle.cred_cli.specs.Feeding.{Breaks, IsAt, IsAtLine, IsBehind, GoesOn, Standing, Takes}
 use Rattle.cred_cli.specs.History.{Opened, after, answer_at, answer_of, book_at, open_at}
-use Rattle.cred_cli.specs.{Outcome.FailsAs, Outcome.IsAnswered, Outcome.StandsAfter, Prompt.IsPrompt}
+use Rattle.cred_cli.specs.{Outcome.FailsAs, Outcome.IsAnswered, Prompt.IsPrompt}
 use Rattle.cred_cli.specs.Script.{ScriptStart, script_start, start_as, with_events}
-use Rattle.cred_cli.specs.Starving.{Becomes, EndsAs, GoesOn, IsHistory, IsSameBefore, IsServed, IsStarved, NeedsHash, events_by, starved}
+use Rattle.cred_cli.specs.Starving.{EndsAs, IsHistory, IsServed, IsStarved, NeedsHash, events_by, starved}
 use Rattle.cred_cli.specs.{Steps.WriteFails, Steps.slot, Texts.line_of, Tickets.HoldTickets, Tickets.IsTicketOf, Watched.Reading, Watched.Writing}
 use Rattle.cred_cli.specs.{declared.answer.AnswerLine.AnswerLine, declared.event.Event.Event, declared.event.Event.TheVariants.Commit}
-use Rattle.cred_cli.specs.{declared.fault.ScriptFault.ScriptFault, declared.mode.Mode.Mode}
-use Rattle.cred_cli.specs.{declared.mode.Mode.TheVariants.Script, declared.mode.Mode.TheVariants.Service, declared.policy.Policy.Policy}
-use Rattle.cred_cli.proofs.{Bounds.unbounded, Runs.line_ended, Simulation.stale}
+use Rattle.cred_cli.specs.{declared.fault.ScriptFault.ScriptFault, declared.policy.Mode.Mode}
+use Rattle.cred_cli.specs.{declared.policy.Mode.TheVariants.Script, declared.policy.Mode.TheVariants.Service, declared.policy.Policy.Policy}
+use Rattle.cred_cli.proofs.{Bounds.refused-book, Bounds.refused-open, Bounds.unbounded, Feeds.cut_at, Lines.line_ends_longer, Runs.line_ended, Simulation.stale}
 use Rattle.cred_cli.proofs.Fronts.{needs_front, set_before, set_elsewhere, set_here, stands_front, tickets_front}
 use Rattle.std.specs.FinMap as map
 
@@ -27,8 +27,6 @@ module _ (capacity : ℕ) (book : Accounts) (events : List Event) (i : ℕ) (slo
     where
       by_opened : (opened : Option Opened) → open_at capacity book events i key ≡ opened → (task : Option Task) → task ≡ Some may.task → IsTicketOf capacity book events opened task → NeedsHash capacity book events i key
       by_opened None is_none None none h = cc
-      by_opened None is_none (Some task) some h = absurd h
-      by_opened (Some opened) is_some None none h = absurd h
       by_opened (Some opened) is_some (Some task) some h =
           let this : task ≡ may.task = cc in
           let asked : may.task.0 ≡ opened.request = ap (λ (t : Task). t.0) (sym this) ∙ h.0 in
@@ -42,31 +40,7 @@ module _ (capacity : ℕ) (book : Accounts) (events : List Event) (i : ℕ) (slo
             stands = found;
             hashed = rw asked at may.hashed;
           }
-
--- ---- a line that is done or starved
-
-module _ (capacity : ℕ) (book : Accounts) (events : List Event) (i : ℕ) (event : Event) (sound : IsSound event) (here : slice_get events i ≡ Some event) (before mid now : Option (List ℕ)) (accounts : Accounts)
-    (stands : StandsAfter capacity book events i before mid accounts) (slots : List (Option Task)) (held : HoldTickets capacity book events i slots) where
-  wants : (mode : Mode) (may : MayStarve mode accounts slots event) → NeedsHash capacity book events i may.key
-  wants mode may =
-      let bounds = rw may.commits at sound in
-      ticket_needs capacity book events i slots held may.key bounds.0 bounds.1 (here ∙ ap Some may.commits) accounts stands.accounts_are mode event may refl
-
-  pub line_taken : (mode : Mode) (later : Accounts) (left : List (Option Task)) (line : AnswerLine) (failed : Bool) (r : Result (Unit {0}) ScriptFault) → IsDoneOrStarved mode capacity accounts slots event later left line →
-      OnOk r (Appends mid now (line_bytes line)) → IfErr r (WriteFails mid now (line_bytes line) failed) →
-      (then_ : List Event) × TakesLineAs mode capacity book events i before (between now later left) r then_
-  line_taken mode later left line failed r (inl done) written fails =
-      (events, record { becomes = inl refl; ended = line_ended capacity book events i event sound here before mid now accounts stands slots held later left line failed r done written fails })
-  line_taken mode later left line failed r (inr (may, done)) written fails =
-      let then_ = set events i starved in
-      let same = set_before events i starved in (
-        then_,
-        record {
-          becomes = inr (may.answered, may.key, here ∙ ap Some may.commits, wants mode may, refl);
-          ended = line_ended capacity book then_ i starved tt (set_here events i starved (slice_get_within events i event here)) before mid now accounts
-              (stands_front capacity book events then_ i same before mid accounts stands) slots (tickets_front capacity book events then_ i same slots held) later left line failed r done written fails;
-        },
-      )
+      by_opened _ is_open _ some h = absurd h
 
 -- ---- the history goes on
 
@@ -77,10 +51,6 @@ history_asked Service capacity book asked = record { size = refl; each = λ i. i
 pub history-size : (mode : Mode) (capacity : ℕ) (book : Accounts) (asked events : List Event) → IsHistory mode capacity book asked events → length events ≡ length asked
 history-size Script capacity book asked events history = ap length history
 history-size Service capacity book asked events history = history.size
-
--- the events from a place on are what their lines ask for
-abbrev pub IsBehind : ℕ → List Event → List Event → Type 0
-IsBehind i asked events = (j : ℕ) → i ≤ j → slice_get events j ≡ slice_get asked j
 
 module _ (capacity : ℕ) (book : Accounts) (asked events : List Event) (i : ℕ) (behind : IsBehind i asked events) where
   set_behind : IsBehind (suc i) asked (set events i starved)
@@ -120,48 +90,75 @@ module _ (capacity : ℕ) (book : Accounts) (asked events : List Event) (i : ℕ
             }))
       ]
 
--- what a line makes of the history
-pub record Grows (mode : Mode) (capacity : ℕ) (book : Accounts) (asked events now : List Event) (i : ℕ) : Type 0 where
-  pub same : IsSameBefore i events now
-  pub history : IsHistory mode capacity book asked now
-  pub behind : IsBehind (suc i) asked now
+starved_history : (mode : Mode) (capacity : ℕ) (book : Accounts) (asked events : List Event) (i : ℕ) → IsBehind i asked events → mode ≡ Service → IsHistory mode capacity book asked events →
+    (key : ℕ) → slice_get events i ≡ Some (Commit key) → NeedsHash capacity book events i key → IsHistory mode capacity book asked (set events i starved)
+starved_history Script capacity book asked events i behind answered history key here needs = cc answered
+starved_history Service capacity book asked events i behind answered history key here needs = set_served capacity book asked events i behind history key here needs
 
-pub grows : (mode : Mode) (capacity : ℕ) (book : Accounts) (asked events now : List Event) (i : ℕ) → IsHistory mode capacity book asked events → IsBehind i asked events → Becomes mode capacity book events i now →
-    Grows mode capacity book asked events now i
-grows mode capacity book asked events now i history behind (inl is) =
-    rw is (record { same = λ j before. refl; history = history; behind = λ j after. behind j (omega (arith, after)) })
-grows Script capacity book asked events now i history behind (inr (answered, key, here, needs, is)) = cc answered
-grows Service capacity book asked events now i history behind (inr (answered, key, here, needs, is)) = rw is (record {
-  same = set_before events i starved;
-  history = set_served capacity book asked events i behind history key here needs;
-  behind = set_behind capacity book asked events i behind;
-})
+-- ---- a line that is done or starved
+
+module _ (policy : Policy) (capacity : ℕ) (script : ScriptStart) (i : ℕ) (event : Event) (sound : IsSound event) (here : slice_get script.events i ≡ Some event) (old : Standing) (at : IsAtLine policy capacity script i old) where
+  abbrev asks : List Event
+  asks = events_by policy.mode policy.most script.bytes
+
+  wants : (mode : Mode) (may : MayStarve mode old.accounts old.slots event) → NeedsHash capacity script.book script.events i may.key
+  wants mode may =
+      let bounds = rw may.commits at sound in
+      ticket_needs capacity script.book script.events i old.slots at.0.tickets may.key bounds.0 bounds.1 (here ∙ ap Some may.commits) old.accounts at.0.stands.accounts_are mode event may refl
+
+  pub line_taken : (new : Standing) (line : AnswerLine) (failed : Bool) (r : Result (Unit {0}) ScriptFault) → IsDoneOrStarved policy.mode capacity old.accounts old.slots event new.accounts new.slots line →
+      OnOk r (Appends old.written new.written (line_bytes line)) → IfErr r (WriteFails old.written new.written (line_bytes line) failed) →
+      GoesOn policy capacity script i (λ after _. IsAtLine policy capacity after (suc i) new) old new r
+  line_taken new line failed r (inl done) written fails = record {
+    events = script.events;
+    same = λ j before. refl;
+    history = at.0.history;
+    ended = line_ended policy capacity script i event sound here old at.0 (λ j after. at.1 j (omega (arith, after))) new line failed r done written fails;
+  }
+  line_taken new line failed r (inr (may, done)) written fails =
+      let then_ = set script.events i starved in
+      let same = set_before script.events i starved in
+      let history = starved_history policy.mode capacity script.book asks script.events i at.1 may.answered at.0.history may.key (here ∙ ap Some may.commits) (wants policy.mode may) in
+      record {
+        events = then_;
+        same = same;
+        history = history;
+        ended = line_ended policy capacity (with_events script then_) i starved tt (set_here script.events i starved (slice_get_within script.events i event here)) old
+            (record {
+              history = history;
+              stands = stands_front capacity script.book script.events then_ i same script.before old.written old.accounts at.0.stands;
+              tickets = tickets_front capacity script.book script.events then_ i same old.slots at.0.tickets;
+            })
+            (set_behind capacity script.book asks script.events i at.1) new line failed r done written fails;
+      }
 
 -- ---- the script goes on
 
-pub goes_nowhere : (policy : Policy) (capacity : ℕ) (script : ScriptStart) (i : ℕ) → IsHistory policy.mode capacity script.book (events_by policy.mode policy.most script.bytes) script.events → GoesOn policy capacity script i script.events
-goes_nowhere policy capacity script i history = record { same = λ j before. refl; history = history }
+pub takes_none : (policy : Policy) (capacity : ℕ) (s : Standing) → Takes policy capacity [] s s (Ok tt)
+takes_none policy capacity s script front rest cut at =
+    record { events = script.events; same = λ j before. refl; history = at.place.0.history; ended = rw append-nil at }
 
-pub goes_then : (policy : Policy) (capacity : ℕ) (script : ScriptStart) (events later : List Event) (i k : ℕ) → i ≤ k → GoesOn policy capacity script i events → GoesOn policy capacity (with_events script events) k later →
-    GoesOn policy capacity script i later
-goes_then policy capacity script events later i k le first then_ =
-    record { same = λ j before. then_.same j (omega (arith, before, le)) ∙ first.same j before; history = then_.history }
+-- some bytes, and then others
+pub takes_then : (policy : Policy) (capacity : ℕ) (xs ys : List ℕ) (a b d : Standing) (r : Result (Unit {0}) ScriptFault) → Takes policy capacity xs a b (Ok tt) → Takes policy capacity ys b d r → b.progress.limit ≡ a.progress.limit →
+    Takes policy capacity (xs ++ ys) a d r
+takes_then policy capacity xs ys a b d r first then_ limit script front rest cut at =
+    let one = first script front (ys ++ rest) (cut ∙ simp append_assoc) at in
+    let two = then_ (with_events script one.events) (front ++ xs) rest (cut ∙ simp append_assoc) one.ended in
+    record {
+      events = two.events;
+      same = λ j before. two.same j (omega (arith, before, line_ends_longer front xs)) ∙ one.same j before;
+      history = two.history;
+      ended = subst (λ n. MatchResult r (λ _. IsAt policy capacity (with_events script two.events) (front ++ (xs ++ ys)) d) (λ e. (left : Option (List ℕ)) → FailsAs n capacity (with_events script two.events) left d.written d.accounts e)) limit
+          (subst (λ zs. MatchResult r (λ _. IsAt policy capacity (with_events script two.events) zs d) (Breaks capacity (with_events script two.events) b d)) (append_assoc front xs ys) two.ended);
+    }
 
--- the limit stays the same
-pub fails_within : (longest within capacity : ℕ) (script : ScriptStart) (now : Option (List ℕ)) (accounts : Accounts) (e : ScriptFault) → within ≡ longest → ((left : Option (List ℕ)) → FailsAs within capacity script left now accounts e) →
-    (left : Option (List ℕ)) → FailsAs longest capacity script left now accounts e
-fails_within longest within capacity script now accounts e same fails left = rw (← same) (fails left)
-
-pub at_again : (policy : Policy) (capacity : ℕ) (script : ScriptStart) (front : List ℕ) (s : Standing) → IsAt policy capacity script front s → IsAt policy capacity (with_events script script.events) front s
-at_again policy capacity script front s at = record {
-  history = at.history;
-  behind = at.behind;
-  stands = at.stands;
-  tickets = at.tickets;
-  lines_are = at.lines_are;
-  start_is = at.start_is;
-  taken_is = at.taken_is;
-}
+-- a fault behind the first of them
+pub takes_in_part : (policy : Policy) (capacity : ℕ) (bytes : List ℕ) (i : ℕ) (a b d : Standing) (e : ScriptFault) → i < length bytes → Takes policy capacity (take i bytes) a b (Ok tt) → Takes policy capacity (get_or bytes i 0 ∷ []) b d (Err e) →
+    b.progress.limit ≡ a.progress.limit → Takes policy capacity bytes a d (Err e)
+takes_in_part policy capacity bytes i a b d e within first then_ limit script front rest cut at =
+    let seam : script.bytes ≡ (front ++ (take i bytes ++ get_or bytes i 0 ∷ [])) ++ (drop (suc i) bytes ++ rest) = cut ∙ ap (λ xs. (front ++ xs) ++ rest) (sym (cut_at bytes i within)) ∙ simp append_assoc in
+    let one = takes_then policy capacity (take i bytes) (get_or bytes i 0 ∷ []) a b d (Err e) first then_ limit script front (drop (suc i) bytes ++ rest) seam at in
+    record { events = one.events; same = one.same; history = one.history; ended = one.ended }
 
 -- ---- a run that ends where memory is refused
 
@@ -192,3 +189,5 @@ module _ (longest capacity : ℕ) (r : Reading) (w : Writing) (old new : Account
 pub starved-answer : (capacity : ℕ) (book : Accounts) (asked events : List Event) (i : ℕ) → IsStarved capacity book asked events i → line_of (answer_at capacity book events i) ≡ codes "bad 4 memory" ++ 10 ∷ []
 unfolding digits
 starved-answer capacity book asked events i was = ap (λ e. line_of (answer_of capacity book events i e)) was.refused ∙ refl
+
+pub ruleset starved_laws = (refused-book, refused-open)

@@ -53,17 +53,20 @@ abbrev pub only_name : List (List ℕ) → Result (List ℕ) Refusal
 only_name (x ∷ []) = name_field x
 only_name _ = Err Line
 
+-- `NAME` and one field more
+abbrev pub name_and : {V : Type 0} → (List ℕ → Result V Refusal) → List (List ℕ)
+    → Result (List ℕ × V) Refusal
+name_and read (x ∷ text ∷ []) =
+    name_field x >>= λ name. read text >>= λ value. Ok (name, value)
+name_and read _ = Err Line
+
 -- `NAME RECORD`
 abbrev pub name_and_record : List (List ℕ) → Result (List ℕ × RecordValue) Refusal
-name_and_record (x ∷ text ∷ []) =
-    name_field x >>= λ name. record_field text >>= λ stored. Ok (name, stored)
-name_and_record _ = Err Line
+name_and_record fields = name_and record_field fields
 
 -- `NAME PW`
 abbrev pub name_and_password : List (List ℕ) → Result (List ℕ × List ℕ) Refusal
-name_and_password (x ∷ p ∷ []) =
-    name_field x >>= λ name. password_field p >>= λ pw. Ok (name, pw)
-name_and_password _ = Err Line
+name_and_password fields = name_and password_field fields
 
 -- the setting that a line gives, or the one that is drawn; with more fields it is refused first
 abbrev pub own_setting : List (List ℕ) → Option SettingValue

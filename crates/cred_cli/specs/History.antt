@@ -71,8 +71,7 @@ book_after book deeds = fold after book deeds
 abbrev pub same_entry : Option (Option RecordValue) → Option (Option RecordValue) → Bool
 same_entry None None = true
 same_entry (Some a) (Some b) = same a b
-same_entry None (Some b) = false
-same_entry (Some a) None = false
+same_entry _ _ = false
 
 -- after these deeds the account's record isn't the one that stood at the begin's place
 unfoldable pub is_stale : Accounts → List (Option Deed) → Opened → Bool

@@ -81,5 +81,4 @@ ScriptFails capacity book bytes left before now accounts e =
 abbrev pub HasCause : Bool → Bool → ScriptFault → Type 0
 HasCause reader_failed writer_failed Read = reader_failed ≡ true
 HasCause reader_failed writer_failed Write = writer_failed ≡ true
-HasCause reader_failed writer_failed Memory = Unit {0}
-HasCause reader_failed writer_failed TooLong = Unit {0}
+HasCause reader_failed writer_failed _ = Unit {0}

@@ -1,17 +1,17 @@
 -- The history of a service. A last line without its end is refused. So may a commit be for whose
 -- hash there is no memory; it does nothing then, and its number stays open.
-use Rattle.std.specs.Prelude.{◌≡◌, ◌⊎◌, ℕ, ◌<◌, ◌≤◌, Bool, true, false, Option, Some, None, List, length, slice_get, slice_set, IfErr, IfOk, IfSome, OnOk, Result}
+use Rattle.std.specs.Prelude.{◌≡◌, ◌⊎◌, ℕ, ◌<◌, ◌≤◌, Bool, true, false, Option, Some, is_none, is_some, List, length, slice_get, IfErr, IfOk, IfSome, OnOk, Result}
 use Rattle.std.specs.FinMap as map
 use Rattle.cred_phc.specs.Values.{RecordValue}
 use Rattle.cred_book.specs.{Accounts.Accounts, Works.name_of, declared.error.BookError.TheVariants.Memory, declared.request.Request.Request}
-use Rattle.cred_book.specs.declared.request.Request.TheVariants.{Enrol, Verify, Change, Upgrade, Remove}
+use Rattle.cred_book.specs.declared.request.Request.TheVariants.{Enrol}
 use Rattle.cred_cli.specs.{Costs.events_within, History.Opened, History.book_at, History.deeds_before, History.is_stale, History.open_at}
 use Rattle.cred_cli.specs.{Outcome.FailsAs, Outcome.IsAnsweredAs, Outcome.longest_service, Prompt.IsPrompt}
 use Rattle.cred_cli.specs.{Script.ScriptStart, Script.start_as, Script.with_unended, Watched.Reading, Watched.Writing, declared.costs.CostBounds.CostBounds}
 use Rattle.cred_cli.specs.{declared.event.Event.Event, declared.event.Event.TheVariants.Commit, declared.event.Event.TheVariants.Bad}
-use Rattle.cred_cli.specs.{declared.fault.ScriptFault.ScriptFault, declared.policy.Policy.Policy}
+use Rattle.cred_cli.specs.{declared.fault.ScriptFault.ScriptFault}
 use Rattle.cred_cli.specs.{declared.refusal.Refusal.TheVariants.Book, declared.refusal.Refusal.TheVariants.Line, declared.script.End.End}
-use Rattle.cred_cli.specs.{declared.mode.Mode.Mode, declared.mode.Mode.TheVariants.Script, declared.mode.Mode.TheVariants.Service}
+use Rattle.cred_cli.specs.{declared.policy.Mode.Mode, declared.policy.Mode.TheVariants.Script, declared.policy.Mode.TheVariants.Service}
 
 -- ---- what is asked
 
@@ -33,16 +33,8 @@ starved = Bad (Book Memory)
 
 -- the whole operation at this record hashes: it makes a first record, or compares a password
 abbrev pub hashes : Request → Option RecordValue → Bool
-hashes (Enrol name pw setting) None = true
-hashes (Enrol name pw setting) (Some stored) = false
-hashes (Verify name pw) None = false
-hashes (Verify name pw) (Some stored) = true
-hashes (Change name pw new setting) None = false
-hashes (Change name pw new setting) (Some stored) = true
-hashes (Upgrade name pw setting) None = false
-hashes (Upgrade name pw setting) (Some stored) = true
-hashes (Remove name pw) None = false
-hashes (Remove name pw) (Some stored) = true
+hashes (Enrol name pw setting) stored = is_none stored
+hashes _ stored = is_some stored
 
 -- a commit of this number at place i needs a hash: it closes a begin, isn't stale, and the whole
 -- operation hashes at the record that stands
@@ -97,16 +89,3 @@ IsHistory Service capacity book asked events = IsServed capacity book asked even
 -- the same events before place i
 abbrev pub IsSameBefore : ℕ → List Event → List Event → Type 0
 IsSameBefore i old new = (j : ℕ) → j < i → slice_get new j ≡ slice_get old j
-
--- how a script's events may change while the lines from place i on are answered
-pub record GoesOn (policy : Policy) (capacity : ℕ) (script : ScriptStart) (i : ℕ)
-    (events : List Event) : Type 0 where
-  pub same : IsSameBefore i script.events events
-  pub history : IsHistory policy.mode capacity script.book
-      (events_by policy.mode policy.most script.bytes) events
-
--- how they may change while the line at place i is
-abbrev pub Becomes : Mode → ℕ → Accounts → List Event → ℕ → List Event → Type 0
-Becomes mode capacity book events i now = (now ≡ events)
-    ⊎ ((mode ≡ Service) × (key : ℕ) × (slice_get events i ≡ Some (Commit key))
-    × NeedsHash capacity book events i key × (now ≡ slice_set events i starved))

@@ -2,7 +2,7 @@
 use Rattle.std.specs.Prelude.{ℕ}
 use Rattle.cred_cli.specs.{declared.exit_status.ExitStatus.ExitStatus, declared.fault.ScriptFault.ScriptFault}
 use Rattle.cred_cli.specs.declared.exit_status.ExitStatus.TheVariants.{Done, Refused, Failed, OutOfMemory, No}
-use Rattle.cred_cli.specs.declared.fault.ScriptFault.TheVariants.{Read, Write, Memory, TooLong}
+use Rattle.cred_cli.specs.declared.fault.ScriptFault.TheVariants.{Memory}
 
 abbrev pub status_number : ExitStatus → ℕ
 status_number Done = 0
@@ -13,7 +13,5 @@ status_number No = 4
 
 -- that of a script that met a fault
 abbrev pub status_of : ScriptFault → ExitStatus
-status_of Read = Failed
-status_of Write = Failed
-status_of TooLong = Failed
 status_of Memory = OutOfMemory
+status_of _ = Failed

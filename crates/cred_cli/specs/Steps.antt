@@ -4,9 +4,9 @@ use Rattle.cred_phc.specs.Values.{RecordValue}
 use Rattle.cred_book.specs.{Accounts.Accounts, Commits.commit_outcome, Works.Task, Works.name_of, declared.reply.Reply.Reply, declared.request.Request.Request}
 use Rattle.cred_book.specs.declared.error.BookError.TheVariants.{Exists, Full, NoAccount}
 use Rattle.cred_cli.specs.History.{Answer, Done, Begun, Changed, Replied, Refused, show_answer}
-use Rattle.cred_cli.specs.{Outcome.FrontWritten, Outcome.StandsAfter, Outcome.StopsIn, declared.event.Event.Event, declared.fault.ScriptFault.ScriptFault}
+use Rattle.cred_cli.specs.{Outcome.FrontWritten, declared.event.Event.Event, declared.fault.ScriptFault.ScriptFault}
 use Rattle.cred_cli.specs.declared.event.Event.TheVariants.{Account, Load, Show, Begin, Commit, Bad}
-use Rattle.cred_cli.specs.declared.fault.ScriptFault.TheVariants.{Read, Write, Memory, TooLong}
+use Rattle.cred_cli.specs.declared.fault.ScriptFault.TheVariants.{Write}
 use Rattle.cred_cli.specs.declared.refusal.Refusal.TheVariants.{Book, Busy, Idle}
 use Rattle.std.specs.FinMap as map
 use Rattle.cred_book.specs.declared.reply.Reply.TheVariants as reply
@@ -36,17 +36,7 @@ begin_step book slots key request =
 
 abbrev pub reply_answer : Reply → Answer
 reply_answer (reply.Changed now) = Changed
-reply_answer reply.Enrolled = Replied reply.Enrolled
-reply_answer reply.Exists = Replied reply.Exists
-reply_answer reply.Yes = Replied reply.Yes
-reply_answer reply.No = Replied reply.No
-reply_answer reply.Absent = Replied reply.Absent
-reply_answer reply.Replaced = Replied reply.Replaced
-reply_answer reply.Wrong = Replied reply.Wrong
-reply_answer reply.Upgraded = Replied reply.Upgraded
-reply_answer reply.Kept = Replied reply.Kept
-reply_answer reply.Removed = Replied reply.Removed
-reply_answer reply.NoAccount = Replied reply.NoAccount
+reply_answer other = Replied other
 
 abbrev pub commit_step_at : Accounts → List (Option Task) → ℕ → Option Task → Step
 commit_step_at book slots key None = stay (Refused Idle) book slots
@@ -72,16 +62,6 @@ step capacity book slots (Begin key request) = begin_step book slots key request
 step capacity book slots (Commit key) = commit_step book slots key
 step capacity book slots (Bad why) = stay (Refused why) book slots
 
--- what stands if a line met a fault
-abbrev pub LineFails : ℕ → Accounts → List Event → ℕ → Option (List ℕ) → Option (List ℕ) → Accounts
-    → ScriptFault → Type 0
-LineFails capacity book events i before now accounts Memory =
-    StandsAfter capacity book events i before now accounts
-LineFails capacity book events i before now accounts Write =
-    StopsIn capacity book events i before now accounts
-LineFails capacity book events i before now accounts Read = ⊥
-LineFails capacity book events i before now accounts TooLong = ⊥
-
--- how writing them ends if it doesn't end well
+-- how writing some bytes ends if it doesn't end well
 abbrev pub WriteFails : Option (List ℕ) → Option (List ℕ) → List ℕ → Bool → ScriptFault → Type 0
 WriteFails before now bytes failed e = (e ≡ Write) × (failed ≡ true) × FrontWritten before now bytes

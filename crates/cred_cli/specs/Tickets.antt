@@ -7,12 +7,11 @@ use Rattle.cred_cli.specs.{declared.event.Event.Event, History.Opened, History.b
 -- a ticket is the begin's request, with the record of its name in the book at the begin's place
 abbrev pub IsTicketOf : ℕ → Accounts → List Event → Option Opened → Option Task → Type 0
 IsTicketOf capacity book events None None = Unit {0}
-IsTicketOf capacity book events None (Some task) = ⊥
-IsTicketOf capacity book events (Some opened) None = ⊥
 IsTicketOf capacity book events (Some opened) (Some task) =
     (task.0 ≡ opened.request)
     × (map.get (book_at capacity book events opened.place) (name_of opened.request)
     ≡ Some task.1)
+IsTicketOf capacity book events _ _ = ⊥
 
 -- each number that is open at place i has its ticket
 pub record HoldTickets (capacity : ℕ) (book : Accounts) (events : List Event) (i : ℕ)

@@ -1,5 +1,5 @@
 -- What is seen of a watched reader or writer.
-use Rattle.std.specs.Prelude.{◌≡◌, ℕ, Bool, true, false, List, [], ◌++◌, Option, Some, Result, MatchResult, drop, length, map, take}
+use Rattle.std.specs.Prelude.{◌≡◌, ℕ, Bool, true, false, List, [], ◌++◌, Option, Some, None, Result, MatchResult, drop, length, map, take}
 use Rattle.std.specs.Io.KnownBytes.{Appends, Consumes}
 use Rattle.cred_cli.specs.{Calls.Call, declared.watched.Watched.Watched}
 
@@ -151,9 +151,4 @@ writing contents old new = writing_on Contract contents old new
 
 -- by its transcript
 abbrev pub transcript_writing : {W : Type 0} → Watched W → Watched W → Writing
-transcript_writing old new = record {
-  before = Some (taken_of old);
-  now = Some (taken_of new);
-  failed = failed_of new;
-  name = name_of old;
-}
+transcript_writing old new = writing_on (Transcript []) (λ _. None) old new

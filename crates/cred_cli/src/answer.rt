@@ -11,8 +11,7 @@ use crate::event::Event;
 use crate::fault::ScriptFault;
 use crate::keeper_by::KeeperBy;
 use crate::key::Key;
-use crate::mode::Mode;
-use crate::policy::Engine;
+use crate::policy::{Engine, Mode};
 use crate::refusal::Refusal;
 use crate::tickets::Tickets;
 use crate::watched::Watched;
@@ -190,10 +189,7 @@ fn hashes(request: &Request, stored: &Option<Record>) -> bool
 {
     match request {
         Request::Enrol { .. } => stored.is_none(),
-        Request::Verify { .. }
-        | Request::Change { .. }
-        | Request::Upgrade { .. }
-        | Request::Remove { .. } => stored.is_some(),
+        _ => stored.is_some(),
     }
 }
 

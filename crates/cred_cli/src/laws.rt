@@ -12,6 +12,7 @@ ghost use Rattle.std.specs.FinMap as map;
 
 /// The law that the names that a history counts are those of the book that it leaves, at every
 /// place.
+#[tactic(auto, using(crate::proofs::Names::same_names))]
 pub fn names_are_the_books()
     ensures among { (capacity : ℕ) (book : Accounts) (events : List Event) (i : ℕ) (name : List ℕ)
         → map.contains_key (book_at capacity book events i) name
@@ -22,6 +23,7 @@ pub fn names_are_the_books()
 
 /// The law that what was done before an earlier place is the front of what was done before a later
 /// one.
+#[tactic(auto, using(crate::proofs::Names::take_done))]
 pub fn history_is_a_front()
     ensures { (capacity : ℕ) (book : Accounts) (events : List Event) (j i : ℕ) → j ≤ i
         → take j (deeds_before capacity book events i) ≡ deeds_before capacity book events j }
@@ -29,6 +31,7 @@ pub fn history_is_a_front()
 
 /// The law that a starved commit changes nothing: the book stays, and so does each open number,
 /// its own too; and its answer is `bad 4 memory`.
+#[tactic(auto, using(crate::proofs::Starvings::starved_laws))]
 pub fn starved_commits_change_nothing()
     ensures book { (capacity : ℕ) (book : Accounts) (asked events : List Event) (i : ℕ)
         → IsStarved capacity book asked events i
@@ -44,6 +47,7 @@ pub fn starved_commits_change_nothing()
 /// The law that what is within bounds brings no setting or record that asks for more, and that a
 /// line that does is refused: the book stays, and so does each open number; and its answer is
 /// `bad 18 costly`.
+#[tactic(auto, using(crate::proofs::Bounds::costly_laws))]
 pub fn costly_lines_change_nothing()
     ensures within { (most : CostBounds) (event : Event)
         → is_costly most (within most event) ≡ false }
@@ -62,6 +66,7 @@ pub fn costly_lines_change_nothing()
 
 /// The law that a line that asks for something is its event's word and fields with one space
 /// between, each field one that the value is read from.
+#[tactic(auto, using(crate::proofs::EventLines::event_line))]
 pub fn line_is_its_events()
     ensures { (line : List ℕ) → (words : List (List ℕ)) × (line ≡ join_with_byte 32 words)
         × IsLineOf (event_of line) words }
@@ -70,6 +75,7 @@ pub fn line_is_its_events()
 /// The law that a prompt call on a reader found what was written before and then the answers to the
 /// whole lines of the bytes that had come, with the book after them, whatever these bytes are; and
 /// that there are no more prompt calls than bytes, and one.
+#[tactic(auto, using(crate::proofs::Prompts::prompt_laws))]
 pub fn prompt_calls_are_answered()
     ensures stands { (capacity : ℕ) (book accounts : Accounts) (front rest before now : List ℕ)
         (name : ℕ) (call : Call) → call.left ≡ Some rest → call.written ≡ Some now

@@ -4,7 +4,6 @@ ghost use Rattle.std.specs.Prelude.{◌≡◌, [], ◌∷◌, ◌++◌, ◌≤�
 ghost use Rattle.cred_cli.specs.{Events.most_kept, Outcome.longest_service};
 
 use crate::event::LONGEST_LINE;
-use crate::limit::Limit;
 use std::marker::Model;
 
 /// How many bytes of a line are kept: one more than a line may have, as a longer one is refused
@@ -71,7 +70,7 @@ pub(crate) struct Progress {
     /// How many bytes were taken.
     pub(crate) taken: u64,
     /// How many may be taken.
-    pub(crate) limit: Limit,
+    pub(crate) limit: u64,
 
     ghost fewer_lines: { lines ≤ taken },
     ghost not_too_long: { taken ≤ limit },
@@ -79,7 +78,8 @@ pub(crate) struct Progress {
 }
 
 impl Progress {
-    pub(crate) fn new(limit: Limit) -> Progress
+    pub(crate) fn new(limit: u64) -> Progress
+        requires { limit ≤ longest_service }
         ensures start { result.start ≡ [] }
         ensures lines { result.lines ≡ 0 }
         ensures taken { result.taken ≡ 0 }

@@ -2,14 +2,15 @@
 //! answered.
 
 ghost use Rattle.std.specs.Prelude.{◌≡◌, ◌+◌, ◌≤◌, false, true, List, [], ◌∷◌, length, Some, IfErr, IfSome, OnOk};
-ghost use Rattle.cred_cli.specs.{Feeding.Finishes, Feeding.IsAt, Feeding.Plays, Feeding.Takes, Feeding.standing, Outcome.HasCause, declared.event.Event.Event};
+ghost use Rattle.cred_cli.specs.{Events.IsSound, Outcome.HasCause, Outcome.longest_service, declared.event.Event.Event, declared.progress.Progress.Progress};
+ghost use Rattle.cred_cli.specs.Feeding.{Finishes, IsAt, Plays, Takes, TakesLine, standing, standing_at};
 ghost use Rattle.cred_cli.specs.{Script.ScriptStart, Script.start_as, Starving.EndsAs, Starving.IsHistory, Starving.events_by};
 ghost use Rattle.cred_cli.specs.Watched.{Basis, Fits, GivesAsContracted, IsNew, IsWritten, TakesAsContracted, calls_of, ended_of, failed_of, held_on, left_on, reading_on, writing_on};
 
+use crate::answer::do_event;
+use crate::event::Event;
 use crate::fault::ScriptFault;
 use crate::keeper_by::KeeperBy;
-use crate::limit::Limit;
-use crate::line::answer_line;
 use crate::policy::Engine;
 use crate::progress::Progress;
 use crate::script::End;
@@ -24,11 +25,12 @@ const CHUNK: usize = 4096;
 /// Answers the lines that the reader gives, to its end or to the limit.
 pub(crate) fn answer_all<Way, T: Threads + Sync, K: KeeperBy<Way, T>, R: Read, W: Write>(
     engine: &Engine<'_, T>,
-    limit: Limit,
+    limit: u64,
     keeper: &mut K,
     reader: &mut Watched<R>,
     writer: &mut Watched<W>,
 ) -> Result<End, ScriptFault>
+    requires countable { limit ≤ longest_service }
     requires new_reader { IsNew reader.old }
     requires new_writer { IsNew writer.old }
     ensures ended { (basis : Basis) → Fits basis reader.new
@@ -51,6 +53,27 @@ pub(crate) fn answer_all<Way, T: Threads + Sync, K: KeeperBy<Way, T>, R: Read, W
     let progress = Progress::new(limit);
     let mut run = Run { tickets, progress };
     run.read_all(engine, keeper, reader, writer)
+}
+
+/// Does what a line comes to, and writes its answer.
+fn answer_line<Way, T: Threads + Sync, K: KeeperBy<Way, T>, W: Write>(
+    engine: &Engine<'_, T>,
+    keeper: &mut K,
+    tickets: &mut Tickets,
+    writer: &mut Watched<W>,
+    event: Event,
+) -> Result<(), ScriptFault>
+    requires { IsSound event }
+    ensures answered { (basis : Basis) (progress : Progress)
+        → TakesLine engine.now.policy K.capacity event
+        (standing_at (held_on basis W.contents writer.old) (K.book keeper.old) tickets.old progress)
+        (standing_at (held_on basis W.contents writer.new) (K.book keeper.new) tickets.new progress)
+        result }
+    ensures written { IsWritten W.contents writer.old writer.new }
+    ensures cause { IfErr result (HasCause false (failed_of writer.new)) }
+{
+    let answer = do_event(engine, keeper, tickets, event)?;
+    answer.write_to(writer)
 }
 
 /// The open tickets of a script, and how far it has been read.
@@ -77,7 +100,7 @@ impl Run {
         ensures written { IsWritten W.contents writer.old writer.new }
         ensures cause { IfErr result (HasCause false (failed_of writer.new)) }
     {
-        if self.progress.limit.is_reached(self.progress.taken) {
+        if self.progress.taken >= self.progress.limit {
             return Err(ScriptFault::TooLong);
         }
         if byte != b'\n' {

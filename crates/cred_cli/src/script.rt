@@ -8,9 +8,7 @@ ghost use Rattle.cred_cli.specs.Watched.{GivesAsContracted, IsNew, MayFollow, Ta
 use crate::costs::CostBounds;
 use crate::fault::ScriptFault;
 use crate::keeper_by::{KeeperBy, Waiting};
-use crate::limit::Limit;
-use crate::mode::Mode;
-use crate::policy::{Engine, Policy};
+use crate::policy::{Engine, Mode, Policy};
 use crate::run::answer_all;
 use crate::tools::Tools;
 use crate::watched::Watched;
@@ -19,6 +17,9 @@ use std::alloc::Global;
 use std::io::{Read, Write};
 use std::sync::Wait;
 use std::thread::Threads;
+
+/// The longest script in bytes.
+const LONGEST_SCRIPT: u64 = 1048576;
 
 /// How a script ended that met no fault.
 #[derive(Clone, Copy, Debug, PartialEq, Eq)]
@@ -130,5 +131,5 @@ pub fn run_script_by<Way, T: Threads + Sync, K: KeeperBy<Way, T>, R: Read, W: Wr
             most: CostBounds::none(),
         },
     };
-    answer_all(&engine, Limit::script(), keeper, reader, writer)
+    answer_all(&engine, LONGEST_SCRIPT, keeper, reader, writer)
 }

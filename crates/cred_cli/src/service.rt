@@ -7,15 +7,16 @@ ghost use Rattle.cred_cli.specs.Watched.{GivesAsContracted, IsNew, MayFollow, Ta
 use crate::costs::CostBounds;
 use crate::fault::ScriptFault;
 use crate::keeper_by::KeeperBy;
-use crate::limit::Limit;
-use crate::mode::Mode;
-use crate::policy::{Engine, Policy};
+use crate::policy::{Engine, Mode, Policy};
 use crate::run::answer_all;
 use crate::script::End;
 use crate::tools::Tools;
 use crate::watched::Watched;
 use std::io::{Read, Write};
 use std::thread::Threads;
+
+/// How many bytes a service reads at most: their count and that of the lines fit.
+const LONGEST_SERVICE: u64 = u64::MAX - 1;
 
 /// Answers lines as [`run_script`](crate::run_script) does, however many come.
 ///
@@ -69,5 +70,5 @@ pub fn serve<Way, T: Threads + Sync, K: KeeperBy<Way, T>, R: Read, W: Write>(
             most,
         },
     };
-    answer_all(&engine, Limit::service(), keeper, reader, writer)
+    answer_all(&engine, LONGEST_SERVICE, keeper, reader, writer)
 }

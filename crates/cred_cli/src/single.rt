@@ -76,28 +76,24 @@ fn to_hash(text: &str, pw: Option<&str>) -> Result<(Setting, Password), Refusal>
     ensures { result ≡ to_hash text.now (option_map (λ s. s.now) pw.entry) }
 {
     let setting = fields::setting(text.as_bytes())?;
-    let pw = password_word(pw)?;
-    Ok((setting, pw))
+    Ok((setting, password_word(pw)?))
 }
 
 fn to_check(text: &str, pw: Option<&str>) -> Result<(Record, Password), Refusal>
     ensures { result ≡ to_check text.now (option_map (λ s. s.now) pw.entry) }
 {
     let stored = fields::stored(text.as_bytes())?;
-    let pw = password_word(pw)?;
-    Ok((stored, pw))
+    Ok((stored, password_word(pw)?))
 }
 
 fn password_word(pw: Option<&str>) -> Result<Password, Refusal>
     ensures { result ≡ password_word (option_map (λ s. s.now) pw.entry) }
 {
-    match pw {
-        None => match Password::new(b"") {
-            Some(pw) => Ok(pw),
-            None => unreachable!(),
-        },
-        Some(text) => Password::from_base64(text.as_bytes()).ok_or(Refusal::Password),
-    }
+    let read = match pw {
+        None => Password::new(b""),
+        Some(text) => Password::from_base64(text.as_bytes()),
+    };
+    read.ok_or(Refusal::Password)
 }
 
 fn hash_line<T: Threads + Sync>(

@@ -1,4 +1,5 @@
 use Rattle.std.proofs.Common.{◌+◌, ◌≤◌, ◌++◌, [], length, refl, sym, append-nil}
+use Rattle.cred_cli.specs.Outcome.{longest_script}
 use Rattle.cred_cli.proofs.{Starvings.Alone, Starvings.as_asked, Starvings.asked_alone, Basis.alone, Basis.answers_of, Basis.as_passed}
 use Rattle.cred_cli.specs.Watched.{Contract, Transcript, given_of, transcript_writing}
 use Rattle.cred_cli.proofs.script.run_script_by.Goals as goal
@@ -7,10 +8,10 @@ pub returns-clause-done : goal.returns-clause-done
 returns-clause-done g c = (as_asked _ _ _ _ _ _ _ _ (rw c.none.ensures at (c.answer_all.ensures.ended Contract tt))).0
 
 pub returns-clause-short : goal.returns-clause-short
-returns-clause-short g c = rw c.script.ensures at (as_asked _ _ _ _ _ _ _ _ (rw c.none.ensures at (c.answer_all.ensures.ended Contract tt))).1
+returns-clause-short g c = (as_asked _ _ _ _ _ _ _ _ (rw c.none.ensures at (c.answer_all.ensures.ended Contract tt))).1
 
 pub returns-clause-fault : goal.returns-clause-fault
-returns-clause-fault g c = rw c.script.ensures at (as_asked _ _ _ _ _ _ _ _ (rw c.none.ensures at (c.answer_all.ensures.ended Contract tt))).2
+returns-clause-fault g c = (as_asked _ _ _ _ _ _ _ _ (rw c.none.ensures at (c.answer_all.ensures.ended Contract tt))).2
 
 pub returns-clause-prompt : goal.returns-clause-prompt
 returns-clause-prompt g c = (as_asked _ _ _ _ _ _ _ _ (rw c.none.ensures at (c.answer_all.ensures.ended Contract tt))).3
@@ -25,8 +26,8 @@ returns-clause-transcript g c = λ rest may.
     let reader = c.answer_all.new.reader in
     let writing = transcript_writing c.args.writer.now c.answer_all.new.writer in
     let told = rw c.none.ensures at (c.answer_all.ensures.ended (Transcript (given_of reader ++ rest)) (rest, refl, may)) in
-    rw c.script.ensures at (asked_alone _ _ _ writing _ _ _ _ (as_passed g.R.Read.remaining c.args.reader.now reader rest _ c.requires.new_reader.given refl
-    (λ r bytes. Alone c.script.result g.K.Keeper.capacity r writing (g.K.Keeper.book c.args.keeper.now) (g.K.Keeper.book c.answer_all.new.keeper) bytes c.answer_all.result) told))
+    (asked_alone _ _ _ writing _ _ _ _ (as_passed g.R.Read.remaining c.args.reader.now reader rest _ c.requires.new_reader.given refl
+    (λ r bytes. Alone longest_script g.K.Keeper.capacity r writing (g.K.Keeper.book c.args.keeper.now) (g.K.Keeper.book c.answer_all.new.keeper) bytes c.answer_all.result) told))
 
 pub returns-clause-answers : goal.returns-clause-answers
 returns-clause-answers g c =
@@ -34,7 +35,7 @@ returns-clause-answers g c =
     let writing = transcript_writing c.args.writer.now c.answer_all.new.writer in
     let told = rw c.none.ensures at (c.answer_all.ensures.ended (Transcript (given_of reader)) (alone reader)) in
     let ended = asked_alone _ _ _ writing _ _ _ _ (as_passed g.R.Read.remaining c.args.reader.now reader [] _ c.requires.new_reader.given (sym (append-nil (given_of reader)))
-    (λ r bytes. Alone c.script.result g.K.Keeper.capacity r writing (g.K.Keeper.book c.args.keeper.now) (g.K.Keeper.book c.answer_all.new.keeper) bytes c.answer_all.result) told) in
+    (λ r bytes. Alone longest_script g.K.Keeper.capacity r writing (g.K.Keeper.book c.args.keeper.now) (g.K.Keeper.book c.answer_all.new.keeper) bytes c.answer_all.result) told) in
     answers_of g.K.Keeper.capacity (g.K.Keeper.book c.args.keeper.now) (g.K.Keeper.book c.answer_all.new.keeper) (given_of reader) _ _ c.answer_all.result c.requires.new_writer.taken ended.done
 
 pub returns-clause-reads : goal.returns-clause-reads

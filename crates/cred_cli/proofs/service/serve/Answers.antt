@@ -1,12 +1,12 @@
 use Rattle.std.proofs.Common.{◌+◌, ◌≤◌, ◌++◌, List, [], length, refl, sym, append-nil}
 use Rattle.cred_cli.specs.{Outcome.longest_service, Script.start_as, Starving.EndsAs, Starving.IsServed, Starving.events_by}
-use Rattle.cred_cli.specs.{declared.mode.Mode.TheVariants.Service, declared.event.Event.Event}
+use Rattle.cred_cli.specs.{declared.policy.Mode.TheVariants.Service, declared.event.Event.Event}
 use Rattle.cred_cli.specs.Watched.{Contract, Transcript, given_of, transcript_writing}
 use Rattle.cred_cli.proofs.Basis.{alone, as_passed}
 use Rattle.cred_cli.proofs.service.serve.Goals as goal
 
 pub returns-clause-served : goal.returns-clause-served
-returns-clause-served g c = rw c.service.ensures at (c.answer_all.ensures.ended Contract tt)
+returns-clause-served g c = c.answer_all.ensures.ended Contract tt
 
 pub returns-clause-calls : goal.returns-clause-calls
 returns-clause-calls g c = c.answer_all.ensures.few Contract tt
@@ -20,7 +20,7 @@ returns-clause-transcript g c = λ rest may.
     as_passed g.R.Read.remaining c.args.reader.now reader rest _ c.requires.new_reader.given refl
     (λ r bytes. (events : List Event) × IsServed g.K.Keeper.capacity (g.K.Keeper.book c.args.keeper.now) (events_by Service c.args.most bytes) events
     × EndsAs longest_service g.K.Keeper.capacity (start_as (g.K.Keeper.book c.args.keeper.now) bytes writing.before events) r writing (g.K.Keeper.book c.answer_all.new.keeper) c.answer_all.result)
-    (rw c.service.ensures at (c.answer_all.ensures.ended (Transcript (given_of reader ++ rest)) (rest, refl, may)))
+    (c.answer_all.ensures.ended (Transcript (given_of reader ++ rest)) (rest, refl, may))
 
 pub returns-clause-reads : goal.returns-clause-reads
 returns-clause-reads g c =

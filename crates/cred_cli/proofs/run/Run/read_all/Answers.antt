@@ -1,9 +1,9 @@
-use Rattle.std.proofs.Common.{rules, ◌≡◌, arith, sym, refl, ap, ◌∙◌, append-nil, [], ◌≤◌, ◌<◌, ◌+◌, ◌-◌, ◌^◌, length, length-take-le, take}
+use Rattle.std.proofs.Common.{rules, arith, sym, refl, ap, ◌∙◌, append-nil, [], ◌≤◌, ◌<◌, ◌+◌, ◌-◌, ◌^◌, length, length-take-le, take}
 use Rattle.std.proofs.{Math.Nat.min-eq_left, lemmas.List.length-append, lemmas.Result.err_from_is_err_and}
-use Rattle.cred_cli.specs.{Script.line_ends, Script.with_events, Starving.IsSameBefore}
-use Rattle.cred_cli.proofs.Prompts.{prompt_call, read_on, read_to_start}
+use Rattle.cred_cli.specs.Script.{with_events}
+use Rattle.cred_cli.proofs.Prompts.{prompt_call, read_on, read_to_start, run_breaks, run_ends}
 use Rattle.cred_cli.proofs.Readings.{came, came_to_end, cut_behind, kept_left}
-use Rattle.cred_cli.proofs.Basis.{fits_before, found_on, gave_on, gives_more, gives_nothing, kept_on, none_logged, one_logged, unwritten, written_on}
+use Rattle.cred_cli.proofs.Basis.{called_on, fits_before, gave_on, gives_more, gives_nothing, kept_on, none_logged, unwritten, written_on}
 use Rattle.cred_cli.proofs.run.Run.read_all.Goals as goal
 
 pub loop-call-init : goal.loop-call-init
@@ -20,67 +20,43 @@ loop-call-init g c = record {
 
 pub returns-in-Ok-eq0-clause-ended : goal.returns-in-Ok-eq0-clause-ended
 returns-in-Ok-eq0-clause-ended g c = λ basis fits script known at.
-    let found = found_on g.R.Read.remaining g.W.Write.contents c.loop-call.reader c.loop-call.writer (g.K.Keeper.book c.loop-call.keeper) c.loop-call.self _ basis c.loop-call.invariant.written.named in
-    let logged = one_logged basis _ _ _ c.read_beside.ensures.logged in
     let before = fits_before g.R.Read.remaining c.loop-call.reader c.read_beside.new.self basis _ c.in-Ok-eq0.ensures.passed c.loop-call.invariant.ended fits in
-    let gave = gave_on g.R.Read.remaining c.loop-call.reader c.read_beside.new.self basis _ c.read_beside.new.buf c.in-Ok-eq0.ensures.bytes c.in-Ok-eq0.ensures.passed c.in-Ok-eq0.ensures.end fits in
     let read = c.loop-call.invariant.at basis before script known at in
+    let called = called_on g.R.Read.remaining g.W.Write.contents c.loop-call.reader c.loop-call.writer (g.K.Keeper.book c.loop-call.keeper) c.loop-call.self _ basis _ c.loop-call.invariant.written.named c.read_beside.ensures.logged in
+    let gave = gave_on g.R.Read.remaining c.loop-call.reader c.read_beside.new.self basis _ c.read_beside.new.buf c.in-Ok-eq0.ensures.bytes c.in-Ok-eq0.ensures.passed c.in-Ok-eq0.ensures.end fits in
     let none = came_to_end _ _ read.rest _ _ c.in-Ok-eq0.field-0-test read.left_is gave.0 (gave.1 c.in-Ok-eq0.field-0-test (omega (arith, c.loop-call.invariant.size))) in
-    let whole : read.front ≡ script.bytes = sym (rw (none, append-nil) at read.cut) in
-    let at_end = rw whole at read.at in
-    let done = c.in_ok-lines-in-Ok-eq0.ensures.answered basis (with_events script read.events) at_end in
-    let same : IsSameBefore (line_ends read.front) read.events done.0 = λ j before. done.1.goes_on.same j (omega (arith, before, ap line_ends whole)) in (
-      done.0,
-      done.1.goes_on.history,
+    let done = run_ends read none (c.in_ok-lines-in-Ok-eq0.ensures.answered basis) in
+    let size = ap length (sym (rw (none, append-nil) at read.cut)) in (
+      done.events,
+      done.history,
       record {
-        done = done.1.ended;
+        done = done.ended;
         fault = tt;
-        short = omega (arith, at_end.taken_is, c.loop-call.self.progress.not_too_long, c.loop-call.invariant.limit);
-        prompt = prompt_call _ read found logged done.0 same;
+        short = omega (arith, size, read.at.taken_is, c.loop-call.self.progress.not_too_long, c.loop-call.invariant.limit);
+        prompt = prompt_call read called done.events done.same;
       },
     )
 
 pub returns-in_err-lines-in-Ok-eq0-clause-ended : goal.returns-in_err-lines-in-Ok-eq0-clause-ended
 returns-in_err-lines-in-Ok-eq0-clause-ended g c = λ basis fits script known at.
-    let found = found_on g.R.Read.remaining g.W.Write.contents c.loop-call.reader c.loop-call.writer (g.K.Keeper.book c.loop-call.keeper) c.loop-call.self _ basis c.loop-call.invariant.written.named in
-    let logged = one_logged basis _ _ _ c.read_beside.ensures.logged in
     let before = fits_before g.R.Read.remaining c.loop-call.reader c.read_beside.new.self basis _ c.in-Ok-eq0.ensures.passed c.loop-call.invariant.ended fits in
-    let gave = gave_on g.R.Read.remaining c.loop-call.reader c.read_beside.new.self basis _ c.read_beside.new.buf c.in-Ok-eq0.ensures.bytes c.in-Ok-eq0.ensures.passed c.in-Ok-eq0.ensures.end fits in
     let read = c.loop-call.invariant.at basis before script known at in
+    let called = called_on g.R.Read.remaining g.W.Write.contents c.loop-call.reader c.loop-call.writer (g.K.Keeper.book c.loop-call.keeper) c.loop-call.self _ basis _ c.loop-call.invariant.written.named c.read_beside.ensures.logged in
+    let gave = gave_on g.R.Read.remaining c.loop-call.reader c.read_beside.new.self basis _ c.read_beside.new.buf c.in-Ok-eq0.ensures.bytes c.in-Ok-eq0.ensures.passed c.in-Ok-eq0.ensures.end fits in
     let none = came_to_end _ _ read.rest _ _ c.in-Ok-eq0.field-0-test read.left_is gave.0 (gave.1 c.in-Ok-eq0.field-0-test (omega (arith, c.loop-call.invariant.size))) in
-    let whole : read.front ≡ script.bytes = sym (rw (none, append-nil) at read.cut) in
-    let done = c.in_err-lines-in-Ok-eq0.ensures.answered basis (with_events script read.events) (rw whole at read.at) in
-    let same : IsSameBefore (line_ends read.front) read.events done.0 = λ j before. done.1.goes_on.same j (omega (arith, before, ap line_ends whole)) in
-    let told = err_from_is_err_and c.from_residual.result c.from_residual.ensures.1 in (
-      done.0,
-      done.1.goes_on.history,
-      record {
-        done = rw told.1 tt;
-        fault = rw (told.1, told.2, ← c.loop-call.invariant.limit) (done.1.ended _);
-        short = rw told.1 tt;
-        prompt = prompt_call _ read found logged done.0 same;
-      },
-    )
+    let told = err_from_is_err_and c.from_residual.result c.from_residual.ensures.1 in
+    rw (told.1, told.2, ← c.loop-call.invariant.limit) (run_breaks read called _ _ _ refl refl refl (run_ends read none (c.in_err-lines-in-Ok-eq0.ensures.answered basis)))
 
 pub returns-in_err-take_bytes-in-Ok-clause-ended : goal.returns-in_err-take_bytes-in-Ok-clause-ended
 returns-in_err-take_bytes-in-Ok-clause-ended g c = λ basis fits script known at.
-    let found = found_on g.R.Read.remaining g.W.Write.contents c.loop-call.reader c.loop-call.writer (g.K.Keeper.book c.loop-call.keeper) c.loop-call.self _ basis c.loop-call.invariant.written.named in
-    let logged = one_logged basis _ _ _ c.read_beside.ensures.logged in
     let before = fits_before g.R.Read.remaining c.loop-call.reader c.read_beside.new.self basis _ c.in-Ok.ensures.passed c.loop-call.invariant.ended fits in
-    let gave = gave_on g.R.Read.remaining c.loop-call.reader c.read_beside.new.self basis _ c.read_beside.new.buf c.in-Ok.ensures.bytes c.in-Ok.ensures.passed c.in-Ok.ensures.end fits in
     let read = c.loop-call.invariant.at basis before script known at in
+    let called = called_on g.R.Read.remaining g.W.Write.contents c.loop-call.reader c.loop-call.writer (g.K.Keeper.book c.loop-call.keeper) c.loop-call.self _ basis _ c.loop-call.invariant.written.named c.read_beside.ensures.logged in
+    let gave = gave_on g.R.Read.remaining c.loop-call.reader c.read_beside.new.self basis _ c.read_beside.new.buf c.in-Ok.ensures.bytes c.in-Ok.ensures.passed c.in-Ok.ensures.end fits in
     let more = came _ _ read.rest _ read.left_is gave.0 in
+    let told = err_from_is_err_and c.from_residual-in_err-take_bytes-in-Ok.result c.from_residual-in_err-take_bytes-in-Ok.ensures.1 in
     let done = c.in_err-take_bytes-in-Ok.ensures.fed basis (with_events script read.events) read.front more.left (cut_behind script.bytes read.front read.rest _ _ read.cut more.cut) read.at in
-    let told = err_from_is_err_and c.from_residual-in_err-take_bytes-in-Ok.result c.from_residual-in_err-take_bytes-in-Ok.ensures.1 in (
-      done.0,
-      done.1.goes_on.history,
-      record {
-        done = rw told.1 tt;
-        fault = rw (told.1, told.2, ← c.loop-call.invariant.limit) (done.1.ended _);
-        short = rw told.1 tt;
-        prompt = prompt_call _ read found logged done.0 done.1.goes_on.same;
-      },
-    )
+    rw (told.1, told.2, ← c.loop-call.invariant.limit) (run_breaks read called _ _ _ refl refl refl done)
 
 pub returns-in_err-take_bytes-in-Ok-clause-few : goal.returns-in_err-take_bytes-in-Ok-clause-few
 returns-in_err-take_bytes-in-Ok-clause-few g c = λ basis fits script known at.
@@ -94,18 +70,17 @@ returns-in_err-take_bytes-in-Ok-clause-few g c = λ basis fits script known at.
 -- the reader failed
 pub returns-in-Err-clause-ended : goal.returns-in-Err-clause-ended
 returns-in-Err-clause-ended g c = λ basis fits script known at.
-    let found = found_on g.R.Read.remaining g.W.Write.contents c.loop-call.reader c.loop-call.writer (g.K.Keeper.book c.loop-call.keeper) c.loop-call.self _ basis c.loop-call.invariant.written.named in
-    let logged = one_logged basis _ _ _ c.read_beside.ensures.logged in
     let before = fits_before g.R.Read.remaining c.loop-call.reader c.read_beside.new.self basis [] (c.in-Err.ensures.passed ∙ sym (append-nil c.loop-call.reader.given.bytes)) c.loop-call.invariant.ended fits in
-    let kept = kept_on g.R.Read.remaining c.loop-call.reader c.read_beside.new.self basis c.in-Err.ensures.bytes c.in-Err.ensures.passed in
-    let read = c.loop-call.invariant.at basis before script known at in (
+    let read = c.loop-call.invariant.at basis before script known at in
+    let called = called_on g.R.Read.remaining g.W.Write.contents c.loop-call.reader c.loop-call.writer (g.K.Keeper.book c.loop-call.keeper) c.loop-call.self _ basis _ c.loop-call.invariant.written.named c.read_beside.ensures.logged in
+    let kept = kept_on g.R.Read.remaining c.loop-call.reader c.read_beside.new.self basis c.in-Err.ensures.bytes c.in-Err.ensures.passed in (
       read.events,
-      read.at.history,
+      read.at.place.0.history,
       record {
         done = tt;
-        fault = (read.front, kept_left _ _ script.bytes read.front read.rest read.left_is kept read.cut, rw (← read.at.lines_are) read.at.stands);
+        fault = (read.front, kept_left _ _ script.bytes read.front read.rest read.left_is kept read.cut, read.at.place.0.stands);
         short = tt;
-        prompt = prompt_call _ read found logged read.events (λ j before. refl);
+        prompt = prompt_call read called read.events (λ j before. refl);
       },
     )
 
@@ -115,15 +90,14 @@ loop-call-preserved g c =
     let within : c.in-Ok.n ≤ length c.read_beside.new.buf = omega (arith, c.in-Ok.ensures.bound) in
     record {
       at = λ basis fits script known at.
-          let found = found_on g.R.Read.remaining g.W.Write.contents c.loop-call.reader c.loop-call.writer (g.K.Keeper.book c.loop-call.keeper) c.loop-call.self _ basis c.loop-call.invariant.written.named in
-          let logged = one_logged basis _ _ _ c.read_beside.ensures.logged in
           let before = fits_before g.R.Read.remaining c.loop-call.reader c.read_beside.new.self basis _ c.in-Ok.ensures.passed c.loop-call.invariant.ended fits in
-          let gave = gave_on g.R.Read.remaining c.loop-call.reader c.read_beside.new.self basis _ c.read_beside.new.buf c.in-Ok.ensures.bytes c.in-Ok.ensures.passed c.in-Ok.ensures.end fits in
           let read = c.loop-call.invariant.at basis before script known at in
+          let called = called_on g.R.Read.remaining g.W.Write.contents c.loop-call.reader c.loop-call.writer (g.K.Keeper.book c.loop-call.keeper) c.loop-call.self _ basis _ c.loop-call.invariant.written.named c.read_beside.ensures.logged in
+          let gave = gave_on g.R.Read.remaining c.loop-call.reader c.read_beside.new.self basis _ c.read_beside.new.buf c.in-Ok.ensures.bytes c.in-Ok.ensures.passed c.in-Ok.ensures.end fits in
           let more = came _ _ read.rest _ read.left_is gave.0 in
           let some : 0 < length (take c.in-Ok.n c.read_beside.new.buf) = omega (arith, c.in-Ok.n-test, length-take-le c.in-Ok.n c.read_beside.new.buf within) in
-          let fed = c.in_ok-take_bytes-in-Ok.ensures.fed basis (with_events script read.events) read.front more.left (cut_behind script.bytes read.front read.rest _ _ read.cut more.cut) read.at in
-          read_on _ _ read more some found logged fed.0 fed.1.goes_on fed.1.ended;
+          read_on read called _ more some
+          (c.in_ok-take_bytes-in-Ok.ensures.fed basis (with_events script read.events) read.front more.left (cut_behind script.bytes read.front read.rest _ _ read.cut more.cut) read.at);
       ended = c.in-Ok.ensures.goes_on (omega (arith, c.in-Ok.n-test)) ∙ c.loop-call.invariant.ended;
       limit = c.in_ok-take_bytes-in-Ok.ensures.limit ∙ c.loop-call.invariant.limit;
       calls = c.read_beside.ensures.calls ∙ min-eq_left small ∙ ap (λ n. n + 1) c.loop-call.invariant.calls;
