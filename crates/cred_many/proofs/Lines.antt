@@ -1,26 +1,26 @@
 -- The lines that a reader comes to are lines of its input.
-use Rattle.std.proofs.Common.{◌≡◌, ◌≢◌, ◌==◌, ℕ, zero, suc, ◌+◌, ◌<◌, ◌≤◌, List, [], ◌∷◌, ◌++◌, length, take, drop, get_or, Option, Some, None, IfSome, true, false, if◌then◌else◌, nat_lt, option_map, slice_get, refl, sym, ap, ◌∙◌, arith, append_assoc, append-nil, inl, inr, codes, subst, take-append-drop}
+use Rattle.std.proofs.Common.{◌≡◌, ◌≢◌, ◌==◌, ℕ, zero, suc, ◌+◌, ◌<◌, ◌≤◌, List, [], ◌∷◌, ◌++◌, length, take, Option, Some, None, IfSome, true, false, nat_lt, option_map, slice_get, refl, sym, ap, ◌∙◌, arith, append_assoc, append-nil, inl, inr}
 use Rattle.std.specs.List.{filter}
-use Rattle.std.proofs.{Math.Seq.drop-cons, lemmas.Bool.cases_lt, lemmas.Bool.Decides.eqb_tells}
-use Rattle.std.proofs.{lemmas.List.length-append, lemmas.List.length-take, lemmas.List.take_all, lemmas.List.take_more, lemmas.Option.IfSome_then}
+use Rattle.std.proofs.{lemmas.Bool.cases_lt, lemmas.Bool.Decides.eqb_tells}
+use Rattle.std.proofs.{lemmas.List.length-append, lemmas.List.length-take, lemmas.List.take_all, lemmas.Option.IfSome_then}
 use Rattle.cred_phc.specs.{Pieces.pieces, Values.SettingValue}
 use Rattle.cred_cli.specs.{Events.longest_line, Events.most_kept, Events.most_pieces, Feeding.unfinished_from, Script.line_ends, Script.lines_of}
 use Rattle.cred_cli.specs.declared.costs.CostBounds.{CostBounds}
 use Rattle.cred_cli.proofs.{Feeds.none_kept, Feeds.some_kept, Feeds.take-kept, Readings.if_known, Unended.ends_sooner, Unended.unended_at, Unended.unended_last}
 use Rattle.cred_cli.proofs.Lines.{length-whole_from, line_ends-append, line_ends-end, line_ends-more, lines_of-ended, lines_of-line_end, lines_of-unfinished, longer, unfinished_from-end, unfinished_from-more, whole_from}
-use Rattle.cred_many.specs.Asks.{Tagged, entry_of, refused, tag_of, tagged, tagged_by, tagged_of, untagged, within}
+use Rattle.cred_many.specs.Asks.{Tagged, entry_of, tag_of, tagged, tagged_by, tagged_of, untagged, within}
 use Rattle.cred_many.specs.Reading.{ComesNext, IsCutLine, IsWholeLine, MovesOver, NothingIsLeft, Place, Splits}
 use Rattle.cred_many.specs.Service.{IsLine, Service, asked_from, cut_line, drawn_setting}
 use Rattle.cred_cli.specs.declared.refusal.Refusal.TheVariants as refusal
 
-too_long : (drawn : SettingValue) (line : List ℕ) → longest_line < length line → tagged_of drawn line ≡ untagged refusal.Long
+pub long_read : (drawn : SettingValue) (line : List ℕ) → nat_lt longest_line (length line) ≡ true → untagged refusal.Long ≡ tagged_of drawn line
 unfolding tagged_of
-too_long drawn line long = ap (λ test. if test then untagged refusal.Long else tagged drawn (pieces 32 line)) (longer line long)
+long_read drawn line long = rw long refl
 
 -- no more of a line is kept than shows that it is too long
 tagged_of-kept : (drawn : SettingValue) (line : List ℕ) → tagged_of drawn (take most_kept line) ≡ tagged_of drawn line
 tagged_of-kept drawn line = elim (cases_lt longest_line (length line)) [
-  | inl long ↦ too_long drawn (take most_kept line) (rw length-take (omega (arith, long))) ∙ sym (too_long drawn line long)
+  | inl long ↦ sym (long_read drawn (take most_kept line) (longer _ (rw length-take (omega (arith, long))))) ∙ long_read drawn line (longer line long)
   | inr short ↦ ap (tagged_of drawn) (take_all most_kept line (omega (arith, short)))
 ]
 
@@ -77,25 +77,18 @@ module _ (input : Option (List ℕ)) (at : Place) (ended : NothingIsLeft input a
   whole_front : (all : List ℕ) (known : input ≡ Some all) → (ended all known).front ≡ all
   whole_front all known = sym ((ended all known).cut ∙ append-nil (ended all known).front)
 
-  -- so has the last one, without its end
-  pub last_came : 0 < length at.start → IfSome input (λ all. IsCutLine all at.number)
-  last_came some = if_known input _ (λ all known.
+  -- so has the last one, without its end, and then all have
+  pub with_last : 0 < length at.start → IfSome input (λ all. IsCutLine all at.number × (at.number + 1 ≡ length (lines_of all)))
+  with_last some = if_known input _ (λ all known.
       let here = ended all known in
       let whole : here.front ≡ all = whole_front all known in
       let left : 0 < length (unfinished_from [] all) = rw whole at (some_kept at.start (unfinished_from [] here.front) here.start_is some) in
+      let lines = lines_of-unfinished all left in
       let number : at.number ≡ line_ends all = here.number_is ∙ ap line_ends whole in
-      (unfinished_from [] all, come_at all at.number (unfinished_from [] all) (whole_from [] all) [] (lines_of-unfinished all left) (number ∙ sym (length-whole_from [] all)), number))
-
-  -- and then all have
-  pub count_with_last : 0 < length at.start → IfSome input (λ all. at.number + 1 ≡ length (lines_of all))
-  count_with_last some = if_known input _ (λ all known.
-      let here = ended all known in
-      let whole : here.front ≡ all = whole_front all known in
-      let left : 0 < length (unfinished_from [] all) = rw whole at (some_kept at.start (unfinished_from [] here.front) here.start_is some) in
-      let count : length (lines_of all) ≡ length (whole_from [] all) + 1 =
-      ap length (lines_of-unfinished all left) ∙ length-append (whole_from [] all) (unfinished_from [] all ∷ []) in
-      let number : at.number ≡ line_ends all = here.number_is ∙ ap line_ends whole in
-      omega (arith, count, number, length-whole_from [] all))
+      let count = ap length lines ∙ length-append (whole_from [] all) (unfinished_from [] all ∷ []) in (
+        (unfinished_from [] all, come_at all at.number (unfinished_from [] all) (whole_from [] all) [] lines (number ∙ sym (length-whole_from [] all)), number),
+        omega (arith, count, number, length-whole_from [] all),
+      ))
 
   -- as they have if the last one has an end
   pub count_ended : length at.start ≡ 0 → IfSome input (λ all. at.number + 0 ≡ length (lines_of all))
@@ -127,10 +120,6 @@ end_taken input old new cleared next = λ all rest known at. record {
 
 -- ---- a line, read
 
-pub long_read : (drawn : SettingValue) (line tag : List ℕ) → tag ≡ codes "*" → nat_lt longest_line (length line) ≡ true → (tag, refused refusal.Long) ≡ tagged_of drawn line
-unfolding tagged_of
-long_read drawn line tag star long = rw (long, star) refl
-
 first_pieces_tell : (drawn : SettingValue) (line : List (List ℕ)) → tagged drawn (take most_pieces line) ≡ tagged drawn line
 first_pieces_tell drawn [] = refl
 first_pieces_tell drawn (a ∷ []) = refl
@@ -149,29 +138,6 @@ first_pieces_tell drawn (a ∷ b ∷ c ∷ d ∷ e ∷ f ∷ g ∷ h ∷ more) =
 pub short_read : (drawn : SettingValue) (line : List ℕ) (kept : List (List ℕ)) (t : Tagged) → nat_lt longest_line (length line) ≡ false → kept ≡ take most_pieces (pieces 32 line) → t ≡ tagged drawn kept → t ≡ tagged_of drawn line
 unfolding tagged_of
 short_read drawn line kept t short first is = rw short (is ∙ ap (tagged drawn) first ∙ first_pieces_tell drawn (pieces 32 line))
-
--- ---- bytes in turn
-
-pub seam : (bytes rest : List ℕ) (i : ℕ) → i < length bytes → bytes ++ rest ≡ take i bytes ++ ((get_or bytes i 0 ∷ []) ++ (drop (suc i) bytes ++ rest))
-seam bytes rest i within =
-    ap (λ xs. xs ++ rest) (sym (take-append-drop i bytes) ∙ ap (λ xs. take i bytes ++ xs) (drop-cons bytes i 0 within))
-    ∙ append_assoc (take i bytes) (get_or bytes i 0 ∷ drop (suc i) bytes) rest
-
-module _ (input : Option (List ℕ)) (old now : Place) (bytes : List ℕ) (i : ℕ) (within : i < length bytes) (on : MovesOver input old (take i bytes) now) where
-  -- the next of some bytes comes next
-  pub bytes_before : ComesNext input old bytes → ComesNext input now (get_or bytes i 0 ∷ [])
-  bytes_before before = λ all known.
-      let (rest, at) = before all known in
-      (drop (suc i) bytes ++ rest, on all _ known (subst (Splits all old) (seam bytes rest i within) at))
-
-  pub bytes_on : (new : Place) → MovesOver input now (get_or bytes i 0 ∷ []) new → MovesOver input old (take (i + 1) bytes) new
-  bytes_on new next = λ all rest known at.
-      let cut : take (i + 1) bytes ++ rest ≡ take i bytes ++ ((get_or bytes i 0 ∷ []) ++ rest) =
-      ap (λ xs. xs ++ rest) (take_more bytes i 0 within) ∙ append_assoc (take i bytes) (get_or bytes i 0 ∷ []) rest in
-      next all rest known (on all _ known (subst (Splits all old) cut at))
-
-pub bytes_all : (input : Option (List ℕ)) (old new : Place) (bytes : List ℕ) (i : ℕ) → length bytes ≤ i → MovesOver input old (take i bytes) new → MovesOver input old bytes new
-bytes_all input old new bytes i whole on = λ all rest known at. on all rest known (subst (λ xs. Splits all old (xs ++ rest)) (sym (take_all i bytes whole)) at)
 
 -- ---- line ends in turn
 
@@ -195,25 +161,12 @@ many_lines input at least came many = if_known input _ (λ all known.
     let some = ends_few_lines all in
     omega (arith, ends, some, here.number_is, many))
 
-ends_next : (bytes : List ℕ) (i : ℕ) → i < length bytes → line_ends (take (i + 1) bytes) ≡ line_ends (take i bytes) + line_ends (get_or bytes i 0 ∷ [])
-ends_next bytes i within = ap line_ends (take_more bytes i 0 within) ∙ line_ends-append (take i bytes) (get_or bytes i 0 ∷ [])
-
-pub ends_on : (bytes : List ℕ) (i : ℕ) → i < length bytes → (old now new : ℕ) → now ≡ old + line_ends (take i bytes)
-    → new ≡ now + line_ends (get_or bytes i 0 ∷ []) → new ≡ old + line_ends (take (i + 1) bytes)
-ends_on bytes i within old now new is next = let more = ends_next bytes i within in omega (arith, is, next, more)
-
-pub ends_all : (bytes : List ℕ) (i : ℕ) → length bytes ≤ i → (old now : ℕ) → now ≡ old + line_ends (take i bytes) → now ≡ old + line_ends bytes
-ends_all bytes i whole old now is = let all : line_ends (take i bytes) ≡ line_ends bytes = ap line_ends (take_all i bytes whole) in omega (arith, is, all)
-
 pub line_ends-short : (bytes : List ℕ) → line_ends bytes ≤ length bytes
 line_ends-short [] = omega arith
 line_ends-short (c ∷ cs) = elim (eqb_tells c 10) [
   | inl w ↦ rw w.0 (let r = line_ends-short cs in omega (arith, r))
   | inr w ↦ rw w.0 (let r = line_ends-short cs in omega (arith, r))
 ]
-
-pub ends_few : (bytes : List ℕ) (i : ℕ) → i < length bytes → (n : ℕ) → n ≡ line_ends (take i bytes) → n ≤ i
-ends_few bytes i within n is = let short = line_ends-short (take i bytes) in let long = length-take i bytes in omega (arith, is, short, long, within)
 
 -- what is given and what is handed on grow alike
 pub counted : (given more handed now next : ℕ) → handed ≡ given → now ≡ handed + more → next ≡ given + more → now ≡ next

@@ -1,6 +1,6 @@
 -- Names that are written one after another.
-use Rattle.std.proofs.Common.{◌≡◌, ◌≢◌, ℕ, zero, suc, ◌-◌, List, [], ◌∷◌, ◌++◌, map, take, Bool, true, false, not, cond, refl, sym, ap, ◌∙◌, append_assoc, append-nil, Option, arith}
-use Rattle.std.specs.{List.filter, Ordering.is_lt}
+use Rattle.std.proofs.Common.{◌≡◌, ◌≢◌, ℕ, zero, suc, ◌-◌, List, [], ◌∷◌, ◌++◌, map, true, false, refl, sym, ap, ◌∙◌, append_assoc, append-nil, Option, arith}
+use Rattle.std.specs.{Ordering.is_lt}
 use Rattle.cred_phc.specs.Values.{RecordValue}
 use Rattle.cred_book.specs.Names.{name_cmp}
 use Rattle.cred_many.specs.Names.{page, spaced}
@@ -9,67 +9,42 @@ abbrev pub Entries : Type 0
 Entries = List (List ℕ × Option RecordValue)
 
 -- what is to be written of the entries that are left
-pub rest_of : List ℕ → ℕ → Entries → List ℕ
+abbrev pub rest_of : List ℕ → ℕ → Entries → List ℕ
 rest_of from left es = spaced (page from left (map (λ e. e.0) es))
 
 -- the line goes on with that
 abbrev pub Goes : List ℕ → List ℕ → ℕ → Entries → List ℕ → ℕ → Entries → Type 0
 Goes from old most all now left rest = now ++ rest_of from left rest ≡ old ++ rest_of from most all
 
-kept_page : (from : List ℕ) (n : ℕ) (name : List ℕ) (names : List (List ℕ)) (b : Bool) → b ≡ false
-    → take (suc n) (cond (not b) (name ∷ filter (λ x. not (is_lt (name_cmp x from))) names) (filter (λ x. not (is_lt (name_cmp x from))) names)) ≡ name ∷ page from n names
-kept_page from n name names false is = refl
-kept_page from n name names true is = absurd cc
-
-skipped_page : (from : List ℕ) (n : ℕ) (name : List ℕ) (names : List (List ℕ)) (b : Bool) → b ≡ true
-    → take n (cond (not b) (name ∷ filter (λ x. not (is_lt (name_cmp x from))) names) (filter (λ x. not (is_lt (name_cmp x from))) names)) ≡ page from n names
-skipped_page from n name names true is = refl
-skipped_page from n name names false is = absurd cc
-
 rest_kept : (from : List ℕ) (n : ℕ) (e : List ℕ × Option RecordValue) (es : Entries) → is_lt (name_cmp e.0 from) ≡ false → rest_of from (suc n) (e ∷ es) ≡ 32 ∷ e.0 ++ rest_of from n es
-unfolding rest_of spaced
-rest_kept from n e es is = ap spaced (kept_page from n e.0 (map (λ e. e.0) es) (is_lt (name_cmp e.0 from)) is)
-
-rest_skipped : (from : List ℕ) (n : ℕ) (e : List ℕ × Option RecordValue) (es : Entries) → is_lt (name_cmp e.0 from) ≡ true → rest_of from n (e ∷ es) ≡ rest_of from n es
-unfolding rest_of
-rest_skipped from n e es is = ap spaced (skipped_page from n e.0 (map (λ e. e.0) es) (is_lt (name_cmp e.0 from)) is)
+unfolding spaced
+rest_kept from n e es is = rw is refl
 
 rest_none : (from : List ℕ) (n : ℕ) → rest_of from n [] ≡ []
-unfolding rest_of spaced
+unfolding spaced
 rest_none from zero = refl
 rest_none from (suc n) = refl
 
 rest_zero : (from : List ℕ) (es : Entries) → rest_of from 0 es ≡ []
-unfolding rest_of spaced
+unfolding spaced
 rest_zero from es = refl
-
-one_less : (n : ℕ) → n ≢ 0 → n ≡ suc (n - 1)
-one_less zero some = absurd (some refl)
-one_less (suc n) some = omega arith
-
-pub begun : (from old now : List ℕ) (most : ℕ) (all rest : Entries) → now ≡ old → rest ≡ all → Goes from old most all now most rest
-begun from old now most all rest is same = rw (is, same) refl
 
 module _ (from old now : List ℕ) (most : ℕ) (all rest : Entries) (left : ℕ) (goes : Goes from old most all now left rest) where
   -- a name that comes before is left out
   pub skipped : (e : List ℕ × Option RecordValue) (es : Entries) → rest ≡ e ∷ es → is_lt (name_cmp e.0 from) ≡ true → Goes from old most all now left es
-  skipped e es is before =
-      ap (λ t. now ++ t) (sym (ap (rest_of from left) is ∙ rest_skipped from left e es before)) ∙ goes
+  skipped e es is before = rw before at (rw is at goes)
 
   -- any other is written
   pub written : (e : List ℕ × Option RecordValue) (es : Entries) (spaced new : List ℕ) → rest ≡ e ∷ es → is_lt (name_cmp e.0 from) ≡ false
       → left ≢ 0 → spaced ≡ now ++ 32 ∷ [] → new ≡ spaced ++ e.0 → Goes from old most all new (left - 1) es
   written e es spaced new is not_before some one two =
       let shape : new ≡ now ++ 32 ∷ e.0 = two ∙ ap (λ t. t ++ e.0) one ∙ append_assoc now (32 ∷ []) e.0 in
+      let less : left ≡ suc (left - 1) = omega (arith, some) in
       ap (λ t. t ++ rest_of from (left - 1) es) shape ∙ append_assoc now (32 ∷ e.0) (rest_of from (left - 1) es)
-      ∙ ap (λ t. now ++ t) (sym (ap (λ k. rest_of from k rest) (one_less left some) ∙ ap (rest_of from (suc (left - 1))) is ∙ rest_kept from (left - 1) e es not_before)) ∙ goes
+      ∙ ap (λ t. now ++ t) (sym (ap (λ k. rest_of from k rest) less ∙ ap (rest_of from (suc (left - 1))) is ∙ rest_kept from (left - 1) e es not_before)) ∙ goes
 
   pub all_written : rest ≡ [] → now ≡ old ++ rest_of from most all
   all_written none = sym (append-nil now) ∙ ap (λ t. now ++ t) (sym (ap (rest_of from left) none ∙ rest_none from left)) ∙ goes
 
   pub enough : left ≡ 0 → now ≡ old ++ rest_of from most all
   enough none = sym (append-nil now) ∙ ap (λ t. now ++ t) (sym (ap (λ k. rest_of from k rest) none ∙ rest_zero from rest)) ∙ goes
-
-pub rest_is : (from : List ℕ) (most : ℕ) (all : Entries) → rest_of from most all ≡ spaced (page from most (map (λ e. e.0) all))
-unfolding rest_of
-rest_is from most all = refl

@@ -1,128 +1,104 @@
--- A history that goes on by one line.
-use Rattle.std.proofs.Common.{◌≡◌, ◌⊎◌, inl, inr, ℕ, zero, suc, ◌+◌, List, [], ◌∷◌, ◌++◌, Bool, Option, Some, None, IfSome, subst, ◌≤◌, refl, sym, ap, ◌∙◌, append_assoc, append-nil, arith, take, drop, slice_get, length}
-use Rattle.std.proofs.{KnownBytes.Appends-nil, Math.Logic.∥∥₁_map, lemmas.List.length-append, lemmas.Option.IfSome_then}
-use Rattle.std.proofs.lemmas.List.Elements.{All-head, All-nil, All-push, All-same, All-tail}
-use Rattle.std.proofs.lemmas.List.Sorted.{IsPermutation-append_left, IsPermutation-append_right, IsPermutation-cons, IsPermutation-middle, IsPermutation-refl, IsPermutation-trans}
-use Rattle.std.specs.{List.All, List.range_with_len, List.Sorted.IsPermutation, Option.option_or}
+-- A history that goes on: what is written, what may stand in it, why nothing more is answered, and what is told of it.
+use Rattle.std.proofs.Common.{◌≡◌, ◌≢◌, ◌⊎◌, inl, inr, ℕ, suc, ◌+◌, ◌-◌, ◌<◌, ◌≤◌, List, [], ◌∷◌, ◌++◌, Bool, Option, Some, None, IfSome, get_or, subst, refl, sym, ap, ◌∙◌, append_assoc, append-nil, arith, take, drop, slice_get, length, take-append-drop}
+use Rattle.std.proofs.{KnownBytes.Appends-nil, KnownBytes.Appends-trans, Math.Logic.∥∥₁_map, Math.Seq.take-append-add, lemmas.Bool.cases_lt}
+use Rattle.std.proofs.lemmas.List.{drop-map, get_or-append-add, get_or_append_left, length-append, map-append, map-id, take-append-le, take-map, take_all}
+use Rattle.std.proofs.lemmas.List.Elements.{All-nil, All-push, All-same}
+use Rattle.std.proofs.lemmas.List.FromFn.{map-range_with_len_more}
+use Rattle.std.proofs.lemmas.List.Sorted.{IsPermutation-append_left, IsPermutation-append_right, IsPermutation-cons, IsPermutation-refl, IsPermutation-remove, IsPermutation-sym, IsPermutation-trans}
+use Rattle.std.proofs.lemmas.Option.{IfSome_then, get_or_from_slice_get, slice_get_within}
+use Rattle.std.specs.{Io.KnownBytes.Appends, List.All, List.range_with_len, List.remove, List.Sorted.IsPermutation, Option.option_or}
 use Rattle.cred_phc.specs.Values.{RecordValue}
 use Rattle.cred_book.specs.Accounts.{Accounts}
+use Rattle.cred_cli.specs.{History.Refused, Script.lines_of, Texts.line_of}
+use Rattle.cred_cli.proofs.Unended.{length-unended}
 use Rattle.cred_many.specs.Asks.{Entry, entry, refused}
-use Rattle.cred_many.specs.Scribe.{AreClosed, History, IsBusy, IsConcluded, Notes, SightHolds, numbers, unseen}
-use Rattle.cred_many.specs.Served.{AreFor, IsFor, NeedsMemory, answers, book_after, changes, done, entry_numbers, line_at, most_together, name_asked, record_at, tries}
-use Rattle.cred_many.specs.{Service.IsLine, Service.Service, Service.asked, declared.fault.ServiceFault.ServiceFault, declared.open.Open.Open}
-use Rattle.cred_many.proofs.Seen.{book_after-append, looked_numbers, numbers-snoc, watched_looked, watched_on, watched_rest, worn}
-use Rattle.cred_many.proofs.Standing.{written_on, written_still, written_whole}
+use Rattle.cred_many.specs.{declared.ask.Ask.Ask, declared.fault.ServiceFault.ServiceFault, declared.open.Open.Open}
+use Rattle.cred_many.specs.Scribe.{AreClosed, History, IsBusy, IsConcluded, IsReady, Notes, SightHolds, numbers, unseen}
+use Rattle.cred_many.specs.Served.{AreFor, HasCause, IsFor, IsGivenUp, IsWritten, NeedsMemory, Stands, StandsAtEnd, answers, book_after, done, entry_numbers, line_at, most_together, record_at}
+use Rattle.cred_many.specs.Service.{IsLine, Service, asked, asked_from, cut_line}
+use Rattle.cred_many.proofs.Seen.{answers-append, book_after-append, looked_numbers, watched_looked, watched_on, watched_rest, worn}
 use Rattle.cred_book.specs.declared.error.BookError.TheVariants as error
 use Rattle.cred_cli.specs.declared.refusal.Refusal.TheVariants as refusal
+use Rattle.cred_many.specs.declared.fault.ServiceFault.TheVariants as fault
+
+-- ---- what is written
+
+-- so much of a text is written: all of it, unless the writer failed
+written : (text : List ℕ) (old now : Option (List ℕ)) (failed : Bool) (why : Option ServiceFault) → IsConcluded text old now failed why
+    → (n : ℕ) × Appends old now (take n text) × (why ≢ Some fault.Write → n ≡ length text)
+written text old now failed why told = elim told [
+  | inl w ↦ (length text, subst (Appends old now) (sym (take_all (length text) text (omega arith))) w.1, λ _. refl)
+  | inr w ↦ (w.1.0, w.1.2, λ other. absurd (other w.0))
+]
+
+module _ (capacity : ℕ) (opening : Accounts) (before now : Option (List ℕ)) (list : List Entry) (was : IsWritten capacity opening before now list None) where
+  all_bytes : was.bytes ≡ length (answers capacity opening list)
+  all_bytes = was.whole (λ is. absurd cc)
+
+  -- so it is whatever is told
+  written_still : (why : Option ServiceFault) → IsWritten capacity opening before now list why
+  written_still why = record { bytes = was.bytes; front = was.front; whole = λ _. all_bytes; most = was.most }
+
+  -- and with a few lines more, in which the writer may have failed
+  written_on : (es : List Entry) → length es ≤ most_together → (next : Option (List ℕ)) (failed : Bool) (why : Option ServiceFault)
+      → IsConcluded (answers capacity (book_after capacity opening list) es) now next failed why → IsWritten capacity opening before next (list ++ es) why
+  written_on es few next failed why told =
+      let first = answers capacity opening list in
+      let rest = answers capacity (book_after capacity opening list) es in
+      let cut = answers-append capacity opening list es in
+      let (n, text, whole) = written rest now next failed why told in
+      let kept = length (list ++ es) - most_together in
+      let within : kept ≤ length list = let long = length-append list es in omega (arith, long, few) in
+      let split = ap (answers capacity opening) (sym (take-append-drop kept list)) ∙ answers-append capacity opening (take kept list) (drop kept list) in
+      let fewer = ap length split ∙ length-append (answers capacity opening (take kept list)) _ in
+      let same = ap (λ l. length (answers capacity opening l)) (take-append-le kept list es within) in
+      let all : Appends before now first = subst (Appends before now) (ap (λ n. take n first) all_bytes ∙ take_all (length first) first (omega arith)) was.front in
+      record {
+        bytes = length first + n;
+        front = subst (λ xs. Appends before next (take (length first + n) xs)) (sym cut)
+            (subst (Appends before next) (sym (take-append-add first rest n)) (Appends-trans before now next first (take n rest) all text));
+        whole = λ other. let all = whole other in let long = ap length cut ∙ length-append first rest in omega (arith, all, long);
+        most = omega (arith, same, fewer);
+      }
 
 -- ---- what may stand in the list
 
-module _ (capacity : ℕ) (s : Service) where
-  -- behind these lines, this is for a line that was asked
-  abbrev pub MayFollow : List Entry → Entry → Type 0
-  MayFollow before e = IfSome s.input (λ bytes. IsFor capacity s.opening (asked s bytes) before e)
-
-  -- so is a line itself
-  pub owed_own : (before : List Entry) (e : Entry) → IfSome s.input (λ bytes. IsLine s bytes e) → MayFollow before e
-  owed_own before e h = IfSome_then s.input h (λ bytes came. record { line = e; came = came; tag = refl; ask = inl refl })
-
-  -- and a line that is given up for want of memory
-  memory_for : (before : List Entry) (e : Entry) → IfSome s.input (λ bytes. IsLine s bytes e) → NeedsMemory capacity (book_after capacity s.opening before) e.ask
-      → MayFollow before (entry e.number e.tag (refused (refusal.Book error.Memory)))
-  memory_for before e h needs = IfSome_then s.input h (λ bytes came. record { line = e; came = came; tag = refl; ask = inr (inl (refl, needs)) })
-
-  -- or since others were faster
-  busy_for : (before : List Entry) (e : Entry) → IfSome s.input (λ bytes. IsLine s bytes e) → tries ≤ changes capacity s.opening (name_asked e.ask) before
-      → MayFollow before (entry e.number e.tag (refused refusal.Busy))
-  busy_for before e h often = IfSome_then s.input h (λ bytes came. record { line = e; came = came; tag = refl; ask = inr (inr (refl, often)) })
-
--- a list that ends so is cut at its end, or before
-pub snoc_cut : (list before rest : List Entry) (z e : Entry) → list ++ z ∷ [] ≡ before ++ e ∷ rest
-    → ((before ≡ list) × (e ≡ z)) ⊎ ((left : List Entry) × (list ≡ before ++ e ∷ left))
-snoc_cut [] [] rest z e is = let same : z ≡ e = cc in inl (refl, sym same)
-snoc_cut [] (f ∷ fs) rest z e is =
-    let short : length (fs ++ e ∷ rest) ≡ 0 = let tail : [] ≡ fs ++ e ∷ rest = cc in ap length (sym tail) in
-    absurd (omega (arith, short, length-append fs (e ∷ rest)))
-snoc_cut (x ∷ xs) [] rest z e is = let same : x ≡ e = cc in inr (xs, ap (λ y. y ∷ xs) same)
-snoc_cut (x ∷ xs) (f ∷ fs) rest z e is =
-    let same : x ≡ f = cc in
-    let tail : xs ++ z ∷ [] ≡ fs ++ e ∷ rest = cc in
-    elim (snoc_cut xs fs rest z e tail) [
-      | inl w ↦ inl (rw (same, w.0) refl, w.1)
-      | inr w ↦ inr (w.0, rw same (ap (λ l. f ∷ l) w.1))
-    ]
-
-module _ (capacity : ℕ) (s : Service) where
-  owed_all : (input : Option (List ℕ)) (list : List Entry) (e : Entry) → IfSome input (λ bytes. AreFor capacity s.opening (asked s bytes) list)
-      → IfSome input (λ bytes. IsFor capacity s.opening (asked s bytes) list e) → IfSome input (λ bytes. AreFor capacity s.opening (asked s bytes) (list ++ e ∷ []))
-  owed_all None list e all owed = tt
-  owed_all (Some bytes) list e all owed = λ before rest z is. elim (snoc_cut list before rest e z is) [
-    | inl w ↦ rw (w.0, w.1) owed
-    | inr w ↦ all before w.0 z w.1
+module _ (capacity : ℕ) (opening : Accounts) (lines list es : List Entry) (all : AreFor capacity opening lines list)
+    (more : (i : ℕ) (d : Entry) → i < length es → IsFor capacity opening lines (list ++ take i es) (get_or es i d)) where
+  owed_more : AreFor capacity opening lines (list ++ es)
+  owed_more i d within = elim (cases_lt i (length list)) [
+    | inl here ↦ rw (take-append-le i list es (omega (arith, here)), get_or_append_left list es d i here) (all i d here)
+    | inr behind ↦
+        let at : i ≡ length list + (i - length list) = omega (arith, behind) in
+        let long = length-append list es in
+        rw (at, take-append-add list es (i - length list), get_or-append-add list es (i - length list) d) (more (i - length list) d (omega (arith, within, long, behind)))
   ]
-
-  -- so are several lines
-  pub owed_each : (input : Option (List ℕ)) (list es : List Entry) → IfSome input (λ bytes. AreFor capacity s.opening (asked s bytes) list)
-      → IfSome input (λ bytes. All (IsLine s bytes) es) → IfSome input (λ bytes. AreFor capacity s.opening (asked s bytes) (list ++ es))
-  owed_each None list es all came = tt
-  owed_each (Some bytes) list [] all came = subst (AreFor capacity s.opening (asked s bytes)) (sym (append-nil list)) all
-  owed_each (Some bytes) list (e ∷ es) all came =
-      subst (AreFor capacity s.opening (asked s bytes)) (append_assoc list (e ∷ []) es)
-      (owed_each (Some bytes) (list ++ e ∷ []) es
-      (owed_all (Some bytes) list e all (record { line = e; came = All-head (IsLine s bytes) e es came; tag = refl; ask = inl refl })) (All-tail (IsLine s bytes) e es came))
-
-  owed_none : (input : Option (List ℕ)) → IfSome input (λ bytes. AreFor capacity s.opening (asked s bytes) [])
-  owed_none None = tt
-  owed_none (Some bytes) = λ before rest e is. let none : 0 ≡ length (before ++ e ∷ rest) = ap length is in absurd (omega (arith, none, length-append before (e ∷ rest)))
 
 -- ---- each number once
 
-entry_numbers-append : (xs ys : List Entry) → entry_numbers (xs ++ ys) ≡ entry_numbers xs ++ entry_numbers ys
-entry_numbers-append [] ys = refl
-entry_numbers-append (x ∷ xs) ys = ap (λ ns. x.number ∷ ns) (entry_numbers-append xs ys)
-
 -- an open line is taken out
-removal : (n : ℕ) (left : List Open) (place : ℕ) → slice_get (numbers left) place ≡ Some n
-    → IsPermutation (n ∷ numbers (take place left ++ drop (suc place) left)) (numbers left)
-removal n [] place is = absurd cc
-removal n (o ∷ os) zero is =
-    let same : o.number ≡ n = cc in
-    subst (λ m. IsPermutation (m ∷ numbers os) (o.number ∷ numbers os)) same (IsPermutation-refl (o.number ∷ numbers os))
-removal n (o ∷ os) (suc place) is =
-    let rest = numbers (take place os ++ drop (suc place) os) in
-    IsPermutation-trans (n ∷ o.number ∷ rest) (o.number ∷ n ∷ rest) (o.number ∷ numbers os)
-    (IsPermutation-middle (n ∷ []) o.number rest) (IsPermutation-cons o.number (n ∷ rest) (numbers os) (removal n os place is))
+removal : (n : ℕ) (left : List Open) (place : ℕ) → slice_get (numbers left) place ≡ Some n → IsPermutation (n ∷ numbers (remove left place)) (numbers left)
+removal n left place is =
+    let cut : remove (numbers left) place ≡ numbers (remove left place) = simp (map-append, take-map, drop-map) in
+    IsPermutation-sym _ _ (rw cut at (IsPermutation-remove (numbers left) place n (slice_get_within (numbers left) place n is) (sym (get_or_from_slice_get (numbers left) place n n is))))
 
 -- so are several
 closed_once : (es : List Entry) (left rest : List Open) → AreClosed es left rest → IsPermutation (entry_numbers es ++ numbers rest) (numbers left)
 closed_once [] left rest is = subst (λ o. IsPermutation (numbers o) (numbers left)) (sym is) (IsPermutation-refl (numbers left))
 closed_once (e ∷ es) left rest (place, there, more) =
-    let next : place + 1 ≡ suc place = omega arith in
-    let without = numbers (take place left ++ drop (place + 1) left) in
-    IsPermutation-trans (e.number ∷ (entry_numbers es ++ numbers rest)) (e.number ∷ without) (numbers left)
-    (IsPermutation-cons e.number (entry_numbers es ++ numbers rest) without (closed_once es (take place left ++ drop (place + 1) left) rest more))
-    (subst (λ m. IsPermutation (e.number ∷ numbers (take place left ++ drop m left)) (numbers left)) (sym next) (removal e.number left place there))
+    IsPermutation-trans _ (e.number ∷ numbers (remove left place)) _ (IsPermutation-cons e.number _ _ (closed_once es (remove left place) rest more)) (removal e.number left place there)
 
 once_closed : (list es : List Entry) (left rest : List Open) (all : List ℕ) → AreClosed es left rest
     → IsPermutation (entry_numbers list ++ numbers left) all → IsPermutation (entry_numbers (list ++ es) ++ numbers rest) all
 once_closed list es left rest all closed once =
-    let cut = ap (λ ns. ns ++ numbers rest) (entry_numbers-append list es) ∙ append_assoc (entry_numbers list) (entry_numbers es) (numbers rest) in
-    subst (λ ns. IsPermutation ns all) (sym cut)
-    (IsPermutation-trans (entry_numbers list ++ (entry_numbers es ++ numbers rest)) (entry_numbers list ++ numbers left) all
-    (IsPermutation-append_right (entry_numbers list) (entry_numbers es ++ numbers rest) (numbers left) (closed_once es left rest closed)) once)
+    let cut = ap (λ ns. ns ++ numbers rest) (map-append (λ (e : Entry). e.number) list es) ∙ append_assoc (entry_numbers list) (entry_numbers es) (numbers rest) in
+    subst (λ ns. IsPermutation ns all) (sym cut) (IsPermutation-trans _ _ all (IsPermutation-append_right (entry_numbers list) _ _ (closed_once es left rest closed)) once)
 
-range_more : (a n : ℕ) → range_with_len a (suc n) ≡ range_with_len a n ++ (a + n) ∷ []
-range_more a zero = ap (λ m. m ∷ []) (omega arith)
-range_more a (suc n) = ap (λ ns. a ∷ ns) (range_more (a + 1) n ∙ ap (λ m. range_with_len (a + 1) n ++ m ∷ []) (omega arith))
-
-once_opened : (ns left more : List ℕ) (n came next : ℕ) → more ≡ left ++ n ∷ [] → n ≡ came → next ≡ came + 1
-    → IsPermutation (ns ++ left) (range_with_len 0 came) → IsPermutation (ns ++ more) (range_with_len 0 next)
-once_opened ns left more n came next opened is next_is once =
-    let last : 0 + came ≡ n = omega (arith, is) in
-    let later : suc came ≡ next = omega (arith, next_is) in
-    let all : range_with_len 0 came ++ n ∷ [] ≡ range_with_len 0 next = ap (λ m. range_with_len 0 came ++ m ∷ []) (sym last) ∙ sym (range_more 0 came) ∙ ap (range_with_len 0) later in
-    let cut : (ns ++ left) ++ n ∷ [] ≡ ns ++ more = append_assoc ns left (n ∷ []) ∙ ap (λ l. ns ++ l) (sym opened) in
-    subst (λ xs. IsPermutation xs (range_with_len 0 next)) cut (subst (IsPermutation ((ns ++ left) ++ n ∷ [])) all (IsPermutation-append_left (n ∷ []) (ns ++ left) (range_with_len 0 came) once))
+once_opened : (ns left : List ℕ) (came : ℕ) → IsPermutation (ns ++ left) (range_with_len 0 came) → IsPermutation (ns ++ (left ++ came ∷ [])) (range_with_len 0 (came + 1))
+once_opened ns left came once =
+    let more : range_with_len 0 came ++ came ∷ [] ≡ range_with_len 0 (came + 1) =
+    sym (sym (map-id (range_with_len 0 (came + 1))) ∙ map-range_with_len_more (λ m. m) 0 came came (omega arith) ∙ ap (λ l. l ++ came ∷ []) (map-id (range_with_len 0 came))) in
+    subst (IsPermutation (ns ++ (left ++ came ∷ []))) more (subst (λ xs. IsPermutation xs (range_with_len 0 came ++ came ∷ [])) (append_assoc ns left (came ∷ [])) (IsPermutation-append_left (came ∷ []) _ _ once))
 
 -- ---- a history that goes on
 
@@ -131,139 +107,127 @@ pub served_first : (capacity : ℕ) (s : Service) (now : Option (List ℕ)) (boo
 unfolding answers book_after
 served_first capacity s now book left none is same = rw none (record {
   list = [];
-  each = owed_none capacity s s.input;
+  each = each s.input;
   once = IsPermutation-refl [];
   seen = All-nil (SightHolds capacity s.opening []);
   book_is = is;
-  text = written_whole capacity s.opening s.before now [] None (rw same (Appends-nil s.before));
+  text = record { bytes = 0; front = rw same (Appends-nil s.before); whole = λ _. refl; most = omega arith };
 })
+  where
+    each : (input : Option (List ℕ)) → IfSome input (λ bytes. AreFor capacity s.opening (asked s bytes) [])
+    each None = tt
+    each (Some bytes) = λ i d within. absurd (omega (arith, within))
 
-module _ (capacity : ℕ) (s : Service) (old now : Option (List ℕ)) (book later : Accounts) (es : List Entry) (left rest : List Open) (came : ℕ)
-    (served : History capacity s old book None left came) (each : IfSome s.input (λ bytes. AreFor capacity s.opening (asked s bytes) (served.list ++ es)))
-    (few : length es ≤ most_together) (closed : AreClosed es left rest) (later_is : later ≡ book_after capacity book es) where
-  after_is : later ≡ book_after capacity s.opening (served.list ++ es)
-  after_is = later_is ∙ ap (λ b. book_after capacity b es) served.book_is ∙ sym (book_after-append capacity s.opening served.list es)
-
-  once_is : IsPermutation (entry_numbers (served.list ++ es) ++ numbers rest) (range_with_len 0 came)
-  once_is = once_closed served.list es left rest _ closed served.once
-
-  seen_is : All (SightHolds capacity s.opening (served.list ++ es)) rest
-  seen_is = watched_rest capacity s.opening (served.list ++ es) es left rest closed (watched_on capacity s.opening served.list es left served.seen)
-
-  -- whether their answers were written whole or the writer failed
-  pub served_on : (failed : Bool) (f : Option ServiceFault) → IsConcluded (answers capacity book es) old now failed f → History capacity s now later f rest came
-  served_on failed f told = record {
-    list = served.list ++ es;
-    each = each;
-    once = once_is;
-    seen = seen_is;
-    book_is = after_is;
-    text = written_on capacity s.opening s.before old served.list served.text es few now failed f (subst (λ b. IsConcluded (answers capacity b es) old now failed f) served.book_is told);
+module _ (capacity : ℕ) (s : Service) (old now : Option (List ℕ)) (book later : Accounts) (es : List Entry) (left rest : List Open) (came : ℕ) (failed : Bool) (f : Option ServiceFault) where
+  -- by a few lines, whether their answers were written whole or the writer failed
+  pub served_on : (h : History capacity s old book None left came)
+      → IfSome s.input (λ bytes. (i : ℕ) (d : Entry) → i < length es → IsFor capacity s.opening (asked s bytes) (h.list ++ take i es) (get_or es i d))
+      → length es ≤ most_together → AreClosed es left rest → later ≡ book_after capacity book es → IsConcluded (answers capacity book es) old now failed f
+      → History capacity s now later f rest came
+  served_on h owed few closed later_is told = record {
+    list = h.list ++ es;
+    each = each s.input h.each owed;
+    once = once_closed h.list es left rest _ closed h.once;
+    seen = watched_rest capacity s.opening (h.list ++ es) es left rest closed (watched_on capacity s.opening h.list es left h.seen);
+    book_is = later_is ∙ ap (λ b. book_after capacity b es) h.book_is ∙ sym (book_after-append capacity s.opening h.list es);
+    text = written_on capacity s.opening s.before old h.list h.text es few now failed f (rw h.book_is at told);
   }
+    where
+      each : (input : Option (List ℕ)) → IfSome input (λ bytes. AreFor capacity s.opening (asked s bytes) h.list)
+          → IfSome input (λ bytes. (i : ℕ) (d : Entry) → i < length es → IsFor capacity s.opening (asked s bytes) (h.list ++ take i es) (get_or es i d))
+          → IfSome input (λ bytes. AreFor capacity s.opening (asked s bytes) (h.list ++ es))
+      each None all more = tt
+      each (Some bytes) all more = owed_more capacity s.opening (asked s bytes) h.list es all more
 
 -- ---- a step
 
--- what a line asks for was done, and its answer's text stands ready
-pub record IsDone (capacity : ℕ) (book later : Accounts) (e : Entry) (text : List ℕ) : Type 0 where
-  pub book_is : later ≡ (done capacity book e.ask).1
-  pub text_is : text ≡ line_at capacity book e
-
-pub done_at : (capacity : ℕ) (book later : Accounts) (e : Entry) (tag answer : List ℕ) → later ≡ (done capacity book e.ask).1 → tag ≡ e.tag
-    → answer ≡ (done capacity book e.ask).0 → IsDone capacity book later e (tag ++ 32 ∷ answer)
-done_at capacity book later e tag answer later_is tag_is answer_is = record {
-  book_is = later_is;
-  text_is = rw (tag_is, answer_is) refl;
-}
-
-module _ (capacity : ℕ) (s : Service) (old now : Option (List ℕ)) (book later : Accounts) (e : Entry) (left rest : List Open) (place came : ℕ) (text : List ℕ) (failed : Bool) (was f : Option ServiceFault) where
-  concluded : ((h : History capacity s old book None left came) → MayFollow capacity s h.list e)
-      → was ≡ None → slice_get (numbers left) place ≡ Some e.number → rest ≡ take place left ++ drop (place + 1) left
-      → IsDone capacity book later e text → IsConcluded text old now failed f
-      → ∥ History capacity s old book was left came ∥₁ → ∥ History capacity s now later f rest came ∥₁
+module _ (capacity : ℕ) (s : Service) (old now : Option (List ℕ)) (book later : Accounts) (line : Entry) (left rest : List Open) (place came : ℕ) (answer : List ℕ) (failed : Bool) (was f : Option ServiceFault)
+    (ready : IsReady was left place line.number) (came_is : IfSome s.input (λ bytes. IsLine s bytes line))
+    (closed : rest ≡ remove left place) (told : IsConcluded (line.tag ++ 32 ∷ answer) old now failed f) (served : ∥ History capacity s old book was left came ∥₁) where
+  -- the line is answered as what it asks for, or as it is given up
+  answered_as : (ask : Ask) → later ≡ (done capacity book ask).1 → answer ≡ (done capacity book ask).0 → ((h : History capacity s old book None left came) → (ask ≡ line.ask) ⊎ IsGivenUp capacity s.opening h.list line.ask ask)
+      → ∥ History capacity s now later f rest came ∥₁
   unfolding answers book_after
-  concluded owed none there rest_is d told served = ∥∥₁_map served (λ h. on (rw none at h))
+  answered_as ask later_is answer_is owed = ∥∥₁_map served (λ h. on (rw ready.going at h))
     where
       on : History capacity s old book None left came → History capacity s now later f rest came
       on h =
-          served_on capacity s old now book later (e ∷ []) left rest came h (owed_all capacity s s.input h.list e h.each (owed h)) (omega arith) (place, there, rest_is) d.book_is failed f
-          (subst (λ t. IsConcluded t old now failed f) (d.text_is ∙ sym (append-nil (line_at capacity book e))) told)
+          let e = entry line.number line.tag ask in
+          let text : line.tag ++ 32 ∷ answer ≡ answers capacity book (e ∷ []) = ap (λ text. line.tag ++ 32 ∷ text) answer_is ∙ sym (append-nil (line_at capacity book e)) in
+          served_on capacity s old now book later (e ∷ []) left rest came failed f h
+          (IfSome_then s.input came_is (λ bytes is i d within. one bytes is h i (omega (arith, within)) d)) (omega arith) (place, ready.there, closed) later_is (rw text at told)
+        where
+          one : (bytes : List ℕ) → IsLine s bytes line → (h : History capacity s old book None left came) → (i : ℕ) → i ≡ 0 → (d : Entry)
+              → IsFor capacity s.opening (asked s bytes) (h.list ++ take i (entry line.number line.tag ask ∷ [])) (get_or (entry line.number line.tag ask ∷ []) i d)
+          one bytes here h i first d = rw (first, append-nil h.list) (record { line = line; came = here; tag = refl; ask = owed h })
 
-  -- the line is answered
-  pub answered : was ≡ None → IfSome s.input (λ bytes. IsLine s bytes e) → slice_get (numbers left) place ≡ Some e.number → rest ≡ take place left ++ drop (place + 1) left
-      → IsDone capacity book later e text → IsConcluded text old now failed f
-      → ∥ History capacity s old book was left came ∥₁ → ∥ History capacity s now later f rest came ∥₁
-  answered none came_is there rest_is d told served = concluded (λ h. owed_own capacity s h.list e came_is) none there rest_is d told served
+  pub answered : later ≡ (done capacity book line.ask).1 → answer ≡ (done capacity book line.ask).0 → ∥ History capacity s now later f rest came ∥₁
+  answered later_is answer_is = answered_as line.ask later_is answer_is (λ h. inl refl)
 
-module _ (capacity : ℕ) (s : Service) (old now : Option (List ℕ)) (book : Accounts) (line : Entry) (left rest : List Open) (place came : ℕ) (text : List ℕ) (failed : Bool) (was f : Option ServiceFault)
-    (none : was ≡ None) (came_is : IfSome s.input (λ bytes. IsLine s bytes line)) (there : slice_get (numbers left) place ≡ Some line.number) (rest_is : rest ≡ take place left ++ drop (place + 1) left) where
   -- the line is given up for want of memory
-  pub starved : NeedsMemory capacity book line.ask → IsDone capacity book book (entry line.number line.tag (refused (refusal.Book error.Memory))) text → IsConcluded text old now failed f
-      → ∥ History capacity s old book was left came ∥₁ → ∥ History capacity s now book f rest came ∥₁
-  starved needs d told served =
-      concluded capacity s old now book book (entry line.number line.tag (refused (refusal.Book error.Memory))) left rest place came text failed was f
-      (λ h. memory_for capacity s h.list line came_is (subst (λ b. NeedsMemory capacity b line.ask) h.book_is needs)) none there rest_is d told served
+  pub starved : later ≡ book → answer ≡ line_of (Refused (refusal.Book error.Memory)) → NeedsMemory capacity book line.ask → ∥ History capacity s now later f rest came ∥₁
+  starved same is needs = answered_as (refused (refusal.Book error.Memory)) same is (λ h. inr (inl (refl, subst (λ b. NeedsMemory capacity b line.ask) h.book_is needs)))
 
   -- or since others were always faster
-  pub given_up : IsBusy left place line.ask → IsDone capacity book book (entry line.number line.tag (refused refusal.Busy)) text → IsConcluded text old now failed f
-      → ∥ History capacity s old book was left came ∥₁ → ∥ History capacity s now book f rest came ∥₁
-  given_up busy d told served =
-      concluded capacity s old now book book (entry line.number line.tag (refused refusal.Busy)) left rest place came text failed was f
-      (λ h. busy_for capacity s h.list line came_is (worn capacity s.opening h.list left place line.ask h.seen busy)) none there rest_is d told served
+  pub given_up : later ≡ book → answer ≡ line_of (Refused refusal.Busy) → IsBusy left place line.ask → ∥ History capacity s now later f rest came ∥₁
+  given_up same is busy = answered_as (refused refusal.Busy) same is (λ h. inr (inr (refl, worn capacity s.opening h.list left place line.ask h.seen busy)))
 
--- nothing was done, and perhaps nothing more is answered
-pub still : (capacity : ℕ) (s : Service) (now : Option (List ℕ)) (book later : Accounts) (left rest : List Open) (came : ℕ) (was f : Option ServiceFault)
-    → was ≡ None → later ≡ book → rest ≡ left
-    → ∥ History capacity s now book was left came ∥₁ → ∥ History capacity s now later f rest came ∥₁
-still capacity s now book later left rest came was f none book_is left_is served =
-    ∥∥₁_map served (λ h. subst (λ r. History capacity s now later f r came) (sym left_is) (on (rw none at h)))
-  where
-    on : History capacity s now book None left came → History capacity s now later f left came
-    on h = record {
-      list = h.list;
-      each = h.each;
-      once = h.once;
-      seen = h.seen;
-      book_is = book_is ∙ h.book_is;
-      text = written_still capacity s.opening s.before now h.list h.text f;
-    }
+module _ (capacity : ℕ) (s : Service) (now : Option (List ℕ)) (book : Accounts) (left : List Open) (came : ℕ) (was : Option ServiceFault) where
+  -- the lines stay
+  on_same : (h : History capacity s now book was left came) (why : Option ServiceFault) (rest : List Open) (next : ℕ) → IsPermutation (entry_numbers h.list ++ numbers rest) (range_with_len 0 next)
+      → All (SightHolds capacity s.opening h.list) rest → IsWritten capacity s.opening s.before now h.list why → History capacity s now book why rest next
+  on_same h why rest next once seen text = record { list = h.list; each = h.each; once = once; seen = seen; book_is = h.book_is; text = text }
 
--- a line comes
-pub opened : (capacity : ℕ) (s : Service) (now : Option (List ℕ)) (book : Accounts) (left rest : List Open) (n came next : ℕ) (was : Option ServiceFault)
-    → rest ≡ left ++ unseen n ∷ [] → n ≡ came → next ≡ came + 1
-    → ∥ History capacity s now book was left came ∥₁ → ∥ History capacity s now book was rest next ∥₁
-opened capacity s now book left rest n came next was more is next_is served =
-    ∥∥₁_map served (λ h. record {
-      list = h.list;
-      each = h.each;
-      once = once_opened (entry_numbers h.list) (numbers left) (numbers rest) n came next (ap numbers more ∙ numbers-snoc left n) is next_is h.once;
-      seen = All-same (SightHolds capacity s.opening h.list) rest _ more (All-push (SightHolds capacity s.opening h.list) left (unseen n) h.seen tt);
-      book_is = h.book_is;
-      text = h.text;
-    })
+  -- nothing was done, and perhaps nothing more is answered
+  pub still : (f : Option ServiceFault) → was ≡ None → ∥ History capacity s now book was left came ∥₁ → ∥ History capacity s now book f left came ∥₁
+  still f none served = ∥∥₁_map served (λ h. on_same h f left came h.once h.seen (written_still capacity s.opening s.before now h.list (rw none at h.text) f))
 
--- a record is copied
-pub looked : (capacity : ℕ) (s : Service) (now : Option (List ℕ)) (book : Accounts) (left rest : List Open) (place came : ℕ) (name : List ℕ) (stored : Option RecordValue) (count : ℕ) (was : Option ServiceFault)
-    → Notes left place name stored rest count → stored ≡ record_at book name
-    → ∥ History capacity s now book was left came ∥₁ → ∥ History capacity s now book was rest came ∥₁
-looked capacity s now book left rest place came name stored count was l is served =
-    ∥∥₁_map served (λ h. record {
-      list = h.list;
-      each = h.each;
-      once = subst (λ ns. IsPermutation (entry_numbers h.list ++ ns) (range_with_len 0 came)) (sym (looked_numbers left rest place name stored count l)) h.once;
-      seen = watched_looked capacity s.opening h.list left rest place name stored count l (is ∙ ap (λ b. record_at b name) h.book_is) h.seen;
-      book_is = h.book_is;
-      text = h.text;
-    })
+  -- a line comes
+  pub opened : (rest : List Open) (n next : ℕ) → rest ≡ left ++ unseen n ∷ [] → n ≡ came → next ≡ came + 1
+      → ∥ History capacity s now book was left came ∥₁ → ∥ History capacity s now book was rest next ∥₁
+  opened rest n next more is next_is served = ∥∥₁_map served (λ h. on_same h was rest next
+      (rw (more, next_is, is, map-append (λ (o : Open). o.number) left (unseen came ∷ [])) (once_opened (entry_numbers h.list) (numbers left) came h.once))
+      (All-same (SightHolds capacity s.opening h.list) rest _ more (All-push (SightHolds capacity s.opening h.list) left (unseen n) h.seen tt)) h.text)
 
--- what is told at the end
-pub left_history : (capacity : ℕ) (s : Service) (now : Option (List ℕ)) (book : Accounts) (left : List Open) (came : ℕ) (told why : Option ServiceFault) → History capacity s now book told left came
-    → History capacity s now book (option_or told why) left came
-left_history capacity s now book left came (Some f) why h = h
-left_history capacity s now book left came None why h = record {
-  list = h.list;
-  each = h.each;
-  once = h.once;
-  seen = h.seen;
-  book_is = h.book_is;
-  text = written_still capacity s.opening s.before now h.list h.text why;
-}
+  -- a record is copied
+  pub looked : (rest : List Open) (place : ℕ) (name : List ℕ) (stored : Option RecordValue) (count : ℕ) → Notes left place name stored rest count → stored ≡ record_at book name
+      → ∥ History capacity s now book was left came ∥₁ → ∥ History capacity s now book was rest came ∥₁
+  looked rest place name stored count l is served = ∥∥₁_map served (λ h. on_same h was rest came
+      (rw (looked_numbers left rest place name stored count l) h.once)
+      (watched_looked capacity s.opening h.list left rest place name stored count l (is ∙ ap (λ b. record_at b name) h.book_is) h.seen) h.text)
+
+-- ---- why nothing more is answered
+
+length-asked : (s : Service) (n : ℕ) (lines : List (List ℕ)) → length (asked_from s n lines) ≡ length lines
+unfolding asked_from
+length-asked s n [] = refl
+length-asked s n (line ∷ lines) = ap suc (length-asked s (suc n) lines)
+
+-- a line that comes is one of the input
+pub line_missing : (s : Service) (input : Option (List ℕ)) (e : Entry) (came : ℕ) → IfSome input (λ bytes. IsLine s bytes e) → came ≤ e.number
+    → IfSome input (λ bytes. came ≢ length (lines_of bytes))
+line_missing s input e came h behind = IfSome_then input h (λ bytes is all.
+    let many = slice_get_within (asked s bytes) e.number e is in
+    let long = length-unended (λ e. cut_line e.number) bytes (asked_from s 0 (lines_of bytes)) ∙ length-asked s 0 (lines_of bytes) in
+    absurd (omega (arith, all, many, long, behind)))
+
+pub missing_if : (input : Option (List ℕ)) (came : ℕ) (P : List ℕ → Type 0) → IfSome input P → ((bytes : List ℕ) → P bytes → came ≢ length (lines_of bytes)) → IfSome input (λ bytes. came ≢ length (lines_of bytes))
+missing_if input came P h other = IfSome_then input h other
+
+-- ---- the whole
+
+module _ (capacity : ℕ) (s : Service) (now : Option (List ℕ)) (book : Accounts) (left : List Open) (came : ℕ) (source writer keeper : Bool) where
+  pub stands : (why : Option ServiceFault) → History capacity s now book why left came → HasCause s.input source writer keeper (numbers left) came why
+      → Stands capacity s (record { book = book; written = now; source_failed = source; writer_failed = writer; keeper_failed = keeper; fault = why; pending = numbers left; came = came })
+  stands why h cause = record { list = h.list; each = h.each; once = h.once; book = h.book_is; text = h.text; cause = cause }
+
+  -- what is told at the end is told already, or it ends the reading
+  pub ended : (told why : Option ServiceFault) → (told ≡ None → numbers left ≡ []) → History capacity s now book told left came → HasCause s.input source writer keeper (numbers left) came told
+      → HasCause s.input source writer keeper [] came why
+      → StandsAtEnd capacity s (λ pending. record { book = book; written = now; source_failed = source; writer_failed = writer; keeper_failed = keeper; fault = option_or told why; pending = pending; came = came })
+  ended (Some f) why idle h was cause = record { pending = numbers left; stands = stands (Some f) h was; none_pending = λ none. absurd cc }
+  ended None why idle h was cause = record {
+    pending = numbers left;
+    stands = stands why (on_same capacity s now book left came None h why left came h.once h.seen (written_still capacity s.opening s.before now h.list h.text why)) (rw (idle refl) cause);
+    none_pending = λ _. idle refl;
+  }

@@ -1,9 +1,10 @@
 -- What a tagged line asks for.
 use Rattle.std.specs.{List.list_all, Str.bytes_eq}
-use Rattle.std.specs.Prelude.{◌≡◌, ℕ, List, [], ◌∷◌, Bool, ◌&&◌, ◌||◌, if◌then◌else◌, length, nat_le, nat_lt, codes, Option, Some, None, Result, Ok, Err, true, false}
-use Rattle.cred_phc.specs.{Number.number_of, Pieces.pieces, Ranges.between, Ranges.is_current, Reading.◌>>=◌, Values.SettingValue}
+use Rattle.std.specs.Prelude.{◌≡◌, ℕ, List, [], ◌∷◌, Bool, ◌&&◌, ◌||◌, if◌then◌else◌, length, nat_le, nat_lt, codes, Option, Some, None, Result, Ok, Err, true, false, IfSome}
+use Rattle.cred_phc.specs.{Number.number_of, Pieces.pieces, Ranges.between, Reading.◌>>=◌, Values.SettingValue}
 use Rattle.cred_phc.specs.declared.error.PhcError.TheVariants.{Range}
 use Rattle.cred_book.specs.Works.{Task, is_for_current}
+use Rattle.cred_book.specs.declared.request.Request.{Request}
 use Rattle.cred_cli.specs.{Costs.exceeds, Costs.request_exceeds, declared.costs.CostBounds.CostBounds, declared.refusal.Refusal.Refusal}
 use Rattle.cred_cli.specs.Events.{longest_line, name_and_password, name_and_record, name_field, name_password_setting, only_name, request_of}
 use Rattle.cred_admin.specs.declared.edits.Edit.TheVariants.{Disable, Delete, Rename}
@@ -69,12 +70,16 @@ ask_of drawn (word ∷ fields) =
     else if bytes_eq word (codes "rename") then (rename_ask fields >>= λ it. Ok (Quick it))
     else hashed_ask drawn word fields
 
+-- what is hashed for it: a login is an upgrade, and a reset hashes as the first record does
+abbrev pub hashed_for : Ask → Option Request
+hashed_for (Quick ask) = None
+hashed_for (Whole r) = Some r
+hashed_for (Login name pw setting) = Some (request.Upgrade name pw setting)
+hashed_for (Reset name pw setting) = Some (request.Enrol name pw setting)
+
 -- a setting isn't of the version of old records
 abbrev pub IsSound : Ask → Type 0
-IsSound (Quick ask) = Unit {0}
-IsSound (Whole r) = is_for_current r ≡ true
-IsSound (Login name pw setting) = is_current setting.scheme ≡ true
-IsSound (Reset name pw setting) = is_current setting.scheme ≡ true
+IsSound ask = IfSome (hashed_for ask) (λ r. is_for_current r ≡ true)
 
 -- what a line asks for that is refused
 abbrev pub refused : Refusal → Ask
@@ -94,20 +99,13 @@ is_costly most (Reset name pw setting) = exceeds most setting.scheme
 abbrev pub within : CostBounds → Ask → Ask
 within most ask = if is_costly most ask then refused refusal.Costly else ask
 
--- ---- what is hashed
+abbrev pub is_reset : Ask → Bool
+is_reset (Reset name pw setting) = true
+is_reset _ = false
 
--- what is hashed for it: a login is an upgrade, and a reset hashes as the first record does
+-- this is hashed for it, and no record is copied for a reset
 abbrev pub IsJobOf : Ask → Task → Type 0
-IsJobOf (Quick ask) task = ⊥
-IsJobOf (Whole r) task = task.0 ≡ r
-IsJobOf (Login name pw setting) task = task.0 ≡ request.Upgrade name pw setting
-IsJobOf (Reset name pw setting) task = task ≡ (request.Enrol name pw setting, None)
-
--- it is a reset, and this is what was hashed for it
-abbrev pub IsResetOf : Ask → List ℕ → Task → Type 0
-IsResetOf (Reset name pw setting) there task =
-    (there ≡ name) × (task ≡ (request.Enrol name pw setting, None))
-IsResetOf _ there task = ⊥
+IsJobOf ask task = (hashed_for ask ≡ Some task.0) × (is_reset ask ≡ true → task.1 ≡ None)
 
 -- ---- lines
 

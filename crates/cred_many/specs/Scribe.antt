@@ -1,7 +1,7 @@
 -- What stands behind it in a scribe: what each open line has seen, lines that are answered, and those
 -- whose changes are made together. No public clause speaks of it.
-use Rattle.std.specs.{Io.KnownBytes.Appends, List.range_with_len, List.Sorted.IsPermutation, Option.option_or, Str.bytes_eq}
-use Rattle.std.specs.Prelude.{◌≡◌, ℕ, ◌≤◌, ◌+◌, List, [], ◌∷◌, ◌++◌, Bool, true, false, All, if◌then◌else◌, IfSome, Option, Some, None, drop, length, map, set, slice_get, take}
+use Rattle.std.specs.{Io.KnownBytes.Appends, List.range_with_len, List.remove, List.Sorted.IsPermutation, Option.option_or, Str.bytes_eq}
+use Rattle.std.specs.Prelude.{◌≡◌, ◌⊎◌, ℕ, ◌<◌, ◌≤◌, ◌+◌, List, [], ◌∷◌, ◌++◌, Bool, true, false, All, if◌then◌else◌, IfSome, Option, Some, None, length, map, set, slice_get}
 use Rattle.cred_phc.specs.Values.{RecordValue}
 use Rattle.cred_book.specs.{Accounts.Accounts, Works.Task, declared.reply.Reply.Reply}
 use Rattle.cred_cli.specs.{History.Answer, History.Changed, Outcome.FrontWritten, Steps.reply_answer}
@@ -12,17 +12,12 @@ use Rattle.std.specs.FinMap as fin
 
 -- ---- what an open line has seen
 
--- what was seen of an account stood there behind some of the lines, of which so many had changed it
-pub record WasThere (capacity : ℕ) (opening : Accounts) (list : List Entry) (sight : Sight) : Type 0
-  where
-    pub before : List Entry
-    pub rest : List Entry
-    pub cut : list ≡ before ++ rest
-    pub stored_is : sight.stored ≡ record_at (book_after capacity opening before) sight.name
-    pub few : sight.changes ≤ changes capacity opening sight.name before
-
+-- The account's record was seen to change no oftener than it did, and nor is it if it stands otherwise
+-- behind these lines.
 abbrev pub SightHolds : ℕ → Accounts → List Entry → Open → Type 0
-SightHolds capacity opening list line = IfSome line.sight (WasThere capacity opening list)
+SightHolds capacity opening list line = IfSome line.sight (λ s.
+    s.changes + change_from s.stored (record_at (book_after capacity opening list) s.name)
+    ≤ changes capacity opening s.name list)
 
 -- a line whose account wasn't looked at
 abbrev pub unseen : ℕ → Open
@@ -61,16 +56,21 @@ numbers left = map (λ o. o.number) left
 abbrev pub AreClosed : List Entry → List Open → List Open → Type 0
 AreClosed [] old new = new ≡ old
 AreClosed (e ∷ es) old new = (place : ℕ) × (slice_get (numbers old) place ≡ Some e.number)
-    × AreClosed es (take place old ++ drop (place + 1) old) new
+    × AreClosed es (remove old place) new
+
+-- no fault is told, and the open line of this number stands at this place
+pub record IsReady (why : Option ServiceFault) (left : List Open) (place number : ℕ) : Type 0 where
+  pub going : why ≡ None
+  pub within : place < length left
+  pub there : slice_get (numbers left) place ≡ Some number
 
 -- ---- what one step does
 
 -- a line is written, or the writer failed in it
 abbrev pub IsConcluded : List ℕ → Option (List ℕ) → Option (List ℕ) → Bool → Option ServiceFault
     → Type 0
-IsConcluded line old new failed None = Appends old new line
-IsConcluded line old new failed (Some Write) = FrontWritten old new line × (failed ≡ true)
-IsConcluded line old new failed (Some _) = ⊥
+IsConcluded line old new failed why = ((why ≡ None) × Appends old new line)
+    ⊎ ((why ≡ Some Write) × FrontWritten old new line × (failed ≡ true))
 
 -- the record isn't the one that was copied
 abbrev pub is_change : Answer → Bool

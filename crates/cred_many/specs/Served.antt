@@ -1,12 +1,12 @@
 -- What a service stands for at every moment: one list of lines, each done whole, one after another.
 use Rattle.std.specs.{Io.KnownBytes.Appends, List.range_with_len, List.Sorted.IsPermutation, Option.option_map}
-use Rattle.std.specs.Prelude.{◌≡◌, ◌≢◌, ◌⊎◌, ℕ, ◌<◌, ◌≤◌, ◌+◌, ◌-◌, ◌^◌, List, [], ◌∷◌, ◌++◌, Bool, true, false, if◌then◌else◌, IfSome, nat_lt, Option, Some, None, length, map, take, slice_get, unwrap_or}
+use Rattle.std.specs.Prelude.{◌≡◌, ◌≢◌, ◌⊎◌, ℕ, ◌<◌, ◌≤◌, ◌+◌, ◌-◌, ◌^◌, List, [], ◌∷◌, ◌++◌, Bool, true, false, if◌then◌else◌, IfSome, nat_lt, Option, Some, None, length, map, take, slice_get, slice_index_or, unwrap_or}
 use Rattle.cred_phc.specs.Values.{RecordValue}
 use Rattle.cred_book.specs.{Accounts.Accounts, Works.name_of, Works.new_record, Works.same, Works.seq, declared.reply.Reply.Reply}
 use Rattle.cred_cli.specs.{History.Done, History.Refused, History.show_answer, Script.lines_of, Texts.line_of, Texts.reply_line}
 use Rattle.cred_cli.specs.Watched.{failed_of, inner_of}
 use Rattle.cred_admin.specs.{Commands.reset_step, Edits.disabling, Edits.edit_line, Edits.edit_status, Edits.edited, Edits.lacks_room, Listing.passwd_line}
-use Rattle.cred_many.specs.{Asks.Entry, Asks.refused, Names.names_line, Names.page, Service.Service, Service.asked, declared.ask.Ask.Ask}
+use Rattle.cred_many.specs.{Asks.Entry, Asks.hashed_for, Asks.refused, Names.names_line, Names.page, Service.Service, Service.asked, declared.ask.Ask.Ask}
 use Rattle.cred_many.specs.declared.ask.Ask.TheVariants.{Quick, Whole, Login, Reset}
 use Rattle.cred_many.specs.declared.ask.QuickAsk.TheVariants.{Account, Load, Show, DisableShown, Bad, Edit as Change, List as Names}
 use Rattle.cred_many.specs.{declared.ending.Served.Served, declared.fault.ServiceFault.ServiceFault}
@@ -99,10 +99,7 @@ changes capacity book name (e ∷ es) =
 
 -- whose record is hashed for a line
 abbrev pub name_asked : Ask → List ℕ
-name_asked (Whole r) = name_of r
-name_asked (Login name pw setting) = name
-name_asked (Reset name pw setting) = name
-name_asked _ = []
+name_asked ask = unwrap_or (option_map name_of (hashed_for ask)) []
 
 -- ---- lines that are given up
 
@@ -146,8 +143,8 @@ pub record IsFor (capacity : ℕ) (opening : Accounts) (lines before : List Entr
 
 -- so is each of them, behind those before it
 abbrev pub AreFor : ℕ → Accounts → List Entry → List Entry → Type 0
-AreFor capacity opening lines list = (before rest : List Entry) (e : Entry)
-    → list ≡ before ++ e ∷ rest → IsFor capacity opening lines before e
+AreFor capacity opening lines list = (i : ℕ) (d : Entry) → i < length list
+    → IsFor capacity opening lines (take i list) (slice_index_or list i d)
 
 abbrev pub entry_numbers : List Entry → List ℕ
 entry_numbers list = map (λ e. e.number) list

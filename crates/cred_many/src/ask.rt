@@ -1,7 +1,7 @@
 //! What a tagged line asks for.
 
 ghost use Rattle.std.specs.Prelude.{◌≡◌};
-ghost use Rattle.cred_many.specs.Asks.{IsSound, is_costly, refused, within};
+ghost use Rattle.cred_many.specs.Asks.{IsSound, is_costly, is_reset, refused, within};
 
 use cred_admin::Edit;
 use cred_book::{Name, Request};
@@ -58,6 +58,13 @@ impl Ask {
             return Ask::refused(Refusal::Costly);
         }
         self
+    }
+
+    /// Whether it gives a record in place of any other.
+    pub(crate) fn is_reset(&self) -> bool
+        ensures { result ≡ is_reset self.now }
+    {
+        matches!(self, Ask::Reset(..))
     }
 
     fn is_costly(&self, most: &CostBounds) -> bool

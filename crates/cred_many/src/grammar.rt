@@ -22,26 +22,21 @@ pub(crate) fn ask_of(drawn: Setting, words: &[&[u8]]) -> Result<Ask, Refusal>
         return Err(Refusal::Line);
     };
     if *word == b"account".as_slice() {
-        let name = fields::only_name(fields)?;
-        Ok(Ask::Quick(QuickAsk::Account(name)))
+        Ok(Ask::Quick(QuickAsk::Account(fields::only_name(fields)?)))
     } else if *word == b"load".as_slice() {
         let (name, stored) = fields::name_and_record(fields)?;
         Ok(Ask::Quick(QuickAsk::Load(name, stored)))
     } else if *word == b"show".as_slice() {
-        let name = fields::only_name(fields)?;
-        Ok(Ask::Quick(QuickAsk::Show(name)))
+        Ok(Ask::Quick(QuickAsk::Show(fields::only_name(fields)?)))
     } else if *word == b"list".as_slice() {
-        let list = list_ask(fields)?;
-        Ok(Ask::Quick(list))
+        Ok(Ask::Quick(list_ask(fields)?))
     } else if *word == b"disable".as_slice() {
-        let disable = disable_ask(fields)?;
-        Ok(Ask::Quick(disable))
+        Ok(Ask::Quick(disable_ask(fields)?))
     } else if *word == b"delete".as_slice() {
         let name = fields::only_name(fields)?;
         Ok(Ask::Quick(QuickAsk::Edit(Edit::Delete(name))))
     } else if *word == b"rename".as_slice() {
-        let rename = rename_ask(fields)?;
-        Ok(Ask::Quick(rename))
+        Ok(Ask::Quick(rename_ask(fields)?))
     } else {
         hashed_ask(drawn, word, fields)
     }
@@ -51,11 +46,7 @@ fn list_ask(fields: &[&[u8]]) -> Result<QuickAsk, Refusal>
     ensures { result ≡ list_ask (map (λ s. s.now) fields.now) }
 {
     match fields {
-        [from, most] => {
-            let from = fields::name(from)?;
-            let most = count(most)?;
-            Ok(QuickAsk::List(from, most))
-        }
+        [from, most] => Ok(QuickAsk::List(fields::name(from)?, count(most)?)),
         _ => Err(Refusal::Line),
     }
 }
@@ -85,11 +76,7 @@ fn rename_ask(fields: &[&[u8]]) -> Result<QuickAsk, Refusal>
     ensures { result ≡ rename_ask (map (λ s. s.now) fields.now) }
 {
     match fields {
-        [name, other] => {
-            let name = fields::name(name)?;
-            let other = fields::name(other)?;
-            Ok(QuickAsk::Edit(Edit::Rename(name, other)))
-        }
+        [name, new] => Ok(QuickAsk::Edit(Edit::Rename(fields::name(name)?, fields::name(new)?))),
         _ => Err(Refusal::Line),
     }
 }
@@ -107,7 +94,6 @@ fn hashed_ask(drawn: Setting, word: &[u8], fields: &[&[u8]]) -> Result<Ask, Refu
         let (name, pw, setting) = fields::name_password_setting(Some(drawn), fields)?;
         Ok(Ask::Reset(name, pw, setting))
     } else {
-        let request = fields::request(Some(drawn), word, fields)?;
-        Ok(Ask::Whole(request))
+        Ok(Ask::Whole(fields::request(Some(drawn), word, fields)?))
     }
 }

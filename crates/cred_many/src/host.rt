@@ -1,8 +1,10 @@
 //! The keeper of a book that is served.
 
-use cred_admin::{Edit, EditReply};
+use cred_admin::{Edit, EditReply, make_edit};
 use cred_book::{BookError, Name, Register, Reply, Worked};
+use cred_file::FileBook;
 use cred_phc::Record;
+use sqlite::Alter;
 
 /// A keeper whose book is served while it is in use, from a register in memory.
 ///
@@ -64,4 +66,43 @@ pub trait Host {
     /// Whether it has failed for good. An error with which it hasn't failed is want of memory.
     fn has_failed(&self) -> bool
         ensures { result ≡ failed self.now };
+}
+
+impl<S: Alter> Host for FileBook<S> {
+    ghost use Rattle.std.specs.Prelude.{is_some};
+    ghost use Rattle.cred_book.specs.Accounts.{register_capacity};
+
+    ghost book = { λ b. b.book };
+
+    ghost capacity = { register_capacity };
+
+    ghost failed = { λ b. is_some b.lost };
+
+    fn accounts(&self) -> &Register {
+        self.book()
+    }
+
+    fn admit(&mut self, name: Name) -> Result<(), BookError> {
+        FileBook::admit(self, name)
+    }
+
+    fn load(&mut self, name: &Name, stored: Record) -> Result<(), BookError> {
+        FileBook::load(self, name, stored)
+    }
+
+    fn commit(&mut self, worked: Worked) -> Result<Reply, (Worked, BookError)> {
+        FileBook::commit(self, worked)
+    }
+
+    fn edit(&mut self, edit: &Edit) -> Result<EditReply, BookError> {
+        make_edit(self, edit)
+    }
+
+    fn replace_all(&mut self, changed: Register) -> Result<(), BookError> {
+        FileBook::replace_all(self, changed)
+    }
+
+    fn has_failed(&self) -> bool {
+        self.lost().is_some()
+    }
 }

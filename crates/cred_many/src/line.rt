@@ -1,8 +1,8 @@
 //! A line that came, read.
 
-ghost use Rattle.std.specs.{Prelude.◌≡◌, Prelude.IfSome, Prelude.codes, Prelude.map, Prelude.true, List.list_all};
+ghost use Rattle.std.specs.{Prelude.◌≡◌, Prelude.IfSome, Prelude.map, Prelude.true, List.list_all};
 ghost use Rattle.cred_phc.specs.Ranges.{is_current};
-ghost use Rattle.cred_many.specs.{Asks.IsSound, Asks.entry_of, Asks.is_tag_byte, Asks.tag_of, Asks.tagged, Asks.tagged_of, Service.IsLine, Service.cut_line};
+ghost use Rattle.cred_many.specs.{Asks.IsSound, Asks.entry_of, Asks.is_tag_byte, Asks.tag_of, Asks.tagged, Asks.tagged_of, Asks.untagged, Service.IsLine, Service.cut_line};
 
 use crate::ask::Ask;
 use crate::grammar::ask_of;
@@ -64,17 +64,19 @@ impl<J: ServiceId> Line<J> {
         requires { IfSome J.service.input (λ bytes. IsLine J.service bytes (cut_line number)) }
         ensures { result ≡ cut_line number }
     {
+        let (tag, ask) = untagged(Refusal::Line);
         Line {
             number,
-            tag: star(),
-            ask: Ask::refused(Refusal::Line),
+            tag,
+            ask,
             of: PhantomData,
         }
     }
 
     /// Its number among the lines, from 0 on.
     pub(crate) fn number(&self) -> u64
-        ensures { result ≡ self.now.number }
+        ensures number { result ≡ self.now.number }
+        ensures came { IfSome J.service.input (λ bytes. IsLine J.service bytes self.now) }
     {
         self.number
     }
@@ -91,6 +93,7 @@ impl<J: ServiceId> Line<J> {
     pub(crate) fn ask(&self) -> Ask
         ensures ask { result ≡ self.now.ask }
         ensures sound { IsSound result }
+        ensures came { IfSome J.service.input (λ bytes. IsLine J.service bytes self.now) }
     {
         self.ask
     }
@@ -103,7 +106,7 @@ fn parts(drawn: Setting, line: &[u8]) -> (Tag, Ask)
     ensures sound { IsSound result.1 }
 {
     if is_too_long(line) {
-        return (star(), Ask::refused(Refusal::Long));
+        return untagged(Refusal::Long);
     }
     tagged(drawn, &first_pieces(line))
 }
@@ -114,14 +117,24 @@ fn tagged(drawn: Setting, pieces: &[&[u8]]) -> (Tag, Ask)
     ensures sound { IsSound result.1 }
 {
     let [first, words @ ..] = pieces else {
-        return (star(), Ask::refused(Refusal::Line));
+        return untagged(Refusal::Line);
     };
     match tag_of(first) {
         Some(tag) => match ask_of(drawn, words) {
             Ok(ask) => (tag, ask),
             Err(why) => (tag, Ask::refused(why)),
         },
-        None => (star(), Ask::refused(Refusal::Line)),
+        None => untagged(Refusal::Line),
+    }
+}
+
+/// What is refused under no tag: its answer has a star.
+fn untagged(why: Refusal) -> (Tag, Ask)
+    ensures { result ≡ untagged why }
+{
+    match ShortBytes::new(b"*", 1) {
+        Some(star) => (star, Ask::refused(why)),
+        None => unreachable!(),
     }
 }
 
@@ -132,15 +145,6 @@ fn tag_of(text: &[u8]) -> Option<Tag>
         return None;
     }
     ShortBytes::new(text, 1)
-}
-
-fn star() -> Tag
-    ensures { result ≡ codes "*" }
-{
-    match ShortBytes::new(b"*", 1) {
-        Some(tag) => tag,
-        None => unreachable!(),
-    }
 }
 
 /// Whether a tag may contain each of the bytes.

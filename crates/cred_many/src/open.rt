@@ -1,6 +1,7 @@
 //! The lines that have come and aren't answered yet.
 
-ghost use Rattle.std.specs.Prelude.{◌≡◌, ◌≤◌, ◌+◌, ◌<◌, ◌++◌, ◌∷◌, [], IfOk, IfSome, MatchBool, OnErr, OnOk, Some, drop, length, map, slice_get, take};
+ghost use Rattle.std.specs.Prelude.{◌≡◌, ◌≤◌, ◌<◌, ◌++◌, ◌∷◌, [], IfSome, MatchBool, OnErr, OnOk, Some, length, slice_get};
+ghost use Rattle.std.specs.List.{remove};
 ghost use Rattle.cred_many.specs.Scribe.{AreClosed, Notes, counted, entries_of, numbers, unseen};
 
 use crate::job::Hashed;
@@ -89,7 +90,7 @@ impl OpenLines {
     /// The line there is open no more.
     pub(crate) fn close(&mut self, place: usize)
         requires { place < length self.old }
-        ensures { self.new ≡ take place self.old ++ drop (place + 1) self.old }
+        ensures { self.new ≡ remove self.old place }
     {
         self.lines.remove(place);
     }

@@ -1,37 +1,46 @@
 //! Where answers are written.
 
-ghost use Rattle.std.specs.{Io.KnownBytes.Appends, Prelude.◌≡◌, Prelude.◌∷◌, Prelude.◌++◌, Prelude.OnErr, Prelude.OnOk, Prelude.None, Prelude.true};
+ghost use Rattle.std.specs.{Io.KnownBytes.Appends, List.remove, Prelude.◌≡◌, Prelude.◌∷◌, Prelude.◌++◌, Prelude.IfSome, Prelude.OnErr, Prelude.OnOk, Prelude.None, Prelude.true};
 ghost use Rattle.cred_cli.specs.{Outcome.FrontWritten, Watched.failed_of, Watched.inner_of};
-ghost use Rattle.cred_many.specs.Scribe.{IsConcluded};
+ghost use Rattle.cred_many.specs.{Scribe.IsConcluded, Scribe.IsReady, Service.IsLine};
 
 use crate::fault::ServiceFault;
+use crate::line::Line;
+use crate::open::OpenLines;
+use crate::service_id::ServiceId;
 use cred_cli::{ScriptFault, Watched, write_whole};
 use std::io::Write;
 
-/// The writer, and why nothing is answered any more.
+/// The lines that aren't answered yet, the writer, and why nothing is answered any more.
 #[derive(Drop)]
 pub(crate) struct Output<W: Write> {
+    pub(crate) pending: OpenLines,
     pub(crate) writer: Watched<W>,
     pub(crate) fault: Option<ServiceFault>,
 }
 
 impl<W: Write> Output<W> {
-    /// Writes an answer under its tag. If that fails nothing more is answered.
-    pub(crate) fn conclude(&mut self, tag: &[u8], answer: &[u8])
-        requires { self.old.fault ≡ None }
-        ensures { IsConcluded (tag.now ++ 32 ∷ answer.now)
+    /// Answers the line that stands there, which is open no more. If the writing fails nothing more
+    /// is answered.
+    pub(crate) fn answer<J: ServiceId>(&mut self, place: usize, line: &Line<J>, answer: &[u8])
+        requires { IsReady self.old.fault self.old.pending place line.now.number }
+        ensures came { IfSome J.service.input (λ bytes. IsLine J.service bytes line.now) }
+        ensures closed { self.new.pending ≡ remove self.old.pending place }
+        ensures told { IsConcluded (line.now.tag ++ 32 ∷ answer.now)
             (W.contents (inner_of self.old.writer)) (W.contents (inner_of self.new.writer))
             (failed_of self.new.writer) self.new.fault }
     {
-        if write_answer(&mut self.writer, tag, answer).is_err() {
+        self.pending.close(place);
+        if write_answer(&mut self.writer, line.tag(), answer).is_err() {
             self.fault = Some(ServiceFault::Write);
         }
     }
 
-    /// Writes the answers of lines that were done together. If that fails nothing more is answered.
+    /// Writes the answers of lines that were done together, likewise.
     pub(crate) fn conclude_all(&mut self, answers: &[u8])
         requires { self.old.fault ≡ None }
-        ensures { IsConcluded answers.now (W.contents (inner_of self.old.writer))
+        ensures same { self.new.pending ≡ self.old.pending }
+        ensures told { IsConcluded answers.now (W.contents (inner_of self.old.writer))
             (W.contents (inner_of self.new.writer)) (failed_of self.new.writer) self.new.fault }
     {
         if write_whole(&mut self.writer, answers).is_err() {
@@ -56,5 +65,6 @@ fn write_answer<W: Write>(
 {
     write_whole(writer, tag)?;
     write_whole(writer, b" ")?;
-    write_whole(writer, answer)
+    write_whole(writer, answer)?;
+    Ok(())
 }

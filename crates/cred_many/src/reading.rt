@@ -15,30 +15,9 @@ use std::sync::Wait;
 /// How many bytes are asked for at once.
 const CHUNK: usize = 4096;
 
-/// Hands out each line that comes, and tells and says how the reading ended.
-pub(crate) fn read<J: ServiceId, T: Wait, S: Source + Drop, G: Rng + Drop>(
-    rt: &T,
-    source: S,
-    decoder: LineDecoder<J, G>,
-    sender: LineSender<J>,
-) -> Ending<J, S>
-    requires input { S.remaining source ≡ J.service.input }
-    requires given { S.given source ≡ 0 }
-    requires going { (S.ended source ≡ false) × (S.failed source ≡ false) }
-    requires start { decoder.start ≡ [] }
-    requires number { decoder.number ≡ 0 }
-    requires handed { sender.handed ≡ 0 }
-    ensures { IsOfReading result }
-{
-    let mut decoder = decoder;
-    let mut sender = sender;
-    let ending = read_lines(rt, source, &mut decoder, &mut sender);
-    sender.end(rt);
-    ending
-}
-
-/// Hands out each line, to the end of the input or until nobody takes them.
-fn read_lines<J: ServiceId, T: Wait, S: Source + Drop, G: Rng>(
+/// Hands out each line that comes, to the end of the input or until nobody takes them, and says how
+/// the reading ended.
+pub(crate) fn read_lines<J: ServiceId, T: Wait, S: Source + Drop, G: Rng>(
     rt: &T,
     source: S,
     decoder: &mut LineDecoder<J, G>,

@@ -1,14 +1,12 @@
 //! The book that is served, the lines that are open, and the writer of their answers.
 
-ghost use Rattle.std.specs.Prelude.{◌≡◌, ◌≢◌, ◌<◌, [], false, IfSome, length, None, OnSome, Option, option_map, slice_get, Some, true, unwrap_or};
+ghost use Rattle.std.specs.Prelude.{◌≡◌, [], Bool, false, IfSome, length, None, option_map, Some, true, unwrap_or};
 ghost use Rattle.cred_cli.specs.{Script.lines_of, Watched.failed_of, Watched.inner_of};
 ghost use Rattle.cred_book.specs.Works.{is_for_current, name_of};
-ghost use Rattle.cred_phc.specs.Values.{RecordValue};
-ghost use Rattle.cred_many.specs.{Asks.IsJobOf, Asks.IsResetOf, Scribe.History, Scribe.is_changed, Scribe.numbers, declared.ask.Ask.TheVariants.Quick};
-ghost use Rattle.cred_many.specs.Served.{HasCause, Stands, StandsAtEnd, left_of, record_at, told_reply};
+ghost use Rattle.cred_many.specs.{Asks.IsJobOf, Asks.hashed_for, Asks.is_reset, Scribe.History, Scribe.IsBusy, Scribe.IsReady, Scribe.is_changed, Scribe.numbers, declared.ask.Ask.TheVariants.Quick};
+ghost use Rattle.cred_many.specs.Served.{HasCause, NeedsMemory, Stands, StandsAtEnd, left_of, record_at, told_reply};
 
 mod groups;
-mod refusals;
 
 use crate::answer::{do_ask, put_in_place};
 use crate::ask::{Ask, QuickAsk};
@@ -21,8 +19,8 @@ use crate::open::OpenLines;
 use crate::output::Output;
 use crate::service_id::ServiceId;
 use crate::source::Source;
-use cred_book::{Name, Reply, Request, Ticket, Worked};
-use cred_cli::{Watched, reply_line};
+use cred_book::{BookError, Reply, Request, Ticket, Worked};
+use cred_cli::{Refusal, Watched, reply_line};
 use std::alloc::Global;
 use std::io::Write;
 use std::marker::PhantomData;
@@ -40,15 +38,14 @@ const TRIES: u32 = 8;
 pub struct Scribe<J: ServiceId, K: Host, W: Write> {
     keeper: K,
     output: Output<W>,
-    pending: OpenLines,
     /// How many lines came.
     came: u64,
     of: PhantomData<J>,
 
     ghost history: { ∥ History K.capacity J.service (W.contents (inner_of output.writer))
-        (K.book keeper) output.fault pending came ∥₁ },
-    ghost cause: { ∥ HasCause J.service.input false (failed_of output.writer) (K.failed keeper)
-        (numbers pending) came output.fault ∥₁ },
+        (K.book keeper) output.fault output.pending came ∥₁ },
+    ghost cause: { (source : Bool) → ∥ HasCause J.service.input source (failed_of output.writer)
+        (K.failed keeper) (numbers output.pending) came output.fault ∥₁ },
 }
 
 impl<J: ServiceId, K: Host, W: Write> Scribe<J, K, W> {
@@ -60,10 +57,10 @@ impl<J: ServiceId, K: Host, W: Write> Scribe<J, K, W> {
         Scribe {
             keeper,
             output: Output {
+                pending: OpenLines::new(alloc),
                 writer,
                 fault: None,
             },
-            pending: OpenLines::new(alloc),
             came: 0,
             of: PhantomData,
         }
@@ -78,7 +75,7 @@ impl<J: ServiceId, K: Host, W: Write> Scribe<J, K, W> {
           writer_failed = failed_of self.now.output.writer;
           keeper_failed = K.failed self.now.keeper;
           fault = self.now.output.fault;
-          pending = numbers self.now.pending;
+          pending = numbers self.now.output.pending;
           came = self.now.came;
         }) ∥₁ }
     {
@@ -92,7 +89,7 @@ impl<J: ServiceId, K: Host, W: Write> Scribe<J, K, W> {
 
     /// Whether each line that came is answered.
     pub fn is_idle(&self) -> bool {
-        self.pending.is_empty()
+        self.output.pending.is_empty()
     }
 
     /// What is left of it once no line comes any more. A line that is pending is lost.
@@ -106,14 +103,14 @@ impl<J: ServiceId, K: Host, W: Write> Scribe<J, K, W> {
         match ending.end() {
             End::Whole(lines) => {
                 if lines != self.came {
-                    return self.lost();
+                    return self.left(None, Some(ServiceFault::Lost));
                 }
                 self.left(None, None)
             }
             End::Failed(source) => self.left(Some(source), Some(ServiceFault::Read)),
             End::TooLong => {
                 if self.came < MOST_LINES {
-                    return self.lost();
+                    return self.left(None, Some(ServiceFault::Lost));
                 }
                 self.left(None, Some(ServiceFault::TooLong))
             }
@@ -122,65 +119,43 @@ impl<J: ServiceId, K: Host, W: Write> Scribe<J, K, W> {
         }
     }
 
-    /// Notes that a line that is pending has no answer.
+    /// Notes that a line that is pending has no answer, unless a fault is told already.
     fn lose_pending(&mut self)
-        ensures idle { self.new.output.fault ≡ None → numbers self.new.pending ≡ [] }
+        ensures idle { self.new.output.fault ≡ None → numbers self.new.output.pending ≡ [] }
         ensures came { self.new.came ≡ self.old.came }
     {
-        if !self.pending.is_empty() {
-            self.lose();
+        if self.output.fault.is_none() && !self.output.pending.is_empty() {
+            self.output.fault = Some(ServiceFault::Lost);
         }
-    }
-
-    /// What is left of it, where a line didn't come.
-    fn lost<S: Source>(mut self) -> Served<K, W, S>
-        requires { HasCause J.service.input false (failed_of self.output.writer)
-            (K.failed self.keeper) (numbers self.pending) self.came (Some ServiceFault.Lost) }
-        ensures served { ∥ StandsAtEnd K.capacity J.service
-            (left_of K.book K.failed W.contents S.failed result) ∥₁ }
-        ensures told { result.fault ≢ None }
-    {
-        self.lose();
-        self.left(None, None)
     }
 
     /// What is left of it, and why not all came.
     fn left<S: Source>(self, source: Option<S>, why: Option<ServiceFault>) -> Served<K, W, S>
-        requires idle { self.output.fault ≡ None → numbers self.pending ≡ [] }
+        requires idle { self.output.fault ≡ None → numbers self.output.pending ≡ [] }
         requires cause { HasCause J.service.input (unwrap_or (option_map S.failed source) false)
             (failed_of self.output.writer) (K.failed self.keeper) [] self.came why }
         ensures served { ∥ StandsAtEnd K.capacity J.service
             (left_of K.book K.failed W.contents S.failed result) ∥₁ }
         ensures lines { result.lines ≡ self.came }
-        ensures fault { result.fault ≡ None → self.output.fault ≡ None }
         ensures why { result.fault ≡ None → why ≡ None }
     {
         let Scribe {
             keeper,
             output,
-            pending: _pending,
-            came,
+            came: lines,
             of: _,
         } = self;
+        let Output {
+            pending: _pending,
+            writer,
+            fault,
+        } = output;
         Served {
             keeper,
-            writer: output.writer,
+            writer,
             source,
-            lines: came,
-            fault: output.fault.or(why),
-        }
-    }
-
-    /// Notes that a line that came has no answer, unless a fault is told already.
-    fn lose(&mut self)
-        requires { HasCause J.service.input false (failed_of self.old.output.writer)
-            (K.failed self.old.keeper) (numbers self.old.pending) self.old.came
-            (Some ServiceFault.Lost) }
-        ensures told { self.new.output.fault ≢ None }
-        ensures came { self.new.came ≡ self.old.came }
-    {
-        if self.output.fault.is_none() {
-            self.output.fault = Some(ServiceFault::Lost);
+            lines,
+            fault: fault.or(why),
         }
     }
 
@@ -209,39 +184,38 @@ impl<J: ServiceId, K: Host, W: Write> Scribe<J, K, W> {
     /// Opens the next line, and says where it stands.
     fn admit(&mut self, line: &Line<J>) -> Option<usize>
         requires { self.old.output.fault ≡ None }
-        ensures going { OnSome result (self.new.output.fault ≡ None) }
-        ensures within { IfSome result (λ place. place < length self.new.pending) }
-        ensures there { IfSome result
-            (λ place. slice_get (numbers self.new.pending) place ≡ Some line.now.number) }
+        ensures { IfSome result (λ place.
+            IsReady self.new.output.fault self.new.output.pending place line.now.number) }
     {
         let number = line.number();
         if number < self.came {
             return None;
         }
         if number != self.came || self.came == u64::MAX {
-            let _tag = line.tag();
             self.output.fault = Some(ServiceFault::Lost);
             return None;
         }
-        if self.pending.push(number).is_err() {
+        if self.output.pending.push(number).is_err() {
             self.output.fault = Some(ServiceFault::Memory);
             return None;
         }
         self.came += 1;
-        self.pending.place_of(number)
+        self.output.pending.place_of(number)
     }
 
     /// The line with a copy of its account's record, unless there were copies of others often
     /// enough.
     fn job(&mut self, place: usize, line: Line<J>, request: Request) -> Option<Job<J>>
-        requires going { self.old.output.fault ≡ None }
-        requires within { place < length self.old.pending }
-        requires there { slice_get (numbers self.old.pending) place ≡ Some line.number }
+        requires ready { IsReady self.old.output.fault self.old.output.pending place line.number }
         requires current { is_for_current request ≡ true }
-        requires asked { (copy : Option RecordValue) → IsJobOf line.ask (request, copy) }
+        requires asked { hashed_for line.ask ≡ Some request }
+        requires kept { is_reset line.ask ≡ false }
     {
         let ticket = ticket_of(&self.keeper, request);
-        let changes = self.pending.look(place, request.name(), ticket.copy());
+        let changes = self
+            .output
+            .pending
+            .look(place, request.name(), ticket.copy());
         if changes >= TRIES {
             self.give_up_as_busy(place, line);
             return None;
@@ -251,16 +225,11 @@ impl<J: ServiceId, K: Host, W: Write> Scribe<J, K, W> {
 
     /// Does what needs no hash.
     fn answer_at_once(&mut self, alloc: Global, place: usize, line: Line<J>, ask: QuickAsk)
-        requires going { self.old.output.fault ≡ None }
-        requires within { place < length self.old.pending }
-        requires there { slice_get (numbers self.old.pending) place ≡ Some line.number }
+        requires ready { IsReady self.old.output.fault self.old.output.pending place line.number }
         requires asked { Quick ask ≡ line.ask }
     {
         match do_ask(alloc, &mut self.keeper, ask) {
-            Ok(text) => {
-                self.pending.close(place);
-                self.output.conclude(line.tag(), text.bytes());
-            }
+            Ok(text) => self.output.answer(place, &line, text.bytes()),
             Err(_) => self.refuse(place, line),
         }
     }
@@ -272,23 +241,20 @@ impl<J: ServiceId, K: Host, W: Write> Scribe<J, K, W> {
             return None;
         }
         let Hashed { line, worked } = hashed;
-        let place = self.pending.place_of(line.number())?;
-        match line.ask() {
-            Ask::Whole(_) | Ask::Login(..) => self.commit_whole(place, line, worked),
-            Ask::Reset(name, _, _) => {
-                self.reset(place, line, &name, &worked);
-                None
-            }
-            Ask::Quick(_) => unreachable!(),
+        let place = self.output.pending.place_of(line.number())?;
+        if line.ask().is_reset() {
+            self.reset(place, line, &worked);
+            return None;
         }
+        self.commit_whole(place, line, worked)
     }
 
     fn commit_whole(&mut self, place: usize, line: Line<J>, worked: Worked) -> Option<Job<J>>
-        requires going { self.old.output.fault ≡ None }
-        requires within { place < length self.old.pending }
-        requires there { slice_get (numbers self.old.pending) place ≡ Some line.number }
-        requires asked { (copy : Option RecordValue) → IsJobOf line.ask (worked.0, copy) }
+        requires ready { IsReady self.old.output.fault self.old.output.pending place line.number }
+        requires asked { hashed_for line.ask ≡ Some worked.0 }
+        requires kept { is_reset line.ask ≡ false }
     {
+        let ask = line.ask();
         let request = worked.request();
         let reply = match self.keeper.commit(worked) {
             Ok(reply) => reply,
@@ -298,30 +264,24 @@ impl<J: ServiceId, K: Host, W: Write> Scribe<J, K, W> {
             }
         };
         if is_changed(&reply) {
-            let _ask = line.ask();
             return self.job(place, line, request);
         }
-        self.pending.close(place);
-        let answer = reply_line(&told_reply(line.ask(), reply));
-        self.output.conclude(line.tag(), answer);
+        let answer = reply_line(&told_reply(ask, reply));
+        self.output.answer(place, &line, answer);
         None
     }
 
     /// Puts the record that was made in place of any other.
-    fn reset(&mut self, place: usize, line: Line<J>, name: &Name, worked: &Worked)
-        requires going { self.old.output.fault ≡ None }
-        requires within { place < length self.old.pending }
-        requires there { slice_get (numbers self.old.pending) place ≡ Some line.number }
-        requires asked { IsResetOf line.ask name.now worked.now }
+    fn reset(&mut self, place: usize, line: Line<J>, worked: &Worked)
+        requires ready { IsReady self.old.output.fault self.old.output.pending place line.number }
+        requires asked { IsJobOf line.ask worked.now }
+        requires reset { is_reset line.ask ≡ true }
     {
         let Some(stored) = worked.after() else {
             unreachable!()
         };
-        match put_in_place(&mut self.keeper, name, stored) {
-            Ok(reply) => {
-                self.pending.close(place);
-                self.output.conclude(line.tag(), reply_line(&reply));
-            }
+        match put_in_place(&mut self.keeper, &worked.request().name(), stored) {
+            Ok(reply) => self.output.answer(place, &line, reply_line(&reply)),
             Err(_) => self.refuse(place, line),
         }
     }
@@ -330,6 +290,41 @@ impl<J: ServiceId, K: Host, W: Write> Scribe<J, K, W> {
     pub fn no_memory(&mut self, job: Job<J>) {
         let Job { line, .. } = job;
         self.starve(line);
+    }
+
+    /// Refuses a line for want of memory, unless nothing is answered any more.
+    fn starve(&mut self, line: Line<J>)
+        requires { NeedsMemory K.capacity (K.book self.old.keeper) line.ask }
+        ensures { K.book self.new.keeper ≡ K.book self.old.keeper }
+    {
+        if self.output.fault.is_some() {
+            return;
+        }
+        if let Some(place) = self.output.pending.place_of(line.number()) {
+            self.refuse(place, line);
+        }
+    }
+
+    /// Answers that nothing was done for want of memory, or ends all if the keeper has failed.
+    fn refuse(&mut self, place: usize, line: Line<J>)
+        requires ready { IsReady self.old.output.fault self.old.output.pending place line.number }
+        requires needs { NeedsMemory K.capacity (K.book self.old.keeper) line.ask }
+        ensures { K.book self.new.keeper ≡ K.book self.old.keeper }
+    {
+        if self.keeper.has_failed() {
+            self.output.fault = Some(ServiceFault::Keeper);
+            return;
+        }
+        let answer = Refusal::Book(BookError::Memory).line();
+        self.output.answer(place, &line, answer);
+    }
+
+    /// Answers that nothing was done since others were always faster.
+    fn give_up_as_busy(&mut self, place: usize, line: Line<J>)
+        requires ready { IsReady self.old.output.fault self.old.output.pending place line.number }
+        requires busy { IsBusy self.old.output.pending place line.ask }
+    {
+        self.output.answer(place, &line, Refusal::Busy.line());
     }
 }
 

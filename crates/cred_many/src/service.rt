@@ -12,16 +12,18 @@ use crate::host::Host;
 use crate::job::{Job, Message};
 use crate::message_loop::MessageLoop;
 use crate::open::MOST_OPEN;
-use crate::reading::read;
+use crate::reading::read_lines;
 use crate::scribe::Scribe;
 use crate::sender::LineSender;
 use crate::service_id::ServiceId;
-use crate::source::Source;
+use crate::source::{LineReader, Source};
 use cred_cli::{CostBounds, Tools};
+use cred_file::FileBook;
 use crossbeam_channel::{Receiver, Sender, bounded};
 use rand_core::Rng;
+use sqlite::Alter;
 use std::alloc::{AllocError, Global};
-use std::io::Write;
+use std::io::{Read, Write};
 use std::marker::Brand;
 use std::sync::Wait;
 use std::sync::ledger::Blank;
@@ -79,7 +81,13 @@ where
         requires { (S.remaining source ≡ J.service.input) × (S.given source ≡ 0)
             × (S.ended source ≡ false) × (S.failed source ≡ false)
             × (decoder.start ≡ []) × (decoder.number ≡ 0) × (sender.handed ≡ 0) }
-    { read(&there, source, decoder, sender) };
+    {
+        let mut decoder = decoder;
+        let mut sender = sender;
+        let ending = read_lines(&there, source, &mut decoder, &mut sender);
+        sender.end(&there);
+        ending
+    };
     let Ok(reader) = thread::spawn(tools.rt, reading) else {
         return Ending::new(End::Threads);
     };
@@ -90,6 +98,30 @@ where
         // It isn't waited for: after a fault it may never end.
         Ending::new(End::Threads)
     }
+}
+
+/// Answers tagged lines on a kept book, as [`serve_tagged`] does.
+///
+/// Each change is in the database before it is answered. A crash leaves the book after the lines
+/// that were done, perhaps with the change that was under way as the database failed.
+pub fn serve_file<J, T, S, R, W, G>(
+    tools: &Tools<'_, T>,
+    means: &Means,
+    scribe: &mut Scribe<J, FileBook<S>, W>,
+    salts: G,
+    reader: R,
+) -> Ending<J, LineReader<R>>
+where
+    J: ServiceId + Send + Sync + 'static,
+    T: Threads + Wait + Sync + Copy + Send + 'static,
+    S: Alter,
+    R: Read + Send + Drop + 'static,
+    W: Write + Drop,
+    G: Rng + Send + Drop + 'static,
+    requires { J.service ≡ service J.service.opening (R.remaining reader)
+        J.service.before means.now (G.stream salts) }
+{
+    serve_tagged(tools, means, scribe, salts, LineReader::new(reader))
 }
 
 /// The ends of the channels that the thread with the book has, and those that it gives to the

@@ -1,12 +1,9 @@
 //! Changes of different accounts that are made together, and answered at once.
 
-ghost use Rattle.std.specs.Prelude.{◌≡◌, None, Option};
-ghost use Rattle.cred_phc.specs.Values.{RecordValue};
-ghost use Rattle.cred_many.specs.{Asks.IsJobOf, Scribe.IsGroup, Scribe.entries_of};
+ghost use Rattle.std.specs.Prelude.{◌≡◌, None};
+ghost use Rattle.cred_many.specs.{Scribe.IsGroup, Scribe.entries_of};
 
 use super::{Scribe, told_reply};
-use crate::ask::Ask;
-use crate::fault::ServiceFault;
 use crate::group::{Group, MOST_TOGETHER};
 use crate::host::Host;
 use crate::job::Hashed;
@@ -44,19 +41,9 @@ impl<J: ServiceId, K: Host, W: Write> Scribe<J, K, W> {
         ensures { IsGroup K.capacity J.service (K.book self.now.keeper) group.new.changed
             (entries_of group.new.works.items) group.new.text.items }
     {
-        match hashed.line.ask() {
-            Ask::Whole(_) | Ask::Login(..) => self.gather_whole(group, hashed),
-            _ => Err(hashed),
+        if hashed.line.ask().is_reset() {
+            return Err(hashed);
         }
-    }
-
-    fn gather_whole(&self, group: &mut Group<J>, hashed: Hashed<J>) -> Result<(), Hashed<J>>
-        requires asked { (copy : Option RecordValue) → IsJobOf hashed.0.ask (hashed.1.0, copy) }
-        requires group { IsGroup K.capacity J.service (K.book self.now.keeper) group.old.changed
-            (entries_of group.old.works.items) group.old.text.items }
-        ensures { IsGroup K.capacity J.service (K.book self.now.keeper) group.new.changed
-            (entries_of group.new.works.items) group.new.text.items }
-    {
         let (reply, stored, changes) = self.keeper.accounts().judge(&hashed.worked);
         if !changes || group.works.len() >= MOST_TOGETHER {
             return Err(hashed);
@@ -66,7 +53,6 @@ impl<J: ServiceId, K: Host, W: Write> Scribe<J, K, W> {
             after: stored,
             reply: told_reply(hashed.line.ask(), reply),
         };
-        let _tag = hashed.line.tag();
         group.push(hashed, &change)
     }
 
@@ -81,27 +67,21 @@ impl<J: ServiceId, K: Host, W: Write> Scribe<J, K, W> {
             changed,
             text,
         } = group;
-        let Some(left) = self.pending.without(&works) else {
+        let Some(left) = self.output.pending.without(&works) else {
             self.refuse_all(works);
             return;
         };
         match self.keeper.replace_all(changed) {
             Ok(()) => {
-                self.pending = left;
+                self.output.pending = left;
                 self.output.conclude_all(&text);
             }
             Err(_) => self.refuse_all(works),
         }
     }
 
-    /// Answers lines to whose changes the keeper refused memory, or ends all if it has failed.
-    fn refuse_all(&mut self, works: Vec<Hashed<J>>)
-        requires { self.old.output.fault ≡ None }
-    {
-        if self.keeper.has_failed() {
-            self.output.fault = Some(ServiceFault::Keeper);
-            return;
-        }
+    /// Refuses the lines of a group for want of memory, or ends all if the keeper has failed.
+    fn refuse_all(&mut self, works: Vec<Hashed<J>>) {
         for hashed in works {
             let Hashed { line, .. } = hashed;
             self.starve(line);

@@ -1,6 +1,6 @@
-use Rattle.std.proofs.{Common.◌≡◌, Common.◌<◌, Common.arith, Common.length, lemmas.Bool.Decides.nat_tests}
+use Rattle.std.proofs.{Common.◌≡◌, Common.◌<◌, Common.arith, Common.length, lemmas.Bool.Decides.nat_tests, lemmas.Option.IfSome_then}
 use Rattle.cred_many.specs.Reading.{place}
-use Rattle.cred_many.proofs.Lines.{count_ended, count_with_last, cut_came, last_came}
+use Rattle.cred_many.proofs.Lines.{count_ended, cut_came, with_last}
 use Rattle.cred_many.proofs.decoder.LineDecoder.last.Goals as goal
 
 pub returns-then-is_empty-clause-whole : goal.returns-then-is_empty-clause-whole
@@ -11,9 +11,9 @@ returns-then-is_empty-clause-whole g c =
 pub cut-requires : goal.cut-requires
 cut-requires g c =
     let some : 0 < length c.bytes.result.now = grind (arith, nat_tests) in
-    cut_came g.J.ServiceId.service _ _ (last_came g.J.ServiceId.service.input (place c.args.self.now.start c.args.self.now.number) c.requires (rw c.bytes.ensures at some))
+    cut_came g.J.ServiceId.service _ _ (IfSome_then g.J.ServiceId.service.input (with_last g.J.ServiceId.service.input (place c.args.self.now.start c.args.self.now.number) c.requires (rw c.bytes.ensures at some)) (λ all w. w.0))
 
 pub returns-clause-whole : goal.returns-clause-whole
 returns-clause-whole g c =
     let some : 0 < length c.bytes.result.now = grind (arith, nat_tests) in
-    count_with_last g.J.ServiceId.service.input (place c.args.self.now.start c.args.self.now.number) c.requires (rw c.bytes.ensures at some)
+    IfSome_then g.J.ServiceId.service.input (with_last g.J.ServiceId.service.input (place c.args.self.now.start c.args.self.now.number) c.requires (rw c.bytes.ensures at some)) (λ all w. w.1)

@@ -1,15 +1,17 @@
-use Rattle.std.proofs.Common.{rules, refl, inr, arith}
-use Rattle.cred_many.proofs.{Serving.opened, Serving.still, Standing.line_missing, Standing.no_cause}
+use Rattle.std.proofs.Common.{◌≡◌, rules, inr, arith}
+use Rattle.cred_many.proofs.Serving.{line_missing, opened, still}
 use Rattle.cred_many.proofs.scribe.Scribe.admit.Goals as goal
 
 pub invariant_of-self : goal.invariant_of-self
 invariant_of-self g c = record {
-  history = still _ _ _ _ _ _ _ _ _ _ c.requires refl refl c.args.self.now.history;
-  cause = ∣ inr (line_missing g.J.ServiceId.service _ c.args.line.now _ c.tag-tag.ensures.came (omega arith)) ∣₁;
+  history = still _ _ _ _ _ _ _ _ c.requires c.args.self.now.history;
+  cause = λ source. ∣ inr (line_missing g.J.ServiceId.service _ c.args.line.now _ c.number-number.ensures.came (omega arith)) ∣₁;
 }
 
 pub invariant_of-self-then-is_err : goal.invariant_of-self-then-is_err
-invariant_of-self-then-is_err g c = record { history = still _ _ _ _ _ c.args.self.now.pending c.push.new.self _ _ _ c.requires refl (search rules) c.args.self.now.history; cause = ∣ tt ∣₁ }
+invariant_of-self-then-is_err g c =
+    let same : c.push.new.self ≡ c.args.self.now.output.pending = search rules in
+    record { history = rw same (still _ _ _ _ _ _ _ _ c.requires c.args.self.now.history); cause = λ source. ∣ tt ∣₁ }
 
-pub invariant_of-self-2 : goal.invariant_of-self-2
-invariant_of-self-2 g c = record { history = opened _ _ _ _ _ _ c.number-number.result _ _ _ (search rules) (search rules) (search rules) c.args.self.now.history; cause = ∣ no_cause _ _ _ _ _ _ c.requires ∣₁ }
+pub invariant_of-self-2-clause-history : goal.invariant_of-self-2-clause-history
+invariant_of-self-2-clause-history g c = opened _ _ _ _ _ _ _ _ c.number-number.result _ (search rules) (search rules) (search rules) c.args.self.now.history

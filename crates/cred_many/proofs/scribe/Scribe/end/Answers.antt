@@ -1,9 +1,14 @@
-use Rattle.std.proofs.Common.{arith, inr, sym}
-use Rattle.cred_many.proofs.Standing.{not_all, too_few}
+use Rattle.std.proofs.Common.{◌≡◌, ◌≤◌, ◌^◌, IfSome, arith, inr, length, sym, ◌∙◌}
+use Rattle.cred_cli.specs.Script.{lines_of}
+use Rattle.cred_many.proofs.Serving.{missing_if}
 use Rattle.cred_many.proofs.scribe.Scribe.end.Goals as goal
 
-pub lost-requires : goal.lost-requires
-lost-requires g c = inr (not_all g.J.ServiceId.service.input _ _ c.in-Whole.ensures (λ same. c.if-lines-self.true (sym same)))
+pub left-requires-clause-cause : goal.left-requires-clause-cause
+left-requires-clause-cause g c =
+    let told : IfSome g.J.ServiceId.service.input (λ all. c.in-Whole.lines ≡ length (lines_of all)) = c.in-Whole.ensures in
+    inr (missing_if g.J.ServiceId.service.input _ _ told (λ bytes is all. c.if-lines-self.true (is ∙ sym all)))
 
-pub lost-requires-then-self-lt-MOST_LINES : goal.lost-requires-then-self-lt-MOST_LINES
-lost-requires-then-self-lt-MOST_LINES g c = inr (too_few g.J.ServiceId.service.input _ _ c.in-TooLong.ensures (omega (arith, c.if-self-lt-MOST_LINES.true)))
+pub left-requires-then-self-lt-MOST_LINES-clause-cause : goal.left-requires-then-self-lt-MOST_LINES-clause-cause
+left-requires-then-self-lt-MOST_LINES-clause-cause g c =
+    let told : IfSome g.J.ServiceId.service.input (λ all. 2 ^ 63 ≤ length (lines_of all)) = c.in-TooLong.ensures in
+    inr (missing_if g.J.ServiceId.service.input _ _ told (λ bytes least all. absurd (omega (arith, least, all, c.if-self-lt-MOST_LINES.true))))

@@ -1,0 +1,12 @@
+use Rattle.std.proofs.Common.{rules, ◌≡◌, arith, IfSome, subst}
+use Rattle.cred_many.specs.{Asks.IsJobOf, Service.IsLine}
+use Rattle.cred_many.proofs.Together.{pushed_together}
+use Rattle.cred_many.proofs.scribe.Scribe.gather.Goals as goal
+
+pub returns : goal.returns
+returns g c =
+    let line : c.hashed.inside.line ≡ c.args.hashed.0 = search rules in
+    let job : IsJobOf c.args.hashed.0.ask c.args.hashed.1 = search rules in
+    pushed_together _ _ _ _ _ _ _ _ _ c.args.hashed c.judge-reply.result.0 c.judge-reply.result.1 c.name.result c.push.result c.requires job.0 (search (rules, arith)) (search rules) (search rules) (omega (arith, c.if-len-ge-MOST_TOGETHER.false, c.len.ensures))
+    (subst (λ e. IfSome g.J.ServiceId.service.input (λ bytes. IsLine g.J.ServiceId.service bytes e)) line c.ask.ensures.came)
+    c.push.ensures.works c.push.ensures.first c.push.ensures.changed (search rules) c.push.ensures.same_works c.push.ensures.same_changed c.push.ensures.same_text
