@@ -28,10 +28,17 @@ fits_now old new (Transcript all) (was, fits) = fits
 
 -- ---- whether a reader came to its end meanwhile
 
-pub still_open : (was now ended : Bool) → ended ≡ (not was && now) → ended ≡ false → was ≡ false → now ≡ false
-still_open true now ended is closed open_ = cc open_
-still_open false now ended is closed open_ = sym is ∙ closed
-
 pub came : (was now ended : Bool) → ended ≡ (not was && now) → ended ≡ true → (was ≡ false) × (now ≡ true)
 came true now ended is reached = cc (sym is ∙ reached)
 came false now ended is reached = (refl, sym is ∙ reached)
+
+-- it didn't, so that what follows fits too
+still_open : (was now ended : Bool) → ended ≡ (not was && now) → ended ≡ false → was ≡ false → now ≡ false
+still_open true now ended is closed open_ = cc open_
+still_open false now ended is closed open_ = sym is ∙ closed
+
+pub fits_both : {R : Type 0} (remaining : R → Option (List ℕ)) (old mid new : Watched R) (was ended : Bool) → was ≡ ended_of old → ended ≡ (not was && ended_of mid) → ended ≡ false → GivesMore mid new
+    → (basis : Basis) → FitsSince basis old new → FitsSince basis old mid × FitsSince basis mid new
+fits_both remaining old mid new was ended asked is closed more basis fits =
+    let open_ : ended_of old ≡ false → ended_of mid ≡ false = λ at_first. still_open was (ended_of mid) ended is closed (asked ∙ at_first) in
+    (fits_first remaining old mid new open_ more basis fits, fits_then remaining old mid new open_ more basis fits)

@@ -70,24 +70,27 @@ unfolding tally_from
 through P rules book step t n [] holds = holds
 through P rules book step t n (line ∷ lines) holds = through P rules book step (with_line rules book t n (said_of line)) (n + 1) lines (step t n (said_of line) holds)
 
--- ---- what the book has isn't new, and what it hasn't isn't changed
+-- ---- what stays through a line
 
 absent_at : (m : Accounts) (name : List ℕ) → map.get m name ≡ None → map.contains_key m name ≡ false
 absent_at m name none = ap is_some none
 
-not_new : (rules : Rules) (book : Accounts) (name : List ℕ) → map.contains_key book name ≡ true → (t : Tally) (n : ℕ) (r : Result Said LineFault) → map.get t.accounts name ≡ None → map.get (with_line rules book t n r).accounts name ≡ None
-not_new rules book name there t n r holds = by_line (λ u. map.get u.accounts name ≡ None) rules book t n r holds (λ why. holds)
-    (λ e says. by_entry (λ u. map.get u.accounts name ≡ None) rules.existing book t n e (λ why. holds) holds (λ how is new. holds) (λ new here. get_other t.accounts e.0 name e.1 (apart book name e.0 there new) ∙ holds))
+-- what a map has at a name stays through a line that puts nothing there
+module _ (rules : Rules) (book : Accounts) (name : List ℕ) (at_name : Option (Option RecordValue)) (t : Tally) (n : ℕ) (r : Result Said LineFault) where
+  accounts_stay : ((e : Entry) → entry_with rules r ≡ Some e → map.contains_key book e.0 ≡ false → map.contains_key t.accounts e.0 ≡ false → name ≡ e.0 → ⊥) → map.get t.accounts name ≡ at_name → map.get (with_line rules book t n r).accounts name ≡ at_name
+  accounts_stay other holds = by_line (λ u. map.get u.accounts name ≡ at_name) rules book t n r holds (λ why. holds)
+      (λ e says. by_entry (λ u. map.get u.accounts name ≡ at_name) rules.existing book t n e (λ why. holds) holds (λ how there new. holds) (λ new here. get_other t.accounts e.0 name e.1 (other e says new here) ∙ holds))
 
+  changed_stay : ((e : Entry) → entry_with rules r ≡ Some e → map.contains_key book e.0 ≡ true → map.contains_key t.changed e.0 ≡ false → name ≡ e.0 → ⊥) → map.get t.changed name ≡ at_name → map.get (with_line rules book t n r).changed name ≡ at_name
+  changed_stay other holds = by_line (λ u. map.get u.changed name ≡ at_name) rules book t n r holds (λ why. holds)
+      (λ e says. by_entry (λ u. map.get u.changed name ≡ at_name) rules.existing book t n e (λ why. holds) holds (λ how there new. get_other t.changed e.0 name e.1 (other e says there new) ∙ holds) (λ new here. holds))
+
+-- what the book has isn't new, and what it hasn't isn't changed
 pub there_not_new : (rules : Rules) (book : Accounts) (name : List ℕ) (n : ℕ) (lines : List (List ℕ)) → map.contains_key book name ≡ true → map.get (tally_from rules book nothing_yet n lines).accounts name ≡ None
-there_not_new rules book name n lines there = through (λ u. map.get u.accounts name ≡ None) rules book (not_new rules book name there) nothing_yet n lines (map.get-empty name_cmp name)
-
-not_changed : (rules : Rules) (book : Accounts) (name : List ℕ) → map.contains_key book name ≡ false → (t : Tally) (n : ℕ) (r : Result Said LineFault) → map.get t.changed name ≡ None → map.get (with_line rules book t n r).changed name ≡ None
-not_changed rules book name absent t n r holds = by_line (λ u. map.get u.changed name ≡ None) rules book t n r holds (λ why. holds)
-    (λ e says. by_entry (λ u. map.get u.changed name ≡ None) rules.existing book t n e (λ why. holds) holds (λ how there new. get_other t.changed e.0 name e.1 (λ same. apart book e.0 name there absent (sym same)) ∙ holds) (λ new here. holds))
+there_not_new rules book name n lines there = through (λ u. map.get u.accounts name ≡ None) rules book (λ t n r. accounts_stay rules book name None t n r (λ e says new here. apart book name e.0 there new)) nothing_yet n lines (map.get-empty name_cmp name)
 
 pub absent_not_changed : (rules : Rules) (book : Accounts) (name : List ℕ) (n : ℕ) (lines : List (List ℕ)) → map.contains_key book name ≡ false → map.get (tally_from rules book nothing_yet n lines).changed name ≡ None
-absent_not_changed rules book name n lines absent = through (λ u. map.get u.changed name ≡ None) rules book (not_changed rules book name absent) nothing_yet n lines (map.get-empty name_cmp name)
+absent_not_changed rules book name n lines absent = through (λ u. map.get u.changed name ≡ None) rules book (λ t n r. changed_stay rules book name None t n r (λ e says there new same. apart book e.0 name there absent (sym same))) nothing_yet n lines (map.get-empty name_cmp name)
 
 -- ---- a name that no good line has
 
@@ -98,9 +101,8 @@ pub free_at_first : (name : List ℕ) → IsFree name nothing_yet
 free_at_first name = (map.get-empty name_cmp name, map.get-empty name_cmp name)
 
 free_line : (rules : Rules) (book : Accounts) (name : List ℕ) (t : Tally) (n : ℕ) (r : Result Said LineFault) → ((e : Entry) → entry_with rules r ≡ Some e → name ≡ e.0 → ⊥) → IsFree name t → IsFree name (with_line rules book t n r)
-free_line rules book name t n r other free = by_line (IsFree name) rules book t n r free (λ why. free)
-    (λ e says. by_entry (IsFree name) rules.existing book t n e (λ why. free) free
-    (λ how there new. (free.0, get_other t.changed e.0 name e.1 (other e says) ∙ free.1)) (λ new here. (get_other t.accounts e.0 name e.1 (other e says) ∙ free.0, free.1)))
+free_line rules book name t n r other free =
+    (accounts_stay rules book name None t n r (λ e says new here. other e says) free.0, changed_stay rules book name None t n r (λ e says there new. other e says) free.1)
 
 pub free_lines : (rules : Rules) (book : Accounts) (name : List ℕ) (t : Tally) (n : ℕ) (lines : List (List ℕ)) → HasNone rules name lines → IsFree name t → IsFree name (tally_from rules book t n lines)
 unfolding tally_from
@@ -109,15 +111,6 @@ free_lines rules book name t n (line ∷ lines) none free =
     free_lines rules book name (with_line rules book t n (said_of line)) (n + 1) lines none.1 (free_line rules book name t n (said_of line) none.0 free)
 
 -- ---- the first good line of a name
-
--- what a map has stays
-stays_new : (rules : Rules) (book : Accounts) (name : List ℕ) (v : Option RecordValue) (t : Tally) (n : ℕ) (r : Result Said LineFault) → map.get t.accounts name ≡ Some v → map.get (with_line rules book t n r).accounts name ≡ Some v
-stays_new rules book name v t n r holds = by_line (λ u. map.get u.accounts name ≡ Some v) rules book t n r holds (λ why. holds)
-    (λ e says. by_entry (λ u. map.get u.accounts name ≡ Some v) rules.existing book t n e (λ why. holds) holds (λ how there new. holds) (λ new here. get_other t.accounts e.0 name e.1 (apart t.accounts name e.0 (ap is_some holds) here) ∙ holds))
-
-stays_changed : (rules : Rules) (book : Accounts) (name : List ℕ) (v : Option RecordValue) (t : Tally) (n : ℕ) (r : Result Said LineFault) → map.get t.changed name ≡ Some v → map.get (with_line rules book t n r).changed name ≡ Some v
-stays_changed rules book name v t n r holds = by_line (λ u. map.get u.changed name ≡ Some v) rules book t n r holds (λ why. holds)
-    (λ e says. by_entry (λ u. map.get u.changed name ≡ Some v) rules.existing book t n e (λ why. holds) holds (λ how there new. get_other t.changed e.0 name e.1 (apart t.changed name e.0 (ap is_some holds) new) ∙ holds) (λ new here. holds))
 
 cheap_entry : (rules : Rules) (book : Accounts) (t : Tally) (n : ℕ) (e f : Entry) (b : Bool) → (if b then None else Some f) ≡ Some e
     → (if b then with_bad t n Costly else with_entry rules.existing book t n f) ≡ with_entry rules.existing book t n e
@@ -138,7 +131,7 @@ pub first_new : (rules : Rules) (book : Accounts) (e : Entry) (line : List ℕ) 
     → map.get (tally_from rules book t n (front ++ line ∷ rest)).accounts e.0 ≡ Some e.1
 unfolding tally_from
 first_new rules book e line rest t n [] says none absent free =
-    through (λ u. map.get u.accounts e.0 ≡ Some e.1) rules book (stays_new rules book e.0 e.1) (with_line rules book t n (said_of line)) (n + 1) rest
+    through (λ u. map.get u.accounts e.0 ≡ Some e.1) rules book (λ t n r holds. accounts_stay rules book e.0 (Some e.1) t n r (λ f says new here. apart t.accounts e.0 f.0 (ap is_some holds) here) holds) (with_line rules book t n (said_of line)) (n + 1) rest
     (rw (line_of_entry rules book t n (said_of line) e says, absent, absent_at t.accounts e.0 free.0) (get_here t.accounts e.0 e.1))
 first_new rules book e line rest t n (l ∷ front) says none absent free =
     first_new rules book e line rest (with_line rules book t n (said_of l)) (n + 1) front says none.1 absent (free_line rules book e.0 t n (said_of l) none.0 free)
@@ -147,7 +140,7 @@ pub first_changed : (rules : Rules) (book : Accounts) (e : Entry) (line : List �
     → map.get (tally_from rules book t n (front ++ line ∷ rest)).changed e.0 ≡ Some e.1
 unfolding tally_from
 first_changed rules book e line rest t n [] says none there how free =
-    through (λ u. map.get u.changed e.0 ≡ Some e.1) rules book (stays_changed rules book e.0 e.1) (with_line rules book t n (said_of line)) (n + 1) rest
+    through (λ u. map.get u.changed e.0 ≡ Some e.1) rules book (λ t n r holds. changed_stay rules book e.0 (Some e.1) t n r (λ f says there new. apart t.changed e.0 f.0 (ap is_some holds) new) holds) (with_line rules book t n (said_of line)) (n + 1) rest
     (rw (line_of_entry rules book t n (said_of line) e says, there, how, absent_at t.changed e.0 free.1) (get_here t.changed e.0 e.1))
 first_changed rules book e line rest t n (l ∷ front) says none there how free =
     first_changed rules book e line rest (with_line rules book t n (said_of l)) (n + 1) front says none.1 there how (free_line rules book e.0 t n (said_of l) none.0 free)

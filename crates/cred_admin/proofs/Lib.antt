@@ -1,4 +1,3 @@
-mod Edited
 mod Fits
 mod Imported
 mod Reading
@@ -6,6 +5,5 @@ mod Records
 pub mod Tallies
 mod Renaming
 mod Misread
-mod Obeyed
 pub mod Printed
 mod BeforeSalt

@@ -1,39 +1,27 @@
 -- Texts that are written a line at a time, in pieces.
 use Rattle.std.proofs.Common.{◌≡◌, inl, inr, ℕ, ◌<◌, ◌+◌, Option, List, [], ◌∷◌, ◌++◌, length, take, refl, sym, ap, subst, ◌∙◌, arith, append_assoc, append-nil}
-use Rattle.std.proofs.{lemmas.List.length-append, lemmas.List.take-append-le, Math.Seq.take-append_seam, Math.Seq.take-append-add}
+use Rattle.std.proofs.{lemmas.List.Concat.flat_map-append, lemmas.List.flat_map_more, lemmas.List.length-append, lemmas.List.take-append-le, Math.Seq.take-append_seam, Math.Seq.take-append-add}
 use Rattle.std.proofs.KnownBytes.{Appends-nil, Appends-trans}
 use Rattle.std.specs.Io.KnownBytes.{Appends}
 use Rattle.cred_cli.specs.Outcome.{FrontWritten}
-use Rattle.cred_admin.specs.Listing.{Entry, IsPiece, lines_text}
-
-lines_append : (line : Entry → List ℕ) (xs ys : List Entry) → lines_text line (xs ++ ys) ≡ lines_text line xs ++ lines_text line ys
-unfolding lines_text
-lines_append line [] ys = refl
-lines_append line (x ∷ xs) ys = ap (λ t. line x ++ t) (lines_append line xs ys) ∙ sym (append_assoc (line x) (lines_text line xs) (lines_text line ys))
-
-line_alone : (line : Entry → List ℕ) (e : Entry) → lines_text line (e ∷ []) ≡ line e
-unfolding lines_text
-line_alone line e = append-nil (line e)
-
-nothing : (line : Entry → List ℕ) → lines_text line [] ≡ []
-unfolding lines_text
-nothing line = refl
+use Rattle.std.specs.List.{flat_map}
+use Rattle.cred_admin.specs.Listing.{Entry, IsPiece}
 
 -- the lines of the first entries are written, those of the next are kept, and some entries are left
 pub record Goes (line : Entry → List ℕ) (all rest : List Entry) (before now : Option (List ℕ)) (text : List ℕ) : Type 0 where
   pub first : List Entry
   pub next : List Entry
   pub cut : all ≡ first ++ (next ++ rest)
-  pub written : Appends before now (lines_text line first)
-  pub kept : text ≡ lines_text line next
+  pub written : Appends before now (flat_map line first)
+  pub kept : text ≡ flat_map line next
 
 pub begun : (line : Entry → List ℕ) (all rest : List Entry) (before : Option (List ℕ)) (text : List ℕ) → rest ≡ all → text ≡ [] → Goes line all rest before before text
 begun line all rest before text is none = record {
   first = [];
   next = [];
   cut = sym is;
-  written = subst (Appends before before) (sym (nothing line)) (Appends-nil before);
-  kept = none ∙ sym (nothing line);
+  written = Appends-nil before;
+  kept = none;
 }
 
 pub pushed : (line : Entry → List ℕ) (all rest left : List Entry) (e : Entry) (before now : Option (List ℕ)) (text new : List ℕ) → Goes line all rest before now text → rest ≡ e ∷ left → new ≡ text ++ line e
@@ -43,14 +31,14 @@ pushed line all rest left e before now text new goes is more = record {
   next = goes.next ++ e ∷ [];
   cut = goes.cut ∙ ap (λ r. goes.first ++ (goes.next ++ r)) is ∙ ap (λ r. goes.first ++ r) (sym (append_assoc goes.next (e ∷ []) left));
   written = goes.written;
-  kept = more ∙ ap (λ t. t ++ line e) goes.kept ∙ ap (λ t. lines_text line goes.next ++ t) (sym (line_alone line e)) ∙ sym (lines_append line goes.next (e ∷ []));
+  kept = more ∙ ap (λ t. t ++ line e) goes.kept ∙ flat_map_more line [] goes.next e;
 }
 
 -- those that were kept are written too
 all_written : (line : Entry → List ℕ) (all rest : List Entry) (before now new : Option (List ℕ)) (text : List ℕ) (goes : Goes line all rest before now text) → Appends now new text
-    → Appends before new (lines_text line (goes.first ++ goes.next))
+    → Appends before new (flat_map line (goes.first ++ goes.next))
 all_written line all rest before now new text goes more =
-    subst (Appends before new) (ap (λ t. lines_text line goes.first ++ t) goes.kept ∙ sym (lines_append line goes.first goes.next)) (Appends-trans before now new (lines_text line goes.first) text goes.written more)
+    subst (Appends before new) (ap (λ t. flat_map line goes.first ++ t) goes.kept ∙ sym (flat_map-append line goes.first goes.next)) (Appends-trans before now new (flat_map line goes.first) text goes.written more)
 
 pub piece : (line : Entry → List ℕ) (all rest : List Entry) (before now new : Option (List ℕ)) (text left : List ℕ) → Goes line all rest before now text → IsPiece now new text left → Goes line all rest before new left
 piece line all rest before now new text left goes (inl (more, none)) = record {
@@ -58,20 +46,20 @@ piece line all rest before now new text left goes (inl (more, none)) = record {
   next = [];
   cut = goes.cut ∙ sym (append_assoc goes.first goes.next rest);
   written = all_written line all rest before now new text goes more;
-  kept = none ∙ sym (nothing line);
+  kept = none;
 }
 piece line all rest before now new text left goes (inr (stays, same)) = record {
   first = goes.first;
   next = goes.next;
   cut = goes.cut;
-  written = subst (λ n. Appends before n (lines_text line goes.first)) (sym stays) goes.written;
+  written = subst (λ n. Appends before n (flat_map line goes.first)) (sym stays) goes.written;
   kept = same ∙ goes.kept;
 }
 
 pub ended : (line : Entry → List ℕ) (all rest : List Entry) (before now new : Option (List ℕ)) (text : List ℕ) → Goes line all rest before now text → rest ≡ [] → Appends now new text
-    → Appends before new (lines_text line all)
+    → Appends before new (flat_map line all)
 ended line all rest before now new text goes none more =
-    subst (λ es. Appends before new (lines_text line es))
+    subst (λ es. Appends before new (flat_map line es))
     (sym (goes.cut ∙ ap (λ r. goes.first ++ (goes.next ++ r)) none ∙ ap (λ r. goes.first ++ r) (append-nil goes.next)))
     (all_written line all rest before now new text goes more)
 
@@ -86,17 +74,17 @@ front_later all front middle rest before now new cut written (n, short, more) = 
 
 -- a piece of which only a front was written
 pub broken : (line : Entry → List ℕ) (all rest : List Entry) (before now new : Option (List ℕ)) (text : List ℕ) → Goes line all rest before now text → FrontWritten now new text
-    → FrontWritten before new (lines_text line all)
+    → FrontWritten before new (flat_map line all)
 broken line all rest before now new text goes more =
-    front_later _ (lines_text line goes.first) text (lines_text line rest) before now new
-    (ap (lines_text line) goes.cut ∙ lines_append line goes.first (goes.next ++ rest) ∙ ap (λ t. lines_text line goes.first ++ t) (lines_append line goes.next rest ∙ ap (λ t. t ++ lines_text line rest) (sym goes.kept)))
+    front_later _ (flat_map line goes.first) text (flat_map line rest) before now new
+    (ap (flat_map line) goes.cut ∙ flat_map-append line goes.first (goes.next ++ rest) ∙ ap (λ t. flat_map line goes.first ++ t) (flat_map-append line goes.next rest ∙ ap (λ t. t ++ flat_map line rest) (sym goes.kept)))
     goes.written more
 
 -- there was no memory for the next line
 pub no_room : (line : Entry → List ℕ) (all rest left : List Entry) (e : Entry) (before now : Option (List ℕ)) (text : List ℕ) → Goes line all rest before now text → rest ≡ e ∷ left
-    → (n : ℕ) × (n < length all) × Appends before now (lines_text line (take n all))
+    → (n : ℕ) × (n < length all) × Appends before now (flat_map line (take n all))
 no_room line all rest left e before now text goes is = (
   length goes.first,
   omega (arith, ap length goes.cut, length-append goes.first (goes.next ++ rest), length-append goes.next rest, ap length is),
-  subst (λ es. Appends before now (lines_text line es)) (sym (ap (take (length goes.first)) goes.cut ∙ take-append_seam goes.first (goes.next ++ rest))) goes.written,
+  subst (λ es. Appends before now (flat_map line es)) (sym (ap (take (length goes.first)) goes.cut ∙ take-append_seam goes.first (goes.next ++ rest))) goes.written,
 )

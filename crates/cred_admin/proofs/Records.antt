@@ -17,22 +17,14 @@ pub no_account : (book : Accounts) (request : Request) → map.get book (name_of
 unfolding seq
 no_account book request is = sym (ap (seq_at book request) is)
 
-committed_now : (book : Accounts) (work : Task) → map.get book (name_of work.0) ≡ Some work.1
-    → commit_outcome book work ≡ ((whole work.0 work.1).0, map.insert book (name_of work.0) (whole work.0 work.1).1)
-unfolding commit_outcome
-committed_now book work is = ap (commit_outcome_at book work) is ∙ ap (commit_outcome_if book work work.1) ((same-Decides work.1 work.1).1 refl)
-
-seq_now : (book : Accounts) (request : Request) (now : Option RecordValue) → map.get book (name_of request) ≡ Some now
-    → seq book request ≡ ((whole request now).0, map.insert book (name_of request) (whole request now).1)
-unfolding seq
-seq_now book request now is = ap (seq_at book request) is
-
 -- a commit right behind its begin does the whole operation
 pub done_whole : (book new : Accounts) (request : Request) (ticket work : Task) (r : Reply) → work ≡ ticket → ticket.0 ≡ request → map.get book (name_of request) ≡ Some ticket.1
     → (r, new) ≡ commit_outcome book work → (r, new) ≡ seq book request
+unfolding commit_outcome seq
 done_whole book new request ticket work r same is found h =
     let here : map.get book (name_of ticket.0) ≡ Some ticket.1 = ap (λ q. map.get book (name_of q)) is ∙ found in
-    h ∙ ap (commit_outcome book) same ∙ committed_now book ticket here ∙ sym (seq_now book ticket.0 ticket.1 here) ∙ ap (seq book) is
+    let whole : commit_outcome book ticket ≡ seq book ticket.0 = rw (here, (same-Decides ticket.1 ticket.1).1 refl) refl in
+    h ∙ ap (commit_outcome book) same ∙ whole ∙ ap (seq book) is
 
 -- ---- a first record
 

@@ -1,13 +1,12 @@
 -- What the commands on one account do.
 use Rattle.std.specs.Io.KnownBytes.{Keeps}
-use Rattle.std.specs.Prelude.{◌≡◌, ℕ, ◌≤◌, List, Bool, Option, Some, None, Result, Ok, Err, true, false}
+use Rattle.std.specs.Prelude.{◌≡◌, ◌⊎◌, ℕ, ◌≤◌, List, Bool, Option, Some, None, Result, Ok, Err, IfErr, true, false}
 use Rattle.cred_phc.specs.Values.{RecordValue}
 use Rattle.cred_book.specs.{Accounts.Accounts, Works.is_for_current, Works.new_record, Works.seq, declared.reply.Reply.Reply}
-use Rattle.cred_admin.specs.{Lines.IsAdmitted, Lines.IsMisread, Lines.TakesLine, Lines.TakesLines, Listing.Tells, Seen.Seen}
-use Rattle.cred_admin.specs.{Statuses.hint_of, Statuses.status_of, declared.command.Asked.Asked, declared.command.Command.Command}
+use Rattle.cred_admin.specs.{Lines.IsMisread, Lines.Reads, Listing.Tells, Seen.Seen, Statuses.hint_of, Statuses.status_of, declared.command.Command.Command}
 use Rattle.cred_admin.specs.declared.command.Command.TheVariants.{Add, Check, Change, Reset, Upgrade, Remove}
-use Rattle.cred_admin.specs.{declared.fault.Fault.Fault, declared.new_password.NewPassword.NewPassword, declared.operation.Operation.Operation}
-use Rattle.cred_admin.specs.{declared.password.Passwords.Passwords, declared.status.Hint.Hint, declared.status.Status.Status}
+use Rattle.cred_admin.specs.{declared.fault.Fault.Fault, declared.operation.Operation.Operation, declared.password.Passwords.Passwords}
+use Rattle.cred_admin.specs.{declared.password.Typed.Typed, declared.status.Hint.Hint, declared.status.Status.Status}
 use Rattle.cred_admin.specs.declared.password.Passwords.TheVariants.{Present, New, PresentAndNew}
 use Rattle.cred_cli.specs.{Texts.reply_line, Watched.Reading}
 use Rattle.std.specs.FinMap as map
@@ -26,30 +25,16 @@ passwords_of (Reset new) = New new.empty
 passwords_of (Upgrade setting) = Present
 passwords_of Remove = Present
 
-abbrev pub asked : Operation → Option Hint → Asked
-asked operation hint = record { operation = operation; hint = hint }
-
--- it is asked for with the password in the first line
-abbrev pub AsksWith : (List ℕ → Operation) → Reading → Asked → Type 0
-AsksWith operation r a =
-    (pw : List ℕ) × TakesLine r pw × (a ≡ asked (operation pw) (hint_of pw))
-
--- and the same with a new password
-abbrev pub AsksWithNew : NewPassword → (List ℕ → Operation) → Reading → Asked → Type 0
-AsksWithNew new operation r a = (pw : List ℕ) × TakesLine r pw × IsAdmitted new.empty pw
-    × (a ≡ asked (operation pw) (hint_of pw))
-
--- what the lines of a command ask for, with the hint of the first one
-abbrev pub Asks : List ℕ → Command → Reading → Asked → Type 0
-Asks name (Add new) r a = AsksWithNew new (operation.Enrol name new.setting) r a
-Asks name (Reset new) r a = AsksWithNew new (operation.Reset name new.setting) r a
-Asks name Check r a = AsksWith (λ pw. operation.Ask (request.Verify name pw)) r a
-Asks name (Upgrade setting) r a =
-    AsksWith (λ pw. operation.Ask (request.Upgrade name pw setting)) r a
-Asks name Remove r a = AsksWith (λ pw. operation.Ask (request.Remove name pw)) r a
-Asks name (Change new) r a = (pw new_pw : List ℕ) × TakesLines r pw new_pw
-    × IsAdmitted new.empty new_pw
-    × (a ≡ asked (operation.Ask (request.Change name pw new_pw new.setting)) (hint_of pw))
+-- what is asked for with the passwords that were read
+abbrev pub operation_of : List ℕ → Command → Typed → Operation
+operation_of name (Add new) t = operation.Enrol name new.setting t.last
+operation_of name Check t = operation.Ask (request.Verify name t.first)
+operation_of name (Change new) t =
+    operation.Ask (request.Change name t.first t.last new.setting)
+operation_of name (Reset new) t = operation.Reset name new.setting t.last
+operation_of name (Upgrade setting) t =
+    operation.Ask (request.Upgrade name t.first setting)
+operation_of name Remove t = operation.Ask (request.Remove name t.first)
 
 -- ---- what is done
 
@@ -119,27 +104,22 @@ Works capacity old new o (Err _) = ⊥
 abbrev pub answer_of : Reply → Option Hint → List ℕ × Status
 answer_of r hint = (reply_line r, status_of r hint)
 
--- the operation is done and answered, or done and not answered
+-- the operation is done, and answered or not; the hint is the first line's
 abbrev pub IsDone : ℕ → List ℕ → Command → Seen → Result Status Fault → Type 0
-IsDone capacity name command s ended = (a : Asked) × Asks name command s.reading a
-    × (r : Reply) × Works capacity s.old s.new a.operation (Ok r)
-    × Tells (answer_of r a.hint) s.writing ended
+IsDone capacity name command s ended = (t : Typed) × Reads (passwords_of command) s.reading t
+    × (r : Reply) × Works capacity s.old s.new (operation_of name command t) (Ok r)
+    × Tells (answer_of r (hint_of t.first)) s.writing ended
+    × IfErr ended (λ e. e ≡ fault.Write)
 
--- it meets this fault, and nothing is written
+-- the passwords aren't read, and the book is as it was; or the operation meets this fault
 abbrev pub IsNotDone : ℕ → List ℕ → Command → Seen → Fault → Type 0
-IsNotDone capacity name command s e = (a : Asked) × Asks name command s.reading a
-    × Works capacity s.old s.new a.operation (Err e) × Keeps s.writing.before s.writing.now
+IsNotDone capacity name command s e =
+    (IsMisread (passwords_of command) s.reading e × (s.new ≡ s.old))
+    ⊎ ((t : Typed) × Reads (passwords_of command) s.reading t
+    × Works capacity s.old s.new (operation_of name command t) (Err e))
 
--- nothing was written, and the book is as it was
-pub record Stays (s : Seen) : Type 0 where
-  pub book : s.new ≡ s.old
-  pub written : Keeps s.writing.before s.writing.now
-
+-- it is done, or it is not and nothing is written
 abbrev pub Obeys : ℕ → List ℕ → Command → Seen → Result Status Fault → Type 0
-Obeys capacity name command s (Ok status) = IsDone capacity name command s (Ok status)
-Obeys capacity name command s (Err fault.Write) =
-    IsDone capacity name command s (Err fault.Write)
-Obeys capacity name command s (Err fault.Full) = IsNotDone capacity name command s fault.Full
-Obeys capacity name command s (Err (fault.NoRecord made)) =
-    IsNotDone capacity name command s (fault.NoRecord made)
-Obeys capacity name command s (Err e) = IsMisread (passwords_of command) s.reading e × Stays s
+Obeys capacity name command s ended = IsDone capacity name command s ended
+    ⊎ ((e : Fault) × (ended ≡ Err e) × IsNotDone capacity name command s e
+    × Keeps s.writing.before s.writing.now)

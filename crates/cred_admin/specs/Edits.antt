@@ -1,9 +1,9 @@
 -- What the orders do that change an account without its password.
 use Rattle.std.specs.Io.KnownBytes.{Appends, Keeps}
-use Rattle.std.specs.Prelude.{◌≡◌, ◌⊎◌, ℕ, Bool, true, false, ◌&&◌, not, List, [], ◌∷◌, ◌++◌, codes, nat_lt, Option, Some, None, Result, Ok, Err}
+use Rattle.std.specs.Prelude.{◌≡◌, ◌⊎◌, ℕ, Bool, true, false, ◌&&◌, not, List, codes, nat_lt, Option, Some, None, Result, Ok, Err, IfErr}
 use Rattle.cred_phc.specs.Values.{RecordValue}
 use Rattle.cred_book.specs.{Accounts.Accounts, declared.error.BookError.BookError}
-use Rattle.cred_admin.specs.{Listing.Tells, Listing.passwd_line, declared.edit_reply.EditReply.EditReply, declared.edits.Edit.Edit}
+use Rattle.cred_admin.specs.{Listing.Tells, Listing.passwd_line, Statuses.fault_of_book, declared.edit_reply.EditReply.EditReply, declared.edits.Edit.Edit}
 use Rattle.cred_admin.specs.declared.edits.Edit.TheVariants.{Disable, Delete, Rename}
 use Rattle.cred_admin.specs.{declared.fault.Fault.Fault, declared.status.Status.Status}
 use Rattle.cred_admin.specs.declared.status.Status.TheVariants.{Done, No}
@@ -15,17 +15,14 @@ use Rattle.cred_admin.specs.declared.fault.Fault.TheVariants as fault
 
 -- ---- what is answered
 
-abbrev pub edit_word : EditReply → List ℕ
-edit_word reply.Disabled = codes "disabled"
-edit_word reply.Deleted = codes "deleted"
-edit_word reply.Renamed = codes "renamed"
-edit_word reply.Absent = codes "absent"
-edit_word reply.Exists = codes "exists"
-edit_word reply.NoAccount = codes "noaccount"
-
--- with the line end
+-- a word with the line end
 abbrev pub edit_line : EditReply → List ℕ
-edit_line r = edit_word r ++ 10 ∷ []
+edit_line reply.Disabled = codes "disabled\n"
+edit_line reply.Deleted = codes "deleted\n"
+edit_line reply.Renamed = codes "renamed\n"
+edit_line reply.Absent = codes "absent\n"
+edit_line reply.Exists = codes "exists\n"
+edit_line reply.NoAccount = codes "noaccount\n"
 
 abbrev pub edit_status : EditReply → Status
 edit_status reply.Disabled = Done
@@ -89,23 +86,16 @@ EditsWithin room old new edit (Ok r) =
 EditsWithin room old new edit (Err error.Full) = (lacks_room room old edit ≡ true) × (new ≡ old)
 EditsWithin room old new edit (Err error.Memory) = (edit_status (edited old edit).0 ≡ Done)
     × (lacks_room room old edit ≡ false) × (new ≡ old)
-EditsWithin room old new edit (Err error.Name) = ⊥
-EditsWithin room old new edit (Err error.Exists) = ⊥
-EditsWithin room old new edit (Err error.NoAccount) = ⊥
+EditsWithin room old new edit (Err _) = ⊥
 
 -- ---- what comes of it
 
--- the change is made and answered, or made and not answered, or not made
+-- the change is made, and answered or not; or it is not made, and nothing is written
 abbrev pub Edits : ℕ → Accounts → Accounts → Edit → Writing → Result Status Fault → Type 0
-Edits room old new edit w (Ok status) =
-    (r : EditReply) × EditsWithin room old new edit (Ok r) × Tells (told r) w (Ok status)
-Edits room old new edit w (Err fault.Write) =
-    (r : EditReply) × EditsWithin room old new edit (Ok r) × Tells (told r) w (Err fault.Write)
-Edits room old new edit w (Err fault.Memory) =
-    EditsWithin room old new edit (Err error.Memory) × Keeps w.before w.now
-Edits room old new edit w (Err fault.Full) =
-    EditsWithin room old new edit (Err error.Full) × Keeps w.before w.now
-Edits room old new edit w (Err _) = ⊥
+Edits room old new edit w ended = ((r : EditReply) × EditsWithin room old new edit (Ok r)
+    × Tells (told r) w ended × IfErr ended (λ e. e ≡ fault.Write))
+    ⊎ ((e : BookError) × EditsWithin room old new edit (Err e)
+    × (ended ≡ Err (fault_of_book e)) × Keeps w.before w.now)
 
 -- The line of the account is written, and then its record is taken away; a fault leaves the account
 -- as it is. Where there is no record, that is answered.

@@ -108,32 +108,16 @@ abbrev pub nothing_yet : Tally
 nothing_yet = record { accounts = map.empty; changed = map.empty; kept = 0; bad = [] }
 
 abbrev pub with_bad : Tally → ℕ → LineFault → Tally
-with_bad t n why = record {
-  accounts = t.accounts;
-  changed = t.changed;
-  kept = t.kept;
-  bad = t.bad ++ record { number = n; why = why } ∷ [];
-}
+with_bad t n why = record t { bad = t.bad ++ record { number = n; why = why } ∷ [] }
 
 abbrev pub with_kept : Tally → Tally
-with_kept t =
-    record { accounts = t.accounts; changed = t.changed; kept = t.kept + 1; bad = t.bad }
+with_kept t = record t { kept = t.kept + 1 }
 
 abbrev pub with_account : Tally → Entry → Tally
-with_account t e = record {
-  accounts = map.insert t.accounts e.0 e.1;
-  changed = t.changed;
-  kept = t.kept;
-  bad = t.bad;
-}
+with_account t e = record t { accounts = map.insert t.accounts e.0 e.1 }
 
 abbrev pub with_change : Tally → Entry → Tally
-with_change t e = record {
-  accounts = t.accounts;
-  changed = map.insert t.changed e.0 e.1;
-  kept = t.kept;
-  bad = t.bad;
-}
+with_change t e = record t { changed = map.insert t.changed e.0 e.1 }
 
 -- a line whose account is in the book; it may be changed once
 abbrev pub with_existing : Existing → Tally → ℕ → Entry → Tally

@@ -1,7 +1,8 @@
 -- Passwords, a line each.
-use Rattle.std.specs.Prelude.{◌≡◌, ◌⊎◌, ℕ, ◌<◌, ◌==◌, if◌then◌else◌, List, [], ◌∷◌, length, Option, Some, None, IfSome, ⊤, Bool, true}
-use Rattle.cred_admin.specs.{declared.fault.Fault.Fault, declared.new_password.EmptyPassword.EmptyPassword, declared.password.Passwords.Passwords}
-use Rattle.cred_admin.specs.declared.new_password.EmptyPassword.TheVariants.{Refused, Taken}
+use Rattle.std.specs.Prelude.{◌≡◌, ◌⊎◌, ℕ, ◌<◌, ◌==◌, if◌then◌else◌, List, [], ◌∷◌, length, Option, Some, None, IfSome, ⊤, Bool, true, false}
+use Rattle.cred_admin.specs.{declared.fault.Fault.Fault, declared.password.EmptyPassword.EmptyPassword}
+use Rattle.cred_admin.specs.{declared.password.Passwords.Passwords, declared.password.Typed.Typed}
+use Rattle.cred_admin.specs.declared.password.EmptyPassword.TheVariants.{Refused, Taken}
 use Rattle.cred_admin.specs.declared.password.Passwords.TheVariants.{Present, New, PresentAndNew}
 use Rattle.cred_cli.specs.Watched.{Reading}
 use Rattle.cred_phc.specs.declared.password.TheConstants.{MAX_PASSWORD}
@@ -43,10 +44,18 @@ TakesLine r pw = IfSome r.input (λ bytes. ReadsLine bytes r.left pw)
 abbrev pub TakesLines : Reading → List ℕ → List ℕ → Type 0
 TakesLines r first second = IfSome r.input (λ bytes. ReadsLines bytes r.left first second)
 
--- a new password may be empty only if that was asked for
-abbrev pub IsAdmitted : EmptyPassword → List ℕ → Type 0
-IsAdmitted Taken pw = ⊤
-IsAdmitted Refused pw = 0 < length pw
+-- a new password is empty, and that wasn't asked for
+abbrev pub is_barred : EmptyPassword → List ℕ → Bool
+is_barred Refused pw = length pw == 0
+is_barred Taken pw = false
+
+-- these passwords were read, a line each
+abbrev pub Reads : Passwords → Reading → Typed → Type 0
+Reads Present r t = TakesLine r t.first × (t.last ≡ t.first)
+Reads (New empty) r t =
+    TakesLine r t.first × (t.last ≡ t.first) × (is_barred empty t.last ≡ false)
+Reads (PresentAndNew empty) r t =
+    TakesLines r t.first t.last × (is_barred empty t.last ≡ false)
 
 -- ---- lines that aren't the passwords that are wanted
 
@@ -85,10 +94,11 @@ IsMisread pws r fault.Password = IfSome r.input (HasLong pws)
 IsMisread pws r fault.Empty = HasEmpty pws r.input
 IsMisread pws r _ = ⊥
 
--- a fault of the first line, in the second
-abbrev pub of_second_line : Fault → Fault
-of_second_line fault.NoPassword = fault.NoNewPassword
-of_second_line e = e
+-- why a line isn't read
+abbrev pub MissesLine : Reading → Fault → Type 0
+MissesLine r e = ((e ≡ fault.Read) × (r.failed ≡ true)) ⊎ (e ≡ fault.Memory)
+    ⊎ ((e ≡ fault.NoPassword) × IfSome r.input HasNoLine)
+    ⊎ ((e ≡ fault.Password) × IfSome r.input HasLongLine)
 
 -- ---- the reader
 

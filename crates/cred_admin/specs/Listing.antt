@@ -1,6 +1,6 @@
 -- What lists and exports write.
 use Rattle.std.specs.Prelude.{◌≡◌, ℕ, List, [], ◌∷◌, ◌++◌, Option, Some, None, Result, Ok, Err, true, ◌⊎◌, ◌<◌, codes, length, take}
-use Rattle.std.specs.Io.KnownBytes.{Appends, Keeps}
+use Rattle.std.specs.{Io.KnownBytes.Appends, Io.KnownBytes.Keeps, List.flat_map}
 use Rattle.cred_phc.specs.{Values.RecordValue, Text.record_text, Text.scheme_text}
 use Rattle.cred_book.specs.declared.reply.Reply.TheVariants as reply
 use Rattle.cred_admin.specs.declared.listing.Line.{Line}
@@ -52,15 +52,11 @@ json_line part e = codes "{\"name\":\"" ++ e.0 ++ codes "\",\"" ++ part_word par
 
 -- ---- all of them
 
+-- what a list writes of each
 abbrev pub line_text : Line → Entry → List ℕ
 line_text line.Name = name_line
 line_text (line.Passwd part) = part_line part
 line_text (line.Json part) = json_line part
-
--- a line each
-unfoldable pub lines_text : (Entry → List ℕ) → List Entry → List ℕ
-lines_text line [] = []
-lines_text line (e ∷ es) = line e ++ lines_text line es
 
 -- ---- one account
 
@@ -90,11 +86,11 @@ Tells told w (Err _) = ⊥
 -- there was no memory for a line, the lines of the first n entries, which aren't all
 abbrev pub Prints : (Entry → List ℕ) → List Entry → Writing → Result Status Fault → Type 0
 Prints line entries w (Ok status) =
-    Appends w.before w.now (lines_text line entries) × (status ≡ Done)
+    Appends w.before w.now (flat_map line entries) × (status ≡ Done)
 Prints line entries w (Err fault.Write) =
-    (w.failed ≡ true) × FrontWritten w.before w.now (lines_text line entries)
+    (w.failed ≡ true) × FrontWritten w.before w.now (flat_map line entries)
 Prints line entries w (Err fault.Memory) =
-    (n : ℕ) × (n < length entries) × Appends w.before w.now (lines_text line (take n entries))
+    (n : ℕ) × (n < length entries) × Appends w.before w.now (flat_map line (take n entries))
 Prints line entries w (Err _) = ⊥
 
 -- what was kept is written, and nothing is kept any more; or it is kept on, and nothing is written

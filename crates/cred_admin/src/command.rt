@@ -1,21 +1,18 @@
 //! The commands on one account, which read its passwords.
 
-ghost use Rattle.std.specs.Prelude.{◌≡◌, Err, IfErr, IfOk, OnOk, true};
+ghost use Rattle.std.specs.Prelude.{◌≡◌, Err, true};
 ghost use Rattle.cred_cli.specs.Watched.{Basis, failed_of, reading_on, writing_on};
-ghost use Rattle.cred_admin.specs.Commands.{Asks, Obeys, asked, is_current_operation, passwords_of};
-ghost use Rattle.cred_admin.specs.{Lines.IsMisread, Lines.ReadFails, Seen.FitsSince, Seen.seen, Statuses.hint_of};
+ghost use Rattle.cred_admin.specs.Commands.{Obeys, is_current_operation, operation_of, passwords_of};
+ghost use Rattle.cred_admin.specs.Seen.{FitsSince, seen};
 
 use crate::fault::Fault;
-use crate::new_password::NewPassword;
 use crate::operation::Operation;
-use crate::password::{Passwords, read_new_password, read_password, read_passwords};
+use crate::password::{NewPassword, Passwords, Typed, read_passwords};
 use crate::printing::tell;
 use crate::setting::NewSetting;
-use crate::status::{Hint, Status, hint_of, status_of};
+use crate::status::{Status, hint_of, status_of};
 use cred_book::{Name, Request};
 use cred_cli::{KeeperBy, Tools, Watched, reply_line};
-use cred_phc::Password;
-use std::alloc::Global;
 use std::io::{Read, Write};
 use std::thread::Threads;
 
@@ -38,22 +35,6 @@ pub enum Command {
     Upgrade(NewSetting),
     /// Takes the account's record away; the name stays. It answers `removed` or `wrong`.
     Remove,
-}
-
-/// What the lines of a command ask for.
-#[derive(Clone, Copy)]
-pub(crate) struct Asked {
-    operation: Operation,
-    hint: Option<Hint>,
-}
-
-impl Asked {
-    fn with(operation: Operation, pw: &Password) -> Asked
-        ensures { result ≡ asked operation (hint_of pw.now) }
-    {
-        let hint = hint_of(pw);
-        Asked { operation, hint }
-    }
 }
 
 impl Command {
@@ -92,65 +73,46 @@ impl Command {
             (K.book keeper.old) (K.book keeper.new)) result }
         ensures memory { result ≡ Err Fault.Memory → failed_of reader.new ≡ failed_of reader.old }
     {
-        let Asked { operation, hint } = self.read(tools.alloc, name, reader)?;
-        let reply = operation.work(tools, keeper)?;
+        let typed = read_passwords(tools.alloc, self.passwords(), reader)?;
+        let reply = self.operation(name, &typed).work(tools, keeper)?;
+        let hint = hint_of(&typed.first);
         tell(reply_line(&reply), status_of(&reply, hint), writer)
     }
 
-    /// Reads its passwords, and says what they ask for.
-    fn read<R: Read>(
-        &self,
-        alloc: Global,
-        name: &Name,
-        reader: &mut Watched<R>,
-    ) -> Result<Asked, Fault>
-        ensures asked { (basis : Basis) → FitsSince basis reader.old reader.new → IfOk result
-            (Asks name.now self.now (reading_on basis R.remaining reader.old reader.new)) }
-        ensures current { IfOk result (λ asked. is_current_operation asked.operation ≡ true) }
-        ensures kept { OnOk result (failed_of reader.new ≡ failed_of reader.old) }
-        ensures misread { (basis : Basis) → FitsSince basis reader.old reader.new → IfErr result
-            (IsMisread (passwords_of self.now)
-            (reading_on basis R.remaining reader.old reader.new)) }
-        ensures faults { IfErr result (ReadFails (failed_of reader.old) (failed_of reader.new)) }
+    /// What it asks for with these passwords.
+    fn operation(&self, name: &Name, typed: &Typed) -> Operation
+        ensures asked { result ≡ operation_of name.now self.now typed.now }
+        ensures current { is_current_operation result ≡ true }
     {
         let name = *name;
+        let Typed {
+            first: pw,
+            last: new_pw,
+        } = *typed;
         match self {
-            Command::Add(new) => {
-                let pw = read_new_password(alloc, new.empty, reader)?;
-                let setting = new.setting;
-                Ok(Asked::with(Operation::Enrol { name, setting, pw }, &pw))
-            }
-            Command::Reset(new) => {
-                let pw = read_new_password(alloc, new.empty, reader)?;
-                let setting = new.setting;
-                Ok(Asked::with(Operation::Reset { name, setting, pw }, &pw))
-            }
-            Command::Check => {
-                let pw = read_password(alloc, reader)?;
-                Ok(Asked::with(Operation::Ask(Request::Verify { name, pw }), &pw))
-            }
-            Command::Upgrade(new) => {
-                let pw = read_password(alloc, reader)?;
-                let setting = new.setting();
-                Ok(Asked::with(Operation::Ask(Request::Upgrade { name, pw, setting }), &pw))
-            }
-            Command::Remove => {
-                let pw = read_password(alloc, reader)?;
-                Ok(Asked::with(Operation::Ask(Request::Remove { name, pw }), &pw))
-            }
-            Command::Change(new) => {
-                let (pw, new_pw) = read_passwords(alloc, new.empty, reader)?;
-                let setting = new.setting.setting();
-                Ok(Asked::with(
-                    Operation::Ask(Request::Change {
-                        name,
-                        pw,
-                        new_pw,
-                        setting,
-                    }),
-                    &pw,
-                ))
-            }
+            Command::Add(new) => Operation::Enrol {
+                name,
+                setting: new.setting,
+                pw: new_pw,
+            },
+            Command::Check => Operation::Ask(Request::Verify { name, pw }),
+            Command::Change(new) => Operation::Ask(Request::Change {
+                name,
+                pw,
+                new_pw,
+                setting: new.setting.setting(),
+            }),
+            Command::Reset(new) => Operation::Reset {
+                name,
+                setting: new.setting,
+                pw: new_pw,
+            },
+            Command::Upgrade(new) => Operation::Ask(Request::Upgrade {
+                name,
+                pw,
+                setting: new.setting(),
+            }),
+            Command::Remove => Operation::Ask(Request::Remove { name, pw }),
         }
     }
 }

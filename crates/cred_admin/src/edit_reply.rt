@@ -1,14 +1,9 @@
 //! The answer to an order that changes an account without its password.
 
-ghost use Rattle.std.specs.Prelude.{◌≡◌, IfErr, true};
-ghost use Rattle.cred_cli.specs.Watched.{Basis, writing_on};
-ghost use Rattle.cred_admin.specs.{Edits.edit_line, Edits.edit_status, Edits.told, Listing.Tells};
+ghost use Rattle.std.specs.Prelude.{◌≡◌};
+ghost use Rattle.cred_admin.specs.Edits.{edit_line, edit_status};
 
-use crate::fault::Fault;
-use crate::printing::tell;
 use crate::status::Status;
-use cred_cli::Watched;
-use std::io::Write;
 
 /// What became of such an order.
 #[derive(Clone, Copy, Debug, PartialEq, Eq)]
@@ -27,17 +22,6 @@ pub enum EditReply {
     NoAccount,
 }
 
-/// Writes the reply, a word in a line.
-///
-/// Errors: `Write`.
-pub fn answer_edit<W: Write>(reply: EditReply, writer: &mut Watched<W>) -> Result<Status, Fault>
-    ensures told { (basis : Basis) → Tells (told reply)
-        (writing_on basis W.contents writer.old writer.new) result }
-    ensures fault { IfErr result (λ e. e ≡ Fault.Write) }
-{
-    tell(edit_line(reply), edit_status(reply), writer)
-}
-
 /// The reply's word with the line end.
 pub fn edit_line(reply: EditReply) -> &'static [u8]
     ensures { result.now ≡ edit_line reply }
@@ -53,7 +37,7 @@ pub fn edit_line(reply: EditReply) -> &'static [u8]
 }
 
 /// The exit status that goes with it.
-fn edit_status(reply: EditReply) -> Status
+pub(crate) fn edit_status(reply: EditReply) -> Status
     ensures { result ≡ edit_status reply }
 {
     match reply {

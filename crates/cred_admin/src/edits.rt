@@ -7,11 +7,11 @@ ghost use Rattle.cred_cli.specs.Watched.{Basis, writing_on};
 ghost use Rattle.cred_admin.specs.Edits.{DisablesShown, Edits, EditsWithin};
 ghost use Rattle.cred_admin.specs.declared.edits.Edit.TheVariants as change;
 
-use crate::edit_reply::{EditReply, answer_edit};
+use crate::edit_reply::{EditReply, edit_line, edit_status};
 use crate::fault::Fault;
 use crate::listing::{Line, line_of};
 use crate::part::Part;
-use crate::printing::write_whole;
+use crate::printing::{tell, write_whole};
 use crate::status::Status;
 use cred_book::{BookError, Name};
 use cred_cli::Watched;
@@ -45,11 +45,8 @@ pub fn edit_account<S: Alter, W: Write>(
         → Edits register_capacity book.old.book book.new.book edit.now
         (writing_on basis W.contents writer.old writer.new) result }
 {
-    match make_edit(book, edit) {
-        Ok(reply) => answer_edit(reply, writer),
-        Err(BookError::Full) => Err(Fault::Full),
-        Err(_) => Err(Fault::Memory),
-    }
+    let reply = make_edit(book, edit)?;
+    tell(edit_line(reply), edit_status(reply), writer)
 }
 
 /// Changes an account, and says what became of it.
@@ -135,8 +132,8 @@ pub fn disable_shown<S: Alter, W: Write>(
 {
     let stored = match book.book().show(name) {
         Ok(Some(stored)) => stored,
-        Ok(None) => return answer_edit(EditReply::Absent, writer),
-        Err(_) => return answer_edit(EditReply::NoAccount, writer),
+        Ok(None) => return tell(edit_line(EditReply::Absent), Status::No(None), writer),
+        Err(_) => return tell(edit_line(EditReply::NoAccount), Status::No(None), writer),
     };
     let line = line_of(alloc, Line::Passwd(Part::Record), name, Some(stored))?;
     write_whole(writer, &line)?;

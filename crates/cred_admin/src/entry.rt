@@ -77,13 +77,10 @@ pub(crate) fn said_of(line: &[u8]) -> Result<Said, LineFault>
         return Ok(Said::Nothing);
     }
     let mut fields = Pieces::new(line, b':');
-    let Some(name) = fields.next() else {
-        return Err(LineFault::Line);
-    };
-    let Some(text) = fields.next() else {
-        return Err(LineFault::Line);
-    };
-    said_as(name, text)
+    match (fields.next(), fields.next()) {
+        (Some(name), Some(text)) => said_as(name, text),
+        _ => Err(LineFault::Line),
+    }
 }
 
 /// Whether a line is there for its readers alone.
@@ -147,16 +144,9 @@ fn behind_braces(text: &[u8]) -> &[u8]
     ensures { result.now ≡ behind_braces (pieces 125 text.now) text.now }
 {
     let mut parts = Pieces::new(text, b'}');
-    let Some(scheme) = parts.next() else {
-        return text;
-    };
-    let Some(behind) = parts.next() else {
-        return text;
-    };
-    if parts.peek().is_none() && scheme.starts_with(b"{") {
-        behind
-    } else {
-        text
+    match (parts.next(), parts.next(), parts.next()) {
+        (Some(scheme), Some(behind), None) if scheme.starts_with(b"{") => behind,
+        _ => text,
     }
 }
 

@@ -4,7 +4,7 @@ ghost use Rattle.std.specs.Prelude.{◌≡◌, ◌⊎◌, ◌<◌, IfErr, IfOk, 
 ghost use Rattle.std.specs.FinMap as map;
 ghost use Rattle.cred_book.specs.Accounts.{register_capacity};
 ghost use Rattle.cred_cli.specs.Watched.{Basis, failed_of, left_on};
-ghost use Rattle.cred_admin.specs.Import.{Comes, GatherFails, is_costly, nothing_yet, said_of, tally, tally_of, with_bad, with_entry, with_existing, with_line, with_said};
+ghost use Rattle.cred_admin.specs.Import.{Comes, GatherFails, is_costly, nothing_yet, said_of, tally, tally_of, with_bad, with_entry, with_existing, with_line};
 ghost use Rattle.cred_admin.specs.{Seen.FitsSince, declared.import.ImportFault.TheVariants.Memory as OutOfMemory};
 
 use crate::entry::{LineFault, Said, said_of};
@@ -64,6 +64,9 @@ pub struct BadLine {
     pub number: u64,
     pub why: LineFault,
 }
+
+/// An account of a line, with its record or none.
+type Entry = (Name, Option<Record>);
 
 /// Why an import takes in nothing.
 #[derive(Debug, Drop)]
@@ -191,35 +194,22 @@ impl Gathered {
         ensures { Comes (with_line rules book.now (tally_of self.old) number (said_of line.now))
             (tally_of self.new) result }
     {
-        match said_of(line) {
-            Ok(said) => self.take_said(book, rules, number, &said),
-            Err(why) => self.refuse(number, why),
-        }
-    }
-
-    fn take_said(
-        &mut self,
-        book: &Register,
-        rules: Rules,
-        number: u64,
-        said: &Said,
-    ) -> Result<(), ImportFault>
-        requires { self.old.kept < number }
-        ensures { Comes (with_said rules book.now (tally_of self.old) number said.now)
-            (tally_of self.new) result }
-    {
-        match said {
+        let said = match said_of(line) {
+            Ok(said) => said,
+            Err(why) => return self.refuse(number, why),
+        };
+        match &said {
             Said::Nothing => Ok(()),
             Said::Account { stored, .. } if rules.is_costly(stored) => {
                 self.refuse(number, LineFault::Costly)
             }
             Said::Account { name, stored } => {
-                self.take_entry(book, rules.existing, number, *name, *stored)
+                self.take_entry(book, rules.existing, number, (*name, *stored))
             }
             Said::Locked { name } => match rules.locked {
                 LockedRecords::Refused => self.refuse(number, LineFault::Locked),
                 LockedRecords::Disabled => {
-                    self.take_entry(book, rules.existing, number, *name, None)
+                    self.take_entry(book, rules.existing, number, (*name, None))
                 }
             },
         }
@@ -230,17 +220,16 @@ impl Gathered {
         book: &Register,
         how: Existing,
         number: u64,
-        name: Name,
-        stored: Option<Record>,
+        entry: Entry,
     ) -> Result<(), ImportFault>
         requires { self.old.kept < number }
-        ensures { Comes (with_entry how book.now (tally_of self.old) number (name, stored))
+        ensures { Comes (with_entry how book.now (tally_of self.old) number entry)
             (tally_of self.new) result }
     {
-        if book.contains(&name) {
-            return self.take_existing(how, number, name, stored);
+        if book.contains(&entry.0) {
+            return self.take_existing(how, number, entry);
         }
-        match self.accounts.enter(name, stored) {
+        match self.accounts.enter(entry.0, entry.1) {
             Ok(()) => Ok(()),
             Err(BookError::Exists) => self.refuse(number, LineFault::Book(BookError::Exists)),
             Err(BookError::Full) => Err(ImportFault::Full),
@@ -249,15 +238,9 @@ impl Gathered {
     }
 
     /// Adds a line whose account exists already.
-    fn take_existing(
-        &mut self,
-        how: Existing,
-        number: u64,
-        name: Name,
-        stored: Option<Record>,
-    ) -> Result<(), ImportFault>
+    fn take_existing(&mut self, how: Existing, number: u64, entry: Entry) -> Result<(), ImportFault>
         requires { self.old.kept < number }
-        ensures { Comes (with_existing how (tally_of self.old) number (name, stored))
+        ensures { Comes (with_existing how (tally_of self.old) number entry)
             (tally_of self.new) result }
     {
         match how {
@@ -266,19 +249,11 @@ impl Gathered {
                 Ok(())
             }
             Existing::Refused => self.refuse(number, LineFault::Book(BookError::Exists)),
-            Existing::Updated => self.change(number, name, stored),
-        }
-    }
-
-    /// Adds a record that is to take the place of another.
-    fn change(&mut self, number: u64, name: Name, stored: Option<Record>) -> Result<(), ImportFault>
-        ensures { Comes (with_existing Existing.Updated (tally_of self.old) number (name, stored))
-            (tally_of self.new) result }
-    {
-        match self.changed.enter(name, stored) {
-            Ok(()) => Ok(()),
-            Err(BookError::Exists) => self.refuse(number, LineFault::Book(BookError::Exists)),
-            Err(_) => Err(ImportFault::Memory),
+            Existing::Updated => match self.changed.enter(entry.0, entry.1) {
+                Ok(()) => Ok(()),
+                Err(BookError::Exists) => self.refuse(number, LineFault::Book(BookError::Exists)),
+                Err(_) => Err(ImportFault::Memory),
+            },
         }
     }
 

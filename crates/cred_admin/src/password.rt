@@ -2,17 +2,34 @@
 
 ghost use Rattle.std.specs.Prelude.{◌≡◌, ◌<◌, ◌&&◌, ◌++◌, ◌∷◌, [], IfErr, IfOk, IfSome, OnOk, Some, false, length, not, true};
 ghost use Rattle.cred_cli.specs.Watched.{Basis, ended_of, failed_of, left_on, reading_on};
-ghost use Rattle.cred_admin.specs.Lines.{IsAdmitted, IsMisread, IsOpen, ReadFails, Takes, TakesLine, TakesLines, of_second_line};
-ghost use Rattle.cred_admin.specs.declared.password.Passwords.TheVariants as passwords;
+ghost use Rattle.cred_admin.specs.Lines.{IsMisread, IsOpen, MissesLine, ReadFails, Reads, Takes, TakesLine, is_barred};
 ghost use Rattle.cred_admin.specs.Seen.{FitsSince, GivesMore};
 ghost use Rattle.cred_phc.specs.declared.password.TheConstants.{MAX_PASSWORD};
 
 use crate::fault::Fault;
-use crate::new_password::EmptyPassword;
+use crate::setting::NewSetting;
 use cred_cli::Watched;
 use cred_phc::{MAX_PASSWORD, Password};
 use std::alloc::Global;
 use std::io::Read;
+
+/// What is asked of a new password.
+#[derive(Clone, Copy, Debug, PartialEq, Eq)]
+pub struct NewPassword {
+    /// The setting of its record.
+    pub setting: NewSetting,
+    /// Whether it may be empty.
+    pub empty: EmptyPassword,
+}
+
+/// What becomes of a new password that is empty.
+#[derive(Clone, Copy, Debug, PartialEq, Eq)]
+pub enum EmptyPassword {
+    /// It is refused.
+    Refused,
+    /// It is taken like any other.
+    Taken,
+}
 
 /// The passwords that a command reads, a line each.
 #[derive(Clone, Copy, Debug, PartialEq, Eq)]
@@ -25,19 +42,78 @@ pub enum Passwords {
     PresentAndNew(EmptyPassword),
 }
 
+/// The passwords that were read: those of the first line and of the last one, which may be one.
+#[derive(Clone, Copy)]
+pub(crate) struct Typed {
+    pub(crate) first: Password,
+    pub(crate) last: Password,
+}
+
+/// Reads passwords, a line each. No byte after the last line is taken.
+///
+/// Errors: those of [`read_password`]; `NoNewPassword` if there is no byte after the first line of
+/// two; `Empty` if a new one is empty and that is refused.
+pub(crate) fn read_passwords<R: Read>(
+    alloc: Global,
+    wanted: Passwords,
+    reader: &mut Watched<R>,
+) -> Result<Typed, Fault>
+    ensures read { (basis : Basis) → FitsSince basis reader.old reader.new
+        → IfOk result (Reads wanted (reading_on basis R.remaining reader.old reader.new)) }
+    ensures misread { (basis : Basis) → FitsSince basis reader.old reader.new
+        → IfErr result (IsMisread wanted (reading_on basis R.remaining reader.old reader.new)) }
+    ensures kept { OnOk result (failed_of reader.new ≡ failed_of reader.old) }
+    ensures faults { IfErr result (ReadFails (failed_of reader.old) (failed_of reader.new)) }
+{
+    let was_ended = reader.ended();
+    let first = read_password(alloc, reader)?;
+    let empty = match wanted {
+        Passwords::Present => return Ok(Typed { first, last: first }),
+        Passwords::New(empty) if is_barred(empty, &first) => return Err(Fault::Empty),
+        Passwords::New(_) => return Ok(Typed { first, last: first }),
+        Passwords::PresentAndNew(empty) => empty,
+    };
+    if came_to_end(was_ended, reader) {
+        return Err(Fault::NoNewPassword);
+    }
+    match read_password(alloc, reader) {
+        Ok(last) if is_barred(empty, &last) => Err(Fault::Empty),
+        Ok(last) => Ok(Typed { first, last }),
+        Err(fault) => match fault {
+            Fault::NoPassword => Err(Fault::NoNewPassword),
+            _ => Err(fault),
+        },
+    }
+}
+
+/// Whether a new password is empty, and that is refused.
+fn is_barred(empty: EmptyPassword, pw: &Password) -> bool
+    ensures { result ≡ is_barred empty pw.now }
+{
+    match empty {
+        EmptyPassword::Refused => pw.bytes().is_empty(),
+        EmptyPassword::Taken => false,
+    }
+}
+
+/// Whether the reader came to its end since it was asked. No line follows then, whatever a terminal
+/// may give behind its end.
+fn came_to_end<R>(was_ended: bool, reader: &Watched<R>) -> bool
+    ensures { result ≡ (not was_ended && ended_of reader.now) }
+{
+    !was_ended && reader.ended()
+}
+
 /// Reads one line: the bytes before the next line end, which is taken off too, or before the end of
 /// what is read. No byte after the line is taken.
 ///
 /// Errors: `Read`; `Memory`; `NoPassword` if there is no byte to read; `Password` if the line has
 /// over 256 bytes.
-pub(crate) fn read_password<R: Read>(
-    alloc: Global,
-    reader: &mut Watched<R>,
-) -> Result<Password, Fault>
+fn read_password<R: Read>(alloc: Global, reader: &mut Watched<R>) -> Result<Password, Fault>
     ensures line { (basis : Basis) → FitsSince basis reader.old reader.new
         → IfOk result (TakesLine (reading_on basis R.remaining reader.old reader.new)) }
-    ensures misread { (basis : Basis) → FitsSince basis reader.old reader.new → IfErr result
-        (IsMisread passwords.Present (reading_on basis R.remaining reader.old reader.new)) }
+    ensures misread { (basis : Basis) → FitsSince basis reader.old reader.new
+        → IfErr result (MissesLine (reading_on basis R.remaining reader.old reader.new)) }
     ensures end { (basis : Basis) → FitsSince basis reader.old reader.new
         → ended_of reader.old ≡ false → ended_of reader.new ≡ true
         → OnOk result (IfSome (left_on basis R.remaining reader.old)
@@ -60,77 +136,6 @@ pub(crate) fn read_password<R: Read>(
         keep(&mut line, byte)?;
     }
     Err(Fault::Password)
-}
-
-/// Reads a new password, as [`read_password`] does.
-///
-/// Errors: those; `Empty` if the line is empty and that is refused.
-pub(crate) fn read_new_password<R: Read>(
-    alloc: Global,
-    empty: EmptyPassword,
-    reader: &mut Watched<R>,
-) -> Result<Password, Fault>
-    ensures line { (basis : Basis) → FitsSince basis reader.old reader.new
-        → IfOk result (TakesLine (reading_on basis R.remaining reader.old reader.new)) }
-    ensures admitted { IfOk result (IsAdmitted empty) }
-    ensures misread { (basis : Basis) → FitsSince basis reader.old reader.new → IfErr result
-        (IsMisread (passwords.New empty)
-        (reading_on basis R.remaining reader.old reader.new)) }
-    ensures given { GivesMore reader.old reader.new }
-    ensures kept { OnOk result (failed_of reader.new ≡ failed_of reader.old) }
-    ensures faults { IfErr result (ReadFails (failed_of reader.old) (failed_of reader.new)) }
-{
-    let pw = read_password(alloc, reader)?;
-    match empty {
-        EmptyPassword::Refused if pw.bytes().is_empty() => Err(Fault::Empty),
-        EmptyPassword::Refused | EmptyPassword::Taken => Ok(pw),
-    }
-}
-
-/// Reads the account's password and then a new one, as [`read_new_password`] does.
-///
-/// Errors: those; `NoNewPassword` if there is no byte after the first line.
-pub(crate) fn read_passwords<R: Read>(
-    alloc: Global,
-    empty: EmptyPassword,
-    reader: &mut Watched<R>,
-) -> Result<(Password, Password), Fault>
-    ensures lines { (basis : Basis) → FitsSince basis reader.old reader.new → IfOk result
-        (λ pws. TakesLines (reading_on basis R.remaining reader.old reader.new) pws.0 pws.1) }
-    ensures admitted { IfOk result (λ pws. IsAdmitted empty pws.1) }
-    ensures misread { (basis : Basis) → FitsSince basis reader.old reader.new → IfErr result
-        (IsMisread (passwords.PresentAndNew empty)
-        (reading_on basis R.remaining reader.old reader.new)) }
-    ensures kept { OnOk result (failed_of reader.new ≡ failed_of reader.old) }
-    ensures faults { IfErr result (ReadFails (failed_of reader.old) (failed_of reader.new)) }
-{
-    let was_ended = reader.ended();
-    let pw = read_password(alloc, reader)?;
-    if came_to_end(was_ended, reader) {
-        return Err(Fault::NoNewPassword);
-    }
-    match read_new_password(alloc, empty, reader) {
-        Ok(new_pw) => Ok((pw, new_pw)),
-        Err(fault) => Err(of_second_line(fault)),
-    }
-}
-
-/// Whether the reader came to its end since it was asked. No line follows then, whatever a terminal
-/// may give behind its end.
-fn came_to_end<R>(was_ended: bool, reader: &Watched<R>) -> bool
-    ensures { result ≡ (not was_ended && ended_of reader.now) }
-{
-    !was_ended && reader.ended()
-}
-
-/// What a fault of the first line is called in the second.
-fn of_second_line(fault: Fault) -> Fault
-    ensures { result ≡ of_second_line fault }
-{
-    match fault {
-        Fault::NoPassword => Fault::NoNewPassword,
-        _ => fault,
-    }
 }
 
 /// The next byte, or none at the end.

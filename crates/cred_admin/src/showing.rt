@@ -12,7 +12,6 @@ use crate::printing::tell;
 use crate::status::Status;
 use cred_book::{Keeper, Name, Reply};
 use cred_cli::{Watched, reply_line};
-use cred_phc::Record;
 use std::alloc::Global;
 use std::io::Write;
 
@@ -30,10 +29,10 @@ pub fn show<K: Keeper, W: Write>(
     ensures { (basis : Basis) → Tells (shown_at part (map.get (K.book keeper.now) name.now))
         (writing_on basis W.contents writer.old writer.new) result }
 {
-    match found(keeper, name) {
-        None => tell(reply_line(&Reply::NoAccount), Status::No(None), writer),
-        Some(None) => tell(reply_line(&Reply::Absent), Status::No(None), writer),
-        Some(Some(stored)) => {
+    match keeper.show(name) {
+        Err(_) => tell(reply_line(&Reply::NoAccount), Status::No(None), writer),
+        Ok(None) => tell(reply_line(&Reply::Absent), Status::No(None), writer),
+        Ok(Some(stored)) => {
             let mut text = part_text(alloc, &stored, part)?;
             text.extend_from_slice(b"\n")?;
             tell(&text, Status::Done, writer)
@@ -55,25 +54,15 @@ pub fn show_json<K: Keeper, W: Write>(
         → Tells (json_at part name.now (map.get (K.book keeper.now) name.now))
         (writing_on basis W.contents writer.old writer.new) result }
 {
-    match found(keeper, name) {
-        None => tell(b"null\n", Status::No(None), writer),
-        Some(None) => {
+    match keeper.show(name) {
+        Err(_) => tell(b"null\n", Status::No(None), writer),
+        Ok(None) => {
             let text = line_of(alloc, Line::Json(part), name, None)?;
             tell(&text, Status::No(None), writer)
         }
-        Some(Some(stored)) => {
+        Ok(Some(stored)) => {
             let text = line_of(alloc, Line::Json(part), name, Some(stored))?;
             tell(&text, Status::Done, writer)
         }
-    }
-}
-
-/// The record of the account, if there is one, and if there is such an account.
-fn found<K: Keeper>(keeper: &K, name: &Name) -> Option<Option<Record>>
-    ensures { result ≡ map.get (K.book keeper.now) name.now }
-{
-    match keeper.show(name) {
-        Ok(stored) => Some(stored),
-        Err(_) => None,
     }
 }

@@ -1,9 +1,10 @@
-use Rattle.cred_book.specs.Accounts.{register_capacity}
-use Rattle.cred_cli.specs.Watched.{writing_on}
-use Rattle.cred_admin.proofs.Edited.{answered}
+use Rattle.std.proofs.{Common.inl, Common.inr, Common.refl, KnownBytes.Keeps-refl, lemmas.Result.err_from_is_err_and}
 use Rattle.cred_admin.proofs.edits.edit_account.Goals as goal
 
-pub returns-in-Ok : goal.returns-in-Ok
-returns-in-Ok g c = λ basis.
-    answered register_capacity c.args.book.now.book c.make_edit.new.book.book c.args.edit.now c.in-Ok.reply (writing_on basis g.W.Write.contents c.args.writer.now c.answer_edit.new.writer) c.answer_edit.result
-    c.in-Ok.ensures (c.answer_edit.ensures.told basis) c.answer_edit.ensures.fault
+pub returns-in_err-reply : goal.returns-in_err-reply
+returns-in_err-reply g c = λ basis.
+    let told = err_from_is_err_and c.from_residual.result c.from_residual.ensures.1 in
+    inr (c.in_err-reply.field-0.0, c.in_err-reply.ensures, rw (told.1, told.2) refl, Keeps-refl _)
+
+pub returns : goal.returns
+returns g c = λ basis. inl (c.in_ok-reply.reply, c.in_ok-reply.ensures, rw (c.edit_line.ensures, c.edit_status.ensures) at (c.tell.ensures.told basis), c.tell.ensures.fault)

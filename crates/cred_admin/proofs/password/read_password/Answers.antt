@@ -14,7 +14,7 @@ pub returns-then-taken-eq0-clause-misread : goal.returns-then-taken-eq0-clause-m
 returns-then-taken-eq0-clause-misread g c = λ basis fits.
     let was = fits_first g.R.Read.remaining c.args.reader.now c.loop-taken.reader c.next_byte.new.reader (λ was. c.loop-taken.invariant.goes_on ∙ was) c.next_byte.ensures.given basis fits in
     let now = fits_then g.R.Read.remaining c.args.reader.now c.loop-taken.reader c.next_byte.new.reader (λ was. c.loop-taken.invariant.goes_on ∙ was) c.next_byte.ensures.given basis fits in
-    no_line _ _ _ _ _ (c.loop-taken.invariant.line basis was) (c.in_ok-byte.ensures.byte basis now) c.in_default.is (c.loop-taken.invariant.count ∙ c.if-taken-eq0.true)
+    inr (inr (inl (refl, no_line _ _ _ _ _ (c.loop-taken.invariant.line basis was) (c.in_ok-byte.ensures.byte basis now) c.in_default.is (c.loop-taken.invariant.count ∙ c.if-taken-eq0.true))))
 
 pub returns-then-byte-eq10-clause-line : goal.returns-then-byte-eq10-clause-line
 returns-then-byte-eq10-clause-line g c = λ basis fits.
@@ -51,4 +51,4 @@ loop-taken-preserved g c = record {
 }
 
 pub returns-clause-misread : goal.returns-clause-misread
-returns-clause-misread g c = λ basis fits. long_line _ _ _ (c.loop-taken.invariant.line basis fits) (omega (arith, c.loop-taken.invariant.count, c.loop-taken-test.false))
+returns-clause-misread g c = λ basis fits. inr (inr (inr (refl, long_line _ _ _ (c.loop-taken.invariant.line basis fits) (omega (arith, c.loop-taken.invariant.count, c.loop-taken-test.false)))))
