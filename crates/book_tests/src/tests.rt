@@ -1,22 +1,19 @@
-//! That the calls succeed, that the rules of names and the limit are those that were meant, that
+//! That the calls succeed, that the rules of names are those that were meant, that
 //! whole operations answer as records from outside want it and hash no oftener than they must, what
 //! running out of memory leaves, and that no password is shown.
 //!
-//! `calls` plays calls on a book and `work` whole operations; the other files have the tests. What
-//! a test asserts it is handed as a plain value, since its proof is far longer where a book is
-//! alive beside an assertion.
+//! `work` plays whole operations; the other files have the tests. What a test asserts it is handed
+//! as a plain value, since its proof is far longer where a book is alive beside an assertion.
 
 mod accounts;
-mod calls;
 mod gates;
-mod limits;
 mod names;
 mod operations;
+mod refused;
 mod registers;
 mod scratch;
 mod secrets;
 mod work;
-mod workers;
 
 use cred_book::{Name, Request};
 use cred_phc::{Password, Record, Setting, parse_record, parse_setting};

@@ -1,24 +1,29 @@
 //! A gate that counts the parts that arrive.
 use cred_pool::Gate;
+use std::array;
 use std::sync::atomic::{AtomicU64, Ordering};
 
 /// How many parts are counted individually.
 const PARTS: usize = 9;
 
 /// How many turns a part waits for others before the test gives up.
-const TURNS: u64 = 100_000_000;
+const TURNS: u64 = 1_000_000_000;
 
 /// How many turns a part waits for one part too many: a millisecond or more.
 const MOMENT: u64 = 2_000_000;
 
 /// Counts how often each of the first nine parts enters and leaves, and how many were inside at
-/// once at most. It holds each part back until the wanted number have been inside at once, and
-/// then for a moment more, so that one too many has time to arrive.
+/// once at most. In each round, in which each part enters once, it holds parts back until the
+/// wanted number have entered, which are inside at once then; and each part for a moment more, so
+/// that one too many has time to arrive.
 #[derive(Drop)]
 pub struct Crowd {
+    parts: u64,
     wanted: u64,
     inside: AtomicU64,
     most: AtomicU64,
+    arrived: AtomicU64,
+    late: AtomicU64,
     entered: [AtomicU64; PARTS],
     left: [AtomicU64; PARTS],
 }
@@ -28,6 +33,8 @@ pub struct Crowd {
 pub struct Visits {
     /// How many parts were inside at once at most.
     pub most: u64,
+    /// How often a part waited in vain.
+    pub late: u64,
     /// How often each of the first nine parts entered.
     pub entered: [u64; PARTS],
     /// How often each of them left.
@@ -35,7 +42,8 @@ pub struct Visits {
 }
 
 impl Visits {
-    /// The counts if each of the first `parts` parts entered and left this many `times`.
+    /// The counts if each of the first `parts` parts entered and left this many `times`, and none
+    /// waited in vain.
     pub fn of(most: u64, parts: usize, times: u64) -> Visits {
         let mut each = [0; PARTS];
         for part in 0..parts.min(PARTS) {
@@ -43,6 +51,7 @@ impl Visits {
         }
         Visits {
             most,
+            late: 0,
             entered: each,
             left: each,
         }
@@ -50,14 +59,18 @@ impl Visits {
 }
 
 impl Crowd {
-    /// A gate that no part has entered, which waits for this many to be inside at once.
-    pub fn new(wanted: u64) -> Crowd {
+    /// A gate that none of so many parts has entered, which waits for `wanted` of them to be inside
+    /// at once.
+    pub fn new(parts: u64, wanted: u64) -> Crowd {
         Crowd {
+            parts,
             wanted,
             inside: AtomicU64::new(0),
             most: AtomicU64::new(0),
-            entered: zeros(),
-            left: zeros(),
+            arrived: AtomicU64::new(0),
+            late: AtomicU64::new(0),
+            entered: array::from_fn(|_| AtomicU64::new(0)),
+            left: array::from_fn(|_| AtomicU64::new(0)),
         }
     }
 
@@ -65,28 +78,25 @@ impl Crowd {
     pub fn visits(&self) -> Visits {
         Visits {
             most: self.most.load(Ordering::SeqCst),
+            late: self.late.load(Ordering::SeqCst),
             entered: counts(&self.entered),
             left: counts(&self.left),
-        }
-    }
-
-    /// Waits at most this many turns until the wanted number have been inside at once.
-    fn wait(&self, count: u64, turns: u64) {
-        for _ in 0..turns {
-            if self.most.load(Ordering::SeqCst) >= count {
-                return;
-            }
         }
     }
 }
 
 impl Gate for Crowd {
     fn enter(&self, part: usize) {
-        add(&self.entered, part);
+        let round = add(&self.entered, part);
         let inside = self.inside.fetch_add(1, Ordering::SeqCst).wrapping_add(1);
         self.most.fetch_max(inside, Ordering::SeqCst);
-        self.wait(self.wanted, TURNS);
-        self.wait(self.wanted.wrapping_add(1), MOMENT);
+        self.arrived.fetch_add(1, Ordering::SeqCst);
+        let due = self.parts.wrapping_mul(round).wrapping_add(self.wanted);
+        wait(&self.arrived, due, TURNS);
+        if self.arrived.load(Ordering::SeqCst) < due {
+            self.late.fetch_add(1, Ordering::SeqCst);
+        }
+        wait(&self.most, self.wanted.wrapping_add(1), MOMENT);
     }
 
     fn leave(&self, part: usize) {
@@ -95,24 +105,21 @@ impl Gate for Crowd {
     }
 }
 
-fn add(counts: &[AtomicU64; PARTS], part: usize) {
-    if let Some(count) = counts.get(part) {
-        count.fetch_add(1, Ordering::SeqCst);
+/// Waits at most this many turns for the count.
+fn wait(count: &AtomicU64, wanted: u64, turns: u64) {
+    for _ in 0..turns {
+        if count.load(Ordering::SeqCst) >= wanted {
+            return;
+        }
     }
 }
 
-fn zeros() -> [AtomicU64; PARTS] {
-    [
-        AtomicU64::new(0),
-        AtomicU64::new(0),
-        AtomicU64::new(0),
-        AtomicU64::new(0),
-        AtomicU64::new(0),
-        AtomicU64::new(0),
-        AtomicU64::new(0),
-        AtomicU64::new(0),
-        AtomicU64::new(0),
-    ]
+/// Counts once more, and tells how often it was before.
+fn add(counts: &[AtomicU64; PARTS], part: usize) -> u64 {
+    match counts.get(part) {
+        Some(count) => count.fetch_add(1, Ordering::SeqCst),
+        None => 0,
+    }
 }
 
 fn counts(of: &[AtomicU64; PARTS]) -> [u64; PARTS] {

@@ -1,8 +1,7 @@
 //! How often an operation hashes, and under which setting, told by the lanes that enter a gate; and
 //! that a ticket's lanes are worked by as many threads as there are workers for.
-use super::calls::{Entry, book_with};
 use super::operations::{change, remove, standing, upgrade};
-use super::work::begun;
+use super::work::{Entry, begun, book_with};
 use super::{enrol, name, verify};
 use cred_book::Request;
 use std::alloc::Global;
@@ -13,19 +12,17 @@ use test_samples::{A, A_SETTING, B_SETTING, Crowd, Visits};
 /// Eight lanes, one pass.
 const LANES: &str = "$argon2id$v=19$m=64,t=1,p=8$c29tZXNhbHQ";
 
-/// What a gate sees of the work of the request at this account, of whose lanes so many are to be
-/// inside at once.
+/// What a gate sees of the work of the request at this account.
 fn seen<R: Threads + Sync>(
     rt: &R,
     alloc: Global,
     account: Entry,
     request: Request,
     workers: u8,
-    wanted: u64,
+    gate: Crowd,
 ) -> Option<Visits> {
-    let book = book_with(alloc, &[account]).ok()?;
+    let book = book_with(alloc, account).ok()?;
     let ticket = begun(&book, request)?;
-    let gate = Crowd::new(wanted);
     let _worked = ticket.work(rt, alloc, workers, &gate).ok()?;
     Some(gate.visits())
 }
@@ -34,20 +31,10 @@ fn seen<R: Threads + Sync>(
 fn each_lane_by_the_workers(rt: HostRuntime) {
     for (workers, at_once) in [(0, 1), (3, 3), (8, 8)] {
         let (account, request) = ((name(&rt, "a"), None), enrol(&rt, "password", LANES));
-        let visits = seen(&rt, rt.alloc(), account, request, workers, at_once);
+        let gate = Crowd::new(8, at_once);
+        let visits = seen(&rt, rt.alloc(), account, request, workers, gate);
         assert_eq!(rt; visits, Some(Visits::of(at_once, 8, 4)), "{workers}");
     }
-}
-
-/// How often the first lane and the second entered, in the work of the request.
-fn entries<R: Threads + Sync>(
-    rt: &R,
-    alloc: Global,
-    account: Entry,
-    request: Request,
-) -> Option<[u64; 2]> {
-    let [first, second, ..] = seen(rt, alloc, account, request, 1, 1)?.entered;
-    Some([first, second])
 }
 
 /// The record there, what is asked, and how often the first lane and the second enter.
@@ -56,8 +43,9 @@ type Row = (Option<&'static str>, Request, [u64; 2]);
 fn hold<R: Threads + Sync + Abort>(rt: &R, alloc: Global, table: &[Row]) {
     for (row, (before, request, want)) in table.iter().enumerate() {
         let account = (name(rt, "a"), standing(rt, *before));
-        let entries = entries(rt, alloc, account, *request);
-        assert_eq!(rt; entries, Some(*want), "row {row}");
+        let visits = seen(rt, alloc, account, *request, 1, Crowd::new(1, 1));
+        let entered = visits.expect(rt, "work").entered;
+        assert_eq!(rt; [entered[0], entered[1]], *want, "row {row}");
     }
 }
 

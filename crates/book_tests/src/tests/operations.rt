@@ -57,8 +57,6 @@ fn hold<R: Threads + Sync + Abort>(rt: &R, alloc: Global, table: &[Row]) {
         let (copy, after) = (standing(rt, *before), standing(rt, *after));
         let seen = operate(rt, alloc, (name(rt, "a"), copy), *request, &[]);
         let wanted = Seen {
-            request: *request,
-            copy,
             judged: (*reply, after, copy != after),
             reply: *reply,
             shown: Ok(after),
@@ -105,14 +103,12 @@ fn a_commit_meets_another_record(rt: HostRuntime) {
     ];
     for (i, (now, reply)) in table.iter().enumerate() {
         let wanted = Seen {
-            request: verify(&rt, PASSWORD),
-            copy: Some(a),
             judged: (*reply, *now, false),
             reply: *reply,
             shown: Ok(*now),
         };
-        let account = (name(&rt, "a"), Some(a));
-        let seen = operate(&rt, rt.alloc(), account, wanted.request, &[None, *now]);
+        let (account, request) = ((name(&rt, "a"), Some(a)), verify(&rt, PASSWORD));
+        let seen = operate(&rt, rt.alloc(), account, request, &[None, *now]);
         assert!(rt; seen == Some(wanted), "{i}");
     }
 }

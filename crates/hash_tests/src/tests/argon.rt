@@ -31,27 +31,13 @@ static STANDARD: [Row; 3] = [
     ),
 ];
 
-/// Tags of the reference library (Debian's libargon2, through `argon2_ctx`): each kind of each
-/// version, memory that isn't a multiple of 4p, 1 to 8 lanes, 1 to 4 passes, and tags of 5 to 64
-/// bytes. c/tests/against_libargon2.py compares thousands.
-static LIBRARY: [Row; 8] = [
-    (
-        Case(D, V13, [47, 1, 3], [256, 41, 8, 1], (48, 7)),
-        "19987db1f929d492240bb8a1eb1eea1cb30cf79407c556804adca589297d74b1\
-            e26844d097c2f2081402d27469164744f7682a919a",
-    ),
+/// Tags of the reference library (Debian's libargon2, through `argon2_ctx`): memory that isn't a
+/// multiple of 4p, 2 to 8 lanes, 2 to 4 passes, and tags of 5 to 57 bytes.
+/// c/tests/against_libargon2.py compares thousands.
+static LIBRARY: [Row; 4] = [
     (
         Case(D, V13, [120, 3, 8], [129, 14, 0, 100], (120, 7)),
         "fa157c275bd87d00518b64f8855d815bb8411120ef0937f55659e4748492c16b3a3c872b1a0c8088cb",
-    ),
-    (
-        Case(Id, V13, [134, 3, 2], [127, 24, 0, 1], (150, 7)),
-        "26f768823095c4af435e95a469120541470aeb13b3fd526752503438eea48712\
-            4285eeb73b73ff5f7319713d79f192301a110f9326d8a5cce04f18ede7525b6a",
-    ),
-    (
-        Case(I, V13, [155, 4, 2], [0, 34, 0, 300], (148, 7)),
-        "ed12f308890b69692b104755b8c7af3d600c517eff9b4139f7c601",
     ),
     (
         Case(I, V13, [131, 2, 7], [8, 31, 200, 1], (109, 7)),
@@ -61,10 +47,6 @@ static LIBRARY: [Row; 8] = [
         Case(D, V10, [170, 4, 6], [0, 18, 300, 0], (46, 7)),
         "73fa13eb31c6dd3a071af4facdf3d497154f15f0b3c1c8cc7208ced77528b25a\
             f668bef555947a55199960c82740a0bce26408a66a5d01",
-    ),
-    (
-        Case(I, V10, [165, 3, 1], [8, 42, 200, 100], (65, 7)),
-        "2fd5ea41ce6525ae0a8d35c0be0c3b63bd56298ea14515c9ebaeb02b260f308a20511607",
     ),
     (
         Case(Id, V10, [109, 2, 2], [64, 12, 0, 1], (15, 7)),
