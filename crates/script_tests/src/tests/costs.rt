@@ -1,6 +1,6 @@
 //! Lines that bring settings and records: within a bound, and above it.
 use super::dialogue::Dialogue;
-use super::{empty_book, hold_bytes, hold_end};
+use cred_book::Book;
 use cred_cli::{CostBounds, Tools, Watched, serve};
 use std::alloc::Global;
 use std::process::Abort;
@@ -20,16 +20,11 @@ begin 1 enrol a - $argon2id$v=19$m=64,t=1,p=1$c29tZXNhbHQ => begun
 begin 2 enrol a - $argon2id$v=19$m=65,t=1,p=1$c29tZXNhbHQ => bad 18 costly
 begin 1 enrol a - $argon2id$v=19$m=65,t=1,p=1$c29tZXNhbHQ => bad 18 costly
 begin 65 enrol a - $argon2id$v=19$m=65,t=1,p=1$c29tZXNhbHQ => bad 12 key
-begin 2 change a - - $scrypt$ln=6,r=8,p=1$c29tZXNhbHQ => begun
-begin 3 change a - - $scrypt$ln=7,r=8,p=1$c29tZXNhbHQ => bad 18 costly
-begin 3 upgrade a - $scrypt$ln=5,r=8,p=2$c29tZXNhbHQ => begun
-begin 4 upgrade a - $scrypt$ln=5,r=8,p=3$c29tZXNhbHQ => bad 18 costly
-begin 4 verify a - => begun
-begin 5 remove a - => begun
+begin 2 change a - - $scrypt$ln=7,r=8,p=1$c29tZXNhbHQ => bad 18 costly
+begin 2 upgrade a - $scrypt$ln=5,r=8,p=2$c29tZXNhbHQ => begun
+begin 3 upgrade a - $scrypt$ln=5,r=8,p=3$c29tZXNhbHQ => bad 18 costly
 commit 1 => exists
 commit 2 => wrong
-commit 3 => wrong
-commit 4 => no
 ";
 
 /// Some of the same lines, and one that asks for more than there may be.
@@ -64,13 +59,11 @@ fn judge_served<R: Threads + Wait + Sync + Abort>(
     let dialogue = Dialogue::behind_account(rt, alloc, "costs", text);
     for workers in [1, 4] {
         let tools = Tools { rt, alloc, workers };
-        let mut book = empty_book(rt, alloc);
+        let mut book = Book::new(alloc).expect(rt, "memory");
         let mut reader = Watched::new(dialogue.script.as_bytes());
         let mut writer = Watched::new(Vec::new(alloc));
         let end = serve(&tools, most, &mut book, &mut reader, &mut writer);
-        hold_end(rt, 0, end, dialogue.end());
-        let written: Vec<u8> = writer.into_inner();
-        hold_bytes(rt, 0, &written, &dialogue.answers);
+        dialogue.hold_ran(rt, workers, &(end, writer.into_inner()));
     }
 }
 

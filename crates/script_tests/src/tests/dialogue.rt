@@ -1,7 +1,7 @@
 //! Scripts with their answers, and what holds them against runs on each keeper.
 use super::committers::run_on_committer;
-use super::{empty_book, filled_in, run_on};
-use cred_book::{Keeper, Register};
+use super::{Ran, filled_in, run_on};
+use cred_book::{Book, Register};
 use cred_cli::{End, ScriptFault};
 use std::alloc::Global;
 use std::process::Abort;
@@ -13,13 +13,13 @@ use std::thread::Threads;
 pub(super) struct Dialogue<'a> {
     name: &'a str,
     pub(super) script: String,
-    pub(super) answers: String,
+    answers: String,
 }
 
-/// How a script ended, and what was answered.
-type Ran<'a> = (Result<End, ScriptFault>, &'a [u8]);
+/// How a script ended, and what was written.
+type Seen<'a> = (Result<End, ScriptFault>, &'a [u8]);
 
-fn hold_ran<R: Abort>(rt: &R, name: &str, workers: u8, seen: Ran, want: Ran) {
+fn hold_seen<R: Abort>(rt: &R, name: &str, workers: u8, seen: Seen, want: Seen) {
     assert_eq!(rt; seen, want, "{name}, {workers} workers");
 }
 
@@ -68,13 +68,6 @@ impl<'a> Dialogue<'a> {
         }
     }
 
-    /// One of the lines of the text alone.
-    pub(super) fn of<R: Abort>(rt: &R, alloc: Global, name: &'a str, text: &str) -> Dialogue<'a> {
-        let mut dialogue = Dialogue::new(alloc, name);
-        dialogue.lines(rt, alloc, text);
-        dialogue
-    }
-
     /// One of the lines of the text, after `account a`.
     pub(super) fn behind_account<R: Abort>(
         rt: &R,
@@ -88,55 +81,29 @@ impl<'a> Dialogue<'a> {
     }
 
     /// The end of a run in which each line has its answer.
-    pub(super) fn end(&self) -> Result<End, ScriptFault> {
+    fn end(&self) -> Result<End, ScriptFault> {
         Ok(End {
             lines: self.answers.lines().count() as u64,
         })
     }
 
     /// Holds it against what a run came to.
-    fn hold_run<R: Abort>(
-        &self,
-        rt: &R,
-        workers: u8,
-        end: Result<End, ScriptFault>,
-        written: &[u8],
-    ) {
+    pub(super) fn hold_ran<R: Abort>(&self, rt: &R, workers: u8, ran: &Ran) {
         let want = (self.end(), self.answers.as_bytes());
-        hold_ran(rt, self.name, workers, (end, written), want);
-    }
-
-    /// Holds it against a run on an empty keeper.
-    pub(super) fn judge_on<K: Keeper + Drop, R: Threads + Wait + Sync + Abort>(
-        &self,
-        rt: &R,
-        alloc: Global,
-        workers: u8,
-        keeper: K,
-    ) {
-        let outcome = run_on(rt, alloc, workers, keeper, self.script.as_bytes());
-        self.hold_run(rt, workers, outcome.end, &outcome.written);
-    }
-
-    /// Holds it against a run on a committer of an empty book.
-    pub(super) fn judge_published<R: Threads + Wait + Sync + Abort>(
-        &self,
-        rt: &R,
-        alloc: Global,
-        workers: u8,
-    ) {
-        let ran = run_on_committer(rt, alloc, workers, self.script.as_bytes());
-        let (end, written) = ran.expect(rt, "a committer");
-        self.hold_run(rt, workers, end, &written);
+        hold_seen(rt, self.name, workers, (ran.0, ran.1.as_slice()), want);
     }
 
     /// Holds it against runs on an empty book, an empty register and a committer, with one worker
     /// and with four.
     pub(super) fn judge<R: Threads + Wait + Sync + Abort>(&self, rt: &R, alloc: Global) {
+        let script = self.script.as_bytes();
         for workers in [1, 4] {
-            self.judge_on(rt, alloc, workers, empty_book(rt, alloc));
-            self.judge_on(rt, alloc, workers, Register::new(alloc));
-            self.judge_published(rt, alloc, workers);
+            let book = Book::new(alloc).expect(rt, "memory");
+            self.hold_ran(rt, workers, &run_on(rt, alloc, workers, book, script));
+            let register = Register::new(alloc);
+            self.hold_ran(rt, workers, &run_on(rt, alloc, workers, register, script));
+            let ran = run_on_committer(rt, alloc, workers, script);
+            self.hold_ran(rt, workers, &ran.expect(rt, "a committer"));
         }
     }
 }

@@ -1,109 +1,78 @@
-//! What is said of each fault on standard error, and the status that goes with it.
+//! What is said of each fault on standard error.
 
+use super::{hold_bytes, name, stored};
 use cred_admin::{BadLine, Fault, ImportFault, LineFault};
-use cred_book::{BookError, Name, Register};
+use cred_book::{BookError, Register};
 use cred_cli::ScriptFault;
 use cred_file::{Edit, Lost, OpenFault};
 use cred_keep::{Failure, explain, refuse};
-use cred_phc::{PhcError, parse_record};
+use cred_phc::PhcError;
 use sqlite::{Error, ErrorCode};
 use std::alloc::Global;
 use std::process::Abort;
 use test_samples::A;
 
-/// Holds what was said against one line of the program's.
-fn hold_line<R: Abort>(rt: &R, alloc: Global, said: &[u8], text: &str) {
+/// Holds what is said of a failure against one line of the program's.
+fn hold_failure<R: Abort>(
+    rt: &R,
+    alloc: Global,
+    failure: &Failure,
+    lost: Option<&Lost>,
+    text: &str,
+) {
+    let mut said: Vec<u8> = Vec::new(alloc);
+    explain(&mut said, failure, lost);
     let line = format!(in alloc; "credkeep: {text}\n").expect(rt, "memory");
-    assert_eq!(rt; said, line.as_bytes());
-}
-
-/// Holds what is said of a failure, and its status.
-fn hold_failure<R: Abort>(rt: &R, alloc: Global, failure: &Failure, status: u8, text: &str) {
-    let mut said: Vec<u8> = Vec::new(alloc);
-    explain(&mut said, failure, None);
-    hold_line(rt, alloc, &said, text);
-    assert_eq!(rt; failure.status().number(), status);
-}
-
-fn hold_command<R: Abort>(rt: &R, alloc: Global, row: &(Fault, u8, &str)) {
-    hold_failure(rt, alloc, &Failure::Command(row.0), row.1, row.2);
-}
-
-fn hold_script<R: Abort>(rt: &R, alloc: Global, row: &(ScriptFault, u8, &str)) {
-    hold_failure(rt, alloc, &Failure::Script(row.0), row.1, row.2);
-}
-
-fn hold_opening<R: Abort>(rt: &R, alloc: Global, row: &(OpenFault, u8, &str)) {
-    let mut said: Vec<u8> = Vec::new(alloc);
-    let status = refuse(&mut said, &row.0);
-    hold_line(rt, alloc, &said, row.2);
-    assert_eq!(rt; status.number(), row.1);
-}
-
-/// Holds what is said of a change that may be lost.
-fn hold_lost<R: Abort>(rt: &R, alloc: Global, edit: Edit, what: &str) {
-    let lost = Lost {
-        error: Error::SqliteFailure(ErrorCode::DiskFull),
-        edit,
-    };
-    let mut said: Vec<u8> = Vec::new(alloc);
-    explain(&mut said, &Failure::Database, Some(&lost));
-    let text = format!(in alloc; "the database failed: {}; {what}", lost.error);
-    let text = text.expect(rt, "memory");
-    hold_line(rt, alloc, &said, &text);
-}
-
-fn name<R: Abort>(rt: &R, text: &str) -> Name {
-    Name::new(text.as_bytes()).expect(rt, "a name")
+    hold_bytes(rt, &said, &line);
 }
 
 #[test]
 fn texts_of_commands(rt: HostRuntime) {
-    let rows = [
-        (Fault::Read, 2, "reading failed"),
-        (Fault::Write, 2, "writing failed"),
-        (Fault::Memory, 3, "out of memory"),
-        (Fault::Password, 6, "the password has over 256 bytes"),
-        (Fault::NoPassword, 6, "no password on standard input"),
-        (Fault::NoNewPassword, 6, "the new password is missing"),
+    for (fault, text) in [
+        (Fault::Read, "reading failed"),
+        (Fault::Write, "writing failed"),
+        (Fault::Memory, "out of memory"),
+        (Fault::Password, "the password has over 256 bytes"),
+        (Fault::NoPassword, "no password on standard input"),
+        (Fault::NoNewPassword, "the new password is missing"),
         (
             Fault::Empty,
-            6,
             "the password is empty: --empty-password accepts it",
         ),
-        (Fault::Full, 6, "the book has no room for another account"),
-    ];
-    for row in &rows {
-        hold_command(&rt, rt.alloc(), row);
+        (Fault::Full, "the book has no room for another account"),
+        (
+            Fault::NoRecord(stored(&rt, A)),
+            "out of memory: the name is there, with no record",
+        ),
+    ] {
+        hold_failure(&rt, rt.alloc(), &Failure::Command(fault), None, text);
     }
-    let stored = parse_record(A.as_bytes()).expect(&rt, "a record");
-    let failure = Failure::Command(Fault::NoRecord(stored));
-    let text = "out of memory: the name is there, with no record";
-    hold_failure(&rt, rt.alloc(), &failure, 3, text);
 }
 
 #[test]
 fn texts_of_scripts(rt: HostRuntime) {
-    let rows = [
-        (ScriptFault::Read, 2, "the reader failed"),
-        (ScriptFault::Write, 2, "the writer failed, or took no byte"),
-        (ScriptFault::Memory, 3, "out of memory"),
-        (ScriptFault::TooLong, 6, "the script has over 1048576 bytes"),
-    ];
-    for row in &rows {
-        hold_script(&rt, rt.alloc(), row);
+    for (fault, text) in [
+        (ScriptFault::Read, "the reader failed"),
+        (ScriptFault::Write, "the writer failed, or took no byte"),
+        (ScriptFault::Memory, "out of memory"),
+        (ScriptFault::TooLong, "the script has over 1048576 bytes"),
+    ] {
+        hold_failure(&rt, rt.alloc(), &Failure::Script(fault), None, text);
     }
 }
 
 #[test]
 fn texts_of_imports(rt: HostRuntime) {
-    let read = Failure::Import(ImportFault::Read);
-    hold_failure(&rt, rt.alloc(), &read, 2, "reading failed");
-    let memory = Failure::Import(ImportFault::Memory);
-    hold_failure(&rt, rt.alloc(), &memory, 3, "out of memory");
-    let full = Failure::Import(ImportFault::Full);
-    let text = "the book has no room for so many accounts (2 full)";
-    hold_failure(&rt, rt.alloc(), &full, 6, text);
+    for (fault, text) in [
+        (ImportFault::Read, "reading failed"),
+        (ImportFault::Memory, "out of memory"),
+        (
+            ImportFault::Full,
+            "the book has no room for so many accounts (2 full)",
+        ),
+    ] {
+        hold_failure(&rt, rt.alloc(), &Failure::Import(fault), None, text);
+    }
 }
 
 #[test]
@@ -129,22 +98,27 @@ fn texts_of_lines(rt: HostRuntime) {
         credkeep: line 300: the name is there already (1 exists)\n\
         credkeep: line 4000: its record is locked: --disable-locked drops it (17 locked)\n\
         credkeep: line 50000: its record asks for more than --most-memory or --most-work (18 costly)";
-    hold_failure(&rt, rt.alloc(), &failure, 6, text);
+    hold_failure(&rt, rt.alloc(), &failure, None, text);
+}
+
+fn hold_opening<R: Abort>(rt: &R, alloc: Global, fault: &OpenFault, text: &str) {
+    let mut said: Vec<u8> = Vec::new(alloc);
+    refuse(&mut said, fault);
+    let line = format!(in alloc; "credkeep: {text}\n").expect(rt, "memory");
+    hold_bytes(rt, &said, &line);
 }
 
 #[test]
 fn texts_of_openings(rt: HostRuntime) {
-    let rows = [
-        (OpenFault::NotEmpty, 5, "the database has tables already"),
+    for (fault, text) in [
+        (OpenFault::NotEmpty, "the database has tables already"),
         (
             OpenFault::NoBook,
-            5,
             "the database holds no book: it has other tables, columns or indexes than \
              a book's one table",
         ),
         (
             OpenFault::NoName(7),
-            5,
             "row 7: there is no name; a name has 1 to 32 of a-z, 0-9, '.', '_', '-' (3 name)",
         ),
         (
@@ -152,66 +126,56 @@ fn texts_of_openings(rt: HostRuntime) {
                 row: 8,
                 why: Some(PhcError::Shape),
             },
-            5,
             "row 8: the text there is no record: a field is missing, or there is one too many \
              (1 shape)",
         ),
         (
             OpenFault::NoRecord { row: 9, why: None },
-            5,
             "row 9: its record is no text",
         ),
-        (OpenFault::Twice(10), 5, "row 10: another has its name"),
-        (OpenFault::TooMany, 5, "the book has over 16777216 accounts"),
-        (OpenFault::Memory, 3, "out of memory"),
+        (OpenFault::Twice(10), "row 10: another has its name"),
+        (OpenFault::TooMany, "the book has over 16777216 accounts"),
+        (OpenFault::Memory, "out of memory"),
         (
             OpenFault::Database(Error::SqliteFailure(ErrorCode::DatabaseBusy)),
-            5,
             "busy: another process has the file open",
         ),
         (
             OpenFault::Database(Error::SqliteFailure(ErrorCode::CannotOpen)),
-            5,
             "the file can't be opened and written",
         ),
-    ];
-    for row in &rows {
-        hold_opening(&rt, rt.alloc(), row);
+    ] {
+        hold_opening(&rt, rt.alloc(), &fault, text);
     }
+}
+
+/// Holds what is said of a change that may be lost, on a full disk.
+fn hold_lost<R: Abort>(rt: &R, alloc: Global, edit: Edit, what: &str) {
+    let error = Error::SqliteFailure(ErrorCode::DiskFull);
+    let lost = Lost { error, edit };
+    let text = format!(in alloc; "the database failed: {error}; {what}").expect(rt, "memory");
+    hold_failure(rt, alloc, &Failure::Database, Some(&lost), &text);
 }
 
 #[test]
 fn texts_of_lost_changes(rt: HostRuntime) {
-    let failure = Failure::Database;
-    hold_failure(&rt, rt.alloc(), &failure, 5, "the database failed");
-    let ann = name(&rt, "ann");
-    let changed = "the change of ann may be kept or not";
-    let put = Edit::Put {
-        name: ann,
-        stored: None,
-    };
-    hold_lost(&rt, rt.alloc(), put, changed);
-    hold_lost(&rt, rt.alloc(), Edit::Delete(ann), changed);
-    let other = name(&rt, "bob");
-    let rename = Edit::Rename { name: ann, other };
-    hold_lost(&rt, rt.alloc(), rename, changed);
-    let mut more = Register::new(rt.alloc());
-    for text in ["ann", "bob"] {
-        more.admit(name(&rt, text)).expect(&rt, "room");
-    }
-    let all = "the 2 new accounts may be kept or not, all or none of them";
-    let added = more.copy().expect(&rt, "memory");
-    let changed = Register::new(rt.alloc());
-    hold_lost(&rt, rt.alloc(), Edit::TakeIn { added, changed }, all);
-    let added = Register::new(rt.alloc());
-    let all = "the changes of ann bob may be kept or not, all or none of them";
-    hold_lost(
-        &rt,
-        rt.alloc(),
-        Edit::TakeIn {
-            added,
-            changed: more,
-        },
-        all,
-    );
+    let alloc = rt.alloc();
+    let text = "the database failed";
+    hold_failure(&rt, alloc, &Failure::Database, None, text);
+    let (name, other) = (name(&rt, "ann"), name(&rt, "bob"));
+    let stored = None;
+    let what = "the change of ann may be kept or not";
+    hold_lost(&rt, alloc, Edit::Put { name, stored }, what);
+    hold_lost(&rt, alloc, Edit::Delete(name), what);
+    hold_lost(&rt, alloc, Edit::Rename { name, other }, what);
+    let mut both = Register::new(alloc);
+    both.admit(name).expect(&rt, "room");
+    both.admit(other).expect(&rt, "room");
+    let added = both.copy().expect(&rt, "memory");
+    let changed = Register::new(alloc);
+    let what = "the 2 new accounts may be kept or not, all or none of them";
+    hold_lost(&rt, alloc, Edit::TakeIn { added, changed }, what);
+    let (added, changed) = (Register::new(alloc), both);
+    let what = "the changes of ann bob may be kept or not, all or none of them";
+    hold_lost(&rt, alloc, Edit::TakeIn { added, changed }, what);
 }

@@ -1,14 +1,15 @@
 //! What running out of memory leaves. These tests hold whichever request is refused:
 //! tools/refuse_memory.py refuses each in turn.
 use super::committers::run_on_committer;
-use super::{Shown, hold, hold_bytes, hold_shown};
+use super::{A_LINE, PA, hold_bytes, name, stored};
 use cred_book::{Book, BookError, Keeper, Register};
 use cred_cli::{CostBounds, End, ScriptFault, Tools, Watched, command, run_script, serve};
+use cred_phc::Record;
 use std::alloc::Global;
 use std::process::Abort;
 use std::sync::Wait;
 use std::thread::Threads;
-use test_samples::{A, B};
+use test_samples::{A, A_SETTING, B};
 
 /// A script, and what it is answered.
 const SCRIPT: &str = "\
@@ -66,21 +67,22 @@ fn hold_front<R: Abort>(rt: &R, whole: &str, written: &[u8]) {
     assert!(rt; written.is_empty() || written.ends_with(b"\n"));
 }
 
-/// The record of a after so many lines: the first admits it, the second loads A, the ninth makes
-/// that B, and the fourteenth removes it.
-fn shown_after(written: &[u8]) -> Shown<'static> {
-    match written.iter().filter(|&&byte| byte == b'\n').count() {
+/// Holds the record of a after these answers: the first line admits it, the second loads A, the
+/// ninth makes that B, and the fourteenth removes it.
+fn hold_shown<R: Abort>(rt: &R, shown: Result<Option<Record>, BookError>, written: &[u8]) {
+    let want = match written.iter().filter(|&&byte| byte == b'\n').count() {
         0 => Err(BookError::NoAccount),
         1 | 14 => Ok(None),
-        2..=8 => Ok(Some(A)),
-        _ => Ok(Some(B)),
-    }
+        2..=8 => Ok(Some(stored(rt, A))),
+        _ => Ok(Some(stored(rt, B))),
+    };
+    assert_eq!(rt; shown, want);
 }
 
 /// Holds the whole answers, or those that running out of memory leaves; whether memory ran out.
 fn hold_answers<R: Abort>(rt: &R, end: Result<End, ScriptFault>, written: &[u8]) -> bool {
     if end == Ok(End { lines: 15 }) {
-        hold_bytes(rt, 0, written, ANSWERS);
+        hold_bytes(rt, written, ANSWERS);
         false
     } else {
         assert_eq!(rt; end, Err(ScriptFault::Memory));
@@ -102,7 +104,7 @@ fn judge_into<K: Keeper, R: Threads + Wait + Sync + Abort>(
     let end = run_script(rt, alloc, workers, keeper, &mut reader, &mut writer);
     let written = writer.into_inner();
     if hold_answers(rt, end, &written) {
-        hold_shown(rt, 0, keeper, "a", shown_after(&written));
+        hold_shown(rt, keeper.show(&name(rt, "a")), &written);
     }
 }
 
@@ -120,8 +122,22 @@ fn judge_refused<K: Keeper, R: Threads + Wait + Sync + Abort>(
 
 #[test]
 fn refused_script(rt: HostRuntime) {
-    if let Ok(mut book) = Book::new(rt.alloc()) {
-        judge_refused(&rt, rt.alloc(), 1, &mut book);
+    for workers in [1, 2] {
+        if let Ok(mut book) = Book::new(rt.alloc()) {
+            judge_refused(&rt, rt.alloc(), workers, &mut book);
+        }
+    }
+}
+
+#[test]
+fn refused_script_on_a_register(rt: HostRuntime) {
+    judge_refused(&rt, rt.alloc(), 2, &mut Register::new(rt.alloc()));
+}
+
+#[test]
+fn refused_script_on_a_committer(rt: HostRuntime) {
+    if let Ok((end, written)) = run_on_committer(&rt, rt.alloc(), 2, SCRIPT.as_bytes()) {
+        let _refused = hold_answers(&rt, end, &written);
     }
 }
 
@@ -152,92 +168,48 @@ fn refused_service(rt: HostRuntime) {
         assert_eq!(rt; end, Err(ScriptFault::Memory));
         hold_front(&rt, SERVED, &written);
     } else if written.as_slice() != STARVED.as_bytes() {
-        hold_bytes(&rt, 0, &written, SERVED);
+        hold_bytes(&rt, &written, SERVED);
     }
 }
 
-#[test]
-fn refused_script_of_two_workers(rt: HostRuntime) {
-    if let Ok(mut book) = Book::new(rt.alloc()) {
-        judge_refused(&rt, rt.alloc(), 2, &mut book);
-    }
-}
+/// Words, what the program prints, and its status.
+type Run<'a> = (&'a [&'a str], &'a str, u8);
 
-#[test]
-fn refused_script_on_a_register(rt: HostRuntime) {
-    let mut register = Register::new(rt.alloc());
-    judge_refused(&rt, rt.alloc(), 2, &mut register);
-}
+static RUNS: [Run<'static>; 5] = [
+    (&["run", "--workers", "2"], ANSWERS, 0),
+    (&["hash", A_SETTING, PA], A_LINE, 0),
+    (&["check", A, PA], "yes\n", 0),
+    (&["check", A], "no\n", 4),
+    (&["walk"], "", 1),
+];
 
-#[test]
-fn refused_script_on_a_committer(rt: HostRuntime) {
-    if let Ok((end, written)) = run_on_committer(&rt, rt.alloc(), 2, SCRIPT.as_bytes()) {
-        let _refused = hold_answers(&rt, end, &written);
-    }
-}
-
-/// Holds what the program came to: its whole output and status, or 3 with nothing but whole answers
-/// written.
-fn hold_ended<R: Abort>(rt: &R, ended: u8, written: &[u8], faults: &[u8], whole: &str, status: u8) {
+/// Holds the whole output and status of a run, or 3 with nothing but whole answers written.
+fn hold_ended<R: Abort>(rt: &R, ended: u8, written: &[u8], faults: &[u8], run: &Run) {
+    let (_, whole, status) = *run;
     if ended == 3 {
         hold_front(rt, whole, written);
         // the text of the fault may itself be refused memory
-        hold(rt, 0, b"credbook: memory\n".starts_with(faults));
+        assert!(rt; b"credbook: memory\n".starts_with(faults));
     } else {
         assert_eq!(rt; ended, status);
-        hold_bytes(rt, 0, written, whole);
+        hold_bytes(rt, written, whole);
     }
 }
 
-fn judge_words_into<R: Threads + Wait + Sync + Abort>(
-    rt: &R,
-    alloc: Global,
-    words: &[&str],
-    room: Vec<u8>,
-    whole: &str,
-    status: u8,
-) {
+fn judge_run<R: Threads + Wait + Sync + Abort>(rt: &R, alloc: Global, run: &Run, room: Vec<u8>) {
     let mut reader = Watched::new(SCRIPT.as_bytes());
     let mut writer = Watched::new(room);
     let mut faults = Vec::new(alloc);
-    let ended = command(rt, alloc, words, &mut reader, &mut writer, &mut faults);
+    let ended = command(rt, alloc, run.0, &mut reader, &mut writer, &mut faults);
     let written = writer.into_inner();
-    hold_ended(rt, ended, &written, &faults, whole, status);
-}
-
-/// Runs the program on these words, if there is room for its output.
-fn judge_words<R: Threads + Wait + Sync + Abort>(
-    rt: &R,
-    alloc: Global,
-    words: &[&str],
-    whole: &str,
-    status: u8,
-) {
-    if let Ok(room) = Vec::with_capacity(alloc, 4096) {
-        judge_words_into(rt, alloc, words, room, whole, status);
-    }
+    hold_ended(rt, ended, &written, &faults, run);
 }
 
 #[test]
 fn refused_program(rt: HostRuntime) {
-    judge_words(&rt, rt.alloc(), &["run", "--workers", "2"], ANSWERS, 0);
-}
-
-#[test]
-fn refused_hash(rt: HostRuntime) {
-    let setting = "$argon2id$v=19$m=256,t=2,p=1$c29tZXNhbHQ";
-    let line =
-        "$argon2id$v=19$m=256,t=2,p=1$c29tZXNhbHQ$nf65EOgLrQMR/uIPnA4rEsF5h7TKyQwu9U1bMCHGi/4\n";
-    judge_words(&rt, rt.alloc(), &["hash", setting, "cGFzc3dvcmQ"], line, 0);
-}
-
-#[test]
-fn refused_check(rt: HostRuntime) {
-    judge_words(&rt, rt.alloc(), &["check", A, "cGFzc3dvcmQ"], "yes\n", 0);
-    judge_words(&rt, rt.alloc(), &["check", A], "no\n", 4);
-}
-
-#[test]
-fn refused_words(rt: HostRuntime) {
-    judge_words(&rt, rt.alloc(), &["walk"], "", 1);
+    for run in &RUNS {
+        if let Ok(room) = Vec::with_capacity(rt.alloc(), 4096) {
+            judge_run(&rt, rt.alloc(), run, room);
+        }
+    }
 }

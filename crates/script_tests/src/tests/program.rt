@@ -1,7 +1,6 @@
 //! The program: its exit status, and what comes on which stream.
-use super::readers::CutOff;
-use super::writers::Stingy;
-use super::{PA, filled_in, hold, hold_bytes};
+use super::faulty::Faulty;
+use super::{A_LINE, PA};
 use cred_cli::{Watched, command};
 use std::alloc::Global;
 use std::io;
@@ -59,21 +58,6 @@ fn judge_words<I: Read + Drop, R: Threads + Wait + Sync + Abort>(
     hold_told(rt, ran.status, &ran.output, &ran.faults, want);
 }
 
-/// The same, if what is written takes so many bytes.
-fn judge_stingy<R: Threads + Wait + Sync + Abort>(
-    rt: &R,
-    alloc: Global,
-    words: &[&str],
-    input: &[u8],
-    then: Option<io::ErrorKind>,
-    front: &str,
-) {
-    let (taken, left) = (Vec::new(alloc), front.len());
-    let ran = run_words(rt, alloc, words, input, Stingy { taken, left, then });
-    let want = (2, front, "credbook: write\n");
-    hold_told(rt, ran.status, &ran.output.taken, &ran.faults, want);
-}
-
 /// Scripts, and what is answered.
 static SCRIPTS: [(&str, &str); 3] = [
     ("", ""),
@@ -91,49 +75,60 @@ fn scripts_are_run(rt: HostRuntime) {
 
 #[test]
 fn read_faults_are_named(rt: HostRuntime) {
-    for kind in [io::ErrorKind::BrokenPipe, io::ErrorKind::Interrupted] {
-        let input = CutOff {
-            rest: b"account a\naccount b",
-            most: 5,
-            kind,
-        };
-        let want = (2, "ok\n", "credbook: read\n");
-        judge_words(&rt, rt.alloc(), &["run"], input, want);
-    }
+    let input = Faulty {
+        inner: b"account a\naccount b".as_slice(),
+        left: 15,
+        then: Some(io::ErrorKind::BrokenPipe),
+    };
+    let want = (2, "ok\n", "credbook: read\n");
+    judge_words(&rt, rt.alloc(), &["run"], input, want);
+}
+
+/// Words that print, and how much is written before a write fails, or takes no byte.
+static STOPPED: [(&[&str], &str); 4] = [
+    (&["run"], "ok\nno"),
+    (&["hash", A_SETTING, PA], A_SETTING),
+    (&["check", A, PA], "ye"),
+    (&["check", A], ""),
+];
+
+fn judge_stop<R: Threads + Wait + Sync + Abort>(
+    rt: &R,
+    alloc: Global,
+    words: &[&str],
+    front: &str,
+    then: Option<io::ErrorKind>,
+) {
+    let inner: Vec<u8> = Vec::new(alloc);
+    let left = front.len();
+    let output = Faulty { inner, left, then };
+    let input = b"account a\nshow a\n".as_slice();
+    let ran = run_words(rt, alloc, words, input, output);
+    let want = (2, front, "credbook: write\n");
+    hold_told(rt, ran.status, &ran.output.inner, &ran.faults, want);
 }
 
 #[test]
 fn write_faults_are_named(rt: HostRuntime) {
-    for then in [Some(io::ErrorKind::BrokenPipe), None] {
-        let script = b"account a\nshow a\n";
-        judge_stingy(&rt, rt.alloc(), &["run"], script, then, "ok\nno");
+    for (words, front) in &STOPPED {
+        for then in [Some(io::ErrorKind::BrokenPipe), None] {
+            judge_stop(&rt, rt.alloc(), words, front, then);
+        }
     }
-}
-
-#[test]
-fn a_script_too_long_is_named(rt: HostRuntime) {
-    let script = "\n".repeat(rt.alloc(), 1_048_577).expect(&rt, "memory");
-    let output = Vec::new(rt.alloc());
-    let ran = run_words(&rt, rt.alloc(), &["run"], script.as_bytes(), output);
-    hold(&rt, 0, ran.status == 2);
-    hold(&rt, 0, ran.output.ends_with(b"bad 11 line\n"));
-    hold_bytes(&rt, 0, &ran.faults, "credbook: toolong\n");
 }
 
 /// The setting of the vector of RFC 7914.
 const SALTED: &str = "$scrypt$ln=10,r=8,p=16$TmFDbA";
 
 /// What `hash` and `check` print, name as the fault, and answer as the status.
-static SINGLES: [(&[&str], &str, &str, u8); 18] = [
-    (&["hash", A_SETTING, PA], "{A}\n", "", 0),
-    (&["hash", A_SETTING, PA, "--workers", "4"], "{A}\n", "", 0),
+static SINGLES: [(&[&str], &str, &str, u8); 6] = [
+    (&["hash", A_SETTING, PA, "--workers", "4"], A_LINE, "", 0),
     (
         &["hash", SALTED, PA],
         "$scrypt$ln=10,r=8,p=16$TmFDbA$/bq+HJ00cgB4VucZDQHp/nxq18vII3gw53N2Y0s3MWI\n",
         "",
         0,
     ),
-    (&["hash", A, PA], "", "credbook: 1 shape\n", 1),
     (
         &["hash", "$argon2id$v=19$m=7,t=2,p=1$c29tZXNhbHQ", "!"],
         "",
@@ -146,35 +141,15 @@ static SINGLES: [(&[&str], &str, &str, u8); 18] = [
         "credbook: 3 version\n",
         1,
     ),
-    (&["hash", A_SETTING, "!"], "", "credbook: 13 password\n", 1),
-    (&["hash", A_SETTING, "-"], "", "credbook: 13 password\n", 1),
-    (&["hash", A_SETTING, ""], "", "credbook: 13 password\n", 1),
-    (&["check", A, PA], "yes\n", "", 0),
-    (&["check", "--workers=4", A, PA], "yes\n", "", 0),
-    (&["check", SCRYPT, PA], "yes\n", "", 0),
-    (&["check", A], "no\n", "", 4),
-    (&["check", A, "YmFk"], "no\n", "", 4),
-    (&["check", A, "!"], "", "credbook: 13 password\n", 1),
+    (&["check", "--workers=4", SCRYPT, PA], "yes\n", "", 0),
     (&["check", A, "-"], "", "credbook: 13 password\n", 1),
-    (&["check", A, ""], "", "credbook: 13 password\n", 1),
-    (&["check", A_SETTING, "!"], "", "credbook: 1 shape\n", 1),
 ];
-
-fn judge_single<R: Threads + Wait + Sync + Abort>(
-    rt: &R,
-    alloc: Global,
-    words: &[&str],
-    want: Told,
-) {
-    let written = filled_in(rt, alloc, want.1);
-    let want = (want.0, written.as_str(), want.2);
-    judge_words(rt, alloc, words, b"account a\n".as_slice(), want);
-}
 
 #[test]
 fn single_values(rt: HostRuntime) {
     for (words, written, faults, status) in &SINGLES {
-        judge_single(&rt, rt.alloc(), words, (*status, written, faults));
+        let input = b"account a\n".as_slice();
+        judge_words(&rt, rt.alloc(), words, input, (*status, written, faults));
     }
 }
 
@@ -198,14 +173,6 @@ static REFUSED: [&[&str]; 8] = [
     &["check", A, PA, "x"],
 ];
 
-fn judge_refused<R: Threads + Wait + Sync + Abort>(rt: &R, alloc: Global, words: &[&str]) {
-    let input = b"account a\n".as_slice();
-    let ran = run_words(rt, alloc, words, input, Vec::new(alloc));
-    hold(rt, 0, !ran.faults.is_empty());
-    hold_bytes(rt, 0, &ran.output, "");
-    hold(rt, 0, ran.status == 1);
-}
-
 #[test]
 fn numbers_of_workers(rt: HostRuntime) {
     for words in &TAKEN {
@@ -213,41 +180,12 @@ fn numbers_of_workers(rt: HostRuntime) {
         judge_words(&rt, rt.alloc(), words, input, (0, "ok\n", ""));
     }
     for words in &REFUSED {
-        judge_refused(&rt, rt.alloc(), words);
-    }
-}
-
-/// Stops the line, which the words print, after each of its bytes but the last.
-fn judge_stops<R: Threads + Wait + Sync + Abort>(
-    rt: &R,
-    alloc: Global,
-    words: &[&str],
-    line: &str,
-) {
-    for left in 0..line.len() {
-        let front = line.get(..left).expect(rt, "the line is longer");
-        for then in [Some(io::ErrorKind::BrokenPipe), None] {
-            judge_stingy(rt, alloc, words, b"", then, front);
-        }
-    }
-}
-
-static PRINTED: [(&[&str], &str); 3] = [
-    (&["hash", A_SETTING, PA], "{A}\n"),
-    (&["check", A, PA], "yes\n"),
-    (&["check", A], "no\n"),
-];
-
-#[test]
-fn single_writes_fail(rt: HostRuntime) {
-    for (words, line) in &PRINTED {
-        let line = filled_in(&rt, rt.alloc(), line);
-        judge_stops(&rt, rt.alloc(), words, &line);
+        judge_help(&rt, rt.alloc(), words, "error: ");
     }
 }
 
 /// Words that don't parse, and `clap`'s text for them.
-static UNREAD: [(&[&str], &str); 6] = [
+static UNREAD: [(&[&str], &str); 5] = [
     (
         &[],
         "error: 'credbook' requires a subcommand but one was not provided\n  \
@@ -259,11 +197,6 @@ static UNREAD: [(&[&str], &str); 6] = [
         &["walk"],
         "error: unrecognized subcommand 'walk'\n\n\
             Usage: credbook <COMMAND>\n\nFor more information, try '--help'.\n",
-    ),
-    (
-        &["run", "x"],
-        "error: unexpected argument 'x' found\n\n\
-            Usage: credbook run [OPTIONS]\n\nFor more information, try '--help'.\n",
     ),
     (
         &["run", "--quiet"],
@@ -314,8 +247,7 @@ fn judge_help<R: Threads + Wait + Sync + Abort>(rt: &R, alloc: Global, words: &[
         Err(_) => false,
     };
     assert!(rt; holds, "{line}");
-    hold_bytes(rt, 0, &ran.output, "");
-    hold(rt, 0, ran.status == 1);
+    assert_eq!(rt; (ran.status, ran.output.len()), (1, 0));
 }
 
 #[test]

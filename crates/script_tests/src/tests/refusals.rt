@@ -1,4 +1,4 @@
-//! Lines of operations that are refused, and which of two causes is answered.
+//! Lines that are refused, and which of two causes is answered.
 use super::dialogue::{Dialogue, judge_all};
 use std::alloc::Global;
 use std::process::Abort;
@@ -60,6 +60,33 @@ begin 1 enrol a {PA} $argon2i$m=256,t=2,p=1$c29tZXNhbHQ => bad 3 version
 begin 1 enrol a {PA} $argon2i$v=16$m=256,t=2,p=1$c29tZXNhbHQ => bad 3 version
 begin 1 change a {PA} - $argon2i$v=16$m=256,t=2,p=1$c29tZXNhbHQ => bad 3 version
 begin 1 upgrade a {PA} $argon2i$m=256,t=2,p=1$c29tZXNhbHQ => bad 3 version
+
+# no record
+show a => none
+begin 1 verify a {PA} => begun
+commit 1 => absent
+begin 2 verify zed {PA} => bad 5 noaccount
+account a => bad 1 exists
+account A => bad 3 name
+show zed => bad 5 noaccount
+
+# spaces and cr
+load zed {A} => bad 5 noaccount
+load a  {A} => bad 11 line
+load a {A}  => bad 11 line
+show  => bad 3 name
+account b\r => bad 3 name
+load  => bad 11 line
+load   => bad 3 name
+load a  => bad 1 shape
+load A {A}= => bad 3 name
+account => bad 11 line
+account a b => bad 11 line
+show a a => bad 11 line
+ show a => bad 11 line
+Account b => bad 11 line
+remove a => bad 11 line
+show a => none
 ";
 
 #[test]
@@ -131,5 +158,19 @@ fn passwords_have_a_form(rt: HostRuntime) {
         "bad 13 password",
     );
     dialogue.line(&rt, &["begin 1 verify a ", &longest], "begun");
+    dialogue.judge(&rt, alloc);
+}
+
+#[test]
+fn lines_have_1024_bytes(rt: HostRuntime) {
+    let alloc = rt.alloc();
+    let longer = "x".repeat(alloc, 5000).expect(&rt, "memory");
+    let long = longer.get(..1024).expect(&rt, "fewer letters");
+    let mut dialogue = Dialogue::with_account(&rt, alloc, "lines_have_1024_bytes");
+    dialogue.line(&rt, &[long, "x"], "bad 16 long");
+    dialogue.line(&rt, &[long], "bad 11 line");
+    dialogue.line(&rt, &[], "bad 11 line");
+    dialogue.line(&rt, &[&longer], "bad 16 long");
+    dialogue.line(&rt, &["show a"], "none");
     dialogue.judge(&rt, alloc);
 }
