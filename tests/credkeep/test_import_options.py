@@ -71,14 +71,6 @@ BAD = lined([f"new:{RECORD}", *(it for it, _ in BAD_LINES), f"last:{OTHER}", "# 
 BAD_NAMED = {at: why for at, (_, why) in enumerate(BAD_LINES, 2)}
 TWICE = f"ann:{OTHER}\neve:\nann:\neve:{RECORD}\n"
 WORKED = lined(f"n{at}:{it}" for at, it in enumerate(WORK))
-# Records that ask for 256 KiB of memory, for one KiB more, and for twice as much.
-ARGON2 = "$argon2id$v=19$m={},t=1,p=1"
-WITHIN, ABOVE, TWO_PIECES = (
-    f"{costs}${SALT}${TAG}"
-    for costs in (ARGON2.format(256), ARGON2.format(257), "$scrypt$ln=8,r=8,p=2")
-)
-COSTLY = f"eve:{WITHIN}\nfay:{ABOVE}\ngus:\n# {ABOVE}\nhal:{TWO_PIECES}:x\nian:!{ABOVE}\n"
-COSTLY_NAMED = {2: "18 costly", 5: "18 costly"}
 
 # Options, lines, the counts that are told or none if nothing is changed, the lines that are named
 # as bad, and what the book before has otherwise afterwards.
@@ -135,21 +127,6 @@ IMPORTS: list[tuple[str, str, tuple[int, ...] | None, dict[int, str], Accounts]]
         {3: "18 costly"},
         {"n0": WORK[0], "n1": WORK[1]},
     ),
-    # So is one that asks for more memory, also for an account that is there already.
-    ("--disable-locked --most-memory 256K", COSTLY, None, COSTLY_NAMED, {}),
-    (
-        "--disable-locked --most-memory 256K --skip-bad",
-        COSTLY,
-        (3, 0, 0, 2),
-        COSTLY_NAMED,
-        {"eve": WITHIN, "gus": "", "ian": ""},
-    ),
-    *(
-        (f"--most-memory 256K {how}", f"ann:{ABOVE}\n", None, {1: "18 costly"}, {})
-        for how in ("--update", "--skip-existing")
-    ),
-    ("--update", f"ann:{ABOVE}\nbob:{WITHIN}\n", (0, 2), {}, {"ann": ABOVE, "bob": WITHIN}),
-    ("--most-memory 1M", f"eve:{TWO_PIECES}\n", (1,), {}, {"eve": TWO_PIECES}),
 ]
 
 
@@ -211,10 +188,37 @@ class OptionsTest(ImportTest):
             self.assertSound(book)
 
     def test_costly_lines(self) -> None:
-        """What is told of a line whose record asks for more than a bound allows."""
+        """With --most-memory a line is bad whose record asks for more, and is named and counted as
+        others are."""
+        argon2, scrypt = "$argon2id$v=19$m={},t=1,p=1", "$scrypt$ln=8,r=8,p=2"
+        costs = (argon2.format(256), argon2.format(257), scrypt)
+        within, above, twice = (f"{it}${SALT}${TAG}" for it in costs)
+        lines = f"ann:{within}\nbob:{above}\ncat:\n# {above}\ndan:{twice}:x\neve:!{above}\n"
+        bound = ("import", "--disable-locked", "--most-memory", "256K")
         why = "its record asks for more than --most-memory or --most-work (18 costly)"
-        done = self.book("import", "--most-memory", "256K", given=f"bob:{ABOVE}\n")
-        self.assertEqual(done, Ended(6, "", f"credkeep: line 1: {why}\n"))
+        costly = f"credkeep: line {{}}: {why}\n"
+        told = costly.format(2) + costly.format(5)
+        self.assertEqual(self.book(*bound, given=lines), Ended(6, "", told))
+        self.assertEqual(self.book.names(), [])
+        done = self.book(*bound, "--skip-bad", given=lines)
+        self.assertEqual(done, Ended(0, imported(3, bad=2), told))
+        after = {"ann": within, "cat": "", "eve": ""}
+        self.assertEqual(self.book.accounts(), after)
+        # An account that is there keeps its record, and its line is bad too.
+        update = f"ann:{above}\ncat:{within}\n"
+        self.assertFails(self.book(*bound, "--update", given=update), 6)
+        for how in ("--update", "--skip-existing"):
+            done = self.book(*bound, how, given=f"ann:{above}\n")
+            self.assertEqual(done, Ended(6, "", costly.format(1)))
+        self.assertEqual(self.book.accounts(), after)
+        # Without a bound they are taken in; and so they are with one that is as high.
+        done = self.book("import", "--update", given=update)
+        self.assertEqual(done, Ended(0, imported(0, 2)))
+        done = self.book("import", "--most-memory", "1M", given=f"dan:{twice}\n")
+        self.assertEqual(done, Ended(0, imported(1)))
+        after = {"ann": above, "cat": within, "dan": twice, "eve": ""}
+        self.assertEqual(self.book.accounts(), after)
+        self.assertSound(self.book)
 
     def test_dry_runs(self) -> None:
         """With every choice of options a dry run says what the import does then, and not a byte of
