@@ -1,8 +1,9 @@
 -- Several writes in a row.
-use Rattle.std.proofs.Common.{◌≡◌, ℕ, ◌<◌, List, [], ◌++◌, length, take, drop, Option, sym, ap, ◌∙◌, arith, append_assoc, append-nil, take-append-drop}
-use Rattle.std.proofs.{lemmas.List.length-append, Math.Seq.take-append_seam, KnownBytes.Appends-trans}
-use Rattle.std.specs.Io.KnownBytes.{Appends}
-use Rattle.cred_cli.specs.Outcome.{FrontWritten}
+use Rattle.std.proofs.Common.{◌≡◌, ℕ, ◌<◌, List, [], ◌++◌, length, take, drop, Option, Bool, true, Result, Ok, Err, IfOk, OnErr, sym, ap, ◌∙◌, arith, append_assoc, append-nil, take-append-drop}
+use Rattle.std.proofs.{lemmas.List.length-append, Math.Seq.take-append_seam}
+use Rattle.std.proofs.KnownBytes.{Appends-kept, Appends-nil, Appends-trans}
+use Rattle.std.specs.{Result.result_unwrap_or, Io.KnownBytes.Appends, Io.KnownBytes.WriteAppends}
+use Rattle.cred_cli.specs.{Outcome.FrontWritten, Watched.Passes}
 
 -- what is written is a proper front, while something is left
 pub front_written : (bytes front rest : List ℕ) (before now : Option (List ℕ)) → bytes ≡ front ++ rest → 0 < length rest → Appends before now front → FrontWritten before now bytes
@@ -13,14 +14,27 @@ front_written bytes front rest before now cut left written =
 pub cut_later : (bytes front rest : List ℕ) (n : ℕ) → bytes ≡ front ++ rest → bytes ≡ (front ++ take n rest) ++ drop n rest
 cut_later bytes front rest n cut = cut ∙ rw append_assoc (ap (λ xs. front ++ xs) (sym (take-append-drop n rest)))
 
--- a write of no byte adds none
-pub none_more : (a b c : Option (List ℕ)) (front rest : List ℕ) (n : ℕ) → n ≡ 0 → Appends a b front → Appends b c (take n rest) → Appends a c front
-none_more a b c front rest n none written more =
-    rw append-nil at (Appends-trans a b c front [] written (rw none at more))
-
 -- and so of the bytes that were taken
 pub taken_later : (a b c front more : List ℕ) → b ≡ a ++ front → c ≡ b ++ more → c ≡ a ++ (front ++ more)
 taken_later a b c front more taken later = later ∙ ap (λ xs. xs ++ more) taken ∙ append_assoc a front more
 
-pub none_taken : (a b c front rest : List ℕ) (n : ℕ) → n ≡ 0 → b ≡ a ++ front → c ≡ b ++ take n rest → c ≡ a ++ front
-none_taken a b c front rest n none taken later = later ∙ ap (λ k. b ++ take k rest) none ∙ append-nil b ∙ taken
+module _ {E : Type 0} (bytes : List ℕ) where
+  -- what a write took, if it took any
+  pub wrote : (r : Result ℕ E) (a b : Option (List ℕ)) → WriteAppends a b r bytes → Appends a b (take (result_unwrap_or r 0) bytes)
+  wrote (Ok n) a b written = written
+  wrote (Err e) a b kept = Appends-kept _ _ _ _ (Appends-nil a) kept
+
+  pub passed : (r : Result ℕ E) (old new : List ℕ) → Passes old new r bytes → new ≡ old ++ take (result_unwrap_or r 0) bytes
+  passed (Ok n) old new taken = taken
+  passed (Err e) old new kept = kept ∙ sym (append-nil old)
+
+  -- and if it took none
+  pub none_more : (r : Result ℕ E) (a b c : Option (List ℕ)) (front : List ℕ) → result_unwrap_or r 0 ≡ 0 → Appends a b front → WriteAppends b c r bytes → Appends a c front
+  none_more r a b c front none written more = rw append-nil at (Appends-trans a b c front [] written (rw none at (wrote r b c more)))
+
+  pub none_taken : (r : Result ℕ E) (a b c front : List ℕ) → result_unwrap_or r 0 ≡ 0 → b ≡ a ++ front → Passes b c r bytes → c ≡ a ++ front
+  none_taken r a b c front none taken later = rw (none, append-nil) at (passed r b c later) ∙ taken
+
+  pub has_failed : (r : Result ℕ E) (failed : Bool) → result_unwrap_or r 0 ≡ 0 → 0 < length bytes → IfOk r (λ n. n ≡ 0 → 0 < length bytes → failed ≡ true) → OnErr r (failed ≡ true) → failed ≡ true
+  has_failed (Ok n) failed none left took broke = took none left
+  has_failed (Err e) failed none left took broke = broke

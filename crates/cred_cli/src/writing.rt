@@ -25,11 +25,11 @@ pub fn write_whole<W: Write>(writer: &mut Watched<W>, bytes: &[u8]) -> Result<()
 {
     let mut rest = bytes;
     while !rest.is_empty() {
-        match writer.write(rest) {
-            Ok(0) => return Err(ScriptFault::Write),
-            Ok(n) => rest = &rest[n..],
-            Err(_) => return Err(ScriptFault::Write),
+        let n = writer.write(rest).unwrap_or(0);
+        if n == 0 {
+            return Err(ScriptFault::Write);
         }
+        rest = &rest[n..];
     }
     Ok(())
 }
