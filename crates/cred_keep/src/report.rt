@@ -6,7 +6,7 @@ ghost use Rattle.cred_keep.specs.Orders.{status_of_open};
 use crate::import::{Effect, Imported};
 use crate::outcome::{Ending, Failure};
 use cred_admin::{BadLine, Fault, Hint, ImportFault, LineFault, Status};
-use cred_book::{BookError, Name, Register};
+use cred_book::{BookError, Register};
 use cred_file::{Edit, Lost, OpenFault};
 use cred_phc::PhcError;
 use sqlite::{Error, ErrorCode};
@@ -34,9 +34,7 @@ pub(crate) fn advise<F: Write>(faults: &mut F, ending: &Ending) {
 }
 
 fn tell_imported<F: Write>(faults: &mut F, made: &Imported) -> io::Result<()> {
-    for line in &made.bad {
-        tell_line(faults, line)?;
-    }
+    tell_lines(faults, &made.bad)?;
     match made.effect {
         Effect::Made => Ok(()),
         Effect::Foretold => writeln!(faults, "credkeep: a dry run: nothing was changed"),
@@ -47,18 +45,24 @@ fn tell_imported<F: Write>(faults: &mut F, made: &Imported) -> io::Result<()> {
 /// `faults` takes its text changes nothing.
 pub fn explain<F: Write>(faults: &mut F, failure: &Failure, lost: Option<&Lost>) {
     let _ = match failure {
-        Failure::Database => tell_database_failed(faults, lost),
-        Failure::Command(fault) => tell_command(faults, fault),
+        Failure::Database => match lost {
+            Some(lost) => tell_lost(faults, lost),
+            None => writeln!(faults, "credkeep: the database failed"),
+        },
+        Failure::Command(Fault::Empty) => writeln!(
+            faults,
+            "credkeep: the password is empty: --empty-password accepts it"
+        ),
+        Failure::Command(fault) => writeln!(faults, "credkeep: {fault}"),
         Failure::Script(fault) => writeln!(faults, "credkeep: {fault}"),
-        Failure::Import(fault) => tell_import(faults, fault),
+        Failure::Import(ImportFault::Read) => writeln!(faults, "credkeep: reading failed"),
+        Failure::Import(ImportFault::Memory) => writeln!(faults, "credkeep: out of memory"),
+        Failure::Import(ImportFault::Full) => writeln!(
+            faults,
+            "credkeep: the book has no room for so many accounts (2 full)"
+        ),
+        Failure::Import(ImportFault::Lines(bad)) => tell_lines(faults, bad),
     };
-}
-
-fn tell_database_failed<F: Write>(faults: &mut F, lost: Option<&Lost>) -> io::Result<()> {
-    match lost {
-        Some(lost) => tell_lost(faults, lost),
-        None => writeln!(faults, "credkeep: the database failed"),
-    }
 }
 
 fn tell_lost<F: Write>(faults: &mut F, lost: &Lost) -> io::Result<()> {
@@ -78,23 +82,14 @@ fn tell_lost<F: Write>(faults: &mut F, lost: &Lost) -> io::Result<()> {
 fn tell_lost_changes<F: Write>(faults: &mut F, changed: &Register) -> io::Result<()> {
     write!(faults, "the changes of")?;
     for (name, _) in changed.iter().take(MOST_NAMED) {
-        tell_name(faults, name)?;
+        write!(faults, " ")?;
+        faults.write_all(name.bytes())?;
     }
-    tell_others(faults, changed.len())?;
+    let others = changed.len().saturating_sub(MOST_NAMED);
+    if others > 0 {
+        write!(faults, " and {others} others")?;
+    }
     writeln!(faults, " may be kept or not, all or none of them")
-}
-
-fn tell_name<F: Write>(faults: &mut F, name: &Name) -> io::Result<()> {
-    write!(faults, " ")?;
-    faults.write_all(name.bytes())
-}
-
-/// Says how many there are beside those that are named.
-fn tell_others<F: Write>(faults: &mut F, count: usize) -> io::Result<()> {
-    if count > MOST_NAMED {
-        return write!(faults, " and {} others", count - MOST_NAMED);
-    }
-    Ok(())
 }
 
 fn tell_lost_import<F: Write>(faults: &mut F, added: usize, changed: usize) -> io::Result<()> {
@@ -105,38 +100,14 @@ fn tell_lost_import<F: Write>(faults: &mut F, added: usize, changed: usize) -> i
     writeln!(faults, "may be kept or not, all or none of them")
 }
 
-fn tell_command<F: Write>(faults: &mut F, fault: &Fault) -> io::Result<()> {
-    match fault {
-        Fault::Empty => writeln!(
-            faults,
-            "credkeep: the password is empty: --empty-password accepts it"
-        ),
-        _ => writeln!(faults, "credkeep: {fault}"),
+fn tell_lines<F: Write>(faults: &mut F, lines: &[BadLine]) -> io::Result<()> {
+    for line in lines {
+        let (number, word) = (line.why.number(), line.why.word());
+        write!(faults, "credkeep: line {}: ", line.number)?;
+        tell_why(faults, line.why)?;
+        writeln!(faults, " ({number} {word})")?;
     }
-}
-
-fn tell_import<F: Write>(faults: &mut F, fault: &ImportFault) -> io::Result<()> {
-    match fault {
-        ImportFault::Read => writeln!(faults, "credkeep: reading failed"),
-        ImportFault::Memory => writeln!(faults, "credkeep: out of memory"),
-        ImportFault::Full => writeln!(
-            faults,
-            "credkeep: the book has no room for so many accounts (2 full)"
-        ),
-        ImportFault::Lines(bad) => {
-            for line in bad {
-                tell_line(faults, line)?;
-            }
-            Ok(())
-        }
-    }
-}
-
-fn tell_line<F: Write>(faults: &mut F, line: &BadLine) -> io::Result<()> {
-    let (number, word) = (line.why.number(), line.why.word());
-    write!(faults, "credkeep: line {}: ", line.number)?;
-    tell_why(faults, line.why)?;
-    writeln!(faults, " ({number} {word})")
+    Ok(())
 }
 
 fn tell_why<F: Write>(faults: &mut F, why: LineFault) -> io::Result<()> {
@@ -164,32 +135,36 @@ pub fn refuse<F: Write>(faults: &mut F, why: &OpenFault) -> Status
     ensures { result ≡ status_of_open why.now }
 {
     let _ = match why {
-        OpenFault::NoName(row) => tell_no_name(faults, *row),
-        OpenFault::NoRecord { row, why } => tell_no_record(faults, *row, *why),
+        OpenFault::NoName(row) => writeln!(
+            faults,
+            "credkeep: row {row}: there is no name; {NAME_RULE} ({} {})",
+            BookError::Name.number(),
+            BookError::Name.word()
+        ),
+        OpenFault::NoRecord { row, why: None } => {
+            writeln!(faults, "credkeep: row {row}: its record is no text")
+        }
+        OpenFault::NoRecord {
+            row,
+            why: Some(fault),
+        } => writeln!(
+            faults,
+            "credkeep: row {row}: the text there is no record: {fault} ({} {})",
+            fault.number(),
+            fault.word()
+        ),
         OpenFault::Twice(row) => writeln!(faults, "credkeep: row {row}: another has its name"),
         OpenFault::Database(error) => tell_database(faults, *error),
-        _ => writeln!(faults, "credkeep: {}", words_of(why)),
+        OpenFault::NotEmpty => writeln!(faults, "credkeep: the database has tables already"),
+        OpenFault::NoBook => writeln!(
+            faults,
+            "credkeep: the database holds no book: it has other tables, columns or indexes than \
+             a book's one table"
+        ),
+        OpenFault::TooMany => writeln!(faults, "credkeep: the book has over 16777216 accounts"),
+        OpenFault::Memory => writeln!(faults, "credkeep: out of memory"),
     };
     status_of_open(why)
-}
-
-fn tell_no_name<F: Write>(faults: &mut F, row: i64) -> io::Result<()> {
-    let (number, word) = (BookError::Name.number(), BookError::Name.word());
-    writeln!(
-        faults,
-        "credkeep: row {row}: there is no name; {NAME_RULE} ({number} {word})"
-    )
-}
-
-fn tell_no_record<F: Write>(faults: &mut F, row: i64, why: Option<PhcError>) -> io::Result<()> {
-    let Some(fault) = why else {
-        return writeln!(faults, "credkeep: row {row}: its record is no text");
-    };
-    let (number, word) = (fault.number(), fault.word());
-    writeln!(
-        faults,
-        "credkeep: row {row}: the text there is no record: {fault} ({number} {word})"
-    )
 }
 
 fn tell_database<F: Write>(faults: &mut F, error: Error) -> io::Result<()> {
@@ -207,18 +182,6 @@ fn tell_database<F: Write>(faults: &mut F, error: Error) -> io::Result<()> {
             writeln!(faults, "credkeep: the file can't be opened and written")
         }
         _ => writeln!(faults, "credkeep: {error}"),
-    }
-}
-
-fn words_of(why: &OpenFault) -> &'static str {
-    match why {
-        OpenFault::NotEmpty => "the database has tables already",
-        OpenFault::NoBook => {
-            "the database holds no book: it has other tables, columns or indexes than \
-             a book's one table"
-        }
-        OpenFault::TooMany => "the book has over 16777216 accounts",
-        _ => "out of memory",
     }
 }
 

@@ -24,7 +24,7 @@ returns-in-Serve-clause-done g c = λ basis fits.
     search (rules, held)
 
 pub returns-in-Account-clause-done : goal.returns-in-Account-clause-done
-returns-in-Account-clause-done g c = λ basis fits. search (rules, c.carry_out.ensures.done basis fits)
+returns-in-Account-clause-done g c = λ basis fits. rw c.in-Account.is (c.carry_out.result, c.carry_out.ensures.done basis fits, c.command_end.ensures)
 
 -- ---- orders that read nothing
 
