@@ -221,14 +221,12 @@ class Connections:
             self.assert_no_record(raised.exception)
             self.assertIs(dearer.login("ann", "one"), Reply.YES)
 
-    def held(self, seconds):
-        """Another's transaction holds the row for so long."""
+    def held(self):
+        """Another's transaction holds the row, until a while after the start of this timer."""
         holder = self.another()
         self.execute(self.dialect.begin, conn=holder)
         self.execute(self.holding, conn=holder)
-        timer = threading.Timer(seconds, lambda: self.execute("ROLLBACK", conn=holder))
-        timer.start()
-        self.addCleanup(timer.join)
+        return threading.Timer(0.6, lambda: self.execute("ROLLBACK", conn=holder))
 
     def test_waits_that_the_engine_ends(self):
         """Of a lock, and of a statement that takes too long: what was sent is undone, so it is
@@ -240,13 +238,15 @@ class Connections:
             impatient = self.accounts(HIGH, connect=connect, patience=0.8)
             for record in (LOW.hash("one"), None):
                 self.put(record)
-                self.held(2.6)
+                timer = self.held()
                 self.assertRaises(Unavailable, impatient.reset, "ann", "two")
                 reply = impatient.login("ann", "one")
                 self.assertIs(reply, Reply.YES if record else Reply.ABSENT)
                 self.assertEqual(self.stands(), record)
+                timer.start()
                 with counted() as hashes:
                     reply = patient.reset("ann", "two")
+                timer.join()
                 self.assertIs(reply, Reply.REPLACED if record else Reply.ENROLLED)
                 self.assertEqual((hashes, len(made)), (["enrol"], 1))
 

@@ -1,7 +1,6 @@
 """A model with the mixin beside Django's own: it is the same in all but races, and a model's own
 methods are called."""
 
-import itertools
 from unittest import mock
 
 import project  # noqa: F401: Django, set up
@@ -205,11 +204,12 @@ class OwnMethods(Cheap, TestCase):
         self.assertTrue(self.right("reset"))
 
     def test_what_would_be_passed_over_is_refused(self):
-        for unsaved, act in itertools.product(
-            (Locked(username="ben"), User(username="ben")),
-            (passwords.check_password, passwords.set_password),
+        for act, model in (
+            (passwords.check_password, User),
+            (passwords.set_password, User),
+            (passwords.set_password, Locked),
         ):
-            self.assertRaises(ValueError, act, unsaved, "new")
+            self.assertRaises(ValueError, act, model(username="ben"), "new")
         for model in (Unmixed, Unreached):
             user = model(pk=1, username="ann", password=self.ann.password)
             for operation in (
