@@ -14,14 +14,13 @@ from typing import Any
 from served import (
     CHEAP,
     FAST_BOOK,
-    PYTHON,
     SECRET,
-    SERVER,
     Case,
     Client,
     Service,
     field_of,
     need,
+    ran,
     real_book,
     until,
 )
@@ -309,9 +308,8 @@ class OverCredkeep(Case):
         """While another process has the file, the server waits for it; then it says why it can't start."""
         room = self.room()
         self.over(folder=room)
-        words = f"{PYTHON} {SERVER} --credkeep {real_book()} --wait 1"
-        words += f" --socket a {room}/second 0600 - all {room}/users.db"
-        done = subprocess.run(words.split(), capture_output=True, text=True, timeout=30)
-        self.assertNotIn(done.returncode, (0, 1), done.stderr)
-        self.assertNotIn("start:", done.stderr)
-        self.assertIn("end: status", done.stderr)
+        words = f"--credkeep {real_book()} --wait 1 --socket a {room}/second 0600 - all"
+        status, _, faults = ran(*words.split(), f"{room}/users.db")
+        self.assertNotIn(status, (0, 1), faults)
+        self.assertNotIn("start:", faults)
+        self.assertIn("end: status", faults)

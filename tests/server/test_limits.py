@@ -9,12 +9,6 @@ import time
 from served import FRESH, SECRET, WRONG, Case, Client, as_user, need_root, until
 
 
-def two_sockets(room: pathlib.Path, operations: str) -> list[str]:
-    """One for everybody, and one for its owner."""
-    first = f"--socket a {room}/s 0666 - {operations}".split()
-    return [*first, *f"--socket b {room}/t 0600 - all".split()]
-
-
 class Limits(Case):
     def test_half_lines(self) -> None:
         """A line without its end is never asked, whatever its client does next; others go on."""
@@ -127,7 +121,8 @@ class Limits(Case):
         """A uid has half of the connections that others leave; who comes then is told, and it is logged once."""
         need_root()
         room = self.room()
-        service = self.serving(*two_sockets(room, "known"))
+        sockets = f"--socket a {room}/s 0666 - known --socket b {room}/t 0600 - all"
+        service = self.serving(*sockets.split())
         service.clients = clients = [Client(room / "s") for _ in range(600)]
         clients[511].talk("known ada -> noaccount")
         for client in clients[512:]:

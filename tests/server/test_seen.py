@@ -8,18 +8,7 @@ import re
 import subprocess
 from unittest import mock
 
-from served import (
-    SECRET,
-    TOP,
-    WRONG,
-    Case,
-    Client,
-    Service,
-    field_of,
-    need,
-    ran,
-    until,
-)
+from served import SECRET, TOP, WRONG, Case, Client, Service, field_of, need, ran, until
 from daemon import tally
 from daemon.options import OPERATIONS, Options
 

@@ -10,16 +10,7 @@ import unittest
 import urllib.error
 import urllib.request
 
-from machine import (
-    PAGE,
-    commands_on_page,
-    in_namespaces,
-    install,
-    is_open,
-    on_page,
-    shell,
-    started,
-)
+from machine import PAGE, commands_on_page, in_namespaces, install, is_open, on_page, shell, started
 from served import Case, Service, need, same, until
 
 POSTFIX = "inet_interfaces=127.0.0.1 inet_protocols=ipv4 alias_maps= myhostname=mail.example.org"

@@ -4,7 +4,7 @@ from __future__ import annotations
 
 import asyncio
 import time
-from collections import OrderedDict, defaultdict, deque
+from collections import Counter, OrderedDict, deque
 from collections.abc import Callable
 from typing import Generic, Hashable, TypeVar
 
@@ -22,7 +22,7 @@ class Turns(Generic[Line]):
     def __init__(self, places: int, start: Callable[[Line], object]) -> None:
         self.free, self.start = places, start
         self.users = OrderedDict[Hashable, OrderedDict[Hashable, deque[Line]]]()
-        self.running = defaultdict[Hashable, int](int)
+        self.running = Counter[Hashable]()
 
     def take(self, user: Hashable, client: Hashable, line: Line) -> None:
         """Starts a line once it is its turn, which may be now."""
@@ -34,14 +34,12 @@ class Turns(Generic[Line]):
         """Frees the place of a user's line."""
         self.free += 1
         self.running[user] -= 1
-        if not self.running[user]:
-            del self.running[user]
         self.start_next()
 
     def start_next(self) -> None:
         while self.free and self.users:
-            user = min(self.users, key=lambda it: self.running.get(it, 0))
-            if self.free == 1 and user in self.running:
+            user = min(self.users, key=self.running.__getitem__)
+            if self.free == 1 and self.running[user]:
                 return
             clients = self.users[user]
             client, lines = next(iter(clients.items()))
