@@ -1,7 +1,6 @@
 -- The lemmas that the proofs of the script engine cite.
 pub mod Bounds
 pub mod Doing
-pub mod Building
 pub mod Events
 pub mod EventLines
 pub mod Feeds
