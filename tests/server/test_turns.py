@@ -116,3 +116,26 @@ class Changes(Case):
     def test_the_last_login_ends(self) -> None:
         """What waits goes on at once when nobody logs in any more."""
         self.played(("AbcD", 0, 0, "A"), ("-", 1, 0, "bcD"))
+
+    def test_an_older_rest_ends(self) -> None:
+        """The end of a rest opens no gate within the round of a change that went meanwhile."""
+
+        async def run() -> None:
+            loop, rounds = asyncio.get_running_loop(), Rounds(lambda: self.is_busy)
+            with mock.patch.object(loop, "call_later", lambda *it: self.rests.append(it)):
+                await rounds.begin(is_alone=True)
+                rounds.end()
+                self.is_busy = False
+                await rounds.begin(is_alone=True)
+                self.is_busy = True
+                waiting = asyncio.ensure_future(self.go(rounds, "a"))
+                await asyncio.sleep(0)
+                for gone in ("", "a"):
+                    self.rests.pop()[1]()
+                    for _ in range(3):
+                        await asyncio.sleep(0)
+                    self.assertEqual(self.gone, gone)
+                    rounds.end()
+                await waiting
+
+        asyncio.run(run())

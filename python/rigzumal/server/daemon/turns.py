@@ -87,4 +87,9 @@ class Rounds:
             self.has_alone = False
             took = time.monotonic() - self.began if self.is_busy() else 0.0
             rest = min(REST * took, LONGEST_REST)
-            asyncio.get_running_loop().call_later(rest, self.gate.set)
+            asyncio.get_running_loop().call_later(rest, self.open_gate)
+
+    def open_gate(self) -> None:
+        """Lets the next round begin, unless one has begun meanwhile, whose end will do so."""
+        if not self.running:
+            self.gate.set()
