@@ -26,7 +26,7 @@ PAGES = [
 ]
 
 # The folders of proofs by hand: each makes values of one struct with ghost data, and its page says what is trusted of that.
-WALKS = {"cred_cli/proofs/call_log", "cred_cli/proofs/transcript"}
+WALKS = {"cred_cli/proofs/past"}
 # The files that say the version, and how.
 VERSIONED = {
     "c/include/rigzumal.h": r'RIGZUMAL_LIBRARY_VERSION "(.*)"',

@@ -18,19 +18,19 @@ ended_of watched = watched.ended
 
 -- the transcript: all the bytes that calls on it gave, whatever it is
 abbrev pub given_of : {X : Type 0} → Watched X → List ℕ
-given_of watched = watched.given.bytes
+given_of watched = watched.past.given
 
 -- all the bytes that calls on it took, whatever it is
 abbrev pub taken_of : {X : Type 0} → Watched X → List ℕ
-taken_of watched = watched.taken.bytes
+taken_of watched = watched.past.taken
 
 -- the calls on it that were logged, the last one first
 abbrev pub log_of : {X : Type 0} → Watched X → List Call
-log_of watched = watched.log.calls
+log_of watched = watched.past.calls
 
 -- the name under which a log tells of it; no clause says which that is
 abbrev pub name_of : {X : Type 0} → Watched X → ℕ
-name_of watched = watched.log.name
+name_of watched = watched.past.name
 
 -- no call on it yet
 pub record IsNew {X : Type 0} (watched : Watched X) : Type 0 where

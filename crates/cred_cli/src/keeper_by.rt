@@ -9,8 +9,7 @@ use std::sync::Wait;
 /// A function with this bound, and without [`Wait`], waits only where a call of the keeper does: at
 /// a keeper whose changes wait for nobody, each body of it returns.
 pub trait KeeperBy<Way, H>: Keeper {
-    ghost use Rattle.cred_book.specs.Calls.{AdmitsWithin, Loads};
-    ghost use Rattle.cred_book.specs.Commits.{Commits};
+    ghost use Rattle.cred_book.specs.{Calls.AdmitsWithin, Calls.Loads, Commits.Commits};
 
     /// As [`Keeper::admit`].
     fn admit_by(&mut self, handle: &H, name: Name) -> Result<(), BookError>

@@ -8,7 +8,6 @@
 
 mod answer;
 mod arguments;
-mod call_log;
 mod costs;
 mod event;
 mod exit_status;
@@ -17,6 +16,7 @@ pub mod fields;
 mod keeper_by;
 mod key;
 mod laws;
+mod past;
 mod policy;
 mod printing;
 mod process;
@@ -29,12 +29,10 @@ mod service;
 mod single;
 mod tickets;
 mod tools;
-mod transcript;
 mod watched;
 mod writing;
 
 pub use answer::{AnswerLine, reply_line};
-pub use call_log::CallLog;
 pub use costs::{CostBounds, exceeds, memory_alone, memory_of, request_exceeds, work_of};
 pub use event::{first_pieces, is_too_long};
 pub use fault::ScriptFault;
@@ -43,6 +41,7 @@ pub use laws::{
     costly_lines_change_nothing, history_is_a_front, line_is_its_events, names_are_the_books,
     prompt_calls_are_answered, starved_commits_change_nothing,
 };
+pub use past::Past;
 pub use process::run_program;
 pub use program::command;
 pub use progress::LineStart;
@@ -50,6 +49,5 @@ pub use refusal::Refusal;
 pub use script::{End, run_script, run_script_by};
 pub use service::serve;
 pub use tools::Tools;
-pub use transcript::Transcript;
 pub use watched::Watched;
 pub use writing::write_whole;

@@ -5,8 +5,7 @@ ghost use Rattle.std.specs.Prelude.{◌≡◌, ◌+◌, ◌-◌, ◌^◌, ◌<�
 ghost use Rattle.std.specs.{Io.ReadsAtMost, Io.WritesAtMost, Io.KnownBytes.Keeps, Io.KnownBytes.ReadConsumes, Io.KnownBytes.WriteAppends};
 ghost use Rattle.cred_cli.specs.Watched.{IsNew, calls_of, failed_of, inner_of, name_of, Passes, ended_of, given_of, log_of, taken_of};
 
-use crate::call_log::CallLog;
-use crate::transcript::Transcript;
+use crate::past::{Note, Past};
 use cred_book::Keeper;
 use std::io;
 use std::io::{Read, Write};
@@ -18,9 +17,55 @@ pub struct Watched<X> {
     calls: u64,
     failed: bool,
     ended: bool,
-    log: CallLog,
-    given: Transcript,
-    taken: Transcript,
+    past: Past,
+}
+
+/// The bytes that a call on a reader gave.
+#[derive(Clone, Copy)]
+struct Given<'a> {
+    bytes: &'a [u8],
+}
+
+impl Note for Given<'_> {
+    ghost use Rattle.std.specs.Prelude.{◌++◌};
+
+    ghost noted = { λ n past. record past { given = past.given ++ n.bytes.now } };
+}
+
+/// The bytes that a call on a writer took.
+#[derive(Clone, Copy)]
+struct Taken<'a> {
+    bytes: &'a [u8],
+}
+
+impl Note for Taken<'_> {
+    ghost use Rattle.std.specs.Prelude.{◌++◌};
+
+    ghost noted = { λ n past. record past { taken = past.taken ++ n.bytes.now } };
+}
+
+/// A call on a reader beside a keeper and a writer.
+#[derive(Clone, Copy)]
+struct Called<'a, K, R, W> {
+    keeper: &'a K,
+    reader: &'a R,
+    writer: &'a Watched<W>,
+}
+
+impl<K: Keeper, R: Read, W: Write> Note for Called<'_, K, R, W> {
+    ghost use Rattle.std.specs.Prelude.{◌∷◌};
+    ghost use Rattle.cred_cli.specs.Watched.{inner_of, name_of, taken_of};
+
+    ghost noted = { λ n past. record past {
+      calls = (record {
+        left = R.remaining n.reader.now;
+        given = past.given;
+        beside = name_of n.writer.now;
+        written = W.contents (inner_of n.writer.now);
+        taken = taken_of n.writer.now;
+        accounts = K.book n.keeper.now;
+      }) ∷ past.calls;
+    } };
 }
 
 impl<X> Watched<X> {
@@ -34,9 +79,7 @@ impl<X> Watched<X> {
             calls: 0,
             failed: false,
             ended: false,
-            log: CallLog::new(),
-            given: Transcript::new(),
-            taken: Transcript::new(),
+            past: Past::new(),
         }
     }
 
@@ -99,17 +142,12 @@ impl<R: Read> Watched<R> {
         ensures nothing { OnOk result (length buf.new ≡ 0 → ended_of self.new ≡ ended_of self.old) }
         ensures broken { OnErr result (ended_of self.new ≡ ended_of self.old) }
     {
-        let log = self.log.and(
+        self.past = self.past.and(&Called {
             keeper,
-            &self.inner,
-            &self.given,
-            &writer.log,
-            &writer.inner,
-            &writer.taken,
-        );
-        let read = self.read(buf);
-        self.log = log;
-        read
+            reader: &self.inner,
+            writer,
+        });
+        self.read(buf)
     }
 }
 
@@ -120,7 +158,8 @@ impl<R: Read> Read for Watched<R> {
         ensures bound { ReadsAtMost result buf.new }
         ensures bytes { ReadConsumes (R.remaining self.old.inner)
             (R.remaining self.new.inner) result buf.new }
-        ensures passed { Passes self.old.given.bytes self.new.given.bytes result buf.new }
+        ensures passed { Passes self.old.past.given self.new.past.given result buf.new }
+        ensures logged { self.new.past.calls ≡ self.old.past.calls }
         ensures calls { self.new.calls ≡ min (self.old.calls + 1) (2 ^ 64 - 1) }
         ensures failed { OnErr result (self.new.failed ≡ true) }
         ensures kept { OnOk result (self.new.failed ≡ self.old.failed) }
@@ -131,7 +170,7 @@ impl<R: Read> Read for Watched<R> {
     {
         let read = self.inner.read(buf);
         if let Ok(n) = read {
-            self.given = self.given.and(&buf[..n]);
+            self.past = self.past.and(&Given { bytes: &buf[..n] });
             self.ended |= n == 0 && !buf.is_empty();
         }
         self.calls = self.calls.saturating_add(1);
@@ -147,8 +186,8 @@ impl<W: Write> Write for Watched<W> {
         ensures bound { WritesAtMost result buf.now }
         ensures bytes { WriteAppends (W.contents self.old.inner)
             (W.contents self.new.inner) result buf.now }
-        ensures passed { Passes self.old.taken.bytes self.new.taken.bytes result buf.now }
-        ensures named { self.new.log.name ≡ self.old.log.name }
+        ensures passed { Passes self.old.past.taken self.new.past.taken result buf.now }
+        ensures named { self.new.past.name ≡ self.old.past.name }
         ensures calls { self.new.calls ≡ min (self.old.calls + 1) (2 ^ 64 - 1) }
         ensures failed { OnErr result (self.new.failed ≡ true) }
         ensures none { IfOk result (λ n. n ≡ 0 → 0 < length buf.now → self.new.failed ≡ true) }
@@ -161,7 +200,7 @@ impl<W: Write> Write for Watched<W> {
             Err(_) => true,
         };
         if let Ok(n) = written {
-            self.taken = self.taken.and(&buf[..n]);
+            self.past = self.past.and(&Taken { bytes: &buf[..n] });
         }
         self.calls = self.calls.saturating_add(1);
         self.failed |= failed;
@@ -170,8 +209,8 @@ impl<W: Write> Write for Watched<W> {
 
     fn flush(&mut self) -> io::Result<()>
         ensures bytes { Keeps (W.contents self.old.inner) (W.contents self.new.inner) }
-        ensures passed { self.new.taken.bytes ≡ self.old.taken.bytes }
-        ensures named { self.new.log.name ≡ self.old.log.name }
+        ensures passed { self.new.past.taken ≡ self.old.past.taken }
+        ensures named { self.new.past.name ≡ self.old.past.name }
         ensures calls { self.new.calls ≡ min (self.old.calls + 1) (2 ^ 64 - 1) }
         ensures failed { OnErr result (self.new.failed ≡ true) }
         ensures kept { OnOk result (self.new.failed ≡ self.old.failed) }

@@ -6,7 +6,7 @@ use Rattle.cred_cli.proofs.writing.write_whole.Given as goal
 abbrev pub invariant-loop-rest : goal.invariant-loop-rest
 invariant-loop-rest g l =
     (front : List ℕ) × (l.bytes ≡ front ++ l.rest) × Appends (g.W.Write.contents l.fn.writer.inner) (g.W.Write.contents l.writer.inner) front
-    × (l.writer.taken.bytes ≡ l.fn.writer.taken.bytes ++ front) × (l.writer.log.name ≡ l.fn.writer.log.name)
+    × (l.writer.past.taken ≡ l.fn.writer.past.taken ++ front) × (l.writer.past.name ≡ l.fn.writer.past.name)
 
 abbrev pub decreases-loop-rest : goal.decreases-loop-rest
 decreases-loop-rest g l = length l.rest

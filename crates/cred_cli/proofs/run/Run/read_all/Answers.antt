@@ -1,9 +1,7 @@
-use Rattle.std.proofs.Common.{rules, arith, sym, refl, ap, ◌∙◌, append-nil, [], ◌≤◌, ◌<◌, ◌+◌, ◌-◌, ◌^◌, length, length-take-le, take}
-use Rattle.std.proofs.{Math.Nat.min-eq_left, lemmas.List.length-append, lemmas.Result.err_from_is_err_and}
+use Rattle.std.proofs.{Common.rules, Common.arith, Common.sym, Common.refl, Common.ap, Common.◌∙◌, Common.append-nil, Common.[], Common.◌≤◌, Common.◌<◌, Common.◌+◌, Common.◌-◌, Common.◌^◌, Common.length, Common.length-take-le, Common.take, Math.Nat.min-eq_left, lemmas.List.length-append, lemmas.Result.err_from_is_err_and}
 use Rattle.cred_cli.specs.Script.{with_events}
-use Rattle.cred_cli.proofs.Prompts.{prompt_call, read_on, read_to_start, run_breaks, run_ends}
+use Rattle.cred_cli.proofs.{Prompts.prompt_call, Prompts.read_on, Prompts.read_to_start, Prompts.run_breaks, Prompts.run_ends, Basis.called_on, Basis.fits_before, Basis.gave_on, Basis.gives_more, Basis.gives_nothing, Basis.kept_on, Basis.none_logged, Basis.unwritten, Basis.written_on}
 use Rattle.cred_cli.proofs.Readings.{came, came_to_end, cut_behind, kept_left}
-use Rattle.cred_cli.proofs.Basis.{called_on, fits_before, gave_on, gives_more, gives_nothing, kept_on, none_logged, unwritten, written_on}
 use Rattle.cred_cli.proofs.run.Run.read_all.Goals as goal
 
 pub loop-call-init : goal.loop-call-init
@@ -70,7 +68,7 @@ returns-in_err-take_bytes-in-Ok-clause-few g c = λ basis fits script known at.
 -- the reader failed
 pub returns-in-Err-clause-ended : goal.returns-in-Err-clause-ended
 returns-in-Err-clause-ended g c = λ basis fits script known at.
-    let before = fits_before g.R.Read.remaining c.loop-call.reader c.read_beside.new.self basis [] (c.in-Err.ensures.passed ∙ sym (append-nil c.loop-call.reader.given.bytes)) c.loop-call.invariant.ended fits in
+    let before = fits_before g.R.Read.remaining c.loop-call.reader c.read_beside.new.self basis [] (c.in-Err.ensures.passed ∙ sym (append-nil c.loop-call.reader.past.given)) c.loop-call.invariant.ended fits in
     let read = c.loop-call.invariant.at basis before script known at in
     let called = called_on g.R.Read.remaining g.W.Write.contents c.loop-call.reader c.loop-call.writer (g.K.Keeper.book c.loop-call.keeper) c.loop-call.self _ basis _ c.loop-call.invariant.written.named c.read_beside.ensures.logged in
     let kept = kept_on g.R.Read.remaining c.loop-call.reader c.read_beside.new.self basis c.in-Err.ensures.bytes c.in-Err.ensures.passed in (

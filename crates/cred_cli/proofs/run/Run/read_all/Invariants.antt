@@ -1,6 +1,5 @@
 use Rattle.std.proofs.Common.{◌≡◌, ◌≤◌, false, [], length, Some}
-use Rattle.cred_cli.specs.{Feeding.IsAt, Feeding.standing, Script.ScriptStart}
-use Rattle.cred_cli.specs.Watched.{Basis, Fits, GivesAsContracted, IsWritten, held_on, left_on, log_on}
+use Rattle.cred_cli.specs.{Feeding.IsAt, Feeding.standing, Script.ScriptStart, Watched.Basis, Watched.Fits, Watched.GivesAsContracted, Watched.IsWritten, Watched.held_on, Watched.left_on, Watched.log_on}
 use Rattle.cred_cli.proofs.Prompts.{IsReadTo}
 use Rattle.cred_cli.proofs.run.Run.read_all.Given as goal
 
@@ -9,8 +8,8 @@ abbrev pub invariant-loop-call : goal.invariant-loop-call
 invariant-loop-call g l = record {
   at : (basis : Basis) → Fits basis l.reader → (script : ScriptStart) → left_on basis g.R.Read.remaining l.fn.reader ≡ Some script.bytes →
       IsAt l.engine.policy g.K.Keeper.capacity script [] (standing (held_on basis g.W.Write.contents l.fn.writer) (g.K.Keeper.book l.fn.keeper) l.fn.self) →
-      IsReadTo l.engine.policy g.K.Keeper.capacity script l.fn.writer.log.name (left_on basis g.R.Read.remaining l.reader) (standing (held_on basis g.W.Write.contents l.writer) (g.K.Keeper.book l.keeper) l.self)
-      (log_on basis l.reader.log.calls);
+      IsReadTo l.engine.policy g.K.Keeper.capacity script l.fn.writer.past.name (left_on basis g.R.Read.remaining l.reader) (standing (held_on basis g.W.Write.contents l.writer) (g.K.Keeper.book l.keeper) l.self)
+      (log_on basis l.reader.past.calls);
   ended : l.reader.ended ≡ false;
   limit : l.self.progress.limit ≡ l.fn.self.progress.limit;
   calls : l.reader.calls ≡ l._call;

@@ -1,4 +1,4 @@
--- The struct has no bytes, so the walk makes nothing at run time; it says that no byte is on the transcript.
+-- The struct has no bytes, so the walk makes nothing at run time; it says that the past is empty. The name is free: no clause speaks of it.
 use Rattle.std.proofs.{Common.[], Common.◌∷◌, Common.refl, raw_atomic.Walks.proved}
 use mir.Val.{vstruct, vnil}
 use types.Kit.{‵, raw, ◌⊛◌, ◌$◌, ◌∵◌, !, qed, keep, split, move, suffices, done}
@@ -10,16 +10,16 @@ use denote.RattleType.{owns}
 use denote.Shadow.{pure_i}
 use denote.Triple.Entry.{alive}
 use denote.Triple.Walked.{says, Stays, walk_of, ends_at}
-use Rattle.cred_cli.specs.contracts.transcript.Transcript as transcript
-use Rattle.cred_cli.specs.contracts.transcript.Transcript.new as f
-use Rattle.cred_cli.proofs.transcript.Transcript.new.Statement.{statement}
-use Rattle.cred_cli.proofs.transcript.Transcript.new.Code as code
+use Rattle.cred_cli.specs.contracts.past.Past as past
+use Rattle.cred_cli.specs.contracts.past.Past.new as f
+use Rattle.cred_cli.proofs.past.Past.new.Statement.{statement}
+use Rattle.cred_cli.proofs.past.Past.new.Code as code
 
 abbrev stayed : Stays (f.ended).signature.params (f.ended).kept
 stayed = tt
 
-abbrev empty : (transcript.the_row).Denot
-empty = record { bytes = [] }
+abbrev empty : (past.the_row).Denot
+empty = record { given = []; taken = []; calls = []; name = 0 }
 
 pub new_spec : {M : Type 1} → statement M
 new_spec 𝓤 𝓛 𝓜 𝓡 wired =
@@ -32,6 +32,6 @@ new_spec 𝓤 𝓛 𝓜 𝓡 wired =
     enter ! _ _ _ _ _ $ alloc_all ! (λ l. pass_all ! refl tt $
     sets ! (agg ! (no_more !)) refl (tt, tt) $
     returns ! (look_at ! 0 refl) $ free_all ! refl $
-    suffices ! _ (ends_at 𝓛 f.ended stayed c y (vstruct vnil) empty tt tt) $ says ! refl $
-    pure_i ! (transcript.the_row.own_val empty (vstruct vnil ∷ [])) ((λ vss. (tt, tt)), tt) ((tt, (refl, tt)), tt) $
+    suffices ! _ (ends_at 𝓛 f.ended stayed c y (vstruct vnil) empty tt tt) $ says ! (refl, refl, refl) $
+    pure_i ! (past.the_row.own_val empty (vstruct vnil ∷ [])) ((λ vss. (tt, tt)), tt) ((tt, (refl, tt)), tt) $
     move ! (1 ∷ 2 ∷ 0 ∷ []) $ done !))

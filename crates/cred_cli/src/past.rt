@@ -1,0 +1,46 @@
+//! What proofs read of the calls on a reader or a writer. It takes no memory, and does nothing at
+//! run time.
+
+ghost use Rattle.std.specs.{Prelude.◌≡◌, Prelude.ℕ, Prelude.List, Prelude.[], Borrow.ftrue, Coded.coded_list};
+ghost use Rattle.cred_cli.specs.Calls.{Call, call_code};
+
+use std::marker::Model;
+
+/// The bytes that a reader gave and a writer took, in their order, the calls that were logged, the
+/// last one first, and a name for who holds it. No clause says which name that is, so that only the
+/// holder can be shown to have it.
+#[derive(Drop)]
+pub struct Past {
+    pub ghost given: { List ℕ },
+    pub ghost taken: { List ℕ },
+    pub ghost calls: { List Call } by { coded_list call_code },
+    pub ghost name: { ℕ },
+}
+
+impl Model for Past {
+    ghost also_owns = { λ _. ftrue };
+}
+
+/// What a past may gain.
+pub(crate) trait Note {
+    ghost use Rattle.cred_cli.specs.declared.past.Past.{Past};
+
+    /// The past with it.
+    ghost noted: { Self → Past → Past };
+}
+
+impl Past {
+    /// The past of no call, under some name.
+    pub(crate) fn new() -> Past
+        ensures { (result.given ≡ []) × (result.taken ≡ []) × (result.calls ≡ []) }
+    {
+        Past {}
+    }
+
+    /// The past with this note.
+    pub(crate) fn and<N: Note>(&self, note: &N) -> Past
+        ensures { result ≡ N.noted note.now self.now }
+    {
+        Past {}
+    }
+}
