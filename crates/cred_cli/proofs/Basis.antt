@@ -3,9 +3,8 @@ use Rattle.std.proofs.Common.{◌≡◌, ℕ, ◌<◌, List, [], ◌∷◌, ◌+
 use Rattle.std.proofs.{KnownBytes.Appends-nil, KnownBytes.Appends-trans, KnownBytes.Consumes-nil, KnownBytes.Consumes-trans, Math.Seq.drop-append_seam}
 use Rattle.std.specs.Io.KnownBytes.{Consumes, IsAtEnd, Keeps}
 use Rattle.cred_book.specs.Accounts.{Accounts}
-use Rattle.cred_cli.specs.{Calls.Call, Feeding.standing, Outcome.HasCause, Outcome.IsAnsweredAs, Script.out, Script.script_start, Steps.WriteFails}
+use Rattle.cred_cli.specs.{Calls.Call, Feeding.standing, Outcome.HasCause, Outcome.IsAnsweredAs, Script.out, Script.script_start, Steps.WriteFails, declared.fault.ScriptFault.ScriptFault, declared.run.Run.Run, declared.script.End.End, declared.watched.Watched.Watched}
 use Rattle.cred_cli.specs.Watched.{Basis, Contract, Transcript, Fits, GivesAsContracted, IsWritten, Reading, TakesAsContracted, call_on, ended_of, failed_of, transcript_reading, given_of, held_on, inner_of, left_on, log_on, log_of, name_of, reading_on, taken_of}
-use Rattle.cred_cli.specs.{declared.fault.ScriptFault.ScriptFault, declared.run.Run.Run, declared.script.End.End, declared.watched.Watched.Watched}
 use Rattle.cred_cli.proofs.{Prompts.IsCalled, Writes.taken_later}
 
 -- ---- what a writer took

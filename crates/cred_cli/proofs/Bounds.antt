@@ -2,13 +2,10 @@
 use Rattle.std.proofs.Common.{◌≡◌, ℕ, suc, List, [], ◌∷◌, ◌++◌, length, Some, Bool, true, false, if◌then◌else◌, option_map, refl, ap, ◌∙◌, slice_get, codes}
 use Rattle.std.proofs.{lemmas.List.length-map, lemmas.Option.slice_get-map}
 use Rattle.std.specs.Fmt.{digits}
-use Rattle.cred_book.specs.Accounts.{Accounts}
-use Rattle.cred_book.specs.declared.request.Request.TheVariants.{Verify}
+use Rattle.cred_book.specs.{Accounts.Accounts, declared.request.Request.TheVariants.Verify}
 use Rattle.cred_cli.specs.{declared.costs.CostBounds.CostBounds, declared.event.Event.Event}
-use Rattle.cred_cli.specs.declared.event.Event.TheVariants.{Account, Begin, Bad}
-use Rattle.cred_cli.specs.{declared.refusal.Refusal.Refusal, declared.refusal.Refusal.TheVariants.Costly, Costs.events_within, Costs.is_costly, Costs.no_bounds, Costs.within}
-use Rattle.cred_cli.specs.History.{after, answer_at, answer_of, book_at, deed_of, deeds_before, names_at, open_after, open_at}
-use Rattle.cred_cli.specs.{Script.events_of, Starving.events_by, Starving.unended, declared.policy.Mode.TheVariants.Script, Texts.line_of}
+use Rattle.cred_cli.specs.{declared.event.Event.TheVariants.Account, declared.event.Event.TheVariants.Begin, declared.event.Event.TheVariants.Bad, History.after, History.answer_at, History.answer_of, History.book_at, History.deed_of, History.deeds_before, History.names_at, History.open_after, History.open_at}
+use Rattle.cred_cli.specs.{declared.refusal.Refusal.Refusal, declared.refusal.Refusal.TheVariants.Costly, Costs.events_within, Costs.is_costly, Costs.no_bounds, Costs.within, Script.events_of, Starving.events_by, Starving.unended, declared.policy.Mode.TheVariants.Script, Texts.line_of}
 use Rattle.cred_cli.proofs.{Names.book_at-suc, Openings.open_at-suc, Unended.map_same, Unended.unended_same}
 
 -- nothing is too costly without bounds

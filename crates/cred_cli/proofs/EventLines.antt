@@ -3,12 +3,10 @@ use Rattle.std.proofs.Common.{◌≡◌, ℕ, List, [], ◌∷◌, Bool, true, f
 use Rattle.std.specs.{List.join_with_byte, Str.bytes_eq}
 use Rattle.cred_phc.specs.{Pieces.pieces, Reading.◌>>=◌, Values.SettingValue}
 use Rattle.cred_phc.proofs.{FieldLaws.same_bytes, PieceLaws.join-pieces}
-use Rattle.cred_book.specs.declared.request.Request.{Request}
-use Rattle.cred_book.specs.declared.request.Request.TheVariants.{Enrol, Verify, Change, Upgrade, Remove}
-use Rattle.cred_cli.specs.{EventLines.IsLineOf, EventLines.IsRequestOf, declared.event.Event.Event}
+use Rattle.cred_book.specs.{declared.request.Request.Request, declared.request.Request.TheVariants.Enrol, declared.request.Request.TheVariants.Verify, declared.request.Request.TheVariants.Change, declared.request.Request.TheVariants.Upgrade, declared.request.Request.TheVariants.Remove}
+use Rattle.cred_cli.specs.{EventLines.IsLineOf, EventLines.IsRequestOf, declared.event.Event.Event, declared.refusal.Refusal.Refusal, declared.refusal.Refusal.TheVariants.Long}
 use Rattle.cred_cli.specs.Events.{begin_event, begun, change_request, commit_event, event_of, event_of_pieces, is_line, key_field, longest_line, name_and, name_field, name_password_setting, only_name, or_bad, password_field, record_field, request_of, setting_field}
 use Rattle.cred_cli.specs.declared.event.Event.TheVariants.{Account, Load, Show, Begin, Commit, Bad}
-use Rattle.cred_cli.specs.{declared.refusal.Refusal.Refusal, declared.refusal.Refusal.TheVariants.Long}
 
 -- where a chain of steps gave a value, its first did
 bound : {A B : Type 0} (r : Result A Refusal) (f : A → Result B Refusal) (y : B) → (r >>= f) ≡ Ok y → (x : A) × (r ≡ Ok x) × (f x ≡ Ok y)

@@ -1,9 +1,7 @@
 -- A line of more pieces than any may have asks for nothing, whatever they are.
-use Rattle.std.proofs.Common.{◌≡◌, ℕ, List, [], ◌∷◌, ◌++◌, length, take, false, nat_lt, if◌then◌else◌, Result, arith, refl, ap, ◌∙◌}
-use Rattle.std.proofs.lemmas.List.{take-append-le, take_all}
+use Rattle.std.proofs.{Common.◌≡◌, Common.ℕ, Common.List, Common.◌∷◌, Common.◌++◌, Common.length, Common.take, Common.false, Common.nat_lt, Common.if◌then◌else◌, Common.Result, Common.arith, Common.refl, Common.ap, Common.◌∙◌, lemmas.List.take-append-le, lemmas.List.take_all}
 use Rattle.cred_phc.specs.Pieces.{pieces}
-use Rattle.cred_cli.specs.{Events.event_of, Events.event_of_pieces, Events.longest_line, Events.most_pieces, Events.or_bad, declared.event.Event.Event}
-use Rattle.cred_cli.specs.{declared.event.Event.TheVariants.Bad, declared.refusal.Refusal.Refusal, declared.refusal.Refusal.TheVariants.Long}
+use Rattle.cred_cli.specs.{Events.event_of, Events.event_of_pieces, Events.longest_line, Events.most_pieces, Events.or_bad, declared.event.Event.Event, declared.event.Event.TheVariants.Bad, declared.refusal.Refusal.Refusal, declared.refusal.Refusal.TheVariants.Long}
 
 first_pieces_tell : (line : List (List ℕ)) → event_of_pieces (take most_pieces line) ≡ event_of_pieces line
 first_pieces_tell (a ∷ b ∷ c ∷ d ∷ e ∷ f ∷ g ∷ h ∷ more) = refl

@@ -2,9 +2,8 @@
 use Rattle.std.proofs.Common.{◌≡◌, ℕ, zero, suc, ◌<◌, List, ◌∷◌, [], Option, Some, None, refl, sym, ap, ◌∙◌, arith, slice_get, set, length, ◌≢◌}
 use Rattle.std.specs.FinMap as map
 use Rattle.cred_book.specs.{Accounts.Accounts, Works.Task, Works.name_of}
-use Rattle.cred_cli.specs.declared.event.Event.{Event}
+use Rattle.cred_cli.specs.{declared.event.Event.Event, History.Deed, History.Opened, History.answer_at, History.answer_of, History.book_after, History.book_at, History.commit_deed, History.deed_of, History.deeds_before, History.is_stale, History.names_at, History.open_at, History.show_answer}
 use Rattle.cred_cli.specs.declared.event.Event.TheVariants.{Account, Load, Show, Begin, Commit}
-use Rattle.cred_cli.specs.History.{Deed, Opened, answer_at, answer_of, book_after, book_at, commit_deed, deed_of, deeds_before, is_stale, names_at, open_at, show_answer}
 use Rattle.cred_cli.specs.{Outcome.StandsAfter, Script.answers_before, Starving.IsSameBefore, Starving.NeedsHash, Tickets.HoldTickets, Tickets.IsTicketOf}
 use Rattle.cred_cli.proofs.Openings.{known_at}
 

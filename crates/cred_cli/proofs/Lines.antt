@@ -3,9 +3,7 @@ use Rattle.std.proofs.Common.{◌≡◌, ℕ, suc, ◌+◌, ◌<◌, ◌≤◌, 
 use Rattle.std.proofs.{lemmas.Bool.Decides.eqb_tells, lemmas.Bool.Decides.nat_tests, lemmas.Bool.cases_lt, lemmas.List.length-take, lemmas.List.take_all}
 use Rattle.std.specs.Bool.{◌==◌}
 use Rattle.cred_phc.specs.Pieces.{pieces}
-use Rattle.cred_cli.specs.{declared.event.Event.TheVariants.Bad, declared.refusal.Refusal.TheVariants.Long}
-use Rattle.cred_cli.specs.{Events.event_of, Events.event_of_pieces, Events.or_bad, Events.longest_line, Events.most_kept, Feeding.unfinished_from}
-use Rattle.cred_cli.specs.Script.{lines_of, onto_first, line_ends}
+use Rattle.cred_cli.specs.{declared.event.Event.TheVariants.Bad, declared.refusal.Refusal.TheVariants.Long, Events.event_of, Events.event_of_pieces, Events.or_bad, Events.longest_line, Events.most_kept, Feeding.unfinished_from, Script.lines_of, Script.onto_first, Script.line_ends}
 
 -- the lines that ended
 abbrev pub whole_from : List ℕ → List ℕ → List (List ℕ)

@@ -1,13 +1,11 @@
 -- The names of a history are those of its book.
 use Rattle.std.proofs.Common.{◌≡◌, ℕ, zero, suc, ◌+◌, ◌≤◌, List, [], ◌∷◌, ◌++◌, length, take, inl, inr, Option, Some, None, Bool, true, false, if◌then◌else◌, cond, nat_lt, ◌||◌, is_some, slice_get, refl, sym, ap, ◌∙◌, arith}
-use Rattle.std.proofs.{lemmas.Bool.cases_lt, lemmas.List.length-append, lemmas.List.length-map, lemmas.List.take-append-le, lemmas.List.take_all}
-use Rattle.std.proofs.{lemmas.Map.Text.is_eq-slice_cmp, lemmas.Slice.Eq.bytes_eq-Decides}
+use Rattle.std.proofs.{lemmas.Bool.cases_lt, lemmas.List.length-append, lemmas.List.length-map, lemmas.List.take-append-le, lemmas.List.take_all, lemmas.Map.Text.is_eq-slice_cmp, lemmas.Slice.Eq.bytes_eq-Decides}
 use Rattle.std.specs.{Cmp.Lexicographic.nat_list_cmp_total, List.list_any, Ordering.eq_by_cmp, Str.bytes_eq}
 use Rattle.cred_phc.specs.Values.{RecordValue}
 use Rattle.cred_book.specs.{Accounts.Accounts, Names.name_cmp, Works.name_of, Works.seq, Works.seq_at, Works.whole, declared.request.Request.Request}
 use Rattle.cred_cli.specs.History.{is_among, names_after, names_at, Opened, open_at, Deed, Admission, Loading, Whole, commit_deed, is_stale, deed_of, deeds_before, after, book_after, book_at}
-use Rattle.cred_cli.specs.declared.event.Event.{Event}
-use Rattle.cred_cli.specs.declared.event.Event.TheVariants.{Account, Load, Commit}
+use Rattle.cred_cli.specs.{declared.event.Event.Event, declared.event.Event.TheVariants.Account, declared.event.Event.TheVariants.Load, declared.event.Event.TheVariants.Commit}
 use Rattle.std.specs.FinMap as map
 
 -- the names are those of the book

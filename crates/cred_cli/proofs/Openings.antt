@@ -2,9 +2,7 @@
 use Rattle.std.proofs.Common.{◌≡◌, ℕ, zero, suc, ◌<◌, List, [], ◌∷◌, ◌++◌, length, Option, Some, None, Bool, true, false, ◌&&◌, ◌||◌, if◌then◌else◌, is_none, nat_lt, slice_get, refl, sym, ap, ◌∙◌, arith}
 use Rattle.std.specs.{Bool.◌==◌, Str.bytes_eq}
 use Rattle.cred_book.specs.{Accounts.Accounts, Works.name_of}
-use Rattle.cred_cli.specs.declared.event.Event.{Event}
-use Rattle.cred_cli.specs.declared.event.Event.TheVariants.{Account, Begin, Commit}
-use Rattle.cred_cli.specs.History.{is_among, names_after, names_at, Opened, open_after, open_at}
+use Rattle.cred_cli.specs.{declared.event.Event.Event, declared.event.Event.TheVariants.Account, declared.event.Event.TheVariants.Begin, declared.event.Event.TheVariants.Commit, History.is_among, History.names_after, History.names_at, History.Opened, History.open_after, History.open_at}
 use Rattle.cred_cli.proofs.Names.{names_at-suc, any_more}
 
 pub open_at-zero : (capacity : ℕ) (book : Accounts) (events : List Event) (key : ℕ) → open_at capacity book events 0 key ≡ None

@@ -2,20 +2,13 @@
 use Rattle.std.proofs.Common.{◌≡◌, ℕ, suc, ◌≤◌, ◌<◌, List, Option, Some, None, Bool, not, refl, sym, ap, ◌∙◌, arith, slice_get, get_or, take, drop, set, length, inl, inr, ◌⊎◌, Result, Ok, Err, IfOk, OnOk, IfErr, IfSome, MatchResult, subst, codes, ◌++◌, ◌∷◌, [], append_assoc, append-nil}
 use Rattle.std.proofs.{Math.ListN.length-set, lemmas.Bool.cases_lt, lemmas.Option.slice_get_within}
 use Rattle.std.specs.{Fmt.digits, Io.KnownBytes.Appends}
-use Rattle.cred_book.specs.{Accounts.Accounts, Works.Task, Works.name_of, Works.same}
+use Rattle.cred_book.specs.{Accounts.Accounts, Works.Task, Works.name_of}
 use Rattle.cred_book.proofs.Equality.{same-Decides}
-use Rattle.cred_cli.specs.{Answers.IsDoneOrStarved, Answers.MayStarve, Answers.line_bytes, Costs.no_bounds, Events.IsSound, declared.script.End.End}
-use Rattle.cred_cli.specs.Feeding.{Breaks, IsAt, IsAtLine, IsBehind, GoesOn, Standing, Takes}
-use Rattle.cred_cli.specs.History.{Opened, after, answer_at, answer_of, book_at, open_at}
-use Rattle.cred_cli.specs.{Outcome.FailsAs, Outcome.IsAnswered, Prompt.IsPrompt}
-use Rattle.cred_cli.specs.Script.{ScriptStart, script_start, start_as, with_events}
-use Rattle.cred_cli.specs.Starving.{EndsAs, IsHistory, IsServed, IsStarved, NeedsHash, events_by, starved}
-use Rattle.cred_cli.specs.{Steps.WriteFails, Steps.slot, Texts.line_of, Tickets.HoldTickets, Tickets.IsTicketOf, Watched.Reading, Watched.Writing}
-use Rattle.cred_cli.specs.{declared.answer.AnswerLine.AnswerLine, declared.event.Event.Event, declared.event.Event.TheVariants.Commit}
-use Rattle.cred_cli.specs.{declared.fault.ScriptFault.ScriptFault, declared.policy.Mode.Mode}
-use Rattle.cred_cli.specs.{declared.policy.Mode.TheVariants.Script, declared.policy.Mode.TheVariants.Service, declared.policy.Policy.Policy}
-use Rattle.cred_cli.proofs.{Bounds.refused-book, Bounds.refused-open, Bounds.unbounded, Feeds.cut_at, Lines.line_ends_longer, Runs.line_ended, Simulation.stale}
-use Rattle.cred_cli.proofs.Fronts.{needs_front, set_before, set_elsewhere, set_here, stands_front, tickets_front}
+use Rattle.cred_cli.specs.{Answers.IsDoneOrStarved, Answers.MayStarve, Answers.line_bytes, Costs.no_bounds, Events.IsSound, declared.script.End.End, Starving.EndsAs, Starving.IsHistory, Starving.IsServed, Starving.IsStarved, Starving.NeedsHash, Starving.events_by, Starving.starved}
+use Rattle.cred_cli.specs.{Feeding.Breaks, Feeding.IsAt, Feeding.IsAtLine, Feeding.IsBehind, Feeding.GoesOn, Feeding.Standing, Feeding.Takes, Steps.WriteFails, Steps.slot, Texts.line_of, Tickets.HoldTickets, Tickets.IsTicketOf, Watched.Reading, Watched.Writing, declared.fault.ScriptFault.ScriptFault, declared.policy.Mode.Mode}
+use Rattle.cred_cli.specs.{History.Opened, History.after, History.answer_at, History.answer_of, History.book_at, History.open_at, Outcome.FailsAs, Outcome.IsAnswered, Prompt.IsPrompt}
+use Rattle.cred_cli.specs.{Script.ScriptStart, Script.script_start, Script.start_as, Script.with_events, declared.answer.AnswerLine.AnswerLine, declared.event.Event.Event, declared.event.Event.TheVariants.Commit, declared.policy.Mode.TheVariants.Script, declared.policy.Mode.TheVariants.Service, declared.policy.Policy.Policy}
+use Rattle.cred_cli.proofs.{Bounds.refused-book, Bounds.refused-open, Bounds.unbounded, Feeds.cut_at, Lines.line_ends_longer, Runs.line_ended, Simulation.stale, Fronts.needs_front, Fronts.set_before, Fronts.set_elsewhere, Fronts.set_here, Fronts.stands_front, Fronts.tickets_front}
 use Rattle.std.specs.FinMap as map
 
 module _ (capacity : ℕ) (book : Accounts) (events : List Event) (i : ℕ) (slots : List (Option Task)) (held : HoldTickets capacity book events i slots) where

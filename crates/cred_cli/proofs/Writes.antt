@@ -1,7 +1,6 @@
 -- Several writes in a row.
-use Rattle.std.proofs.Common.{◌≡◌, ℕ, ◌<◌, List, [], ◌++◌, length, take, drop, Option, Bool, true, Result, Ok, Err, IfOk, OnErr, sym, ap, ◌∙◌, arith, append_assoc, append-nil, take-append-drop}
-use Rattle.std.proofs.{lemmas.List.length-append, Math.Seq.take-append_seam}
-use Rattle.std.proofs.KnownBytes.{Appends-kept, Appends-nil, Appends-trans}
+use Rattle.std.proofs.Common.{◌≡◌, ℕ, ◌<◌, ◌+◌, List, [], ◌++◌, length, take, drop, Option, Bool, true, Result, Ok, Err, IfOk, OnErr, sym, ap, ◌∙◌, arith, append_assoc, append-nil, take-append-drop}
+use Rattle.std.proofs.{lemmas.List.length-append, lemmas.List.take-append-le, Math.Seq.take-append_seam, Math.Seq.take-append-add, KnownBytes.Appends-kept, KnownBytes.Appends-nil, KnownBytes.Appends-trans}
 use Rattle.std.specs.{Result.result_unwrap_or, Io.KnownBytes.Appends, Io.KnownBytes.WriteAppends}
 use Rattle.cred_cli.specs.{Outcome.FrontWritten, Watched.Passes}
 
@@ -9,6 +8,15 @@ use Rattle.cred_cli.specs.{Outcome.FrontWritten, Watched.Passes}
 pub front_written : (bytes front rest : List ℕ) (before now : Option (List ℕ)) → bytes ≡ front ++ rest → 0 < length rest → Appends before now front → FrontWritten before now bytes
 front_written bytes front rest before now cut left written =
     (length front, omega (arith, ap length cut, length-append front rest), rw (cut, take-append_seam) written)
+
+-- a front of the first part is one of the whole
+pub front_more : (a b : Option (List ℕ)) (xs ys : List ℕ) → FrontWritten a b xs → FrontWritten a b (xs ++ ys)
+front_more a b xs ys (n, short, written) = (n, omega (arith, short, length-append xs ys), rw (take-append-le n xs ys (omega (arith, short))) written)
+
+-- and so is one of the second part, behind the first
+pub front_behind : (a b c : Option (List ℕ)) (xs ys : List ℕ) → Appends a b xs → FrontWritten b c ys → FrontWritten a c (xs ++ ys)
+front_behind a b c xs ys first (n, short, written) =
+    (length xs + n, omega (arith, short, length-append xs ys), rw (take-append-add xs ys n) (Appends-trans a b c xs (take n ys) first written))
 
 -- the next write moves the cut
 pub cut_later : (bytes front rest : List ℕ) (n : ℕ) → bytes ≡ front ++ rest → bytes ≡ (front ++ take n rest) ++ drop n rest

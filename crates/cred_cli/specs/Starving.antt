@@ -6,10 +6,9 @@ use Rattle.cred_phc.specs.Values.{RecordValue}
 use Rattle.cred_book.specs.{Accounts.Accounts, Works.name_of, declared.error.BookError.TheVariants.Memory, declared.request.Request.Request}
 use Rattle.cred_book.specs.declared.request.Request.TheVariants.{Enrol}
 use Rattle.cred_cli.specs.{Costs.events_within, History.Opened, History.book_at, History.deeds_before, History.is_stale, History.open_at}
-use Rattle.cred_cli.specs.{Outcome.FailsAs, Outcome.IsAnsweredAs, Outcome.longest_service, Prompt.IsPrompt}
+use Rattle.cred_cli.specs.{Outcome.FailsAs, Outcome.IsAnsweredAs, Outcome.longest_service, Prompt.IsPrompt, declared.fault.ScriptFault.ScriptFault}
 use Rattle.cred_cli.specs.{Script.ScriptStart, Script.start_as, Script.with_unended, Watched.Reading, Watched.Writing, declared.costs.CostBounds.CostBounds}
 use Rattle.cred_cli.specs.{declared.event.Event.Event, declared.event.Event.TheVariants.Commit, declared.event.Event.TheVariants.Bad}
-use Rattle.cred_cli.specs.{declared.fault.ScriptFault.ScriptFault}
 use Rattle.cred_cli.specs.{declared.refusal.Refusal.TheVariants.Book, declared.refusal.Refusal.TheVariants.Line, declared.script.End.End}
 use Rattle.cred_cli.specs.{declared.policy.Mode.Mode, declared.policy.Mode.TheVariants.Script, declared.policy.Mode.TheVariants.Service}
 

@@ -1,8 +1,7 @@
 -- Exit statuses.
 use Rattle.std.specs.Prelude.{ℕ}
-use Rattle.cred_cli.specs.{declared.exit_status.ExitStatus.ExitStatus, declared.fault.ScriptFault.ScriptFault}
+use Rattle.cred_cli.specs.{declared.exit_status.ExitStatus.ExitStatus, declared.fault.ScriptFault.ScriptFault, declared.fault.ScriptFault.TheVariants.Memory}
 use Rattle.cred_cli.specs.declared.exit_status.ExitStatus.TheVariants.{Done, Refused, Failed, OutOfMemory, No}
-use Rattle.cred_cli.specs.declared.fault.ScriptFault.TheVariants.{Memory}
 
 abbrev pub status_number : ExitStatus → ℕ
 status_number Done = 0

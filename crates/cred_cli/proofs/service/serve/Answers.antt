@@ -1,7 +1,5 @@
 use Rattle.std.proofs.Common.{◌+◌, ◌≤◌, ◌++◌, List, [], length, refl, sym, append-nil}
-use Rattle.cred_cli.specs.{Outcome.longest_service, Script.start_as, Starving.EndsAs, Starving.IsServed, Starving.events_by}
-use Rattle.cred_cli.specs.{declared.policy.Mode.TheVariants.Service, declared.event.Event.Event}
-use Rattle.cred_cli.specs.Watched.{Contract, Transcript, given_of, transcript_writing}
+use Rattle.cred_cli.specs.{Outcome.longest_service, Script.start_as, Starving.EndsAs, Starving.IsServed, Starving.events_by, Watched.Contract, Watched.Transcript, Watched.given_of, Watched.transcript_writing, declared.policy.Mode.TheVariants.Service, declared.event.Event.Event}
 use Rattle.cred_cli.proofs.Basis.{alone, as_passed}
 use Rattle.cred_cli.proofs.service.serve.Goals as goal
 

@@ -1,5 +1,4 @@
-use Rattle.std.proofs.Common.{arith, sym, ◌∙◌, take, ◌++◌, ◌∷◌, []}
-use Rattle.std.proofs.lemmas.List.{take_all, take_more_set, take-append-le, length-append, length-take-le}
+use Rattle.std.proofs.{Common.arith, Common.sym, Common.◌∙◌, Common.take, Common.◌++◌, Common.◌∷◌, Common.[], lemmas.List.take_all, lemmas.List.take_more_set, lemmas.List.take-append-le, lemmas.List.length-append, lemmas.List.length-take-le}
 use Rattle.cred_cli.specs.Events.{most_kept}
 use Rattle.cred_cli.proofs.progress.LineStart.push.Goals as goal
 

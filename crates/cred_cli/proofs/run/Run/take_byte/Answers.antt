@@ -1,8 +1,6 @@
-use Rattle.std.proofs.Common.{◌≡◌, arith, append_assoc, sym, ap, refl, ◌∙◌, length, ◌∷◌, ◌++◌, [], suc, Some, slice_get}
-use Rattle.std.proofs.{lemmas.List.length-append, lemmas.Result.err_from_is_err_and}
+use Rattle.std.proofs.{Common.◌≡◌, Common.arith, Common.append_assoc, Common.sym, Common.ap, Common.refl, Common.◌∙◌, Common.length, Common.◌∷◌, Common.◌++◌, Common.[], Common.suc, Common.Some, Common.slice_get, lemmas.List.length-append, lemmas.Result.err_from_is_err_and}
 use Rattle.cred_cli.specs.{Events.most_kept, Script.line_ends}
-use Rattle.cred_cli.proofs.{Feeds.ended_event, Feeds.take-kept, Feeds.take_front}
-use Rattle.cred_cli.proofs.Lines.{line_ends-end, line_ends-more, unfinished_from-end, unfinished_from-more}
+use Rattle.cred_cli.proofs.{Feeds.ended_event, Feeds.take-kept, Feeds.take_front, Lines.line_ends-end, Lines.line_ends-more, Lines.unfinished_from-end, Lines.unfinished_from-more}
 use Rattle.cred_cli.proofs.run.Run.take_byte.Goals as goal
 
 -- a byte too many

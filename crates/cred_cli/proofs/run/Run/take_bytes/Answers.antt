@@ -1,5 +1,4 @@
-use Rattle.std.proofs.Common.{arith, refl, ◌∙◌, take, get_or, [], ◌∷◌}
-use Rattle.std.proofs.lemmas.{List.take_all, List.take_more, Result.err_from_is_err_and}
+use Rattle.std.proofs.{Common.arith, Common.refl, Common.◌∙◌, Common.take, Common.get_or, Common.[], Common.◌∷◌, lemmas.List.take_all, lemmas.List.take_more, lemmas.Result.err_from_is_err_and}
 use Rattle.cred_cli.proofs.{Basis.unwritten, Basis.written_on, Starvings.takes_in_part, Starvings.takes_none, Starvings.takes_then}
 use Rattle.cred_cli.proofs.run.Run.take_bytes.Goals as goal
 
