@@ -5,10 +5,8 @@ use Rattle.cred_phc.specs.Values.{RecordValue}
 use Rattle.cred_book.specs.{Accounts.Accounts, Names.name_cmp}
 use Rattle.cred_file.proofs.TableLemmas.{same_name}
 use Rattle.cred_admin.specs.Import.{HasNone, Tally, entry_of, entry_with, is_costly, locked_entry, nothing_yet, said_of, tally_from, with_account, with_bad, with_change, with_entry, with_existing, with_kept, with_line, with_locked}
-use Rattle.cred_admin.specs.{Listing.Entry, declared.entry.LineFault.LineFault, declared.entry.Said.Said, declared.import.Existing.Existing}
-use Rattle.cred_admin.specs.declared.entry.LineFault.TheVariants.{Book, Costly, Locked as IsLocked}
-use Rattle.cred_admin.specs.declared.entry.Said.TheVariants.{Nothing, Account, Locked}
-use Rattle.cred_admin.specs.declared.import.Existing.TheVariants.{Refused, Kept, Updated}
+use Rattle.cred_admin.specs.{Listing.Entry, declared.entry.LineFault.LineFault, declared.entry.Said.Said, declared.import.Existing.Existing, declared.entry.Said.TheVariants.Nothing, declared.entry.Said.TheVariants.Account, declared.entry.Said.TheVariants.Locked}
+use Rattle.cred_admin.specs.{declared.entry.LineFault.TheVariants.Book, declared.entry.LineFault.TheVariants.Costly, declared.entry.LineFault.TheVariants.Locked as IsLocked, declared.import.Existing.TheVariants.Refused, declared.import.Existing.TheVariants.Kept, declared.import.Existing.TheVariants.Updated}
 use Rattle.cred_admin.specs.{declared.import.LockedRecords.LockedRecords, declared.import.Rules.Rules}
 use Rattle.std.specs.FinMap as map
 use Rattle.cred_book.specs.declared.error.BookError.TheVariants as error

@@ -1,11 +1,9 @@
 -- Lines that aren't the passwords that are wanted.
-use Rattle.std.proofs.Common.{◌≡◌, ℕ, ◌<◌, List, [], length, Bool, true, false, Option, Some, None, IfSome, inl, inr, refl, sym, ◌∙◌}
+use Rattle.std.proofs.Common.{◌≡◌, ℕ, ◌<◌, List, [], length, true, Option, Some, None, IfSome, inl, inr, refl, sym, ◌∙◌}
 use Rattle.std.proofs.{lemmas.Bool.Decides.eqb_tells, lemmas.List.nil_from_length, lemmas.Option.IfSome_then}
-use Rattle.cred_admin.specs.Lines.{HasEmptyLine, HasLong, HasLongLine, IsMisread, MissesLine, ReadsLine, ReadsLines, behind_line, is_barred}
-use Rattle.cred_admin.specs.{declared.fault.Fault.Fault, declared.password.EmptyPassword.EmptyPassword, declared.password.Passwords.Passwords}
+use Rattle.cred_admin.specs.{Lines.HasEmptyLine, Lines.HasLong, Lines.HasLongLine, Lines.IsMisread, Lines.MissesLine, Lines.ReadsLine, Lines.ReadsLines, Lines.behind_line, Lines.is_barred, declared.fault.Fault.Fault, declared.password.EmptyPassword.EmptyPassword, declared.password.Passwords.Passwords}
+use Rattle.cred_admin.specs.{declared.password.EmptyPassword.TheVariants.Refused, declared.password.EmptyPassword.TheVariants.Taken, declared.password.Passwords.TheVariants.Present, declared.password.Passwords.TheVariants.New, declared.password.Passwords.TheVariants.PresentAndNew}
 use Rattle.cred_admin.specs.declared.fault.Fault.TheVariants as fault
-use Rattle.cred_admin.specs.{declared.password.EmptyPassword.TheVariants.Refused, declared.password.EmptyPassword.TheVariants.Taken}
-use Rattle.cred_admin.specs.declared.password.Passwords.TheVariants.{Present, New, PresentAndNew}
 use Rattle.cred_cli.specs.Watched.{Reading}
 
 long_first : (pws : Passwords) (known : Option (List ℕ)) → IfSome known HasLongLine → IfSome known (HasLong pws)

@@ -1,10 +1,9 @@
 -- Texts that are written a line at a time, in pieces.
-use Rattle.std.proofs.Common.{◌≡◌, inl, inr, ℕ, ◌<◌, ◌+◌, Option, List, [], ◌∷◌, ◌++◌, length, take, refl, sym, ap, subst, ◌∙◌, arith, append_assoc, append-nil}
-use Rattle.std.proofs.{lemmas.List.Concat.flat_map-append, lemmas.List.flat_map_more, lemmas.List.length-append, lemmas.List.take-append-le, Math.Seq.take-append_seam, Math.Seq.take-append-add}
-use Rattle.std.proofs.KnownBytes.{Appends-nil, Appends-trans}
-use Rattle.std.specs.Io.KnownBytes.{Appends}
+use Rattle.std.proofs.Common.{◌≡◌, inl, inr, ℕ, ◌<◌, Option, List, [], ◌∷◌, ◌++◌, length, take, sym, ap, subst, ◌∙◌, arith, append_assoc, append-nil}
+use Rattle.std.proofs.{lemmas.List.Concat.flat_map-append, lemmas.List.flat_map_more, lemmas.List.length-append, Math.Seq.take-append_seam, KnownBytes.Appends-nil, KnownBytes.Appends-trans}
+use Rattle.std.specs.{Io.KnownBytes.Appends, List.flat_map}
 use Rattle.cred_cli.specs.Outcome.{FrontWritten}
-use Rattle.std.specs.List.{flat_map}
+use Rattle.cred_cli.proofs.Writes.{front_behind, front_more}
 use Rattle.cred_admin.specs.Listing.{Entry, IsPiece}
 
 -- the lines of the first entries are written, those of the next are kept, and some entries are left
@@ -63,22 +62,13 @@ ended line all rest before now new text goes none more =
     (sym (goes.cut ∙ ap (λ r. goes.first ++ (goes.next ++ r)) none ∙ ap (λ r. goes.first ++ r) (append-nil goes.next)))
     (all_written line all rest before now new text goes more)
 
-front_later : (all front middle rest : List ℕ) (before now new : Option (List ℕ)) → all ≡ front ++ (middle ++ rest) → Appends before now front → FrontWritten now new middle → FrontWritten before new all
-front_later all front middle rest before now new cut written (n, short, more) = (
-  length front + n,
-  omega (arith, short, ap length cut, length-append front (middle ++ rest), length-append middle rest),
-  subst (Appends before new)
-      (sym (ap (take (length front + n)) cut ∙ take-append-add front (middle ++ rest) n ∙ ap (λ t. front ++ t) (take-append-le n middle rest (omega (arith, short)))))
-      (Appends-trans before now new front (take n middle) written more),
-)
-
 -- a piece of which only a front was written
 pub broken : (line : Entry → List ℕ) (all rest : List Entry) (before now new : Option (List ℕ)) (text : List ℕ) → Goes line all rest before now text → FrontWritten now new text
     → FrontWritten before new (flat_map line all)
 broken line all rest before now new text goes more =
-    front_later _ (flat_map line goes.first) text (flat_map line rest) before now new
-    (ap (flat_map line) goes.cut ∙ flat_map-append line goes.first (goes.next ++ rest) ∙ ap (λ t. flat_map line goes.first ++ t) (flat_map-append line goes.next rest ∙ ap (λ t. t ++ flat_map line rest) (sym goes.kept)))
-    goes.written more
+    subst (FrontWritten before new)
+    (sym (ap (flat_map line) goes.cut ∙ flat_map-append line goes.first (goes.next ++ rest) ∙ ap (λ t. flat_map line goes.first ++ t) (flat_map-append line goes.next rest ∙ ap (λ t. t ++ flat_map line rest) (sym goes.kept))))
+    (front_behind before now new (flat_map line goes.first) (text ++ flat_map line rest) goes.written (front_more now new text (flat_map line rest) more))
 
 -- there was no memory for the next line
 pub no_room : (line : Entry → List ℕ) (all rest left : List Entry) (e : Entry) (before now : Option (List ℕ)) (text : List ℕ) → Goes line all rest before now text → rest ≡ e ∷ left

@@ -2,9 +2,7 @@
 use Rattle.std.proofs.Common.{◌≡◌, ℕ, List, Bool, true, false, cond, is_some, Option, Some, None, Err, refl, sym, ap, ◌∙◌}
 use Rattle.std.specs.{Cmp.Lexicographic.nat_list_cmp_total, Ordering.eq_by_cmp}
 use Rattle.cred_phc.specs.Values.{RecordValue}
-use Rattle.cred_book.specs.{Accounts.Accounts, Calls.Loads, Commits.commit_outcome, Commits.commit_outcome_at, Commits.commit_outcome_if, Names.name_cmp}
-use Rattle.cred_book.specs.{Works.Task, Works.name_of, Works.seq, Works.seq_at, Works.whole, declared.error.BookError.BookError, declared.reply.Reply.Reply}
-use Rattle.cred_book.specs.declared.request.Request.{Request}
+use Rattle.cred_book.specs.{Accounts.Accounts, Calls.Loads, Commits.commit_outcome, Names.name_cmp, Works.Task, Works.name_of, Works.seq, Works.seq_at, declared.error.BookError.BookError, declared.reply.Reply.Reply, declared.request.Request.Request}
 use Rattle.cred_book.proofs.Equality.{same-Decides}
 use Rattle.cred_admin.specs.Commands.{IsBare, enrolment}
 use Rattle.std.specs.FinMap as map

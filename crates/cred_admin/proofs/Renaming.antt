@@ -1,6 +1,5 @@
 -- What a keeper answers that renames or deletes an account.
-use Rattle.std.proofs.Common.{◌≡◌, ℕ, ◌<◌, ◌≤◌, List, true, false, Option, Some, None, Ok, Err, is_some, refl, ap, arith, nat_lt}
-use Rattle.std.proofs.lemmas.Bool.Decides.{nat_tests}
+use Rattle.std.proofs.{Common.◌≡◌, Common.ℕ, Common.◌<◌, Common.◌≤◌, Common.List, Common.true, Common.false, Common.Option, Common.Some, Common.None, Common.Ok, Common.Err, Common.is_some, Common.refl, Common.ap, Common.arith, Common.nat_lt, lemmas.Bool.Decides.nat_tests}
 use Rattle.std.specs.FinMap as fin
 use Rattle.cred_phc.specs.Values.{RecordValue}
 use Rattle.cred_book.specs.Accounts.{Accounts}

@@ -2,8 +2,7 @@
 use Rattle.std.proofs.Common.{Bool, true, false, cond, ◌≡◌, ℕ, ◌+◌, ◌≤◌, ◌<◌, ◌⊎◌, inl, inr, refl, List, [], ◌∷◌, Result, Err, sym, ap, ◌∙◌, arith}
 use Rattle.std.specs.Cmp.Lexicographic.{nat_list_cmp_total}
 use Rattle.cred_book.specs.Accounts.{Accounts, register_capacity}
-use Rattle.cred_admin.specs.Import.{Comes, Tally, said_of, tally_from, with_account, with_bad, with_entry, with_line}
-use Rattle.cred_admin.specs.{Listing.Entry, declared.entry.LineFault.LineFault, declared.entry.Said.Said, declared.import.Existing.Existing}
+use Rattle.cred_admin.specs.{Import.Comes, Import.Tally, Import.said_of, Import.tally_from, Import.with_account, Import.with_bad, Import.with_entry, Import.with_line, Listing.Entry, declared.entry.LineFault.LineFault, declared.entry.Said.Said, declared.import.Existing.Existing}
 use Rattle.cred_admin.specs.{declared.import.ImportFault.ImportFault, declared.import.Rules.Rules}
 use Rattle.cred_admin.proofs.Imported.{by_entry, by_line}
 use Rattle.std.specs.FinMap as map

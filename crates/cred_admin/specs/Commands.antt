@@ -8,7 +8,7 @@ use Rattle.cred_admin.specs.declared.command.Command.TheVariants.{Add, Check, Ch
 use Rattle.cred_admin.specs.{declared.fault.Fault.Fault, declared.operation.Operation.Operation, declared.password.Passwords.Passwords}
 use Rattle.cred_admin.specs.{declared.password.Typed.Typed, declared.status.Hint.Hint, declared.status.Status.Status}
 use Rattle.cred_admin.specs.declared.password.Passwords.TheVariants.{Present, New, PresentAndNew}
-use Rattle.cred_cli.specs.{Texts.reply_line, Watched.Reading}
+use Rattle.cred_cli.specs.{Texts.reply_line}
 use Rattle.std.specs.FinMap as map
 use Rattle.cred_book.specs.declared.reply.Reply.TheVariants as reply
 use Rattle.cred_book.specs.declared.request.Request.TheVariants as request

@@ -2,8 +2,7 @@
 
 ghost use Rattle.std.specs.Prelude.{◌≡◌, Err, true};
 ghost use Rattle.cred_cli.specs.Watched.{Basis, failed_of, reading_on, writing_on};
-ghost use Rattle.cred_admin.specs.Commands.{Obeys, is_current_operation, operation_of, passwords_of};
-ghost use Rattle.cred_admin.specs.Seen.{FitsSince, seen};
+ghost use Rattle.cred_admin.specs.{Commands.Obeys, Commands.is_current_operation, Commands.operation_of, Commands.passwords_of, Seen.FitsSince, Seen.seen};
 
 use crate::fault::Fault;
 use crate::operation::Operation;

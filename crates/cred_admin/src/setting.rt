@@ -19,8 +19,7 @@ pub struct NewSetting {
 
 impl Model for NewSetting {
     ghost use Rattle.std.specs.Prelude.{◌≡◌, true};
-    ghost use Rattle.cred_phc.specs.Ranges.{is_current};
-    ghost use Rattle.cred_phc.specs.Values.{SettingValue};
+    ghost use Rattle.cred_phc.specs.{Ranges.is_current, Values.SettingValue};
 
     ghost Value = { SettingValue };
 

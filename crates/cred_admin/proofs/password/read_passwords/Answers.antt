@@ -1,6 +1,5 @@
 use Rattle.std.proofs.{Common.sym, Common.refl, Common.◌∙◌, lemmas.Result.err_from_is_err_and}
-use Rattle.cred_admin.proofs.{Fits.came, Fits.fits_both, Reading.no_second}
-use Rattle.cred_admin.proofs.Misread.{both_lines, first_missed, second_barred, second_missed}
+use Rattle.cred_admin.proofs.{Fits.came, Fits.fits_both, Reading.no_second, Misread.both_lines, Misread.first_missed, Misread.second_barred, Misread.second_missed}
 use Rattle.cred_cli.specs.Watched.{left_on, reading_on}
 use Rattle.cred_admin.proofs.password.read_passwords.Goals as goal
 

@@ -1,6 +1,5 @@
 use Rattle.std.proofs.Common.{ℕ, List, Option, Some}
-use Rattle.cred_cli.specs.{Outcome.FrontWritten, Watched.Basis, Watched.Contract, Watched.Transcript, Watched.held_on, Watched.inner_of, Watched.taken_of}
-use Rattle.cred_cli.specs.declared.watched.Watched.{Watched}
+use Rattle.cred_cli.specs.{Outcome.FrontWritten, Watched.Basis, Watched.Contract, Watched.Transcript, Watched.held_on, Watched.inner_of, Watched.taken_of, declared.watched.Watched.Watched}
 use Rattle.cred_admin.proofs.printing.write_whole.Goals as goal
 
 front_on : {W : Type 0} (contents : W → Option (List ℕ)) (old new : Watched W) (bytes : List ℕ) → FrontWritten (contents (inner_of old)) (contents (inner_of new)) bytes → FrontWritten (Some (taken_of old)) (Some (taken_of new)) bytes
