@@ -2,8 +2,7 @@
 use Rattle.std.proofs.Common.{◌≤◌, length, Option, Some, None, IfSome, Result, Ok, Err, IfOk, IfErr, OnOk}
 use Rattle.cred_book.specs.Accounts.{register_capacity}
 use Rattle.cred_admin.specs.Seen.{Seen}
-use Rattle.cred_cli.specs.{Outcome.HasCause, Outcome.IsAnswered, Outcome.ScriptFails, Outcome.longest_script, declared.fault.ScriptFault.ScriptFault}
-use Rattle.cred_cli.specs.declared.script.End.{End}
+use Rattle.cred_cli.specs.{Outcome.HasCause, Outcome.IsAnswered, Outcome.ScriptFails, Outcome.longest_script, declared.fault.ScriptFault.ScriptFault, declared.script.End.End}
 use Rattle.cred_keep.specs.Orders.{RunsPrompt, RunsWithin}
 
 both : {A : Type 0} (o : Option A) (P Q : A → Type 0) → IfSome o P → IfSome o Q → IfSome o (λ x. P x × Q x)

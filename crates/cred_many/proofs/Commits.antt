@@ -1,15 +1,11 @@
 -- A commit that doesn't find the record changed is the whole operation.
 use Rattle.std.proofs.Common.{◌≡◌, ℕ, Option, Some, None, Ok, Bool, true, false, refl, ap, ◌∙◌}
 use Rattle.cred_phc.specs.Values.{RecordValue}
-use Rattle.cred_book.specs.{Accounts.Accounts, Commits.Commits, Commits.commit_outcome_at, Commits.commit_outcome_if}
-use Rattle.cred_book.specs.Works.{Task, name_of, new_record, same, seq, seq_at, whole}
-use Rattle.cred_book.specs.{declared.reply.Reply.Reply, declared.request.Request.Request}
+use Rattle.cred_book.specs.{Accounts.Accounts, Commits.Commits, Commits.commit_outcome_at, Commits.commit_outcome_if, Works.Task, Works.name_of, Works.new_record, Works.same, Works.seq, Works.seq_at, Works.whole, declared.reply.Reply.Reply, declared.request.Request.Request}
 use Rattle.cred_book.proofs.Commitments.{committed_found}
 use Rattle.cred_cli.specs.Texts.{reply_line}
 use Rattle.cred_cli.proofs.Simulation.{whole_replies}
-use Rattle.cred_many.specs.{Asks.IsJobOf, Asks.hashed_for, Asks.is_reset, Scribe.is_change, Scribe.is_changed}
-use Rattle.cred_many.specs.{Served.done, Served.login_reply, Served.told_reply, declared.ask.Ask.Ask}
-use Rattle.cred_many.specs.declared.ask.Ask.TheVariants.{Quick, Whole, Login, Reset}
+use Rattle.cred_many.specs.{Asks.IsJobOf, Asks.hashed_for, Asks.is_reset, Scribe.is_change, Scribe.is_changed, declared.ask.Ask.TheVariants.Quick, declared.ask.Ask.TheVariants.Whole, declared.ask.Ask.TheVariants.Login, declared.ask.Ask.TheVariants.Reset, Served.done, Served.login_reply, Served.told_reply, declared.ask.Ask.Ask}
 use Rattle.cred_admin.specs.Commands.{reset_step}
 use Rattle.cred_book.specs.declared.request.Request.TheVariants as request
 use Rattle.std.specs.FinMap as map

@@ -1,15 +1,12 @@
 -- The lines that a reader comes to are lines of its input.
 use Rattle.std.proofs.Common.{◌≡◌, ◌≢◌, ◌==◌, ℕ, zero, suc, ◌+◌, ◌<◌, ◌≤◌, List, [], ◌∷◌, ◌++◌, length, take, Option, Some, None, IfSome, true, false, nat_lt, option_map, slice_get, refl, sym, ap, ◌∙◌, arith, append_assoc, append-nil, inl, inr}
+use Rattle.std.proofs.{lemmas.Bool.cases_lt, lemmas.Bool.Decides.eqb_tells, lemmas.List.length-append, lemmas.List.length-take, lemmas.List.take_all, lemmas.Option.IfSome_then}
 use Rattle.std.specs.List.{filter}
-use Rattle.std.proofs.{lemmas.Bool.cases_lt, lemmas.Bool.Decides.eqb_tells}
-use Rattle.std.proofs.{lemmas.List.length-append, lemmas.List.length-take, lemmas.List.take_all, lemmas.Option.IfSome_then}
 use Rattle.cred_phc.specs.{Pieces.pieces, Values.SettingValue}
-use Rattle.cred_cli.specs.{Events.longest_line, Events.most_kept, Events.most_pieces, Feeding.unfinished_from, Script.line_ends, Script.lines_of}
-use Rattle.cred_cli.specs.declared.costs.CostBounds.{CostBounds}
+use Rattle.cred_cli.specs.{Events.longest_line, Events.most_kept, Events.most_pieces, Feeding.unfinished_from, Script.line_ends, Script.lines_of, declared.costs.CostBounds.CostBounds}
 use Rattle.cred_cli.proofs.{Feeds.none_kept, Feeds.some_kept, Feeds.take-kept, Readings.if_known, Unended.ends_sooner, Unended.unended_at, Unended.unended_last}
 use Rattle.cred_cli.proofs.Lines.{length-whole_from, line_ends-append, line_ends-end, line_ends-more, lines_of-ended, lines_of-line_end, lines_of-unfinished, longer, unfinished_from-end, unfinished_from-more, whole_from}
-use Rattle.cred_many.specs.Asks.{Tagged, entry_of, tag_of, tagged, tagged_by, tagged_of, untagged, within}
-use Rattle.cred_many.specs.Reading.{ComesNext, IsCutLine, IsWholeLine, MovesOver, NothingIsLeft, Place, Splits}
+use Rattle.cred_many.specs.{Asks.Tagged, Asks.entry_of, Asks.tag_of, Asks.tagged, Asks.tagged_by, Asks.tagged_of, Asks.untagged, Asks.within, Reading.ComesNext, Reading.IsCutLine, Reading.IsWholeLine, Reading.MovesOver, Reading.NothingIsLeft, Reading.Place, Reading.Splits}
 use Rattle.cred_many.specs.Service.{IsLine, Service, asked_from, cut_line, drawn_setting}
 use Rattle.cred_cli.specs.declared.refusal.Refusal.TheVariants as refusal
 

@@ -1,15 +1,13 @@
 -- How often a record was seen to change.
 use Rattle.std.proofs.Common.{◌≡◌, ℕ, suc, ◌+◌, ◌≤◌, List, [], ◌∷◌, ◌++◌, Option, Some, None, IfSome, subst, Bool, true, false, if◌then◌else◌, refl, sym, ap, ◌∙◌, append_assoc, arith, option_map, set, slice_get}
-use Rattle.std.proofs.lemmas.List.{get_or-set_same, length-set, map-set, set-get_or}
+use Rattle.std.proofs.{lemmas.List.get_or-set_same, lemmas.List.length-set, lemmas.List.map-set, lemmas.List.set-get_or, lemmas.Option.IfSome_then, lemmas.Option.get_or_from_slice_get, lemmas.Option.slice_get-get_or, lemmas.Option.slice_get-map, lemmas.Option.slice_get_within, lemmas.Slice.Eq.bytes_eq-Decides}
 use Rattle.std.proofs.lemmas.List.Elements.{All-append, All-drop, All-get_or, All-same, All-set, All-take, All-weaker}
-use Rattle.std.proofs.{lemmas.Option.IfSome_then, lemmas.Option.get_or_from_slice_get, lemmas.Option.slice_get-get_or, lemmas.Option.slice_get-map, lemmas.Option.slice_get_within, lemmas.Slice.Eq.bytes_eq-Decides}
 use Rattle.std.specs.{List.All, List.remove, Str.bytes_eq}
 use Rattle.cred_phc.specs.Values.{RecordValue}
 use Rattle.cred_book.specs.{Accounts.Accounts, Works.same}
 use Rattle.cred_book.proofs.Equality.{same-Decides}
-use Rattle.cred_many.specs.{declared.ask.Ask.Ask, declared.open.Open.Open, declared.open.Sight.Sight, declared.fault.ServiceFault.ServiceFault, Asks.Entry}
+use Rattle.cred_many.specs.{declared.ask.Ask.Ask, declared.open.Open.Open, declared.open.Sight.Sight, declared.fault.ServiceFault.ServiceFault, Asks.Entry, Served.answers, Served.book_after, Served.change_from, Served.changes, Served.done, Served.line_at, Served.name_asked, Served.record_at, Served.tries}
 use Rattle.cred_many.specs.Scribe.{AreClosed, IsBusy, IsReady, Notes, SightHolds, counted, numbers}
-use Rattle.cred_many.specs.Served.{answers, book_after, change_from, changes, done, line_at, name_asked, record_at, tries}
 
 -- ---- how often a record changed
 

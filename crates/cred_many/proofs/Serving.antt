@@ -1,20 +1,15 @@
 -- A history that goes on: what is written, what may stand in it, why nothing more is answered, and what is told of it.
 use Rattle.std.proofs.Common.{◌≡◌, ◌≢◌, ◌⊎◌, inl, inr, ℕ, suc, ◌+◌, ◌-◌, ◌<◌, ◌≤◌, List, [], ◌∷◌, ◌++◌, Bool, Option, Some, None, IfSome, get_or, subst, refl, sym, ap, ◌∙◌, append_assoc, append-nil, arith, take, drop, slice_get, length, take-append-drop}
-use Rattle.std.proofs.{KnownBytes.Appends-nil, KnownBytes.Appends-trans, Math.Logic.∥∥₁_map, Math.Seq.take-append-add, lemmas.Bool.cases_lt}
-use Rattle.std.proofs.lemmas.List.{drop-map, get_or-append-add, get_or_append_left, length-append, map-append, map-id, take-append-le, take-map, take_all}
-use Rattle.std.proofs.lemmas.List.Elements.{All-nil, All-push, All-same}
-use Rattle.std.proofs.lemmas.List.FromFn.{map-range_with_len_more}
+use Rattle.std.proofs.{KnownBytes.Appends-nil, KnownBytes.Appends-trans, Math.Logic.∥∥₁_map, Math.Seq.take-append-add, lemmas.Bool.cases_lt, lemmas.Option.IfSome_then, lemmas.Option.get_or_from_slice_get, lemmas.Option.slice_get_within, lemmas.List.Elements.All-nil, lemmas.List.Elements.All-push, lemmas.List.Elements.All-same}
+use Rattle.std.proofs.{lemmas.List.drop-map, lemmas.List.get_or-append-add, lemmas.List.get_or_append_left, lemmas.List.length-append, lemmas.List.map-append, lemmas.List.map-id, lemmas.List.take-append-le, lemmas.List.take-map, lemmas.List.take_all, lemmas.List.FromFn.map-range_with_len_more}
 use Rattle.std.proofs.lemmas.List.Sorted.{IsPermutation-append_left, IsPermutation-append_right, IsPermutation-cons, IsPermutation-refl, IsPermutation-remove, IsPermutation-sym, IsPermutation-trans}
-use Rattle.std.proofs.lemmas.Option.{IfSome_then, get_or_from_slice_get, slice_get_within}
 use Rattle.std.specs.{Io.KnownBytes.Appends, List.All, List.range_with_len, List.remove, List.Sorted.IsPermutation, Option.option_or}
 use Rattle.cred_phc.specs.Values.{RecordValue}
 use Rattle.cred_book.specs.Accounts.{Accounts}
 use Rattle.cred_cli.specs.{History.Refused, Script.lines_of, Texts.line_of}
 use Rattle.cred_cli.proofs.Unended.{length-unended}
-use Rattle.cred_many.specs.Asks.{Entry, entry, refused}
-use Rattle.cred_many.specs.{declared.ask.Ask.Ask, declared.fault.ServiceFault.ServiceFault, declared.open.Open.Open}
-use Rattle.cred_many.specs.Scribe.{AreClosed, History, IsBusy, IsConcluded, IsReady, Notes, SightHolds, numbers, unseen}
-use Rattle.cred_many.specs.Served.{AreFor, HasCause, IsFor, IsGivenUp, IsWritten, NeedsMemory, Stands, StandsAtEnd, answers, book_after, done, entry_numbers, line_at, most_together, record_at}
+use Rattle.cred_many.specs.{Asks.Entry, Asks.entry, Asks.refused, Served.AreFor, Served.HasCause, Served.IsFor, Served.IsGivenUp, Served.IsWritten, Served.NeedsMemory, Served.Stands, Served.StandsAtEnd, Served.answers, Served.book_after, Served.done, Served.entry_numbers, Served.line_at, Served.most_together, Served.record_at}
+use Rattle.cred_many.specs.{declared.ask.Ask.Ask, declared.fault.ServiceFault.ServiceFault, declared.open.Open.Open, Scribe.AreClosed, Scribe.History, Scribe.IsBusy, Scribe.IsConcluded, Scribe.IsReady, Scribe.Notes, Scribe.SightHolds, Scribe.numbers, Scribe.unseen}
 use Rattle.cred_many.specs.Service.{IsLine, Service, asked, asked_from, cut_line}
 use Rattle.cred_many.proofs.Seen.{answers-append, book_after-append, looked_numbers, watched_looked, watched_on, watched_rest, worn}
 use Rattle.cred_book.specs.declared.error.BookError.TheVariants as error

@@ -1,18 +1,14 @@
 -- Changes of different accounts that are made together.
 use Rattle.std.proofs.Common.{◌≡◌, ℕ, ◌<◌, List, [], ◌∷◌, ◌++◌, length, get_or, Option, Some, None, IfSome, Result, Ok, Err, OnErr, OnOk, Bool, true, false, cond, refl, sym, ap, ◌∙◌, append_assoc, append-nil, arith, inl}
-use Rattle.std.proofs.{Math.Logic.∥∥₁_map, lemmas.List.length-append, lemmas.List.length-map, lemmas.List.map-append, lemmas.Option.IfSome_then}
-use Rattle.std.proofs.lemmas.List.Elements.{All-get_or, All-nil, All-push}
-use Rattle.std.specs.{Cmp.Lexicographic.nat_list_cmp_total, List.All, Option.option_or, Ordering.eq_by_cmp}
-use Rattle.std.specs.FinMap.{get-empty, get-entries, get-from_entries, get-insert, same_map}
+use Rattle.std.proofs.{Math.Logic.∥∥₁_map, lemmas.List.length-append, lemmas.List.length-map, lemmas.List.map-append, lemmas.Option.IfSome_then, lemmas.List.Elements.All-get_or, lemmas.List.Elements.All-nil, lemmas.List.Elements.All-push}
+use Rattle.std.specs.{Cmp.Lexicographic.nat_list_cmp_total, List.All, Option.option_or, Ordering.eq_by_cmp, FinMap.get-empty, FinMap.get-entries, FinMap.get-from_entries, FinMap.get-insert, FinMap.same_map}
 use Rattle.cred_phc.specs.Values.{RecordValue}
-use Rattle.cred_book.specs.{Accounts.Accounts, Changes.judged_book, Commits.Commits, Commits.judgement, Commits.judgement_at, Commits.judgement_if}
-use Rattle.cred_book.specs.{Names.name_cmp, Works.Task, Works.name_of, Works.same, declared.reply.Reply.Reply}
+use Rattle.cred_book.specs.{Accounts.Accounts, Changes.judged_book, Commits.Commits, Commits.judgement, Commits.judgement_at, Commits.judgement_if, Names.name_cmp, Works.Task, Works.name_of, Works.same, declared.reply.Reply.Reply}
 use Rattle.cred_book.proofs.Changes.{committed_as_judged}
 use Rattle.cred_cli.specs.Texts.{reply_line}
 use Rattle.cred_file.specs.Edits.{joined, taken_in}
 use Rattle.cred_many.specs.{Asks.Entry, Asks.hashed_for, Asks.is_reset, declared.fault.ServiceFault.ServiceFault, declared.open.Open.Open}
-use Rattle.cred_many.specs.Scribe.{AreClosed, AreReplaced, History, IsConcluded, IsGroup, entries_of, is_changed}
-use Rattle.cred_many.specs.{Served.answers, Served.book_after, Served.done, Served.line_at, Served.most_together, Served.told_reply, Service.IsLine, Service.Service}
+use Rattle.cred_many.specs.{Scribe.AreClosed, Scribe.AreReplaced, Scribe.History, Scribe.IsConcluded, Scribe.IsGroup, Scribe.entries_of, Scribe.is_changed, Served.answers, Served.book_after, Served.done, Served.line_at, Served.most_together, Served.told_reply, Service.IsLine, Service.Service}
 use Rattle.cred_many.proofs.{Commits.done_whole, Commits.whole_unchanged, Seen.answers-append, Seen.book_after-append, Serving.served_on}
 use Rattle.std.specs.FinMap as fin
 

@@ -1,10 +1,8 @@
 -- What a tagged line asks for.
 use Rattle.std.specs.{List.list_all, Str.bytes_eq}
 use Rattle.std.specs.Prelude.{◌≡◌, ℕ, List, [], ◌∷◌, Bool, ◌&&◌, ◌||◌, if◌then◌else◌, length, nat_le, nat_lt, codes, Option, Some, None, Result, Ok, Err, true, false, IfSome}
-use Rattle.cred_phc.specs.{Number.number_of, Pieces.pieces, Ranges.between, Reading.◌>>=◌, Values.SettingValue}
-use Rattle.cred_phc.specs.declared.error.PhcError.TheVariants.{Range}
-use Rattle.cred_book.specs.Works.{Task, is_for_current}
-use Rattle.cred_book.specs.declared.request.Request.{Request}
+use Rattle.cred_phc.specs.{Number.number_of, Pieces.pieces, Ranges.between, Reading.◌>>=◌, Values.SettingValue, declared.error.PhcError.TheVariants.Range}
+use Rattle.cred_book.specs.{Works.Task, Works.is_for_current, declared.request.Request.Request}
 use Rattle.cred_cli.specs.{Costs.exceeds, Costs.request_exceeds, declared.costs.CostBounds.CostBounds, declared.refusal.Refusal.Refusal}
 use Rattle.cred_cli.specs.Events.{longest_line, name_and_password, name_and_record, name_field, name_password_setting, only_name, request_of}
 use Rattle.cred_admin.specs.declared.edits.Edit.TheVariants.{Disable, Delete, Rename}

@@ -53,8 +53,7 @@ pub(crate) enum End<S> {
 }
 
 impl<J: ServiceId, S: Source> Model for Ending<J, S> {
-    ghost use Rattle.cred_many.specs.Reading.{IsEnd};
-    ghost use Rattle.cred_many.specs.declared.ending.End.{End};
+    ghost use Rattle.cred_many.specs.{Reading.IsEnd, declared.ending.End.End};
 
     ghost Value = { End S };
 

@@ -12,9 +12,7 @@ use sqlite::Alter;
 /// runs out and no other error is due; the book stays then.
 pub trait Host {
     ghost use Rattle.std.specs.Prelude.{◌≡◌, ℕ, Bool};
-    ghost use Rattle.cred_book.specs.Accounts.{Accounts, most_accounts};
-    ghost use Rattle.cred_book.specs.Calls.{AdmitsWithin, Loads};
-    ghost use Rattle.cred_book.specs.Commits.{Commits};
+    ghost use Rattle.cred_book.specs.{Accounts.Accounts, Accounts.most_accounts, Calls.AdmitsWithin, Calls.Loads, Commits.Commits};
     ghost use Rattle.cred_admin.specs.Edits.{EditsWithin};
     ghost use Rattle.cred_file.specs.Edits.{TakesIn};
     ghost use Rattle.std.specs.FinMap as map;

@@ -27,8 +27,7 @@ pub struct Line<J: ServiceId> {
 
 impl<J: ServiceId> Model for Line<J> {
     ghost use Rattle.std.specs.Prelude.{IfSome};
-    ghost use Rattle.cred_many.specs.Asks.{Entry, IsSound, entry};
-    ghost use Rattle.cred_many.specs.Service.{IsLine};
+    ghost use Rattle.cred_many.specs.{Asks.Entry, Asks.IsSound, Asks.entry, Service.IsLine};
 
     ghost Value = { Entry };
 

@@ -12,10 +12,8 @@ use std::io::Read;
 /// Who calls it owes three things: that each whole line that it gave was handed on, that it neither
 /// gave its end nor failed, and that what it gives can be counted.
 pub trait Source {
-    ghost use Rattle.std.specs.Prelude.{◌≡◌, ◌+◌, ◌^◌, ◌<◌, ◌==◌, ℕ, Bool, false, true, List, Option, length};
-    ghost use Rattle.std.specs.Prelude.{IfOk, MatchResult, take};
-    ghost use Rattle.std.specs.Io.{ReadsAtMost};
-    ghost use Rattle.std.specs.Io.KnownBytes.{ReadConsumes};
+    ghost use Rattle.std.specs.Prelude.{◌≡◌, ◌+◌, ◌^◌, ◌<◌, ◌==◌, ℕ, Bool, false, true, List, Option, length, IfOk, MatchResult, take};
+    ghost use Rattle.std.specs.{Io.ReadsAtMost, Io.KnownBytes.ReadConsumes};
     ghost use Rattle.cred_cli.specs.Script.{line_ends};
 
     /// The bytes that it has to give, if they are known.

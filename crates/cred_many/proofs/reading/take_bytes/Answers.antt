@@ -1,5 +1,4 @@
-use Rattle.std.proofs.Common.{◌+◌, ◌++◌, [], ◌∷◌, ap, arith, drop, get_or, length}
-use Rattle.std.proofs.lemmas.List.{drop_all, drop_more}
+use Rattle.std.proofs.{Common.◌+◌, Common.◌++◌, Common.[], Common.◌∷◌, Common.ap, Common.arith, Common.drop, Common.get_or, Common.length, lemmas.List.drop_all, lemmas.List.drop_more}
 use Rattle.cred_cli.specs.Script.{line_ends}
 use Rattle.cred_cli.proofs.Lines.{line_ends-append}
 use Rattle.cred_many.proofs.Lines.{line_ends-short}

@@ -1,6 +1,4 @@
-use Rattle.std.proofs.Common.{◌==◌, ◌∙◌, rules, tests}
-use Rattle.std.proofs.lemmas.Iterator.{YieldsList-from_slice}
-use Rattle.std.proofs.lemmas.Iterator.Consumers.{YieldsList-from_filter, count_from_yields_List}
+use Rattle.std.proofs.{Common.◌==◌, Common.◌∙◌, Common.rules, Common.tests, lemmas.Iterator.Consumers.YieldsList-from_filter, lemmas.Iterator.Consumers.count_from_yields_List, lemmas.Iterator.YieldsList-from_slice}
 use Rattle.cred_many.proofs.Lines.{length-ends, line_ends-short}
 use Rattle.cred_many.proofs.source.line_ends.Goals as goal
 
