@@ -123,7 +123,7 @@ class ClientsTest(BookTest):
                     reply, stored[line.name] = line.done(stored[line.name])
                     self.assertEqual((line.text, line.reply), (line.text, reply))
                 busy = len(numbers) - len(served)
-                self.assertLessEqual(busy * 100, len(numbers) + 100, "too many are busy")
+                self.assertLessEqual(busy * 10, len(numbers) + 10, "too many are busy")
                 self.assertTrue(numbers != sorted(numbers) or words == ("--at-once", "1"))
         self.assertSound(self.book)
 
