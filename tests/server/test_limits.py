@@ -71,6 +71,16 @@ class Limits(Case):
             until(lambda: "verify gone -" in service.asked(), "the first")
         until(lambda: service.client().ask(f"verify ada {FRESH}") == "yes", "the change")
         self.assertLess(service.asked().count("verify gone -"), 5)
+        clients = service.stats()["clients"]
+        for client in [service.client() for _ in range(20)]:  # as PAM's at its timeout
+            client.send("a verify late -\n")
+            client.close()
+        with service.client() as client:
+            client.send(f"a verify ada {FRESH}\n")
+            client.socket.shutdown(socket.SHUT_WR)
+            self.assertEqual(client.line(), b"a yes")
+        self.assertLess(service.asked().count("verify late -"), 5)
+        self.assertEqual(service.stats()["clients"], clients)
 
     def test_changes_together(self) -> None:
         """Where a change mostly waits for the disk, many are at the book at once, and leave room for others."""

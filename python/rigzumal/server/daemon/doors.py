@@ -8,6 +8,7 @@ import grp
 import os
 import pathlib
 import re
+import select
 import socket
 import struct
 import time
@@ -126,10 +127,12 @@ class Client(asyncio.BufferedProtocol):
             self.take_lines()
 
     def eof_received(self) -> bool:
-        """It sends no more, and still gets its answers."""
+        """It sends no more, and still gets its answers, unless it has closed its end."""
         self.is_ending = True
         self.take_lines()
-        return True
+        poll = select.poll()
+        poll.register(self.transport.get_extra_info("socket"), 0)
+        return not any(events & select.POLLHUP for _, events in poll.poll(0))
 
     def pause_writing(self) -> None:
         self.is_held = True
