@@ -51,13 +51,14 @@ fn mixing(a: u64, b: u64, c: u64, d: u64, x: u64, y: u64) -> (u64, u64, u64, u64
     (a, b, c, d)
 }
 
-/// G at the places i, j, k, l of the work vector.
+/// G at the places i, j, k, l of the work vector, with two words of the message.
 #[inline(always)]
 #[tactic(auto, unfolding(crate::specs::Blake2b::mix))]
-fn mix(v: &mut [u64; 16], i: usize, j: usize, k: usize, l: usize, x: u64, y: u64)
+fn mix(v: &mut [u64; 16], i: usize, j: usize, k: usize, l: usize, words: (u64, u64))
     requires { (i < 16) × (j < 16) × (k < 16) × (l < 16) }
-    ensures { v.new ≡ mix v.old i j k l x y }
+    ensures { v.new ≡ mix v.old i j k l words.0 words.1 }
 {
+    let (x, y) = words;
     let (a, b, c, d) = mixing(v[i], v[j], v[k], v[l], x, y);
     v[i] = a;
     v[j] = b;
@@ -81,14 +82,14 @@ fn round(v: &mut [u64; 16], m: &[u64; 16], r: usize)
     requires { r < 10 }
     ensures { v.new ≡ round v.old m.now (slice_index_or schedule r []) }
 {
-    mix(v, 0, 4, 8, 12, word(m, r, 0), word(m, r, 1));
-    mix(v, 1, 5, 9, 13, word(m, r, 2), word(m, r, 3));
-    mix(v, 2, 6, 10, 14, word(m, r, 4), word(m, r, 5));
-    mix(v, 3, 7, 11, 15, word(m, r, 6), word(m, r, 7));
-    mix(v, 0, 5, 10, 15, word(m, r, 8), word(m, r, 9));
-    mix(v, 1, 6, 11, 12, word(m, r, 10), word(m, r, 11));
-    mix(v, 2, 7, 8, 13, word(m, r, 12), word(m, r, 13));
-    mix(v, 3, 4, 9, 14, word(m, r, 14), word(m, r, 15));
+    mix(v, 0, 4, 8, 12, (word(m, r, 0), word(m, r, 1)));
+    mix(v, 1, 5, 9, 13, (word(m, r, 2), word(m, r, 3)));
+    mix(v, 2, 6, 10, 14, (word(m, r, 4), word(m, r, 5)));
+    mix(v, 3, 7, 11, 15, (word(m, r, 6), word(m, r, 7)));
+    mix(v, 0, 5, 10, 15, (word(m, r, 8), word(m, r, 9)));
+    mix(v, 1, 6, 11, 12, (word(m, r, 10), word(m, r, 11)));
+    mix(v, 2, 7, 8, 13, (word(m, r, 12), word(m, r, 13)));
+    mix(v, 3, 4, 9, 14, (word(m, r, 14), word(m, r, 15)));
 }
 
 /// The twelve rounds, unrolled so that the row of the schedule is a constant in each.

@@ -44,21 +44,28 @@ pub fn run_parts<R: Threads + Sync, G: Gate + Sync, C: Sync, P: Part<C> + Send>(
         return;
     }
     let size = parts.len().div_ceil(usize::from(workers));
-    run_from(rt, gate, shared, 0, size, parts);
+    run_from(rt, gate, shared, Runs { base: 0, size }, parts);
 }
 
-/// Works the parts, the first of which has the index `base`, in runs of `size`.
+/// Where runs begin, and how long each is but the last.
+#[derive(Clone, Copy)]
+struct Runs {
+    /// The index of the first part.
+    base: usize,
+    size: usize,
+}
+
+/// Works the parts in these runs.
 #[cycle(runs)]
 fn run_from<R: Threads + Sync, G: Gate + Sync, C: Sync, P: Part<C> + Send>(
     rt: &R,
     gate: &G,
     shared: &C,
-    base: usize,
-    size: usize,
+    runs: Runs,
     parts: &mut [P],
 )
-    requires some { 0 < size }
-    requires room { base + length parts.old < 2 ^ 64 }
+    requires some { 0 < runs.size }
+    requires room { runs.base + length parts.old < 2 ^ 64 }
     requires can { (i : ℕ) (d : P) → i < length parts.old
         → P.can_work shared.now (slice_index_or parts.old i d) }
     ensures { (i : ℕ) (d : P) → i < length parts.old
@@ -67,8 +74,8 @@ fn run_from<R: Threads + Sync, G: Gate + Sync, C: Sync, P: Part<C> + Send>(
     if parts.is_empty() {
         return;
     }
-    let (run, rest) = parts.split_at_mut(size.min(parts.len()));
-    run_both(rt, gate, shared, base, size, run, rest);
+    let (run, rest) = parts.split_at_mut(runs.size.min(parts.len()));
+    run_both(rt, gate, shared, runs, run, rest);
 }
 
 /// Works a run in a new thread and starts the rest from here, so that one thread starts all the
@@ -79,14 +86,13 @@ fn run_both<R: Threads + Sync, G: Gate + Sync, C: Sync, P: Part<C> + Send>(
     rt: &R,
     gate: &G,
     shared: &C,
-    base: usize,
-    size: usize,
+    runs: Runs,
     run: &mut [P],
     rest: &mut [P],
 )
-    requires some { 0 < size }
+    requires some { 0 < runs.size }
     requires part { 0 < length run.old }
-    requires room { base + length run.old + length rest.old < 2 ^ 64 }
+    requires room { runs.base + length run.old + length rest.old < 2 ^ 64 }
     requires run { (i : ℕ) (d : P) → i < length run.old
         → P.can_work shared.now (slice_index_or run.old i d) }
     requires rest { (i : ℕ) (d : P) → i < length rest.old
@@ -96,6 +102,7 @@ fn run_both<R: Threads + Sync, G: Gate + Sync, C: Sync, P: Part<C> + Send>(
     ensures rest { (i : ℕ) (d : P) → i < length rest.old
         → P.works shared.now (slice_index_or rest.old i d) (slice_index_or rest.new i d) }
 {
+    let Runs { base, size } = runs;
     let next = base + run.len();
     let mut first = ||
         requires { IsSync G.row × IsSync C.row × IsSend P.row
@@ -114,7 +121,7 @@ fn run_both<R: Threads + Sync, G: Gate + Sync, C: Sync, P: Part<C> + Send>(
         ensures { (i : ℕ) (d : P) → i < length rest.entry.now
             → P.works shared.entry.now (slice_index_or rest.entry.now i d)
             (slice_index_or rest.exit.now i d) }
-    { run_from(rt, gate, shared, next, size, rest) };
+    { run_from(rt, gate, shared, Runs { base: next, size }, rest) };
     thread::join_mut(rt, &mut first, &mut others);
 }
 
