@@ -1,6 +1,6 @@
 /* What the crate cred_c exports, in each of its builds, and the choice between them. The contracts
- * stand in the crate; rigzumal_argon2 and rigzumal_parts are its structures Argon2Numbers and
- * Parts. */
+ * stand in the crate. Its structures are rigzumal_argon2 (Argon2Numbers), rigzumal_scrypt
+ * (ScryptNumbers), rigzumal_parts (Parts), and those below. */
 #ifndef BUILDS_H
 #define BUILDS_H
 
@@ -13,13 +13,37 @@
 
 typedef const uint8_t *bytes;
 
+/* Inputs, of cred_argon. */
+struct argon2_inputs {
+    bytes password;
+    size_t password_size;
+    bytes salt;
+    size_t salt_size;
+    bytes secret;
+    size_t secret_size;
+    bytes associated;
+    size_t associated_size;
+};
+
+/* StepInputs. */
+struct step_inputs {
+    uint32_t operation;
+    bytes copy;
+    size_t copy_size;
+    bytes password;
+    size_t password_size;
+    bytes new_password;
+    size_t new_password_size;
+    bytes setting;
+    size_t setting_size;
+};
+
 /* The exports of a build, whose names begin with the build's. */
 #define EXPORTS(build)                                                                             \
-    uint8_t build##_cred_argon2(const struct rigzumal_argon2 *numbers, bytes password,             \
-                                size_t password_size, bytes salt, size_t salt_size, bytes secret,  \
-                                size_t secret_size, bytes associated, size_t associated_size,      \
-                                uint8_t *tag, size_t tag_size);                                    \
-    uint8_t build##_cred_scrypt(uint32_t ln, uint32_t r, uint32_t p, bytes password,               \
+    uint8_t build##_cred_argon2(const struct rigzumal_argon2 *numbers,                             \
+                                const struct argon2_inputs *inputs, uint8_t *tag,                  \
+                                size_t tag_size);                                                  \
+    uint8_t build##_cred_scrypt(const struct rigzumal_scrypt *numbers, bytes password,             \
                                 size_t password_size, bytes salt, size_t salt_size, uint8_t *key,  \
                                 size_t key_size);                                                  \
     uint8_t build##_cred_check(bytes record, size_t record_size, bytes password,                   \
@@ -27,9 +51,7 @@ typedef const uint8_t *bytes;
     uint8_t build##_cred_hash(bytes setting, size_t setting_size, uint32_t tag_size,               \
                               bytes password, size_t password_size, uint8_t *text,                 \
                               size_t text_size, size_t *written);                                  \
-    uint8_t build##_cred_step(uint32_t operation, bytes copy, size_t copy_size, bytes password,    \
-                              size_t password_size, bytes new_password, size_t new_password_size,  \
-                              bytes setting, size_t setting_size, uint32_t *reply, uint8_t *text,  \
+    uint8_t build##_cred_step(const struct step_inputs *inputs, uint32_t *reply, uint8_t *text,    \
                               size_t text_size, size_t *written)
 
 EXPORTS(v1);

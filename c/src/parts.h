@@ -51,10 +51,9 @@ struct record_reading {
 };
 
 #define PARTS(build)                                                                               \
-    uint8_t build##_cred_argon2_begin(                                                             \
-        const struct tag_numbers *numbers, bytes password, size_t password_size, bytes salt,       \
-        size_t salt_size, bytes secret, size_t secret_size, bytes associated,                      \
-        size_t associated_size, struct argon2_block *first, size_t first_count);                   \
+    uint8_t build##_cred_argon2_begin(const struct tag_numbers *numbers,                           \
+                                      const struct argon2_inputs *inputs,                          \
+                                      struct argon2_block *first, size_t first_count);             \
     uint8_t build##_cred_argon2_segment(                                                           \
         const struct tag_numbers *numbers, const struct segment_index *index,                      \
         const struct argon2_block *oldest, size_t oldest_count, const struct argon2_block *middle, \

@@ -23,18 +23,16 @@ int rigzumal_argon2(void *tag, size_t tag_size, const struct rigzumal_argon2 *nu
                     const void *password, size_t password_size, const void *salt, size_t salt_size,
                     const void *secret, size_t secret_size, const void *associated,
                     size_t associated_size) {
-    return cleared(CALL(cred_argon2, numbers, BYTES(password, password_size),
-                        BYTES(salt, salt_size), BYTES(secret, secret_size),
-                        BYTES(associated, associated_size), tag_size == 0 ? NOTHING : tag,
-                        tag_size));
+    struct argon2_inputs inputs = {BYTES(password, password_size), BYTES(salt, salt_size),
+                                   BYTES(secret, secret_size), BYTES(associated, associated_size)};
+    return cleared(CALL(cred_argon2, numbers, &inputs, tag_size == 0 ? NOTHING : tag, tag_size));
 }
 
 int rigzumal_scrypt(void *key, size_t key_size, const struct rigzumal_scrypt *numbers,
                     const void *password, size_t password_size, const void *salt,
                     size_t salt_size) {
-    return cleared(CALL(cred_scrypt, numbers->ln, numbers->r, numbers->p,
-                        BYTES(password, password_size), BYTES(salt, salt_size),
-                        key_size == 0 ? NOTHING : key, key_size));
+    return cleared(CALL(cred_scrypt, numbers, BYTES(password, password_size),
+                        BYTES(salt, salt_size), key_size == 0 ? NOTHING : key, key_size));
 }
 
 int rigzumal_check(const char *record, const void *password, size_t password_size) {
@@ -73,9 +71,9 @@ int rigzumal_step(char *text, size_t text_size, uint32_t *reply, uint32_t operat
     /* To the export an empty copy is none, and here it is a text that is no record. */
     if (copy != NULL && copy[0] == '\0')
         copy = "$";
-    uint8_t answer = CALL(cred_step, operation, TEXT_OR_NONE(copy), BYTES(password, password_size),
-                          BYTES(new_password, new_password_size), TEXT_OR_NONE(setting), reply,
-                          ROOM(text, text_size), &written);
+    struct step_inputs inputs = {operation, TEXT_OR_NONE(copy), BYTES(password, password_size),
+                                 BYTES(new_password, new_password_size), TEXT_OR_NONE(setting)};
+    uint8_t answer = CALL(cred_step, &inputs, reply, ROOM(text, text_size), &written);
     return text_size == 0 ? cleared(answer) : ended(answer, text, written);
 }
 

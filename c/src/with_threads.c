@@ -17,9 +17,10 @@ struct tag_inputs {
 static uint8_t begin_tag(const void *inputs, struct argon2_block *first, size_t count) {
     const struct tag_inputs *tag = inputs;
     const struct rigzumal_inputs *it = tag->inputs;
-    return CALL(cred_argon2_begin, tag->numbers, BYTES(it->password, it->password_size),
-                BYTES(it->salt, it->salt_size), BYTES(it->secret, it->secret_size),
-                BYTES(it->associated, it->associated_size), first, count);
+    struct argon2_inputs all = {BYTES(it->password, it->password_size),
+                                BYTES(it->salt, it->salt_size), BYTES(it->secret, it->secret_size),
+                                BYTES(it->associated, it->associated_size)};
+    return CALL(cred_argon2_begin, tag->numbers, &all, first, count);
 }
 
 static uint8_t end_tag(const void *inputs, const struct argon2_block *last, size_t count) {

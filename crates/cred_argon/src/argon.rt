@@ -4,7 +4,7 @@ ghost use Rattle.cred_argon.specs.{SegmentWork.CanWork, SegmentWork.Works, Tags.
 ghost use denote.Param.Send.{IsSync};
 
 use crate::error::ArgonError;
-use crate::inputs::{first_hash, is_any_too_long};
+use crate::inputs::{Inputs, first_hash, is_any_too_long};
 use crate::params::Params;
 use crate::scratch::ArgonScratch;
 use crate::segment::{Segment, Shared};
@@ -44,15 +44,13 @@ pub fn argon2<R: Threads + Sync, G: Gate + Sync>(
             → Works shared.entry.now (slice_index_or parts.entry.now i d)
             (slice_index_or parts.exit.now i d) }
     { run_parts(rt, workers, gate, shared, parts) };
-    argon2_by(
-        &CrewFn { work_each },
-        alloc,
-        params,
+    let inputs = Inputs {
         pw,
         salt,
         secret,
         assoc,
-    )
+    };
+    argon2_by(&CrewFn { work_each }, alloc, params, &inputs)
 }
 
 /// The same tag with all work on the caller's thread, so that no runtime is needed: each lane of a
@@ -67,16 +65,13 @@ pub fn argon2_in<G: Gate>(
     alloc: Global,
     gate: &G,
     params: &Params,
-    pw: &[u8],
-    salt: &[u8],
-    secret: &[u8],
-    assoc: &[u8],
+    inputs: &Inputs<'_>,
 ) -> Result<Vec<u8>, ArgonError>
-    ensures made { Hashes params.now pw.now salt.now secret.now assoc.now result }
+    ensures made { Hashes params.now
+        inputs.now.pw.now inputs.now.salt.now inputs.now.secret.now inputs.now.assoc.now result }
     ensures most { scratch.new ≡ scratch.old }
 {
-    let crew = Alone::new(gate);
-    argon2_with(scratch, &crew, alloc, params, pw, salt, secret, assoc)
+    argon2_with(scratch, &Alone::new(gate), alloc, params, inputs)
 }
 
 /// The same with the lanes of each slice worked by this crew, in memory that is given back.
@@ -84,16 +79,19 @@ fn argon2_by<W: Crew<Shared<Vec<Segment>>, Segment>>(
     crew: &W,
     alloc: Global,
     params: &Params,
-    pw: &[u8],
-    salt: &[u8],
-    secret: &[u8],
-    assoc: &[u8],
+    inputs: &Inputs<'_>,
 ) -> Result<Vec<u8>, ArgonError>
     requires { W.ready crew.now }
-    ensures { Hashes params.now pw.now salt.now secret.now assoc.now result }
+    ensures { Hashes params.now
+        inputs.now.pw.now inputs.now.salt.now inputs.now.secret.now inputs.now.assoc.now result }
 {
-    let mut scratch = ArgonScratch::new(alloc, 0);
-    argon2_with(&mut scratch, crew, alloc, params, pw, salt, secret, assoc)
+    argon2_with(
+        &mut ArgonScratch::new(alloc, 0),
+        crew,
+        alloc,
+        params,
+        inputs,
+    )
 }
 
 /// The same in memory that is kept.
@@ -102,19 +100,17 @@ fn argon2_with<W: Crew<Shared<Vec<Segment>>, Segment>>(
     crew: &W,
     alloc: Global,
     params: &Params,
-    pw: &[u8],
-    salt: &[u8],
-    secret: &[u8],
-    assoc: &[u8],
+    inputs: &Inputs<'_>,
 ) -> Result<Vec<u8>, ArgonError>
     requires { W.ready crew.now }
-    ensures made { Hashes params.now pw.now salt.now secret.now assoc.now result }
+    ensures made { Hashes params.now
+        inputs.now.pw.now inputs.now.salt.now inputs.now.secret.now inputs.now.assoc.now result }
     ensures most { scratch.new ≡ scratch.old }
 {
-    if is_any_too_long(pw, salt, secret, assoc) {
+    if is_any_too_long(inputs) {
         return Err(ArgonError::InputLen);
     }
-    let hash = first_hash(params, pw, salt, secret, assoc);
+    let hash = first_hash(params, inputs);
     let mut memory = start(alloc, scratch, params, hash.bytes())?;
     memory.fill(crew);
     let tag = tag_of(alloc, params, &memory.shared.newest);

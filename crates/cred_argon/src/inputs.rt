@@ -9,19 +9,25 @@ use crate::bytes::block_of_bytes;
 use crate::params::Params;
 use cred_blake::{Blake2b, Digest, hprime_block};
 
+/// What a tag is made of (RFC 9106, section 3.1): a password and a salt, and a secret and associated
+/// data, which may be empty.
+#[repr(C)]
+#[derive(Clone, Copy, Drop)]
+pub struct Inputs<'a> {
+    pub pw: &'a [u8],
+    pub salt: &'a [u8],
+    pub secret: &'a [u8],
+    pub assoc: &'a [u8],
+}
+
 /// The first hash, of the parameters and the four inputs, each after its length.
-pub(crate) fn first_hash(
-    params: &Params,
-    pw: &[u8],
-    salt: &[u8],
-    secret: &[u8],
-    assoc: &[u8],
-) -> Digest
-    requires pw { length pw.now < 2 ^ 32 }
-    requires salt { length salt.now < 2 ^ 32 }
-    requires secret { length secret.now < 2 ^ 32 }
-    requires assoc { length assoc.now < 2 ^ 32 }
-    ensures value { result ≡ first_hash params.now pw.now salt.now secret.now assoc.now }
+pub(crate) fn first_hash(params: &Params, inputs: &Inputs<'_>) -> Digest
+    requires pw { length inputs.now.pw.now < 2 ^ 32 }
+    requires salt { length inputs.now.salt.now < 2 ^ 32 }
+    requires secret { length inputs.now.secret.now < 2 ^ 32 }
+    requires assoc { length inputs.now.assoc.now < 2 ^ 32 }
+    ensures value { result ≡ first_hash params.now
+        inputs.now.pw.now inputs.now.salt.now inputs.now.secret.now inputs.now.assoc.now }
     ensures len { length result ≡ 64 }
 {
     let mut hasher = match Blake2b::new(64, &[]) {
@@ -34,10 +40,10 @@ pub(crate) fn first_hash(
     feed_number(&mut hasher, params.passes());
     feed_number(&mut hasher, params.version().number());
     feed_number(&mut hasher, params.kind().number());
-    feed_input(&mut hasher, pw);
-    feed_input(&mut hasher, salt);
-    feed_input(&mut hasher, secret);
-    feed_input(&mut hasher, assoc);
+    feed_input(&mut hasher, inputs.pw);
+    feed_input(&mut hasher, inputs.salt);
+    feed_input(&mut hasher, inputs.secret);
+    feed_input(&mut hasher, inputs.assoc);
     hasher.finalize()
 }
 
@@ -81,9 +87,16 @@ fn put(out: &mut [u8; 72], at: usize, piece: &[u8])
 }
 
 /// Whether one of the inputs is too long.
-pub(crate) fn is_any_too_long(pw: &[u8], salt: &[u8], secret: &[u8], assoc: &[u8]) -> bool
-    ensures { IsTrue result ↔ IsAnyTooLong pw.now salt.now secret.now assoc.now }
+pub(crate) fn is_any_too_long(inputs: &Inputs<'_>) -> bool
+    ensures { IsTrue result ↔ IsAnyTooLong
+        inputs.now.pw.now inputs.now.salt.now inputs.now.secret.now inputs.now.assoc.now }
 {
+    let Inputs {
+        pw,
+        salt,
+        secret,
+        assoc,
+    } = *inputs;
     is_too_long(pw) || is_too_long(salt) || is_too_long(secret) || is_too_long(assoc)
 }
 

@@ -7,7 +7,7 @@ ghost use Rattle.cred_argon.specs.Lanes.{HoldsBlocks, HoldsFirstBlocks, WorksSeg
 use crate::block::Block;
 use crate::error::ArgonError;
 use crate::flat_slice::{FlatSlice, segment_start};
-use crate::inputs::{first_block, first_hash, is_any_too_long};
+use crate::inputs::{Inputs, first_block, first_hash, is_any_too_long};
 use crate::params::Params;
 use crate::segment::{Shared, work_segment};
 use crate::tag::tag_of;
@@ -39,23 +39,21 @@ pub struct EarlierSlices<'a> {
 /// Errors: `InputLen` if an input has 2^32 bytes or more; `first` is as it was then.
 pub fn begin_lanes(
     params: &Params,
-    pw: &[u8],
-    salt: &[u8],
-    secret: &[u8],
-    assoc: &[u8],
+    inputs: &Inputs<'_>,
     first: &mut [Block],
 ) -> Result<(), ArgonError>
     requires { length first.old ≡ params.now.lanes * segment_len params.now }
-    ensures made { IfOk result (λ _. HoldsFirstBlocks params.now
-        (first_hash params.now pw.now salt.now secret.now assoc.now) params.now.lanes first.new) }
-    ensures input_len { (result ≡ Err ArgonError.InputLen)
-        ↔ IsAnyTooLong pw.now salt.now secret.now assoc.now }
+    ensures made { IfOk result (λ _. HoldsFirstBlocks params.now (first_hash params.now
+        inputs.now.pw.now inputs.now.salt.now inputs.now.secret.now inputs.now.assoc.now)
+        params.now.lanes first.new) }
+    ensures input_len { (result ≡ Err ArgonError.InputLen) ↔ IsAnyTooLong
+        inputs.now.pw.now inputs.now.salt.now inputs.now.secret.now inputs.now.assoc.now }
     ensures err { IfErr result (λ e. (e ≡ ArgonError.InputLen) × (first.new ≡ first.old)) }
 {
-    if is_any_too_long(pw, salt, secret, assoc) {
+    if is_any_too_long(inputs) {
         return Err(ArgonError::InputLen);
     }
-    let hash = first_hash(params, pw, salt, secret, assoc);
+    let hash = first_hash(params, inputs);
     write_first_blocks(params, hash.bytes(), first);
     Ok(())
 }

@@ -35,6 +35,7 @@ mod turn;
 pub use argon::{argon2, argon2_in};
 pub use block::{Block, compress};
 pub use error::ArgonError;
+pub use inputs::Inputs;
 pub use kind::{Kind, Version};
 pub use lanes::{EarlierSlices, SegmentIndex, begin_lanes, tag_of_lanes, work_lane};
 pub use laws::{cells_meet_their_equation, lanes_in_turn_fill_the_memory};

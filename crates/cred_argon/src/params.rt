@@ -83,6 +83,15 @@ impl Model for Params {
     }) (sym h.1) };
 }
 
+/// What a tag costs, which may be out of range.
+#[derive(Clone, Copy)]
+struct Costs {
+    /// In KiB.
+    memory: u32,
+    passes: u32,
+    lanes: u32,
+}
+
 impl Params {
     /// Parameters of version 0x13 (RFC 9106, section 3.1), with `memory` in KiB and `tag_len` in
     /// bytes.
@@ -119,7 +128,12 @@ impl Params {
         ensures err { (e : ArgonError) → (result ≡ Err e)
             ↔ IsFirstFault (parameters version kind memory passes lanes tag_len) e }
     {
-        Params::up_to(MAX_TAG, version, kind, memory, passes, lanes, tag_len)
+        let costs = Costs {
+            memory,
+            passes,
+            lanes,
+        };
+        Params::up_to(MAX_TAG, version, kind, costs, tag_len)
     }
 
     /// The same for a tag that no record has to hold: of 4 bytes or more, as RFC 9106 has it.
@@ -138,7 +152,12 @@ impl Params {
         ensures err { (e : ArgonError) → (result ≡ Err e)
             ↔ IsFirstRawFault (parameters version kind memory passes lanes tag_len) e }
     {
-        Params::up_to(MAX_RAW_TAG, version, kind, memory, passes, lanes, tag_len)
+        let costs = Costs {
+            memory,
+            passes,
+            lanes,
+        };
+        Params::up_to(MAX_RAW_TAG, version, kind, costs, tag_len)
     }
 
     /// Parameters of a tag of at most `most` bytes.
@@ -146,16 +165,20 @@ impl Params {
         most: u32,
         version: Version,
         kind: Kind,
-        memory: u32,
-        passes: u32,
-        lanes: u32,
+        costs: Costs,
         tag_len: u32,
     ) -> Result<Self, ArgonError>
-        ensures ok { IfOk result (λ a. (a ≡ parameters version kind memory passes lanes tag_len)
-            × IsUpTo most (parameters version kind memory passes lanes tag_len)) }
-        ensures err { (e : ArgonError) → (result ≡ Err e)
-            ↔ IsFaultUpTo most (parameters version kind memory passes lanes tag_len) e }
+        ensures ok { IfOk result (λ a. (a
+            ≡ parameters version kind costs.memory costs.passes costs.lanes tag_len) × IsUpTo most
+            (parameters version kind costs.memory costs.passes costs.lanes tag_len)) }
+        ensures err { (e : ArgonError) → (result ≡ Err e) ↔ IsFaultUpTo most
+            (parameters version kind costs.memory costs.passes costs.lanes tag_len) e }
     {
+        let Costs {
+            memory,
+            passes,
+            lanes,
+        } = costs;
         if lanes == 0 || lanes > MAX_LANES {
             return Err(ArgonError::Lanes);
         }

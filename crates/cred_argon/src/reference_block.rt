@@ -44,7 +44,7 @@ pub(crate) fn reference_from(params: &Params, position: &Position, j1: u32, j2: 
 {
     let segment_len = params.segment_len();
     let lane = lane_for(params.lanes(), position, j2);
-    let count = count(segment_len, position, lane == position.lane);
+    let count = count(segment_len, position, lane);
     let start = start(segment_len, position);
     let column = wrapped(start + picked(count, j1), 4 * segment_len);
     Reference { lane, column }
@@ -64,17 +64,17 @@ fn lane_for(lanes: u32, position: &Position, j2: u32) -> u32
     }
 }
 
-/// How many blocks of a lane may be referred to: those of three segments, or of as many as there
+/// How many blocks of this lane may be referred to: those of three segments, or of as many as there
 /// are before, and in the own lane those of the segment so far; less the block before, or the last
 /// one of another lane at a segment's start.
-fn count(segment_len: u32, position: &Position, own: bool) -> u32
+fn count(segment_len: u32, position: &Position, lane: u32) -> u32
     requires slice { position.now.slice < 4 }
     requires offset { position.now.offset < segment_len }
     requires fits { 4 * segment_len ≤ MAX_MEMORY }
     requires some { 0 < reference_count segment_len (4 * position.now.pass + position.now.slice)
-        position.now.offset own }
+        position.now.offset (lane == position.now.lane) }
     ensures { result ≡ reference_count segment_len (4 * position.now.pass + position.now.slice)
-        position.now.offset own }
+        position.now.offset (lane == position.now.lane) }
 {
     let segments = if position.pass == 0 {
         position.slice.min(3)
@@ -82,7 +82,7 @@ fn count(segment_len: u32, position: &Position, own: bool) -> u32
         3
     };
     let finished = segments * segment_len;
-    if own {
+    if lane == position.lane {
         finished + position.offset - 1
     } else if position.offset == 0 {
         finished - 1

@@ -2,7 +2,7 @@
 use Rattle.std.specs.Prelude.{◌≡◌, ℕ, ◌≤◌, ◌⊎◌, List, Result, Ok, Err}
 use Rattle.cred_argon.specs.{Numbers.kind_number, Numbers.version_number, Parameters.Parameters, Parameters.parameters, declared.kind.Kind.Kind}
 use Rattle.cred_argon.specs.declared.kind.Version.{Version}
-use Rattle.cred_c.specs.declared.tag_numbers.Argon2Numbers.{Argon2Numbers}
+use Rattle.cred_c.specs.{declared.raw.ScryptNumbers.ScryptNumbers, declared.tag_numbers.Argon2Numbers.Argon2Numbers}
 use Rattle.cred_phc.specs.{declared.error.PhcError.PhcError, declared.scheme.Scheme.Scheme, declared.scheme.Scheme.TheVariants.Argon2}
 use Rattle.cred_phc.specs.{declared.scheme.Variant.Variant, Values.RecordValue, Values.SettingValue, Values.made_setting, Values.made_record}
 
@@ -17,6 +17,10 @@ IsVersion version = (version ≡ 16) ⊎ (version ≡ 19)
 -- at least one, and no more than a byte holds
 abbrev pub IsPositiveByte : ℕ → Type 0
 IsPositiveByte n = (1 ≤ n) × (n ≤ 255)
+
+-- scrypt's r and p are such
+abbrev pub HasBytes : ScryptNumbers → Type 0
+HasBytes n = IsPositiveByte n.r × IsPositiveByte n.p
 
 -- the numbers name this kind and this version
 abbrev pub AreOf : Argon2Numbers → Kind → Version → Type 0

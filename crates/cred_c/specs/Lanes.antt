@@ -2,6 +2,7 @@
 -- what a part is given, and what the parts make.
 use Rattle.std.specs.Prelude.{◌≡◌, ℕ, ◌-◌, ◌*◌, ◌^◌, ◌<◌, ◌⊎◌, List, [], length, Option, Some, None}
 use Rattle.cred_argon.specs.{Argon.first_hash, Faults.IsFirstRawFault, Lanes.HoldsBlocks, Lanes.HoldsFirstBlocks, Numbers.kind_number, Numbers.version_number}
+use Rattle.cred_argon.specs.declared.inputs.Inputs.{Inputs}
 use Rattle.cred_argon.specs.{Parameters.Parameters, Parameters.parameters, Parameters.segment_len, Parameters.IsRaw, Tags.IsAnyTooLong}
 use Rattle.cred_argon.specs.{declared.block.Block.Block, declared.kind.Kind.TheVariants.Id, declared.kind.Version.TheVariants.V13}
 use Rattle.cred_argon.specs.declared.lanes.SegmentIndex.{SegmentIndex}
@@ -57,12 +58,17 @@ pub record TagInputs : Type 0 where
   pub secret : List ℕ
   pub assoc : List ℕ
 
-abbrev pub inputs : List ℕ → List ℕ → List ℕ → List ℕ → TagInputs
-inputs pw salt secret assoc = record { pw = pw; salt = salt; secret = secret; assoc = assoc }
+abbrev pub tag_inputs : Inputs → TagInputs
+tag_inputs i = record {
+  pw = i.pw.now;
+  salt = i.salt.now;
+  secret = i.secret.now;
+  assoc = i.assoc.now;
+}
 
 -- those of a record's tag
 abbrev pub record_inputs : List ℕ → List ℕ → TagInputs
-record_inputs pw salt = inputs pw salt [] []
+record_inputs pw salt = record { pw = pw; salt = salt; secret = []; assoc = [] }
 
 -- H0 of them
 abbrev pub hash_of : Parameters → TagInputs → List ℕ

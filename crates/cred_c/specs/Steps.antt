@@ -10,7 +10,7 @@ use Rattle.cred_book.specs.declared.request.Request.{Request}
 use Rattle.cred_book.specs.declared.request.Request.TheVariants as request
 use Rattle.cred_c.specs.{Answers.IsWritten, Answers.Output, declared.operation.Operation.Operation}
 use Rattle.cred_c.specs.declared.operation.Operation.TheVariants.{Enrol, Verify, Change, Upgrade, Remove}
-use Rattle.cred_c.specs.declared.operation.StepFault.{StepFault}
+use Rattle.cred_c.specs.{declared.operation.StepFault.StepFault, declared.operation.StepInputs.StepInputs}
 use Rattle.cred_c.specs.declared.operation.StepFault.TheVariants.{Copy, Long, Setting}
 
 -- ---- what is asked
@@ -26,16 +26,19 @@ abbrev pub IsOperation : ℕ → Type 0
 IsOperation number =
     (number ≡ 1) ⊎ (number ≡ 2) ⊎ (number ≡ 3) ⊎ (number ≡ 4) ⊎ (number ≡ 5)
 
--- the request that an operation, passwords and a setting's text ask for; its name may be any
-abbrev pub AsksFor : Operation → List ℕ → List ℕ → List ℕ → Request → Type 0
-AsksFor operation pw new text (request.Enrol name p setting) =
-    (operation ≡ Enrol) × (p ≡ pw) × IsSetting setting × IsSettingText text setting
-AsksFor operation pw new text (request.Verify name p) = (operation ≡ Verify) × (p ≡ pw)
-AsksFor operation pw new text (request.Change name p q setting) =
-    (operation ≡ Change) × (p ≡ pw) × (q ≡ new) × IsSetting setting × IsSettingText text setting
-AsksFor operation pw new text (request.Upgrade name p setting) =
-    (operation ≡ Upgrade) × (p ≡ pw) × IsSetting setting × IsSettingText text setting
-AsksFor operation pw new text (request.Remove name p) = (operation ≡ Remove) × (p ≡ pw)
+-- the request that an operation and a step's inputs ask for; its name may be any
+abbrev pub AsksFor : Operation → StepInputs → Request → Type 0
+AsksFor operation i (request.Enrol name pw setting) =
+    (operation ≡ Enrol) × (pw ≡ i.pw.now)
+    × IsSetting setting × IsSettingText i.setting.now setting
+AsksFor operation i (request.Verify name pw) = (operation ≡ Verify) × (pw ≡ i.pw.now)
+AsksFor operation i (request.Change name pw new setting) =
+    (operation ≡ Change) × (pw ≡ i.pw.now) × (new ≡ i.new_pw.now)
+    × IsSetting setting × IsSettingText i.setting.now setting
+AsksFor operation i (request.Upgrade name pw setting) =
+    (operation ≡ Upgrade) × (pw ≡ i.pw.now)
+    × IsSetting setting × IsSettingText i.setting.now setting
+AsksFor operation i (request.Remove name pw) = (operation ≡ Remove) × (pw ≡ i.pw.now)
 
 -- the record that a copy's text stands for: none if the text is empty
 abbrev pub IsCopy : List ℕ → Option RecordValue → Type 0
@@ -63,17 +66,17 @@ abbrev pub new_setting_fault : List ℕ → Option StepFault
 new_setting_fault text = option_map Setting (setting_fault text)
 
 -- only what the operation reads is judged
-abbrev pub request_fault : Operation → List ℕ → List ℕ → List ℕ → Option StepFault
-request_fault Enrol pw new text = first (password_fault pw) (new_setting_fault text)
-request_fault Verify pw new text = password_fault pw
-request_fault Change pw new text =
-    first (password_fault pw) (first (password_fault new) (new_setting_fault text))
-request_fault Upgrade pw new text = first (password_fault pw) (new_setting_fault text)
-request_fault Remove pw new text = password_fault pw
+abbrev pub request_fault : Operation → StepInputs → Option StepFault
+request_fault Enrol i = first (password_fault i.pw.now) (new_setting_fault i.setting.now)
+request_fault Verify i = password_fault i.pw.now
+request_fault Change i =
+    first (password_fault i.pw.now)
+    (first (password_fault i.new_pw.now) (new_setting_fault i.setting.now))
+request_fault Upgrade i = first (password_fault i.pw.now) (new_setting_fault i.setting.now)
+request_fault Remove i = password_fault i.pw.now
 
-abbrev pub step_fault : Operation → List ℕ → List ℕ → List ℕ → List ℕ → Option StepFault
-step_fault operation copy pw new text =
-    first (copy_fault copy) (request_fault operation pw new text)
+abbrev pub step_fault : Operation → StepInputs → Option StepFault
+step_fault operation i = first (copy_fault i.copy.now) (request_fault operation i)
 
 -- ---- what is answered
 

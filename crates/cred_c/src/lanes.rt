@@ -4,13 +4,13 @@
 //! all segments of slice g - 1.
 ghost use Rattle.std.specs.Prelude.{◌≡◌, ℕ, ◌+◌, ◌*◌, ◌<◌, ◌≤◌, ◌↔◌, ◌⊎◌, List, length, IsTrue};
 ghost use Rattle.cred_argon.specs.{Argon.argon, Lanes.WorksSegment, Parameters.Parameters, Parameters.segment_len};
-ghost use Rattle.cred_c.specs.Lanes.{IsBegun, IsFilled, IsNumbersFault, IsSegment, IsSlice, StandFor, TagInputs, inputs, part_fault_number, slices_before};
+ghost use Rattle.cred_c.specs.Lanes.{IsBegun, IsFilled, IsNumbersFault, IsSegment, IsSlice, StandFor, TagInputs, part_fault_number, slices_before, tag_inputs};
 ghost use Rattle.cred_c.specs.declared.part_fault.PartFault.{PartFault};
 
 use crate::numbers::{DONE, NO_PLACE, argon_number};
 use crate::tag_numbers::{TagNumbers, params_of};
 use cred_argon::{
-    Block, EarlierSlices, Params, SegmentIndex, begin_lanes, tag_of_lanes, work_lane,
+    Block, EarlierSlices, Inputs, Params, SegmentIndex, begin_lanes, tag_of_lanes, work_lane,
 };
 use std::alloc::Global;
 
@@ -44,40 +44,29 @@ pub extern "C" fn cred_argon2_segment_len(numbers: &TagNumbers, segment: &mut u3
 #[unsafe(no_mangle)]
 pub extern "C" fn cred_argon2_begin(
     numbers: &TagNumbers,
-    pw: &[u8],
-    salt: &[u8],
-    secret: &[u8],
-    assoc: &[u8],
+    inputs: &Inputs<'_>,
     first: &mut [Block],
 ) -> u8
     ensures begun { (a : Parameters) → StandFor numbers.now a
-        → IsBegun a (inputs pw.now salt.now secret.now assoc.now) result first.old first.new }
+        → IsBegun a (tag_inputs inputs.now) result first.old first.new }
     ensures fault { (f : PartFault) → IsNumbersFault numbers.now f
         → result ≡ part_fault_number f }
     ensures kept { (result ≡ 0 → ⊥) → first.new ≡ first.old }
 {
     match params_of(numbers) {
-        Ok(params) => begin(&params, pw, salt, secret, assoc, first),
+        Ok(params) => begin(&params, inputs, first),
         Err(fault) => fault.number(),
     }
 }
 
 /// The same by parameters.
-pub(crate) fn begin(
-    params: &Params,
-    pw: &[u8],
-    salt: &[u8],
-    secret: &[u8],
-    assoc: &[u8],
-    first: &mut [Block],
-) -> u8
-    ensures { IsBegun params.now (inputs pw.now salt.now secret.now assoc.now) result
-        first.old first.new }
+pub(crate) fn begin(params: &Params, inputs: &Inputs<'_>, first: &mut [Block]) -> u8
+    ensures { IsBegun params.now (tag_inputs inputs.now) result first.old first.new }
 {
     if !is_slice(params, first) {
         return NO_PLACE;
     }
-    match begin_lanes(params, pw, salt, secret, assoc, first) {
+    match begin_lanes(params, inputs, first) {
         Ok(()) => DONE,
         Err(error) => argon_number(error),
     }

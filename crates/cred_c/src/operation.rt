@@ -16,6 +16,21 @@ pub enum Operation {
     Remove,
 }
 
+/// What a step is asked.
+#[repr(C)]
+#[derive(Clone, Copy, Drop)]
+pub struct StepInputs<'a> {
+    /// 1 to 5 for enrol, verify, change, upgrade and remove.
+    pub operation: u32,
+    /// The text of the account's record, empty if none stands.
+    pub copy: &'a [u8],
+    pub pw: &'a [u8],
+    /// Read for a change.
+    pub new_pw: &'a [u8],
+    /// The text that the new record is made under, for an enrol, a change and an upgrade.
+    pub setting: &'a [u8],
+}
+
 /// Why a step isn't taken.
 #[derive(Clone, Copy, PartialEq, Eq)]
 pub enum StepFault {
@@ -74,32 +89,28 @@ pub(crate) fn copy_of(text: &[u8]) -> Result<Option<Record>, StepFault>
 /// What is asked, of an account whose name plays no part.
 pub(crate) fn request_of(
     operation: Operation,
-    pw: &[u8],
-    new_pw: &[u8],
-    setting: &[u8],
+    inputs: &StepInputs<'_>,
 ) -> Result<Request, StepFault>
-    ensures asked { IfOk result (λ request.
-        AsksFor operation pw.now new_pw.now setting.now request) }
-    ensures fault { IfErr result (λ fault.
-        request_fault operation pw.now new_pw.now setting.now ≡ Some fault) }
-    ensures none { OnOk result (request_fault operation pw.now new_pw.now setting.now ≡ None) }
+    ensures asked { IfOk result (AsksFor operation inputs.now) }
+    ensures fault { IfErr result (λ fault. request_fault operation inputs.now ≡ Some fault) }
+    ensures none { OnOk result (request_fault operation inputs.now ≡ None) }
 {
     let name = any_name();
-    let pw = password_of(pw)?;
+    let pw = password_of(inputs.pw)?;
     match operation {
         Operation::Verify => Ok(Request::Verify { name, pw }),
         Operation::Remove => Ok(Request::Remove { name, pw }),
         Operation::Enrol => {
-            let setting = setting_of(setting)?;
+            let setting = setting_of(inputs.setting)?;
             Ok(Request::Enrol { name, pw, setting })
         }
         Operation::Upgrade => {
-            let setting = setting_of(setting)?;
+            let setting = setting_of(inputs.setting)?;
             Ok(Request::Upgrade { name, pw, setting })
         }
         Operation::Change => {
-            let new_pw = password_of(new_pw)?;
-            let setting = setting_of(setting)?;
+            let new_pw = password_of(inputs.new_pw)?;
+            let setting = setting_of(inputs.setting)?;
             Ok(Request::Change {
                 name,
                 pw,

@@ -2,14 +2,14 @@
 ghost use Rattle.std.specs.Prelude.{◌≡◌, ◌<◌, ◌≤◌, ◌^◌, ◌⊎◌, ◌↔◌, IfOk, length};
 ghost use Rattle.cred_argon.specs.{Argon.argon, Faults.IsFirstRawFault, Parameters.IsRaw, Tags.IsAnyTooLong, declared.error.ArgonError.ArgonError};
 ghost use Rattle.cred_argon.specs.{declared.kind.Kind.Kind, declared.kind.Version.Version};
-ghost use Rattle.cred_c.specs.{Answers.argon_number, Inputs.AreOf, Inputs.IsKind, Inputs.IsPositiveByte, Inputs.IsVersion, Inputs.tag_parameters};
+ghost use Rattle.cred_c.specs.{Answers.argon_number, Inputs.AreOf, Inputs.HasBytes, Inputs.IsKind, Inputs.IsPositiveByte, Inputs.IsVersion, Inputs.tag_parameters};
 ghost use Rattle.cred_scrypt.specs.{Params.IsCostly, Scrypt.scrypt};
 
 use crate::numbers::{
     DONE, NO_KIND, NO_VERSION, argon_number, byte_of, kind_of, scrypt_number, version_of,
 };
 use crate::tag_numbers::Argon2Numbers;
-use cred_argon::{ArgonError, ArgonScratch, Params, argon2_in};
+use cred_argon::{ArgonError, ArgonScratch, Inputs, Params, argon2_in};
 use cred_pool::NoGate;
 use cred_scrypt::{ScryptError, ScryptParams, ScryptScratch, scrypt_in};
 use std::alloc::Global;
@@ -25,15 +25,12 @@ use std::alloc::Global;
 pub extern "C" fn cred_argon2(
     alloc: Global,
     numbers: &Argon2Numbers,
-    pw: &[u8],
-    salt: &[u8],
-    secret: &[u8],
-    assoc: &[u8],
+    inputs: &Inputs<'_>,
     out: &mut [u8],
 ) -> u8
     ensures made { (k : Kind) (v : Version) → AreOf numbers.now k v → result ≡ 0 → out.new
         ≡ argon (tag_parameters numbers.now k v (length out.old))
-        pw.now salt.now secret.now assoc.now }
+        inputs.now.pw.now inputs.now.salt.now inputs.now.secret.now inputs.now.assoc.now }
     ensures kept { (result ≡ 0 → ⊥) → out.new ≡ out.old }
     ensures kind { (result ≡ 12) ↔ (2 < numbers.now.kind) }
     ensures version { (result ≡ 13)
@@ -46,7 +43,8 @@ pub extern "C" fn cred_argon2(
         → result ≡ argon_number e }
     ensures inputs { (k : Kind) (v : Version) → AreOf numbers.now k v
         → IsRaw (tag_parameters numbers.now k v (length out.old))
-        → (result ≡ 18) ↔ IsAnyTooLong pw.now salt.now secret.now assoc.now }
+        → (result ≡ 18) ↔ IsAnyTooLong
+        inputs.now.pw.now inputs.now.salt.now inputs.now.secret.now inputs.now.assoc.now }
     ensures fine { (k : Kind) (v : Version) → AreOf numbers.now k v
         → IsRaw (tag_parameters numbers.now k v (length out.old))
         → (result ≡ 0) ⊎ (result ≡ 8) ⊎ (result ≡ 18) }
@@ -72,7 +70,7 @@ pub extern "C" fn cred_argon2(
         Err(error) => return argon_number(error),
     };
     let mut none = ArgonScratch::new(alloc, 0);
-    match argon2_in(&mut none, alloc, &NoGate, &params, pw, salt, secret, assoc) {
+    match argon2_in(&mut none, alloc, &NoGate, &params, inputs) {
         Ok(tag) => {
             out.copy_from_slice(&tag);
             DONE
@@ -81,8 +79,18 @@ pub extern "C" fn cred_argon2(
     }
 }
 
+/// The numbers of scrypt (RFC 7914, section 2), as in a record.
+#[repr(C)]
+#[derive(Clone, Copy, Debug, PartialEq, Eq)]
+pub struct ScryptNumbers {
+    /// N is 2 to the power of it.
+    pub ln: u32,
+    pub r: u32,
+    pub p: u32,
+}
+
 /// Writes the scrypt key (RFC 7914) of the inputs over `out`, which says the key's length: 1 byte
-/// or more. N is 2 to the power of `ln`.
+/// or more.
 ///
 /// Answers 0, or 22 if `out` has 2^32 bytes or more, otherwise 20 if `r` isn't 1 to 255, otherwise
 /// 21 if `p` isn't, otherwise 19 if the cost is out of its range or too high for `r` or for 2 GiB,
@@ -90,32 +98,31 @@ pub extern "C" fn cred_argon2(
 #[unsafe(no_mangle)]
 pub extern "C" fn cred_scrypt(
     alloc: Global,
-    ln: u32,
-    r: u32,
-    p: u32,
+    numbers: &ScryptNumbers,
     pw: &[u8],
     salt: &[u8],
     out: &mut [u8],
 ) -> u8
-    ensures made { result ≡ 0 → out.new ≡ scrypt ln r p (length out.old) pw.now salt.now }
+    ensures made { result ≡ 0 → out.new ≡ scrypt numbers.now.ln numbers.now.r numbers.now.p
+        (length out.old) pw.now salt.now }
     ensures kept { (result ≡ 0 → ⊥) → out.new ≡ out.old }
     ensures long { 2 ^ 32 ≤ length out.old → result ≡ 22 }
-    ensures block_size { length out.old < 2 ^ 32 → (result ≡ 20) ↔ (IsPositiveByte r → ⊥) }
-    ensures blocks { length out.old < 2 ^ 32
-        → (result ≡ 21) ↔ (IsPositiveByte r × (IsPositiveByte p → ⊥)) }
-    ensures cost { length out.old < 2 ^ 32
-        → (result ≡ 19) ↔ (IsPositiveByte r × IsPositiveByte p × IsCostly ln r) }
-    ensures empty { length out.old < 2 ^ 32
-        → (result ≡ 22)
-        ↔ (IsPositiveByte r × IsPositiveByte p × (IsCostly ln r → ⊥) × (length out.old ≡ 0)) }
-    ensures fine { IsPositiveByte r → IsPositiveByte p → (IsCostly ln r → ⊥)
+    ensures block_size { length out.old < 2 ^ 32
+        → (result ≡ 20) ↔ (IsPositiveByte numbers.now.r → ⊥) }
+    ensures blocks { length out.old < 2 ^ 32 → (result ≡ 21)
+        ↔ (IsPositiveByte numbers.now.r × (IsPositiveByte numbers.now.p → ⊥)) }
+    ensures cost { length out.old < 2 ^ 32 → (result ≡ 19)
+        ↔ (HasBytes numbers.now × IsCostly numbers.now.ln numbers.now.r) }
+    ensures empty { length out.old < 2 ^ 32 → (result ≡ 22) ↔ (HasBytes numbers.now
+        × (IsCostly numbers.now.ln numbers.now.r → ⊥) × (length out.old ≡ 0)) }
+    ensures fine { HasBytes numbers.now → (IsCostly numbers.now.ln numbers.now.r → ⊥)
         → 1 ≤ length out.old → length out.old < 2 ^ 32 → (result ≡ 0) ⊎ (result ≡ 8) }
 {
     let Ok(len) = u32::try_from(out.len()) else {
         return scrypt_number(ScryptError::Len);
     };
     let mut none = ScryptScratch::new(alloc, 0);
-    match scrypt_params(ln, r, p, len) {
+    match scrypt_params(*numbers, len) {
         Ok(params) => match scrypt_in(&mut none, alloc, &NoGate, &params, pw, salt) {
             Ok(key) => {
                 out.copy_from_slice(&key);
@@ -127,18 +134,19 @@ pub extern "C" fn cred_scrypt(
     }
 }
 
-/// scrypt's numbers, each of which has to be one of a byte.
-fn scrypt_params(ln: u32, r: u32, p: u32, len: u32) -> Result<ScryptParams, ScryptError>
-    ensures block_size { (result ≡ Err ScryptError.BlockSize) ↔ (IsPositiveByte r → ⊥) }
+/// scrypt's parameters, of which r and p have to be one of a byte.
+fn scrypt_params(numbers: ScryptNumbers, len: u32) -> Result<ScryptParams, ScryptError>
+    ensures block_size { (result ≡ Err ScryptError.BlockSize) ↔ (IsPositiveByte numbers.r → ⊥) }
     ensures blocks { (result ≡ Err ScryptError.Blocks)
-        ↔ (IsPositiveByte r × (IsPositiveByte p → ⊥)) }
+        ↔ (IsPositiveByte numbers.r × (IsPositiveByte numbers.p → ⊥)) }
     ensures cost { (result ≡ Err ScryptError.Cost)
-        ↔ (IsPositiveByte r × IsPositiveByte p × IsCostly ln r) }
+        ↔ (HasBytes numbers × IsCostly numbers.ln numbers.r) }
     ensures len { (result ≡ Err ScryptError.Len)
-        ↔ (IsPositiveByte r × IsPositiveByte p × (IsCostly ln r → ⊥) × (len ≡ 0)) }
+        ↔ (HasBytes numbers × (IsCostly numbers.ln numbers.r → ⊥) × (len ≡ 0)) }
     ensures memory { result ≡ Err ScryptError.Memory → ⊥ }
-    ensures ok { IfOk result (λ made. (made.ln ≡ ln) × (made.r ≡ r) × (made.p ≡ p)
-        × (made.len ≡ len)) }
+    ensures ok { IfOk result (λ made. (made.ln ≡ numbers.ln) × (made.r ≡ numbers.r)
+        × (made.p ≡ numbers.p) × (made.len ≡ len)) }
 {
+    let ScryptNumbers { ln, r, p } = numbers;
     ScryptParams::raw(byte_of(ln), byte_of(r), byte_of(p), len)
 }

@@ -15,7 +15,7 @@ use crate::numbers::{DONE, NO_PLACE, WRONG};
 use crate::part_fault::PartFault;
 use crate::reading::{RecordReading, SettingReading};
 use crate::texts::put_record;
-use cred_argon::{ArgonError, Block, tag_of_lanes};
+use cred_argon::{ArgonError, Block, Inputs, tag_of_lanes};
 use cred_phc::{PhcError, Record, Setting, Tag, argon2_params, parse_record, parse_setting};
 use std::alloc::Global;
 
@@ -189,7 +189,16 @@ fn begin_under(setting: &Setting, tag_len: u8, pw: &[u8], first: &mut [Block]) -
     ensures kept { (result ≡ 0 → ⊥) → first.new ≡ first.old }
 {
     match argon2_params(setting, tag_len) {
-        Some(params) => begin(&params, pw, setting.salt(), b"", b"", first),
+        Some(params) => {
+            let (salt, secret, assoc) = (setting.salt(), b"", b"");
+            let inputs = Inputs {
+                pw,
+                salt,
+                secret,
+                assoc,
+            };
+            begin(&params, &inputs, first)
+        }
         None => PartFault::Scrypt.number(),
     }
 }

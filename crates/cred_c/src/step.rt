@@ -8,7 +8,7 @@ ghost use Rattle.cred_c.specs.{declared.operation.Operation.Operation, declared.
 ghost use Rattle.cred_phc.specs.Values.{RecordValue};
 
 use crate::numbers::{DONE, NO_OPERATION};
-use crate::operation::{Operation, StepFault, copy_of, operation_of, request_of};
+use crate::operation::{Operation, StepFault, StepInputs, copy_of, operation_of, request_of};
 use crate::texts::put_record;
 use cred_book::{Reply, Ticket, Worked};
 use cred_phc::{PhcError, Record, Scratch};
@@ -16,12 +16,9 @@ use cred_pool::NoGate;
 use std::alloc::Global;
 
 /// Works out a conditional update, as `cred_book::updates_are_one_history` has them: one whole
-/// operation at a copy of an account's record, 1 to 5 in `operation` for enrol, verify, change,
-/// upgrade and remove. `copy` is the record's text, empty if none stands; `new_pw` is read for a
-/// change, and `setting`, the text that the new record is made under, for an enrol, a change and an
-/// upgrade. Writes the reply's number, 1 to 10, into `reply`; and if the reply makes a change, the
-/// text of the record after over the front of `out` and its length into `len`, which is 0 if none
-/// is to stand.
+/// operation at a copy of an account's record. Writes the reply's number, 1 to 10, into `reply`;
+/// and if the reply makes a change, the text of the record after over the front of `out` and its
+/// length into `len`, which is 0 if none is to stand.
 ///
 /// Answers 0; or 23 if there is no such operation, otherwise 24 if the copy isn't a record,
 /// otherwise 25 if a password has over 256 bytes, otherwise the number of the setting's fault, 1 to
@@ -29,22 +26,18 @@ use std::alloc::Global;
 #[unsafe(no_mangle)]
 pub extern "C" fn cred_step(
     alloc: Global,
-    operation: u32,
-    copy: &[u8],
-    pw: &[u8],
-    new_pw: &[u8],
-    setting: &[u8],
+    inputs: &StepInputs<'_>,
     reply: &mut u32,
     out: &mut [u8],
     len: &mut usize,
 ) -> u8
-    ensures operation { (result ≡ 23) ↔ (IsOperation operation → ⊥) }
-    ensures fault { (o : Operation) (e : StepFault) → operation ≡ operation_number o
-        → step_fault o copy.now pw.now new_pw.now setting.now ≡ Some e → result ≡ fault_number e }
-    ensures step { (o : Operation) → operation ≡ operation_number o
-        → step_fault o copy.now pw.now new_pw.now setting.now ≡ None
+    ensures operation { (result ≡ 23) ↔ (IsOperation inputs.now.operation → ⊥) }
+    ensures fault { (o : Operation) (e : StepFault) → inputs.now.operation ≡ operation_number o
+        → step_fault o inputs.now ≡ Some e → result ≡ fault_number e }
+    ensures step { (o : Operation) → inputs.now.operation ≡ operation_number o
+        → step_fault o inputs.now ≡ None
         → (request : Request) × (stored : Option RecordValue)
-        × AsksFor o pw.now new_pw.now setting.now request × IsCopy copy.now stored
+        × AsksFor o inputs.now request × IsCopy inputs.now.copy.now stored
         × IsStep (outcome_at request (Some stored)) reply.new
         (output result out.old out.new len.new) }
     ensures kept { (result ≡ 0 → ⊥)
@@ -52,10 +45,10 @@ pub extern "C" fn cred_step(
     ensures rest { drop len.new out.new ≡ drop len.new out.old }
 {
     *len = 0;
-    let Some(operation) = operation_of(operation) else {
+    let Some(operation) = operation_of(inputs.operation) else {
         return NO_OPERATION;
     };
-    match begun(operation, copy, pw, new_pw, setting) {
+    match begun(operation, inputs) {
         Ok(ticket) => match ticket.work_in(&mut Scratch::new(alloc, 0), alloc, &NoGate) {
             Ok(worked) => put_step(alloc, &worked, reply, out, len),
             Err(_) => PhcError::Memory.number(),
@@ -65,22 +58,14 @@ pub extern "C" fn cred_step(
 }
 
 /// What is asked, with the copy.
-fn begun(
-    operation: Operation,
-    copy: &[u8],
-    pw: &[u8],
-    new_pw: &[u8],
-    setting: &[u8],
-) -> Result<Ticket, StepFault>
-    ensures asked { IfOk result (λ task. AsksFor operation pw.now new_pw.now setting.now task.0) }
-    ensures copy { IfOk result (λ task. IsCopy copy.now task.1) }
-    ensures fault { IfErr result (λ fault.
-        step_fault operation copy.now pw.now new_pw.now setting.now ≡ Some fault) }
-    ensures none { OnOk result
-        (step_fault operation copy.now pw.now new_pw.now setting.now ≡ None) }
+fn begun(operation: Operation, inputs: &StepInputs<'_>) -> Result<Ticket, StepFault>
+    ensures asked { IfOk result (λ task. AsksFor operation inputs.now task.0) }
+    ensures copy { IfOk result (λ task. IsCopy inputs.now.copy.now task.1) }
+    ensures fault { IfErr result (λ fault. step_fault operation inputs.now ≡ Some fault) }
+    ensures none { OnOk result (step_fault operation inputs.now ≡ None) }
 {
-    let copy = copy_of(copy)?;
-    let request = request_of(operation, pw, new_pw, setting)?;
+    let copy = copy_of(inputs.copy)?;
+    let request = request_of(operation, inputs)?;
     Ok(Ticket::new(request, copy))
 }
 

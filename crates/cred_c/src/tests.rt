@@ -8,10 +8,11 @@ mod lanes;
 mod steps;
 
 use crate::parts::{Parts, cred_record_fault, cred_record_parts, cred_setting_fault};
-use crate::raw::{cred_argon2, cred_scrypt};
+use crate::raw::{ScryptNumbers, cred_argon2, cred_scrypt};
 use crate::records::{cred_check, cred_hash};
 use crate::tag_numbers::Argon2Numbers;
 use crate::texts::cred_write;
+use cred_argon::Inputs;
 use std::alloc::Global;
 
 /// What the reference program of Argon2 makes of `password` and `somesalt`.
@@ -81,9 +82,16 @@ const LONG_KEY: [u8; 100] = [
     0x57, 0x1a, 0x79, 0xd6,
 ];
 
-/// What Argon2 answers at the inputs of RFC 9106, section 5.
+/// RFC 9106, section 5.
+const INPUTS: Inputs<'static> = Inputs {
+    pw: &[1; 32],
+    salt: &[2; 16],
+    secret: &[3; 8],
+    assoc: &[4; 12],
+};
+
+/// What Argon2 answers at these inputs.
 fn standard(alloc: Global, kind: u32, version: u32, out: &mut [u8]) -> u8 {
-    let (pw, salt, secret, assoc) = ([1; 32], [2; 16], [3; 8], [4; 12]);
     let numbers = Argon2Numbers {
         kind,
         version,
@@ -91,7 +99,7 @@ fn standard(alloc: Global, kind: u32, version: u32, out: &mut [u8]) -> u8 {
         passes: 3,
         lanes: 4,
     };
-    cred_argon2(alloc, &numbers, &pw, &salt, &secret, &assoc, out)
+    cred_argon2(alloc, &numbers, &INPUTS, out)
 }
 
 #[test]
@@ -109,11 +117,17 @@ fn argon2_tags(rt: HostRuntime) {
 #[test]
 fn scrypt_keys(rt: HostRuntime) {
     let mut key = [0; 64];
-    assert_eq!(rt; cred_scrypt(rt.alloc(), 4, 1, 1, b"", b"", &mut key), 0);
+    let small = ScryptNumbers { ln: 4, r: 1, p: 1 };
+    assert_eq!(rt; cred_scrypt(rt.alloc(), &small, b"", b"", &mut key), 0);
     assert_eq!(rt; key[..] == EMPTY_KEY[..], true);
     let mut key = [0; 100];
+    let large = ScryptNumbers {
+        ln: 10,
+        r: 8,
+        p: 16,
+    };
     assert_eq!(rt;
-        cred_scrypt(rt.alloc(), 10, 8, 16, b"password", b"NaCl", &mut key),
+        cred_scrypt(rt.alloc(), &large, b"password", b"NaCl", &mut key),
         0
     );
     assert_eq!(rt; key[..] == LONG_KEY[..], true);

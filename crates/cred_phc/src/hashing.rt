@@ -10,7 +10,7 @@ use crate::scheme::{Scheme, Variant};
 use crate::scratch::Scratch;
 use crate::setting::Setting;
 use crate::tag::{MAX_TAG, Tag};
-use cred_argon::{Kind, Params, Version, argon2, argon2_in};
+use cred_argon::{Inputs, Kind, Params, Version, argon2, argon2_in};
 use cred_pool::Gate;
 use cred_scrypt::{ScryptParams, scrypt, scrypt_in};
 use std::alloc::Global;
@@ -116,7 +116,14 @@ pub fn tag_in<G: Gate>(
     match Function::of(setting, len) {
         Function::Argon2(params) => {
             let mut kept = scratch.take_argon2(alloc);
-            let made = argon2_in(&mut kept, alloc, gate, &params, pw, salt, b"", b"");
+            let (secret, assoc) = (b"", b"");
+            let inputs = Inputs {
+                pw,
+                salt,
+                secret,
+                assoc,
+            };
+            let made = argon2_in(&mut kept, alloc, gate, &params, &inputs);
             scratch.keep_argon2(kept);
             tag_made(made)
         }

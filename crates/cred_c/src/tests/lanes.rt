@@ -1,6 +1,6 @@
 //! Tags and records made part by part, each slice's lanes from the last to the first.
 
-use super::{RECORD, RECORD_IN_BUFFER, SCRYPT_RECORD, SETTING, STANDARD};
+use super::{INPUTS, RECORD, RECORD_IN_BUFFER, SCRYPT_RECORD, SETTING, STANDARD};
 use crate::lanes::{
     cred_argon2_begin, cred_argon2_end, cred_argon2_segment, cred_argon2_segment_len,
 };
@@ -97,7 +97,6 @@ fn work_slice(
 
 #[test]
 fn tags_in_parts(rt: HostRuntime) {
-    let (pw, salt, secret, assoc) = ([1; 32], [2; 16], [3; 8], [4; 12]);
     for kind in 0..3u32 {
         let numbers = TagNumbers {
             kind,
@@ -109,7 +108,7 @@ fn tags_in_parts(rt: HostRuntime) {
         };
         let mut memory = unworked_slices(rt.alloc(), &numbers).expect(&rt, "memory");
         let first = &mut memory.current;
-        let begun = cred_argon2_begin(&numbers, &pw, &salt, &secret, &assoc, first);
+        let begun = cred_argon2_begin(&numbers, &INPUTS, first);
         assert_eq!(rt; begun, 0);
         assert_eq!(rt; work(&numbers, &mut memory), 0);
         let mut tag = [0; 32];

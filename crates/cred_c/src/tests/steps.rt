@@ -2,6 +2,7 @@
 //! `password` and `somesalt`.
 
 use super::{RECORD, SETTING};
+use crate::operation::StepInputs;
 use crate::step::cred_step;
 use std::alloc::Global;
 
@@ -23,19 +24,9 @@ const RENEWED: &[u8] =
 /// The costs of `RECORD` with another salt.
 const OTHER_SALT: &[u8] = b"$argon2id$v=19$m=256,t=2,p=1$b3RoZXJzYWx0";
 
-/// What is asked of a step.
-#[derive(Clone, Copy)]
-struct Asked<'a> {
-    operation: u32,
-    copy: &'a [u8],
-    pw: &'a [u8],
-    new_pw: &'a [u8],
-    setting: &'a [u8],
-}
-
 /// Asks for an operation with the password of `RECORD`, and new costs.
-fn ask(operation: u32, copy: &[u8]) -> Asked<'_> {
-    Asked {
+fn ask(operation: u32, copy: &[u8]) -> StepInputs<'_> {
+    StepInputs {
         operation,
         copy,
         pw: b"password",
@@ -46,15 +37,11 @@ fn ask(operation: u32, copy: &[u8]) -> Asked<'_> {
 
 /// What a step answers and its reply, which is 77 if it writes none, and whether a buffer of `room`
 /// bytes begins with this text then, whose length was told.
-fn seen(alloc: Global, asked: Asked<'_>, room: usize, text: &[u8]) -> (u8, u32, bool) {
+fn seen(alloc: Global, asked: StepInputs<'_>, room: usize, text: &[u8]) -> (u8, u32, bool) {
     let (mut out, mut len, mut reply) = ([b'.'; 96], 9, 77);
     let answer = cred_step(
         alloc,
-        asked.operation,
-        asked.copy,
-        asked.pw,
-        asked.new_pw,
-        asked.setting,
+        &asked,
         &mut reply,
         &mut out[..room.min(96)],
         &mut len,
@@ -69,7 +56,7 @@ fn seen(alloc: Global, asked: Asked<'_>, room: usize, text: &[u8]) -> (u8, u32, 
 
 #[test]
 fn changes_made(rt: HostRuntime) {
-    let first = Asked {
+    let first = StepInputs {
         setting: SETTING,
         ..ask(ENROL, b"")
     };
@@ -93,13 +80,13 @@ fn no_change_made(rt: HostRuntime) {
     assert_eq!(rt; seen(rt.alloc(), ask(ENROL, RECORD), 0, b""), (0, 2, true));
     assert_eq!(rt; seen(rt.alloc(), ask(VERIFY, RECORD), 0, b""), (0, 3, true));
     assert_eq!(rt; seen(rt.alloc(), ask(VERIFY, b""), 0, b""), (0, 5, true));
-    let kept = Asked {
+    let kept = StepInputs {
         setting: OTHER_SALT,
         ..ask(UPGRADE, RECORD)
     };
     assert_eq!(rt; seen(rt.alloc(), kept, 0, b""), (0, 9, true));
     for (operation, reply) in [(VERIFY, 4), (CHANGE, 7), (UPGRADE, 7), (REMOVE, 7)] {
-        let wrong = Asked {
+        let wrong = StepInputs {
             pw: b"Password",
             ..ask(operation, RECORD)
         };
@@ -110,7 +97,7 @@ fn no_change_made(rt: HostRuntime) {
 #[test]
 fn steps_refused(rt: HostRuntime) {
     for operation in [0, 6, 255] {
-        let none = Asked {
+        let none = StepInputs {
             operation,
             ..ask(VERIFY, SETTING)
         };
@@ -118,7 +105,7 @@ fn steps_refused(rt: HostRuntime) {
     }
     let long = [b'a'; 257];
     let (too_long, longest) = (&long[..], &long[..256]);
-    let no_copy = Asked {
+    let no_copy = StepInputs {
         pw: too_long,
         ..ask(VERIFY, SETTING)
     };
@@ -128,7 +115,7 @@ fn steps_refused(rt: HostRuntime) {
         (longest, too_long, 25),
         (longest, longest, 1),
     ] {
-        let change = Asked {
+        let change = StepInputs {
             pw,
             new_pw,
             setting: RECORD,
@@ -136,7 +123,7 @@ fn steps_refused(rt: HostRuntime) {
         };
         assert_eq!(rt; seen(rt.alloc(), change, 96, b""), (answer, 77, true));
     }
-    let verify = Asked {
+    let verify = StepInputs {
         new_pw: too_long,
         setting: RECORD,
         ..ask(VERIFY, RECORD)
