@@ -17,7 +17,7 @@ use Rattle.std.proofs.{Common.nat_lt, Common.◌<◌, Common.false, Common.◌||
 use Rattle.cred_book.specs.{Accounts.Accounts, Accounts.register_capacity, Calls.EntersWithin, Names.is_name, declared.error.BookError.BookError}
 use Rattle.sqlite_catalog.specs.Listing.{IsSound}
 use Rattle.cred_file.specs.Schema.{IsBookSchema, book_schema, statistics, insert_text, update_text, delete_text, rename_text}
-use Rattle.cred_file.specs.{Table.StandsFor, Table.IsTextOf, Table.Tells, Edits.after_edit, Edits.renamed, Edits.PutsEntry}
+use Rattle.cred_file.specs.{Table.StandsFor, Table.IsTextOf, Table.Tells, Edits.after_attempt, Edits.renamed, Edits.PutsEntry}
 use Rattle.cred_file.specs.{Keeps.HoldsBook, Keeps.IsTableOf, Keeps.IsRenamable, Keeps.LeavesOnly, Keeps.Keeps, Keeps.IsOrWith, declared.fault.Lost.Lost}
 use Rattle.sqlite_trees.specs.View.{doubt}
 use Rattle.cred_book.specs.declared.error.BookError.TheVariants as error
@@ -185,8 +185,8 @@ module _ {S : Type 0} (g : Ghosts S) (old new : Held S) (book : Accounts) (lost 
     left = λ late. (does late (keeps.table (early late) none)).left;
   }))
 
-  pub keeps_lost : now ≡ book → (loss l : Lost) → loss ≡ l → fin.len (after_edit book l.edit) ≤ register_capacity
-      → (HasCleanDisk (state g new) → IsTableOf (state g old) book → LeavesOnly (state g new) (λ b. (b ≡ book) ⊎ (b ≡ after_edit book l.edit))) → Keeps g new now (Some loss)
+  pub keeps_lost : now ≡ book → (loss l : Lost) → loss ≡ l → fin.len (after_attempt book l.attempt) ≤ register_capacity
+      → (HasCleanDisk (state g new) → IsTableOf (state g old) book → LeavesOnly (state g new) (λ b. (b ≡ book) ⊎ (b ≡ after_attempt book l.attempt))) → Keeps g new now (Some loss)
   keeps_lost is loss l said low does = subst (λ b. Keeps g new b (Some loss)) (sym is) (subst (λ l. Keeps g new book (Some l)) (sym said) (record {
     few = λ b is. elim is [ inl same ↦ subst (λ b. fin.len b ≤ register_capacity) (sym same) (fits lost keeps whole) | inr more ↦ subst (λ b. fin.len b ≤ register_capacity) (sym more) low ];
     table = λ late e. absurd cc;

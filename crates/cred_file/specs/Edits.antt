@@ -4,8 +4,8 @@ use Rattle.std.specs.FinMap as fin
 use Rattle.cred_phc.specs.Values.{RecordValue}
 use Rattle.cred_book.specs.{Accounts.Accounts, declared.error.BookError.BookError}
 use Rattle.cred_book.specs.declared.error.BookError.TheVariants as error
-use Rattle.cred_file.specs.declared.fault.Edit.{Edit}
-use Rattle.cred_file.specs.declared.fault.Edit.TheVariants as edit
+use Rattle.cred_file.specs.declared.fault.Attempt.{Attempt}
+use Rattle.cred_file.specs.declared.fault.Attempt.TheVariants as attempt
 
 -- the record goes with the name
 abbrev pub renamed : Accounts → List ℕ → List ℕ → Accounts
@@ -20,11 +20,11 @@ joined book more = fin.from_entries (fin.entries more ++ fin.entries book)
 abbrev pub taken_in : Accounts → Accounts → Accounts → Accounts
 taken_in book added changed = joined (joined book added) changed
 
-abbrev pub after_edit : Accounts → Edit → Accounts
-after_edit book (edit.Put name stored) = fin.insert book name stored
-after_edit book (edit.TakeIn added changed) = taken_in book added changed
-after_edit book (edit.Delete name) = fin.remove book name
-after_edit book (edit.Rename name other) = renamed book name other
+abbrev pub after_attempt : Accounts → Attempt → Accounts
+after_attempt book (attempt.Put name stored) = fin.insert book name stored
+after_attempt book (attempt.TakeIn added changed) = taken_in book added changed
+after_attempt book (attempt.Delete name) = fin.remove book name
+after_attempt book (attempt.Rename name other) = renamed book name other
 
 -- the name is there, or there is room for one more
 abbrev pub has_room_for : ℕ → Accounts → List ℕ → Bool

@@ -4,7 +4,7 @@ use Rattle.sqlite.specs.{declared.error.Error.Error, declared.types.Value.Value,
 use Rattle.sqlite.specs.{State.Executes, State.HasCleanDisk, Store.Ghosts}
 use Rattle.cred_phc.specs.Values.{RecordValue}
 use Rattle.cred_book.specs.declared.error.BookError.{BookError}
-use Rattle.cred_file.specs.{declared.fault.Edit.Edit, declared.fault.Lost.Lost, declared.fault.OpenFault.OpenFault}
+use Rattle.cred_file.specs.{declared.fault.Attempt.Attempt, declared.fault.Lost.Lost, declared.fault.OpenFault.OpenFault}
 use Rattle.cred_file.specs.declared.fault.OpenFault.TheVariants as fault
 use Rattle.cred_file.specs.{Kept.Kept, Schema.create_text, Schema.delete_text, Schema.insert_text, Schema.no_schema, Schema.rename_text, Schema.update_text}
 use Rattle.cred_file.specs.Table.{Tells}
@@ -43,20 +43,20 @@ abbrev pub FailsToRename : {S : Type 0} → Ghosts S → Held S → Held S → L
 FailsToRename g old new name other = Refuses g old new rename_text (Text name ∷ Text other ∷ [])
 
 -- what is lost is the change that was to be made, with the error of its statement
-pub record IsLossOf (edit : Edit) (Fails : Error → Type 0) (l : Lost) : Type 0 where
-  pub edit_is : l.edit ≡ edit
+pub record IsLossOf (attempt : Attempt) (Fails : Error → Type 0) (l : Lost) : Type 0 where
+  pub attempt_is : l.attempt ≡ attempt
   pub error : Fails l.error
 
 -- A change that was lost stays so. If none was, none but this one is, with the error of its
 -- statement.
-pub record Loses {S : Type 0} (edit : Edit) (Fails : Error → Type 0) (old new : Kept S)
+pub record Loses {S : Type 0} (attempt : Attempt) (Fails : Error → Type 0) (old new : Kept S)
     : Type 0 where
   pub remembered : IfSome old.lost (λ l. new.lost ≡ Some l)
-  pub lost : old.lost ≡ None → IfSome new.lost (IsLossOf edit Fails)
+  pub lost : old.lost ≡ None → IfSome new.lost (IsLossOf attempt Fails)
 
 -- likewise, and the call that makes this change answers Ok only if it is written, so that nothing
 -- was lost and nothing is
-pub record Remembers {S : Type 0} (edit : Edit) (Fails : Error → Type 0) (old new : Kept S)
+pub record Remembers {S : Type 0} (attempt : Attempt) (Fails : Error → Type 0) (old new : Kept S)
     (result : Result (Unit {0}) BookError) : Type 0 where
   pub written : OnOk result ((old.lost ≡ None) × (new.lost ≡ None))
-  pub loses : Loses edit Fails old new
+  pub loses : Loses attempt Fails old new

@@ -4,7 +4,7 @@ use Rattle.std.specs.FinMap as fin
 use Rattle.sqlite.specs.{Schema.Schema, Tree.Trees, State.State, State.HasCleanDisk, Held.Held, Held.state, Store.Ghosts}
 use Rattle.sqlite_catalog.specs.Listing.{IsSound}
 use Rattle.cred_book.specs.Accounts.{Accounts, register_capacity}
-use Rattle.cred_file.specs.{declared.fault.Lost.Lost, Edits.after_edit, Schema.IsBookSchema, Table.StandsFor}
+use Rattle.cred_file.specs.{declared.fault.Lost.Lost, Edits.after_attempt, Schema.IsBookSchema, Table.StandsFor}
 
 -- a database with the one table, whose rows stand for the book
 pub record HoldsBook (db : Trees) (book : Accounts) : Type 0 where
@@ -56,7 +56,7 @@ MayBegin old new = (db : Trees) → new.may_leave db → old.may_leave db ⊎ Ho
 -- the book, or with the change that was under way as the database failed
 abbrev pub IsOrWith : Accounts → Option Lost → Accounts → Type 0
 IsOrWith book None b = b ≡ book
-IsOrWith book (Some l) b = (b ≡ book) ⊎ (b ≡ after_edit book l.edit)
+IsOrWith book (Some l) b = (b ≡ book) ⊎ (b ≡ after_attempt book l.attempt)
 
 -- If the disk has returned what was written: the table is the book's until a change is lost, and a
 -- crash leaves the book, or the book with the lost change. Neither has too many accounts.

@@ -1,7 +1,7 @@
 //! Why a database keeps no book, and what was lost as it failed.
 
 ghost use Rattle.std.specs.Prelude.{◌≡◌};
-ghost use Rattle.cred_file.specs.declared.fault.Edit.TheVariants as Edit;
+ghost use Rattle.cred_file.specs.declared.fault.Attempt.TheVariants as Attempt;
 
 use cred_book::{Name, Register};
 use cred_phc::{PhcError, Record};
@@ -37,12 +37,12 @@ pub struct Lost {
     /// What the database answered.
     pub error: Error,
     /// The change that was to be made.
-    pub edit: Edit,
+    pub attempt: Attempt,
 }
 
-/// A change of a book.
+/// A change of a book that was attempted.
 #[derive(Drop)]
-pub enum Edit {
+pub enum Attempt {
     /// A record, or none, is put at a name.
     Put { name: Name, stored: Option<Record> },
     /// Accounts are added, and the records of others are replaced, all together.
@@ -53,16 +53,16 @@ pub enum Edit {
     Rename { name: Name, other: Name },
 }
 
-impl fmt::Debug for Edit {
+impl fmt::Debug for Attempt {
     fn fmt<W: fmt::Write>(&self, f: &mut fmt::Formatter<W>) -> fmt::Result {
         match self {
-            Edit::Put { name, .. } => write!(f, "Put {{ name: {name:?} }}"),
-            Edit::TakeIn { added, changed } => {
+            Attempt::Put { name, .. } => write!(f, "Put {{ name: {name:?} }}"),
+            Attempt::TakeIn { added, changed } => {
                 let (added, changed) = (added.len(), changed.len());
                 write!(f, "TakeIn {{ added: {added}, changed: {changed} }}")
             }
-            Edit::Delete(name) => write!(f, "Delete {{ name: {name:?} }}"),
-            Edit::Rename { name, other } => {
+            Attempt::Delete(name) => write!(f, "Delete {{ name: {name:?} }}"),
+            Attempt::Rename { name, other } => {
                 write!(f, "Rename {{ name: {name:?}, other: {other:?} }}")
             }
         }
@@ -70,16 +70,16 @@ impl fmt::Debug for Edit {
 }
 
 impl Lost {
-    pub(crate) fn new(error: Error, edit: Edit) -> Lost
-        ensures { result ≡ record { error = error; edit = edit } }
+    pub(crate) fn new(error: Error, attempt: Attempt) -> Lost
+        ensures { result ≡ record { error = error; attempt = attempt } }
     {
-        Lost { error, edit }
+        Lost { error, attempt }
     }
 
     /// What is lost of an entry.
     pub(crate) fn put(error: Error, name: Name, stored: Option<Record>) -> Lost
-        ensures { result ≡ record { error = error; edit = Edit.Put name stored } }
+        ensures { result ≡ record { error = error; attempt = Attempt.Put name stored } }
     {
-        Lost::new(error, Edit::Put { name, stored })
+        Lost::new(error, Attempt::Put { name, stored })
     }
 }

@@ -161,7 +161,7 @@ impl<S: Alter> Keeper for FileBook<S> {
     ghost use Rattle.cred_book.specs.Commits.{Commits, judgement};
     ghost use Rattle.cred_book.specs.Works.{makes_change, name_of};
     ghost use Rattle.cred_file.specs.Failures.{FailsToPut, Loses, Remembers};
-    ghost use Rattle.cred_file.specs.declared.fault.Edit.TheVariants as Edit;
+    ghost use Rattle.cred_file.specs.declared.fault.Attempt.TheVariants as Attempt;
 
     ghost book = { λ b. b.book };
 
@@ -169,7 +169,7 @@ impl<S: Alter> Keeper for FileBook<S> {
 
     fn admit<R: Wait>(&mut self, _rt: &R, name: Name) -> Result<(), BookError>
         ensures done { AdmitsWithin register_capacity self.old.book self.new.book name result }
-        ensures remembers { Remembers (Edit.Put name None)
+        ensures remembers { Remembers (Attempt.Put name None)
             (FailsToPut S.Store self.old.conn self.new.conn false name None)
             self.old self.new result }
     {
@@ -178,7 +178,7 @@ impl<S: Alter> Keeper for FileBook<S> {
 
     fn load<R: Wait>(&mut self, _rt: &R, name: &Name, stored: Record) -> Result<(), BookError>
         ensures done { Loads self.old.book self.new.book name.now stored result }
-        ensures remembers { Remembers (Edit.Put name.now (Some stored))
+        ensures remembers { Remembers (Attempt.Put name.now (Some stored))
             (FailsToPut S.Store self.old.conn self.new.conn true name.now (Some stored))
             self.old self.new result }
     {
@@ -198,7 +198,7 @@ impl<S: Alter> Keeper for FileBook<S> {
         ensures refused { IfSome self.old.lost (λ _.
             is_ok result ≡ not (judgement self.old.book worked).2) }
         ensures written { OnOk result (self.new.lost ≡ self.old.lost) }
-        ensures loses { Loses (Edit.Put (name_of worked.0) (judgement self.old.book worked).1)
+        ensures loses { Loses (Attempt.Put (name_of worked.0) (judgement self.old.book worked).1)
             (FailsToPut S.Store self.old.conn self.new.conn true (name_of worked.0)
             (judgement self.old.book worked).1) self.old self.new }
     {

@@ -10,7 +10,7 @@ mod restart;
 mod statements;
 mod together;
 
-pub use fault::{Edit, Lost, OpenFault};
+pub use fault::{Attempt, Lost, OpenFault};
 pub use file_book::FileBook;
 pub use laws::{a_renamed_name_is_gone, files_hold_the_book};
 pub use restart::crash_and_open;

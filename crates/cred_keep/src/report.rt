@@ -7,7 +7,7 @@ use crate::import::{Effect, Imported};
 use crate::outcome::{Ending, Failure};
 use cred_admin::{BadLine, Fault, Hint, ImportFault, LineFault, Status};
 use cred_book::{BookError, Register};
-use cred_file::{Edit, Lost, OpenFault};
+use cred_file::{Attempt, Lost, OpenFault};
 use cred_phc::PhcError;
 use sqlite::{Error, ErrorCode};
 use std::io;
@@ -67,14 +67,16 @@ pub fn explain<F: Write>(faults: &mut F, failure: &Failure, lost: Option<&Lost>)
 
 fn tell_lost<F: Write>(faults: &mut F, lost: &Lost) -> io::Result<()> {
     write!(faults, "credkeep: the database failed: {}; ", lost.error)?;
-    match &lost.edit {
-        Edit::Put { name, .. } | Edit::Delete(name) | Edit::Rename { name, .. } => {
+    match &lost.attempt {
+        Attempt::Put { name, .. } | Attempt::Delete(name) | Attempt::Rename { name, .. } => {
             write!(faults, "the change of ")?;
             faults.write_all(name.bytes())?;
             writeln!(faults, " may be kept or not")
         }
-        Edit::TakeIn { added, changed } if added.len() == 0 => tell_lost_changes(faults, changed),
-        Edit::TakeIn { added, changed } => tell_lost_import(faults, added.len(), changed.len()),
+        Attempt::TakeIn { added, changed } if added.len() == 0 => {
+            tell_lost_changes(faults, changed)
+        }
+        Attempt::TakeIn { added, changed } => tell_lost_import(faults, added.len(), changed.len()),
     }
 }
 

@@ -7,10 +7,10 @@ ghost use Rattle.cred_book.specs.{Accounts.register_capacity, Calls.AdmitsWithin
 ghost use Rattle.cred_book.specs.Works.{name_of};
 ghost use Rattle.cred_file.specs.Edits.{Deletes, PutsEntry, Renames};
 ghost use Rattle.cred_file.specs.{Failures.FailsToDelete, Failures.FailsToPut, Failures.FailsToRename, Failures.Loses, Failures.Remembers};
-ghost use Rattle.cred_file.specs.declared.fault.Edit.TheVariants as Edit;
+ghost use Rattle.cred_file.specs.declared.fault.Attempt.TheVariants as Attempt;
 
 use super::FileBook;
-use crate::fault::{Edit, Lost};
+use crate::fault::{Attempt, Lost};
 use crate::statements::{delete_row, insert_row, rename_row, text_of, update_row, value_of};
 use cred_book::{BookError, Name, Reply, Worked};
 use cred_phc::Record;
@@ -23,7 +23,7 @@ impl<S: Alter> FileBook<S> {
     /// out, if the database fails, and if a change is lost.
     pub fn admit(&mut self, name: Name) -> Result<(), BookError>
         ensures done { AdmitsWithin register_capacity self.old.book self.new.book name result }
-        ensures remembers { Remembers (Edit.Put name None)
+        ensures remembers { Remembers (Attempt.Put name None)
             (FailsToPut S.Store self.old.conn self.new.conn false name None)
             self.old self.new result }
     {
@@ -35,7 +35,7 @@ impl<S: Alter> FileBook<S> {
     /// Errors: `NoAccount` if the book doesn't have the name; `Memory` as in `admit`.
     pub fn load(&mut self, name: &Name, stored: Record) -> Result<(), BookError>
         ensures done { Loads self.old.book self.new.book name.now stored result }
-        ensures remembers { Remembers (Edit.Put name.now (Some stored))
+        ensures remembers { Remembers (Attempt.Put name.now (Some stored))
             (FailsToPut S.Store self.old.conn self.new.conn true name.now (Some stored))
             self.old self.new result }
     {
@@ -54,7 +54,7 @@ impl<S: Alter> FileBook<S> {
         ensures refused { IfSome self.old.lost (λ _.
             is_ok result ≡ not (judgement self.old.book worked).2) }
         ensures written { OnOk result (self.new.lost ≡ self.old.lost) }
-        ensures loses { Loses (Edit.Put (name_of worked.0) (judgement self.old.book worked).1)
+        ensures loses { Loses (Attempt.Put (name_of worked.0) (judgement self.old.book worked).1)
             (FailsToPut S.Store self.old.conn self.new.conn true (name_of worked.0)
             (judgement self.old.book worked).1) self.old self.new }
     {
@@ -76,7 +76,7 @@ impl<S: Alter> FileBook<S> {
     pub fn put(&mut self, name: &Name, stored: Option<Record>) -> Result<(), BookError>
         ensures done { PutsEntry register_capacity self.old.book self.new.book name.now stored
             result }
-        ensures remembers { Remembers (Edit.Put name.now stored)
+        ensures remembers { Remembers (Attempt.Put name.now stored)
             (FailsToPut S.Store self.old.conn self.new.conn
             (fin.contains_key self.old.book name.now) name.now stored) self.old self.new result }
     {
@@ -93,7 +93,7 @@ impl<S: Alter> FileBook<S> {
     /// is lost.
     pub fn delete(&mut self, name: &Name) -> Result<(), BookError>
         ensures done { Deletes self.old.book self.new.book name.now result }
-        ensures remembers { Remembers (Edit.Delete name.now)
+        ensures remembers { Remembers (Attempt.Delete name.now)
             (FailsToDelete S.Store self.old.conn self.new.conn name.now)
             self.old self.new result }
     {
@@ -109,8 +109,8 @@ impl<S: Alter> FileBook<S> {
                 Ok(())
             }
             Err(error) => {
-                let edit = Edit::Delete(*name);
-                self.lost = Some(Lost::new(error, edit));
+                let attempt = Attempt::Delete(*name);
+                self.lost = Some(Lost::new(error, attempt));
                 Err(BookError::Memory)
             }
         }
@@ -125,7 +125,7 @@ impl<S: Alter> FileBook<S> {
     pub fn rename(&mut self, name: &Name, other: &Name) -> Result<(), BookError>
         ensures done { Renames register_capacity self.old.book self.new.book name.now other.now
             result }
-        ensures remembers { Remembers (Edit.Rename name.now other.now)
+        ensures remembers { Remembers (Attempt.Rename name.now other.now)
             (FailsToRename S.Store self.old.conn self.new.conn name.now other.now)
             self.old self.new result }
     {
@@ -152,11 +152,11 @@ impl<S: Alter> FileBook<S> {
             }
             Err(error) => {
                 self.book.remove(other);
-                let edit = Edit::Rename {
+                let attempt = Attempt::Rename {
                     name: *name,
                     other: *other,
                 };
-                self.lost = Some(Lost::new(error, edit));
+                self.lost = Some(Lost::new(error, attempt));
                 Err(BookError::Memory)
             }
         }
@@ -166,7 +166,7 @@ impl<S: Alter> FileBook<S> {
     pub(super) fn enter(&mut self, name: Name, stored: Option<Record>) -> Result<(), BookError>
         ensures done { EntersWithin register_capacity self.old.book self.new.book name stored
             result }
-        ensures remembers { Remembers (Edit.Put name stored)
+        ensures remembers { Remembers (Attempt.Put name stored)
             (FailsToPut S.Store self.old.conn self.new.conn false name stored)
             self.old self.new result }
     {
@@ -202,7 +202,7 @@ impl<S: Alter> FileBook<S> {
         ensures done { OnOk result (self.new.book ≡ fin.insert self.old.book name.now stored) }
         ensures memory { IfErr result (λ e.
             (e ≡ BookError.Memory) × (self.new.book ≡ self.old.book)) }
-        ensures remembers { Remembers (Edit.Put name.now stored)
+        ensures remembers { Remembers (Attempt.Put name.now stored)
             (FailsToPut S.Store self.old.conn self.new.conn true name.now stored)
             self.old self.new result }
     {

@@ -4,10 +4,10 @@ ghost use Rattle.std.specs.Prelude.{◌+◌, ◌≤◌, ◌<◌, MatchBool, ⊤}
 ghost use Rattle.std.specs.FinMap as fin;
 ghost use Rattle.cred_book.specs.Accounts.{register_capacity};
 ghost use Rattle.cred_file.specs.{Edits.AreApart, Edits.AreThere, Edits.Meet, Edits.Misses, Edits.TakesIn, Failures.Remembers};
-ghost use Rattle.cred_file.specs.declared.fault.Edit.TheVariants as Edit;
+ghost use Rattle.cred_file.specs.declared.fault.Attempt.TheVariants as Attempt;
 
 use super::FileBook;
-use crate::fault::{Edit, Lost};
+use crate::fault::{Attempt, Lost};
 use crate::together::{remove_all, take_together};
 use cred_book::{BookError, Register};
 use sqlite::Alter;
@@ -21,7 +21,7 @@ impl<S: Alter> FileBook<S> {
     /// the database fails, and if a change is lost.
     pub fn take_in(&mut self, added: Register, changed: Register) -> Result<(), BookError>
         ensures done { TakesIn register_capacity self.old.book self.new.book added changed result }
-        ensures remembers { Remembers (Edit.TakeIn added changed) (λ _. ⊤)
+        ensures remembers { Remembers (Attempt.TakeIn added changed) (λ _. ⊤)
             self.old self.new result }
     {
         if meets(&self.book, &added) {
@@ -40,7 +40,7 @@ impl<S: Alter> FileBook<S> {
             Ok(()) => Ok(()),
             Err(error) => {
                 remove_all(&mut self.book, &added);
-                self.lost = Some(Lost::new(error, Edit::TakeIn { added, changed }));
+                self.lost = Some(Lost::new(error, Attempt::TakeIn { added, changed }));
                 Err(BookError::Memory)
             }
         }
@@ -52,7 +52,7 @@ impl<S: Alter> FileBook<S> {
     pub fn replace_all(&mut self, changed: Register) -> Result<(), BookError>
         ensures done { TakesIn register_capacity self.old.book self.new.book fin.empty changed
             result }
-        ensures remembers { Remembers (Edit.TakeIn fin.empty changed) (λ _. ⊤)
+        ensures remembers { Remembers (Attempt.TakeIn fin.empty changed) (λ _. ⊤)
             self.old self.new result }
     {
         self.take_in(Register::new(self.alloc), changed)

@@ -4,7 +4,7 @@ use super::{hold_bytes, name, stored};
 use cred_admin::{BadLine, Fault, ImportFault, LineFault};
 use cred_book::{BookError, Register};
 use cred_cli::ScriptFault;
-use cred_file::{Edit, Lost, OpenFault};
+use cred_file::{Attempt, Lost, OpenFault};
 use cred_keep::{Failure, explain, refuse};
 use cred_phc::PhcError;
 use sqlite::{Error, ErrorCode};
@@ -150,9 +150,9 @@ fn texts_of_openings(rt: HostRuntime) {
 }
 
 /// Holds what is said of a change that may be lost, on a full disk.
-fn hold_lost<R: Abort>(rt: &R, alloc: Global, edit: Edit, what: &str) {
+fn hold_lost<R: Abort>(rt: &R, alloc: Global, attempt: Attempt, what: &str) {
     let error = Error::SqliteFailure(ErrorCode::DiskFull);
-    let lost = Lost { error, edit };
+    let lost = Lost { error, attempt };
     let text = format!(in alloc; "the database failed: {error}; {what}").expect(rt, "memory");
     hold_failure(rt, alloc, &Failure::Database, Some(&lost), &text);
 }
@@ -165,17 +165,17 @@ fn texts_of_lost_changes(rt: HostRuntime) {
     let (name, other) = (name(&rt, "ann"), name(&rt, "bob"));
     let stored = None;
     let what = "the change of ann may be kept or not";
-    hold_lost(&rt, alloc, Edit::Put { name, stored }, what);
-    hold_lost(&rt, alloc, Edit::Delete(name), what);
-    hold_lost(&rt, alloc, Edit::Rename { name, other }, what);
+    hold_lost(&rt, alloc, Attempt::Put { name, stored }, what);
+    hold_lost(&rt, alloc, Attempt::Delete(name), what);
+    hold_lost(&rt, alloc, Attempt::Rename { name, other }, what);
     let mut both = Register::new(alloc);
     both.admit(name).expect(&rt, "room");
     both.admit(other).expect(&rt, "room");
     let added = both.copy().expect(&rt, "memory");
     let changed = Register::new(alloc);
     let what = "the 2 new accounts may be kept or not, all or none of them";
-    hold_lost(&rt, alloc, Edit::TakeIn { added, changed }, what);
+    hold_lost(&rt, alloc, Attempt::TakeIn { added, changed }, what);
     let (added, changed) = (Register::new(alloc), both);
     let what = "the changes of ann bob may be kept or not, all or none of them";
-    hold_lost(&rt, alloc, Edit::TakeIn { added, changed }, what);
+    hold_lost(&rt, alloc, Attempt::TakeIn { added, changed }, what);
 }

@@ -1,7 +1,7 @@
 use Rattle.cred_book.specs.Accounts.{register_capacity}
 use Rattle.cred_book.proofs.Rows.{remove_again}
 use Rattle.cred_file.proofs.Keeping.{keeps_done, keeps_lost, len_new}
-use Rattle.cred_file.specs.declared.fault.Edit.TheVariants.{Put}
+use Rattle.cred_file.specs.declared.fault.Attempt.TheVariants.{Put}
 use Rattle.std.proofs.Common.{◌≡◌, ◌<◌, false, ap, ◌∙◌, subst}
 use Rattle.std.specs.FinMap as fin
 use Rattle.cred_file.proofs.file_book.FileBook.enter.Goals as goal
@@ -17,7 +17,7 @@ invariant_of-self-in-Err-insert_row g c =
     let entered = c.in-Ok-enter.ensures in
     let back = c.remove.ensures ∙ ap (λ b. fin.remove b c.args.name) entered.2 ∙ remove_again c.self.inside.book c.args.name c.args.stored entered.0 in
     keeps_lost g.S.Store c.self.inside.conn c.insert_row.new.conn c.self.inside.book _ c.self.invariant c.if-is_some.ensures c.in-Err-insert_row.ensures.clean _ c.self.inside.book back _
-    (record { error = c.in-Err-insert_row.error; edit = Put c.args.name c.args.stored }) c.put.ensures
+    (record { error = c.in-Err-insert_row.error; attempt = Put c.args.name c.args.stored }) c.put.ensures
     (len_new c.self.inside.book c.args.name c.args.stored entered.0 entered.1) (λ clean was. c.in-Err-insert_row.ensures.left clean c.args.stored c.value_of.ensures c.self.inside.book entered.0 was)
 
 pub returns-clause-done : goal.returns-clause-done

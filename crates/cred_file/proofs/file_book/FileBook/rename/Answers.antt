@@ -2,7 +2,7 @@ use Rattle.std.proofs.Common.{◌≡◌, ◌<◌, is_some, sym, ap, ◌∙◌, s
 use Rattle.std.specs.FinMap as fin
 use Rattle.cred_book.specs.Accounts.{Accounts, register_capacity}
 use Rattle.cred_book.proofs.Rows.{remove_again}
-use Rattle.cred_file.specs.{declared.fault.Edit.TheVariants.Rename, Edits.MayRename, Edits.renamed}
+use Rattle.cred_file.specs.{declared.fault.Attempt.TheVariants.Rename, Edits.MayRename, Edits.renamed}
 use Rattle.cred_file.proofs.Keeping.{keeps_done, keeps_lost, fits}
 use Rattle.cred_file.proofs.Removing.{absent_less, len_renamed, renamed_is}
 use Rattle.cred_file.proofs.file_book.FileBook.rename.Goals as goal
@@ -27,7 +27,7 @@ invariant_of-self-in-Err-rename_row g c =
     let absent = c.in-Ok-enter.ensures.0 in
     let back = c.remove-in-Err-rename_row.ensures ∙ ap (λ (b : Accounts). fin.remove b other) c.in-Ok-enter.ensures.2 ∙ remove_again book other c.in-Ok.stored absent in
     keeps_lost g.S.Store c.self.inside.conn c.rename_row.new.conn book _ c.self.invariant c.if-is_some.ensures c.in-Err-rename_row.ensures.clean _ book back _
-    (record { error = c.in-Err-rename_row.error; edit = Rename name other }) c.new.ensures
+    (record { error = c.in-Err-rename_row.error; attempt = Rename name other }) c.new.ensures
     (len_renamed book name other there absent (fits _ c.self.invariant c.if-is_some.ensures)) (λ clean was. c.in-Err-rename_row.ensures.left clean book (there, absent_less book name other absent) was)
 
 pub returns-in-Ok-rename_row-clause-done : goal.returns-in-Ok-rename_row-clause-done

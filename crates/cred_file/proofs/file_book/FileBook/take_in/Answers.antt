@@ -1,7 +1,7 @@
 use Rattle.std.proofs.Common.{◌≡◌, ◌≤◌, ◌+◌, ap, subst, arith}
 use Rattle.std.specs.FinMap as fin
 use Rattle.cred_book.specs.Accounts.{Accounts, register_capacity}
-use Rattle.cred_file.specs.{declared.fault.Edit.TheVariants.TakeIn, Edits.MayTakeIn, Edits.taken_in}
+use Rattle.cred_file.specs.{declared.fault.Attempt.TheVariants.TakeIn, Edits.MayTakeIn, Edits.taken_in}
 use Rattle.cred_file.proofs.{Keeping.keeps_done, Keeping.keeps_lost, Joined.len_taken, Joined.undone}
 use Rattle.cred_file.proofs.file_book.FileBook.take_in.Goals as goal
 
@@ -18,7 +18,7 @@ invariant_of-self-in-Err g c =
     let room : fin.len book + fin.len c.args.added ≤ register_capacity = c.if-not-has_room.ensures in
     let back = undone book c.args.added c.take_together.new.book c.remove_all.new.book c.if-meets.ensures c.in-Err.ensures.part c.remove_all.ensures in
     keeps_lost g.S.Store c.self.inside.conn c.take_together.new.conn book _ c.self.invariant c.if-is_some.ensures c.in-Err.ensures.clean _ book back _
-    (record { error = c.in-Err.error; edit = TakeIn c.args.added c.args.changed }) c.new.ensures
+    (record { error = c.in-Err.error; attempt = TakeIn c.args.added c.args.changed }) c.new.ensures
     (omega (arith, len_taken book c.args.added c.args.changed c.if-misses.ensures, room)) c.in-Err.ensures.left
 
 pub returns-in-Err-clause-done : goal.returns-in-Err-clause-done
