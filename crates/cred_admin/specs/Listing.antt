@@ -5,7 +5,7 @@ use Rattle.cred_phc.specs.{Values.RecordValue, Text.record_text, Text.scheme_tex
 use Rattle.cred_book.specs.declared.reply.Reply.TheVariants as reply
 use Rattle.cred_admin.specs.declared.listing.Line.{Line}
 use Rattle.cred_admin.specs.declared.listing.Line.TheVariants as line
-use Rattle.cred_admin.specs.{declared.part.Part.Part, declared.part.Part.TheVariants.Costs, declared.part.Part.TheVariants.Record, declared.fault.Fault.Fault}
+use Rattle.cred_admin.specs.{declared.detail.Detail.Detail, declared.detail.Detail.TheVariants.Costs, declared.detail.Detail.TheVariants.Record, declared.fault.Fault.Fault}
 use Rattle.cred_admin.specs.declared.fault.Fault.TheVariants as fault
 use Rattle.cred_admin.specs.{declared.status.Status.Status, declared.status.Status.TheVariants.Done, declared.status.Status.TheVariants.No, Statuses.status_of}
 use Rattle.cred_cli.specs.{Outcome.FrontWritten, Texts.reply_line, Watched.Writing}
@@ -19,58 +19,58 @@ abbrev pub name_line : Entry → List ℕ
 name_line e = e.0 ++ 10 ∷ []
 
 -- what is shown of a record
-abbrev pub part_text : Part → RecordValue → List ℕ
-part_text Costs v = scheme_text v.setting.scheme
-part_text Record v = record_text v
+abbrev pub detail_text : Detail → RecordValue → List ℕ
+detail_text Costs v = scheme_text v.setting.scheme
+detail_text Record v = record_text v
 
-abbrev pub part_of : Part → Option RecordValue → List ℕ
-part_of part None = []
-part_of part (Some v) = part_text part v
+abbrev pub detail_of : Detail → Option RecordValue → List ℕ
+detail_of detail None = []
+detail_of detail (Some v) = detail_text detail v
 
--- the name, a colon (byte 58), the part or nothing, and a line end
-abbrev pub part_line : Part → Entry → List ℕ
-part_line part e = e.0 ++ 58 ∷ part_of part e.1 ++ 10 ∷ []
+-- the name, a colon (byte 58), the detail or nothing, and a line end
+abbrev pub detail_line : Detail → Entry → List ℕ
+detail_line detail e = e.0 ++ 58 ∷ detail_of detail e.1 ++ 10 ∷ []
 
 -- as a passwd-file has it
 abbrev pub passwd_line : Entry → List ℕ
-passwd_line e = part_line Record e
+passwd_line e = detail_line Record e
 
 -- ---- in JSON (RFC 8259), where neither a name nor a record has a byte that wants an escape
 
-abbrev pub part_word : Part → List ℕ
-part_word Costs = codes "costs"
-part_word Record = codes "record"
+abbrev pub detail_word : Detail → List ℕ
+detail_word Costs = codes "costs"
+detail_word Record = codes "record"
 
--- the part in quotation marks (byte 34)
-abbrev pub json_part : Part → Option RecordValue → List ℕ
-json_part part None = codes "null"
-json_part part (Some v) = 34 ∷ part_text part v ++ 34 ∷ []
+-- the detail in quotation marks (byte 34)
+abbrev pub json_detail : Detail → Option RecordValue → List ℕ
+json_detail detail None = codes "null"
+json_detail detail (Some v) = 34 ∷ detail_text detail v ++ 34 ∷ []
 
-abbrev pub json_line : Part → Entry → List ℕ
-json_line part e = codes "{\"name\":\"" ++ e.0 ++ codes "\",\"" ++ part_word part ++ codes "\":"
-    ++ json_part part e.1 ++ codes "}\n"
+abbrev pub json_line : Detail → Entry → List ℕ
+json_line detail e = codes "{\"name\":\"" ++ e.0 ++ codes "\",\"" ++ detail_word detail ++ codes "\":"
+    ++ json_detail detail e.1 ++ codes "}\n"
 
 -- ---- all of them
 
 -- what a list writes of each
 abbrev pub line_text : Line → Entry → List ℕ
 line_text line.Name = name_line
-line_text (line.Passwd part) = part_line part
-line_text (line.Json part) = json_line part
+line_text (line.Passwd detail) = detail_line detail
+line_text (line.Json detail) = json_line detail
 
 -- ---- one account
 
 -- what is written of an account's entry, and the status that goes with it
-abbrev pub shown_at : Part → Option (Option RecordValue) → List ℕ × Status
-shown_at part None = (reply_line reply.NoAccount, status_of reply.NoAccount None)
-shown_at part (Some None) = (reply_line reply.Absent, status_of reply.Absent None)
-shown_at part (Some (Some v)) = (part_text part v ++ 10 ∷ [], Done)
+abbrev pub shown_at : Detail → Option (Option RecordValue) → List ℕ × Status
+shown_at detail None = (reply_line reply.NoAccount, status_of reply.NoAccount None)
+shown_at detail (Some None) = (reply_line reply.Absent, status_of reply.Absent None)
+shown_at detail (Some (Some v)) = (detail_text detail v ++ 10 ∷ [], Done)
 
 -- the same in JSON
-abbrev pub json_at : Part → List ℕ → Option (Option RecordValue) → List ℕ × Status
-json_at part name None = (codes "null\n", No None)
-json_at part name (Some None) = (json_line part (name, None), No None)
-json_at part name (Some (Some v)) = (json_line part (name, Some v), Done)
+abbrev pub json_at : Detail → List ℕ → Option (Option RecordValue) → List ℕ × Status
+json_at detail name None = (codes "null\n", No None)
+json_at detail name (Some None) = (json_line detail (name, None), No None)
+json_at detail name (Some (Some v)) = (json_line detail (name, Some v), Done)
 
 -- ---- what becomes of a text
 

@@ -7,10 +7,10 @@ ghost use Rattle.cred_cli.specs.Watched.{Basis, writing_on};
 ghost use Rattle.cred_admin.specs.Edits.{DisablesShown, Edits, EditsWithin};
 ghost use Rattle.cred_admin.specs.declared.edits.Edit.TheVariants as change;
 
+use crate::detail::Detail;
 use crate::edit_reply::{EditReply, edit_line, edit_status};
 use crate::fault::Fault;
 use crate::listing::{Line, line_of};
-use crate::part::Part;
 use crate::printing::{tell, write_whole};
 use crate::status::Status;
 use cred_book::{BookError, Name};
@@ -135,7 +135,7 @@ pub fn disable_shown<S: Alter, W: Write>(
         Ok(None) => return tell(edit_line(EditReply::Absent), Status::No(None), writer),
         Err(_) => return tell(edit_line(EditReply::NoAccount), Status::No(None), writer),
     };
-    let line = line_of(alloc, Line::Passwd(Part::Record), name, Some(stored))?;
+    let line = line_of(alloc, Line::Passwd(Detail::Record), name, Some(stored))?;
     write_whole(writer, &line)?;
     let Ok(()) = book.put(name, None) else {
         return Err(Fault::Memory);

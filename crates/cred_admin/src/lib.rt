@@ -7,6 +7,7 @@
 #![tactic(auto)]
 
 mod command;
+mod detail;
 mod edit_reply;
 mod edits;
 mod entry;
@@ -15,7 +16,6 @@ mod import;
 mod laws;
 mod listing;
 mod operation;
-mod part;
 mod password;
 mod printing;
 mod setting;
@@ -23,6 +23,7 @@ mod showing;
 mod status;
 
 pub use command::Command;
+pub use detail::Detail;
 pub use edit_reply::{EditReply, edit_line};
 pub use edits::{Edit, disable_shown, edit_account, make_edit};
 pub use entry::LineFault;
@@ -30,7 +31,6 @@ pub use fault::Fault;
 pub use import::{BadLine, Existing, Gathered, ImportFault, LockedRecords, Rules, gather};
 pub use laws::imports_are_of_their_lines;
 pub use listing::{Line, a_piece_has_64_kib, line_of, list};
-pub use part::Part;
 pub use password::{EmptyPassword, NewPassword, Passwords};
 pub use printing::tell;
 pub use setting::{NewSetting, setting_of};

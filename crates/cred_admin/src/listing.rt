@@ -4,11 +4,11 @@ ghost use Rattle.std.specs.Prelude.{◌≡◌, ◌++◌, ◌<◌, length, IfErr,
 ghost use Rattle.std.specs.FinMap as map;
 ghost use Rattle.cred_phc.specs.Values.{RecordValue};
 ghost use Rattle.cred_cli.specs.{Outcome.FrontWritten, Watched.Basis, Watched.failed_of, Watched.held_on, Watched.writing_on};
-ghost use Rattle.cred_admin.specs.Listing.{IsPiece, Prints, json_part, line_text, part_word};
+ghost use Rattle.cred_admin.specs.Listing.{IsPiece, Prints, json_detail, line_text, detail_word};
 ghost use Rattle.cred_admin.specs.declared.listing.TheConstants.{PIECE};
 
+use crate::detail::{Detail, detail_text};
 use crate::fault::Fault;
-use crate::part::{Part, part_text};
 use crate::printing::write_whole;
 use crate::status::Status;
 use cred_book::{Name, Register};
@@ -30,14 +30,14 @@ pub fn a_piece_has_64_kib()
 pub enum Line {
     /// By its name.
     Name,
-    /// As a passwd-file does: `NAME:` and this part of its record, if it has one.
-    Passwd(Part),
+    /// As a passwd-file does: `NAME:` and this detail of its record, if it has one.
+    Passwd(Detail),
     /// In JSON: `{"name":"NAME","record":"RECORD"}`, or with `"costs"`; `null` is no record.
-    Json(Part),
+    Json(Detail),
 }
 
 /// Writes a line of each account, in the order of their names. It keeps about 64 KiB of them at a
-/// time, however many there are. `import` reads those of `Line::Passwd(Part::Record)`.
+/// time, however many there are. `import` reads those of `Line::Passwd(Detail::Record)`.
 ///
 /// Errors: `Memory`, and some first lines are written, perhaps none and never all; `Write`.
 pub fn list<W: Write>(
@@ -105,51 +105,51 @@ fn push_line(
             text.push(b'\n')?;
             Ok(())
         }
-        Line::Passwd(part) => {
+        Line::Passwd(detail) => {
             text.extend_from_slice(name.bytes())?;
             text.push(b':')?;
             if let Some(stored) = stored {
-                let shown = part_text(alloc, &stored, part)?;
+                let shown = detail_text(alloc, &stored, detail)?;
                 text.extend_from_slice(&shown)?;
             }
             text.push(b'\n')?;
             Ok(())
         }
-        Line::Json(part) => {
+        Line::Json(detail) => {
             text.extend_from_slice(b"{\"name\":\"")?;
             text.extend_from_slice(name.bytes())?;
             text.extend_from_slice(b"\",\"")?;
-            text.extend_from_slice(part_word(part))?;
+            text.extend_from_slice(detail_word(detail))?;
             text.extend_from_slice(b"\":")?;
-            push_json_part(alloc, text, part, stored)?;
+            push_json_detail(alloc, text, detail, stored)?;
             text.extend_from_slice(b"}\n")?;
             Ok(())
         }
     }
 }
 
-fn part_word(part: Part) -> &'static [u8]
-    ensures { result.now ≡ part_word part }
+fn detail_word(detail: Detail) -> &'static [u8]
+    ensures { result.now ≡ detail_word detail }
 {
-    match part {
-        Part::Costs => b"costs",
-        Part::Record => b"record",
+    match detail {
+        Detail::Costs => b"costs",
+        Detail::Record => b"record",
     }
 }
 
-/// A record's part as a string, or null.
-fn push_json_part(
+/// A record's detail as a string, or null.
+fn push_json_detail(
     alloc: Global,
     text: &mut Vec<u8>,
-    part: Part,
+    detail: Detail,
     stored: Option<Record>,
 ) -> Result<(), AllocError>
-    ensures { OnOk result (text.new.items ≡ text.old.items ++ json_part part stored) }
+    ensures { OnOk result (text.new.items ≡ text.old.items ++ json_detail detail stored) }
 {
     let Some(stored) = stored else {
         return text.extend_from_slice(b"null");
     };
-    let shown = part_text(alloc, &stored, part)?;
+    let shown = detail_text(alloc, &stored, detail)?;
     text.push(b'"')?;
     text.extend_from_slice(&shown)?;
     text.push(b'"')?;

@@ -5,9 +5,9 @@ ghost use Rattle.std.specs.FinMap as map;
 ghost use Rattle.cred_cli.specs.Watched.{Basis, writing_on};
 ghost use Rattle.cred_admin.specs.Listing.{Tells, json_at, shown_at};
 
+use crate::detail::{Detail, detail_text};
 use crate::fault::Fault;
 use crate::listing::{Line, line_of};
-use crate::part::{Part, part_text};
 use crate::printing::tell;
 use crate::status::Status;
 use cred_book::{Keeper, Name, Reply};
@@ -15,7 +15,7 @@ use cred_cli::{Watched, reply_line};
 use std::alloc::Global;
 use std::io::Write;
 
-/// Writes this part of an account's record, in a line.
+/// Writes this detail of an account's record, in a line.
 ///
 /// It writes `absent` if there is no record, or `noaccount`. Errors: `Memory`, and nothing is
 /// written; `Write`.
@@ -23,45 +23,45 @@ pub fn show<K: Keeper, W: Write>(
     alloc: Global,
     keeper: &K,
     name: &Name,
-    part: Part,
+    detail: Detail,
     writer: &mut Watched<W>,
 ) -> Result<Status, Fault>
-    ensures { (basis : Basis) → Tells (shown_at part (map.get (K.book keeper.now) name.now))
+    ensures { (basis : Basis) → Tells (shown_at detail (map.get (K.book keeper.now) name.now))
         (writing_on basis W.contents writer.old writer.new) result }
 {
     match keeper.show(name) {
         Err(_) => tell(reply_line(&Reply::NoAccount), Status::No(None), writer),
         Ok(None) => tell(reply_line(&Reply::Absent), Status::No(None), writer),
         Ok(Some(stored)) => {
-            let mut text = part_text(alloc, &stored, part)?;
+            let mut text = detail_text(alloc, &stored, detail)?;
             text.extend_from_slice(b"\n")?;
             tell(&text, Status::Done, writer)
         }
     }
 }
 
-/// Writes an account with this part of its record in JSON, in a line.
+/// Writes an account with this detail of its record in JSON, in a line.
 ///
 /// It writes `null` if there is no such account. Errors: `Memory`, and nothing is written; `Write`.
 pub fn show_json<K: Keeper, W: Write>(
     alloc: Global,
     keeper: &K,
     name: &Name,
-    part: Part,
+    detail: Detail,
     writer: &mut Watched<W>,
 ) -> Result<Status, Fault>
     ensures { (basis : Basis)
-        → Tells (json_at part name.now (map.get (K.book keeper.now) name.now))
+        → Tells (json_at detail name.now (map.get (K.book keeper.now) name.now))
         (writing_on basis W.contents writer.old writer.new) result }
 {
     match keeper.show(name) {
         Err(_) => tell(b"null\n", Status::No(None), writer),
         Ok(None) => {
-            let text = line_of(alloc, Line::Json(part), name, None)?;
+            let text = line_of(alloc, Line::Json(detail), name, None)?;
             tell(&text, Status::No(None), writer)
         }
         Ok(Some(stored)) => {
-            let text = line_of(alloc, Line::Json(part), name, Some(stored))?;
+            let text = line_of(alloc, Line::Json(detail), name, Some(stored))?;
             tell(&text, Status::Done, writer)
         }
     }

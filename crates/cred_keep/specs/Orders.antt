@@ -128,10 +128,10 @@ Performs (Edit edit) s ended =
     Commands (Edits register_capacity s.old s.new edit s.writing) ended
 Performs (DisableShown name) s ended =
     Commands (DisablesShown s.old s.new name (map.get s.old name) s.writing) ended
-Performs (Show name part) s ended =
-    Commands (Tells (shown_at part (map.get s.old name)) s.writing) ended × (s.new ≡ s.old)
-Performs (ShowJson name part) s ended =
-    Commands (Tells (json_at part name (map.get s.old name)) s.writing) ended × (s.new ≡ s.old)
+Performs (Show name detail) s ended =
+    Commands (Tells (shown_at detail (map.get s.old name)) s.writing) ended × (s.new ≡ s.old)
+Performs (ShowJson name detail) s ended =
+    Commands (Tells (json_at detail name (map.get s.old name)) s.writing) ended × (s.new ≡ s.old)
 Performs (Lines line) s ended =
     Commands (Prints (line_text line) (map.entries s.old) s.writing) ended × (s.new ≡ s.old)
 Performs (Import how) s ended = (r : Result Imported ImportFault)
@@ -172,8 +172,8 @@ pub record IsRefused {S : Type 0} (g : Ghosts S) (old new : Held S) (status : St
 -- the order reads nothing
 abbrev pub is_unread : Order → Bool
 is_unread (Lines line) = true
-is_unread (Show name part) = true
-is_unread (ShowJson name part) = true
+is_unread (Show name detail) = true
+is_unread (ShowJson name detail) = true
 is_unread (Edit edit) = true
 is_unread (DisableShown name) = true
 is_unread Run = false

@@ -12,7 +12,7 @@ use crate::outcome::{Ending, Failure, command_end, import_end, run_end};
 use crate::report::{advise, explain, refuse};
 use crate::script::{AtOnce, run_on_file, serve_on_file};
 use cred_admin::{
-    Command, Edit, Line, Part, Status, disable_shown, edit_account, list, show, show_json,
+    Command, Detail, Edit, Line, Status, disable_shown, edit_account, list, show, show_json,
 };
 use cred_book::Name;
 use cred_cli::{CostBounds, Tools, Watched};
@@ -35,10 +35,10 @@ pub enum Order {
     Edit { edit: Edit },
     /// Writes the account's line of a passwd-file, and takes its record away without its password.
     DisableShown { name: Name },
-    /// Writes this part of the account's record.
-    Show { name: Name, part: Part },
-    /// Writes the account with this part of its record in JSON.
-    ShowJson { name: Name, part: Part },
+    /// Writes this detail of the account's record.
+    Show { name: Name, detail: Detail },
+    /// Writes the account with this detail of its record in JSON.
+    ShowJson { name: Name, detail: Detail },
     /// Writes a line of each account.
     List { line: Line },
     /// Takes in a passwd-file.
@@ -169,9 +169,9 @@ fn obey<T: Threads + Sync, S: Alter, R: Read, W: Write>(
         Order::DisableShown { name } => {
             command_end(disable_shown(tools.alloc, book, name, writer))
         }
-        Order::Show { name, part } => command_end(show(tools.alloc, book, name, *part, writer)),
-        Order::ShowJson { name, part } => {
-            command_end(show_json(tools.alloc, book, name, *part, writer))
+        Order::Show { name, detail } => command_end(show(tools.alloc, book, name, *detail, writer)),
+        Order::ShowJson { name, detail } => {
+            command_end(show_json(tools.alloc, book, name, *detail, writer))
         }
         Order::List { line } => command_end(list(tools.alloc, book.book(), *line, writer)),
         Order::Import { how } => import_end(import(tools.alloc, book, *how, reader), writer),

@@ -10,7 +10,7 @@ ghost use Rattle.std.specs.FinMap as map;
 use crate::ask::QuickAsk;
 use crate::host::Host;
 use crate::listing::names_line;
-use cred_admin::{Edit, EditReply, Line, Part, edit_line, line_of};
+use cred_admin::{Detail, Edit, EditReply, Line, edit_line, line_of};
 use cred_book::{BookError, Name, Reply};
 use cred_cli::{AnswerLine, Refusal};
 use cred_phc::Record;
@@ -78,7 +78,7 @@ fn disable_shown<K: Host>(
         Ok(None) => return Ok(AnswerLine::Fixed(edit_line(EditReply::Absent))),
         Err(_) => return Ok(AnswerLine::Fixed(edit_line(EditReply::NoAccount))),
     };
-    let line = line_of(alloc, Line::Passwd(Part::Record), &name, Some(stored))?;
+    let line = line_of(alloc, Line::Passwd(Detail::Record), &name, Some(stored))?;
     match keeper.edit(&Edit::Disable(name)) {
         Ok(_) => Ok(AnswerLine::Made(line)),
         Err(_) => Err(AllocError),

@@ -2,7 +2,7 @@
 
 use crate::refusal::Refusal;
 use clap::ArgMatches;
-use cred_admin::{Existing, Line, LockedRecords, Part, Rules};
+use cred_admin::{Detail, Existing, Line, LockedRecords, Rules};
 use cred_book::Name;
 use cred_cli::CostBounds;
 use cred_keep::{BadLines, Counts, Effect, Importing};
@@ -95,8 +95,8 @@ pub(crate) fn counts_in(values: &ArgMatches<'_>) -> Counts {
 
 /// How the accounts are listed.
 pub(crate) fn line_in(values: &ArgMatches<'_>) -> Line {
-    let plain = either(values, "costs", Line::Passwd(Part::Costs), Line::Name);
-    either(values, "json", Line::Json(Part::Costs), plain)
+    let plain = either(values, "costs", Line::Passwd(Detail::Costs), Line::Name);
+    either(values, "json", Line::Json(Detail::Costs), plain)
 }
 
 /// How an import is done.

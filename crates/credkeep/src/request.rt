@@ -9,7 +9,7 @@ use crate::refusal::Refusal;
 use crate::tagged::Tagged;
 use crate::terminal::Echo;
 use clap::{ArgMatches, Error};
-use cred_admin::{Command, Edit, EmptyPassword, Line, NewPassword, NewSetting, Part, setting_of};
+use cred_admin::{Command, Detail, Edit, EmptyPassword, Line, NewPassword, NewSetting, setting_of};
 use cred_cli::exceeds;
 use cred_keep::{Counts, Order};
 use cred_many::{Costs, Means};
@@ -118,7 +118,7 @@ fn act_of<'a, R: RandomSource + AllocGlobal>(
             line: line_in(values),
         },
         "export" => Order::List {
-            line: Line::Passwd(Part::Record),
+            line: Line::Passwd(Detail::Record),
         },
         "import" => Order::Import {
             how: importing_in(values)?,
@@ -166,10 +166,10 @@ fn order_on<'a, R: RandomSource + AllocGlobal>(
     values: &ArgMatches<'a>,
 ) -> Result<Order, Refusal<'a>> {
     let name = name_in(values, "name")?;
-    let part = either(values, "record", Part::Record, Part::Costs);
+    let detail = either(values, "record", Detail::Record, Detail::Costs);
     let edit = match word {
-        "show" if values.get_flag("json") => return Ok(Order::ShowJson { name, part }),
-        "show" => return Ok(Order::Show { name, part }),
+        "show" if values.get_flag("json") => return Ok(Order::ShowJson { name, detail }),
+        "show" => return Ok(Order::Show { name, detail }),
         "disable" if values.get_flag("show") => return Ok(Order::DisableShown { name }),
         "disable" => Edit::Disable(name),
         "delete" => Edit::Delete(name),

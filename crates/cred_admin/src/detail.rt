@@ -2,26 +2,30 @@
 
 ghost use Rattle.std.specs.Prelude.{◌≡◌, ◌++◌, ◌∷◌, ◌≤◌, List, ℕ, IfOk, length};
 ghost use Rattle.cred_phc.specs.{Base64.base64, Text.scheme_text};
-ghost use Rattle.cred_admin.specs.Listing.{part_text};
+ghost use Rattle.cred_admin.specs.Listing.{detail_text};
 
 use cred_phc::{Record, Setting, write_record, write_setting};
 use std::alloc::{AllocError, Global};
 
 /// How much of a record is shown.
 #[derive(Clone, Copy, Debug, PartialEq, Eq)]
-pub enum Part {
+pub enum Detail {
     /// The scheme and its costs, as `$argon2id$v=19$m=65536,t=3,p=4`.
     Costs,
     /// The whole record.
     Record,
 }
 
-pub(crate) fn part_text(alloc: Global, stored: &Record, part: Part) -> Result<Vec<u8>, AllocError>
-    ensures { IfOk result (λ text. text.items ≡ part_text part stored.now) }
+pub(crate) fn detail_text(
+    alloc: Global,
+    stored: &Record,
+    detail: Detail,
+) -> Result<Vec<u8>, AllocError>
+    ensures { IfOk result (λ text. text.items ≡ detail_text detail stored.now) }
 {
-    match part {
-        Part::Costs => costs_text(alloc, &stored.setting()),
-        Part::Record => match write_record(alloc, stored) {
+    match detail {
+        Detail::Costs => costs_text(alloc, &stored.setting()),
+        Detail::Record => match write_record(alloc, stored) {
             Ok(text) => Ok(text),
             Err(_) => Err(AllocError),
         },

@@ -1,7 +1,7 @@
 use Rattle.std.proofs.Common.{◌++◌, ◌∷◌, ap, sym, ◌∙◌}
 use Rattle.cred_phc.specs.{Base64.base64, Text.scheme_text}
 use Rattle.cred_admin.proofs.BeforeSalt.{setting_cut}
-use Rattle.cred_admin.proofs.part.costs_text.Goals as goal
+use Rattle.cred_admin.proofs.detail.costs_text.Goals as goal
 
 pub returns : goal.returns
 returns c =
