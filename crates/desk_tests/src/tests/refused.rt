@@ -129,7 +129,7 @@ fn shown_again<R: Threads + Wait + Sync>(
 ) -> Option<(Left, Option<Slip>)> {
     let acts = [lines];
     let mut scene = Scene::new(1, &acts);
-    scene.again = true;
+    scene.tries = 2;
     show(rt, alloc, book, &scene)
 }
 

@@ -45,8 +45,8 @@ pub(super) struct Scene<'a> {
     pub(super) sessions: u8,
     /// How many entries its log has room for.
     pub(super) room: usize,
-    /// Whether a step that is refused is taken once more.
-    pub(super) again: bool,
+    /// How often a step is taken at most: again, if it is refused.
+    pub(super) tries: usize,
     /// What the front half of the sessions does, in a thread of its own. Places count from the
     /// front of the half.
     pub(super) front: &'a [Line],
@@ -63,7 +63,7 @@ impl<'a> Scene<'a> {
         Scene {
             sessions,
             room: usize::MAX,
-            again: false,
+            tries: 1,
             front: &[],
             back: &[],
             acts,
@@ -144,7 +144,7 @@ fn play<J: Naming, R: Threads + Wait + Sync>(
     news: &News<J>,
     sessions: &mut [Session<J>],
     lines: &[Line],
-    again: bool,
+    tries: usize,
 ) -> Option<Slip> {
     let mut tickets: [Option<Ticket>; 3] = [None, None, None];
     for (at, line) in lines.iter().enumerate() {
@@ -152,8 +152,10 @@ fn play<J: Naming, R: Threads + Wait + Sync>(
             return Some((at, Ok(Answer::Failed)));
         };
         let mut outcome = play_one(floor, news, sessions, open, line);
-        if again && outcome != line.2 {
-            outcome = play_one(floor, news, sessions, open, line);
+        for _ in 1..tries {
+            if outcome != line.2 {
+                outcome = play_one(floor, news, sessions, open, line);
+            }
         }
         if outcome != line.2 {
             return Some((at, outcome));
@@ -175,18 +177,18 @@ fn play_in_two<J: Naming + Send + Sync, R: Threads + Wait + Sync>(
     let (front_news, back_news) = ((from_front.0, from_back.1), (from_back.0, from_front.1));
     let half = sessions.len() / 2;
     let (front, back) = sessions.split_at_mut(half);
-    let (front_lines, back_lines, again) = (scene.front, scene.back, scene.again);
+    let (front_lines, back_lines, tries) = (scene.front, scene.back, scene.tries);
     let front_floor = Floor { rt, alloc, desk };
     let back_floor = Floor { rt, alloc, desk };
     let (one, other) = join(
         rt,
         move || {
             let news = front_news;
-            play(&front_floor, &news, front, front_lines, again)
+            play(&front_floor, &news, front, front_lines, tries)
         },
         move || {
             let news = back_news;
-            play(&back_floor, &news, back, back_lines, again)
+            play(&back_floor, &news, back, back_lines, tries)
         },
     );
     one.or(other)
@@ -211,7 +213,7 @@ fn play_acts<J: Naming, R: Threads + Wait + Sync>(
         {
             return Some((0, Ok(Answer::Failed)));
         }
-        let slip = play(floor, &news, sessions, lines, scene.again);
+        let slip = play(floor, &news, sessions, lines, scene.tries);
         if slip.is_some() {
             return slip;
         }

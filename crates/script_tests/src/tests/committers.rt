@@ -11,8 +11,7 @@ use std::marker::Brand;
 use std::sync::Wait;
 use std::thread::Threads;
 
-/// What a script came to on a committer of this book, which was ended then. The answers are written
-/// into the room.
+/// What a script came to on a committer of this book, which was ended then.
 fn run_published<J: Naming, R: Threads + Wait + Sync>(
     rt: &R,
     alloc: Global,
@@ -20,12 +19,14 @@ fn run_published<J: Naming, R: Threads + Wait + Sync>(
     opened: Opened,
     book: &Book,
     script: &[u8],
-    room: Vec<u8>,
 ) -> Result<Ran, DeskError>
     requires name { IsNamed J.Naming opened }
     requires opening { StartsAt J.Naming book.now 0 }
     requires loads { J.loads ≡ true }
 {
+    let Ok(room) = Vec::with_capacity(alloc, 4096) else {
+        return Err(DeskError::Memory);
+    };
     let (mut committer, _sessions) = Committer::<J>::new(rt, alloc, opened, book, 0)?;
     let mut reader = Watched::new(script);
     let mut writer = Watched::new(room);
@@ -41,8 +42,8 @@ pub(super) fn run_on_committer<R: Threads + Wait + Sync>(
     workers: u8,
     script: &[u8],
 ) -> Result<Ran, DeskError> {
-    let (Ok(book), Ok(room)) = (Book::new(alloc), Vec::with_capacity(alloc, 4096)) else {
+    let Ok(book) = Book::new(alloc) else {
         return Err(DeskError::Memory);
     };
-    run_published::<Brand, R>(rt, alloc, workers, Opened::new(0), &book, script, room)
+    run_published::<Brand, R>(rt, alloc, workers, Opened::new(0), &book, script)
 }
