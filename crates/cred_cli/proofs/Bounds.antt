@@ -5,7 +5,7 @@ use Rattle.std.specs.Fmt.{digits}
 use Rattle.cred_book.specs.{Accounts.Accounts, declared.request.Request.TheVariants.Verify}
 use Rattle.cred_cli.specs.{declared.costs.CostBounds.CostBounds, declared.event.Event.Event}
 use Rattle.cred_cli.specs.{declared.event.Event.TheVariants.Account, declared.event.Event.TheVariants.Begin, declared.event.Event.TheVariants.Bad, History.after, History.answer_at, History.answer_of, History.book_at, History.deed_of, History.deeds_before, History.names_at, History.open_after, History.open_at}
-use Rattle.cred_cli.specs.{declared.refusal.Refusal.Refusal, declared.refusal.Refusal.TheVariants.Costly, Costs.events_within, Costs.is_costly, Costs.no_bounds, Costs.within, Script.events_of, Starving.events_by, Starving.unended, declared.policy.Mode.TheVariants.Script, Texts.line_of}
+use Rattle.cred_cli.specs.{declared.refusal.Refusal.Refusal, declared.refusal.Refusal.TheVariants.Costly, Costs.events_within, Costs.is_costly, Costs.no_bounds, Costs.within, Script.events_of, Service.events_by, Service.unended, declared.policy.Mode.TheVariants.Script, Texts.line_of}
 use Rattle.cred_cli.proofs.{Names.book_at-suc, Openings.open_at-suc, Unended.map_same, Unended.unended_same}
 
 -- nothing is too costly without bounds

@@ -1,7 +1,7 @@
 -- What a byte more, or the end, makes of a script.
 use Rattle.std.proofs.Common.{◌≡◌, ℕ, suc, ◌<◌, List, [], ◌∷◌, ◌++◌, length, take, map, option_map, Some, refl, sym, ap, ◌∙◌, arith, slice_get, get_or, drop, append_assoc, take-append-drop, inl, inr}
 use Rattle.std.proofs.{Math.Seq.drop-cons, lemmas.Bool.cases_lt, lemmas.List.length-append, lemmas.List.length-map, lemmas.List.length-take, lemmas.List.take-append-le, lemmas.List.take_all}
-use Rattle.cred_cli.specs.{Costs.events_within, Costs.within, Events.event_of, Events.most_kept, Feeding.unfinished_from, Script.lines_of, Script.line_ends, Starving.events_by, Starving.unended, declared.costs.CostBounds.CostBounds, declared.policy.Mode.Mode}
+use Rattle.cred_cli.specs.{Costs.events_within, Costs.within, Events.event_of, Events.most_kept, Feeding.unfinished_from, Script.lines_of, Script.line_ends, Service.events_by, Service.unended, declared.costs.CostBounds.CostBounds, declared.policy.Mode.Mode}
 use Rattle.cred_cli.proofs.{Bounds.length-within, Bounds.within_at, Unended.ends_sooner, Unended.length-unended, Unended.unended_at, Unended.unended_last, Lines.whole_from, Lines.lines_of-line_end, Lines.lines_of-ended, Lines.lines_of-unfinished, Lines.length-whole_from, Lines.event_of-kept}
 
 get_seam : (front : List (List ℕ)) (line : List ℕ) (more : List (List ℕ)) → slice_get (map event_of (front ++ line ∷ more)) (length front) ≡ Some (event_of line)

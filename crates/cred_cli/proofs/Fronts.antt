@@ -4,7 +4,7 @@ use Rattle.std.specs.FinMap as map
 use Rattle.cred_book.specs.{Accounts.Accounts, Works.Task, Works.name_of}
 use Rattle.cred_cli.specs.{declared.event.Event.Event, History.Deed, History.Opened, History.answer_at, History.answer_of, History.book_after, History.book_at, History.commit_deed, History.deed_of, History.deeds_before, History.is_stale, History.names_at, History.open_at, History.show_answer}
 use Rattle.cred_cli.specs.declared.event.Event.TheVariants.{Account, Load, Show, Begin, Commit}
-use Rattle.cred_cli.specs.{Outcome.StandsAfter, Script.answers_before, Starving.IsSameBefore, Starving.NeedsHash, Tickets.HoldTickets, Tickets.IsTicketOf}
+use Rattle.cred_cli.specs.{Outcome.StandsAfter, Script.answers_before, Service.IsSameBefore, Service.NeedsHash, Tickets.HoldTickets, Tickets.IsTicketOf}
 use Rattle.cred_cli.proofs.Openings.{known_at}
 
 module _ (capacity : ℕ) (book : Accounts) (old new : List Event) where

@@ -1,6 +1,5 @@
 -- The lemmas that the proofs of the script engine cite.
 pub mod Bounds
-pub mod Doing
 pub mod Events
 pub mod EventLines
 pub mod Feeds
@@ -13,7 +12,8 @@ pub mod Prompts
 pub mod Readings
 pub mod Runs
 pub mod Simulation
-pub mod Starvings
+pub mod StarvedCommits
+pub mod StepLemmas
 pub mod Unended
 pub mod Basis
 pub mod Writes

@@ -2,9 +2,9 @@
 use Rattle.std.proofs.{Common.◌≡◌, Common.ℕ, Common.List, Common.[], Common.Option, Common.Some, Common.Bool, Common.Ok, Common.Err, Common.IfSome, Common.inl, Common.inr, Common.refl, lemmas.Option.IfSome_then}
 use Rattle.std.specs.FinMap as map
 use Rattle.cred_book.specs.Accounts.{Accounts, most_accounts}
-use Rattle.cred_cli.specs.{declared.fault.ScriptFault.ScriptFault, declared.fault.ScriptFault.TheVariants.Memory, Statuses.status_number, Statuses.status_of, Script.events_of, Script.script_start, Script.start_as, Starving.EndsAs, Starving.IsHistory, Starving.events_by}
+use Rattle.cred_cli.specs.{declared.fault.ScriptFault.ScriptFault, declared.fault.ScriptFault.TheVariants.Memory, Statuses.status_number, Statuses.status_of, Script.events_of, Script.script_start, Script.start_as, Service.EndsAs, Service.IsHistory, Service.events_by}
 use Rattle.cred_cli.specs.{Commands.Runs, declared.exit_status.ExitStatus.TheVariants.Done, declared.script.End.End, Calls.Call, declared.event.Event.Event, declared.policy.Policy.Policy, Watched.Reading, Watched.Writing, Outcome.HasCause, Outcome.ScriptFails, Outcome.longest_script, Prompt.IsPrompt}
-use Rattle.cred_cli.proofs.{Starvings.history_asked, Prompts.no_calls, Readings.if_known, Readings.nothing_done}
+use Rattle.cred_cli.proofs.{StarvedCommits.history_asked, Prompts.no_calls, Readings.if_known, Readings.nothing_done}
 
 -- there was no memory to begin a script with
 pub unbegun : (policy : Policy) (longest capacity : ℕ) (book : Accounts) (before : Option (List ℕ)) (failed : Bool) (name : ℕ) (r : Reading) → r.log ≡ [] → IfSome r.input (λ bytes. (events : List Event)

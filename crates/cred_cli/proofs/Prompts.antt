@@ -3,7 +3,7 @@ use Rattle.std.proofs.Common.{◌≡◌, ℕ, ◌+◌, ◌≤◌, ◌<◌, arith
 use Rattle.std.proofs.lemmas.List.{append_cancel_right, length-append}
 use Rattle.std.specs.Io.KnownBytes.{Consumes}
 use Rattle.cred_book.specs.Accounts.{Accounts}
-use Rattle.cred_cli.specs.{Feeding.Finishes, Feeding.GoesOn, Feeding.IsAt, Feeding.Standing, Script.ScriptStart, Script.answers_before, Script.events_of, Script.line_ends, Script.script_start, Script.with_events, Starving.EndsAs, Starving.IsHistory, Starving.IsSameBefore, Starving.events_by}
+use Rattle.cred_cli.specs.{Feeding.Finishes, Feeding.GoesOn, Feeding.IsAt, Feeding.Standing, Script.ScriptStart, Script.answers_before, Script.events_of, Script.line_ends, Script.script_start, Script.with_events, Service.EndsAs, Service.IsHistory, Service.IsSameBefore, Service.events_by}
 use Rattle.cred_cli.specs.{Calls.Call, History.book_at, Outcome.IsAnsweredAs, Prompt.HasFewer, Prompt.IsPrompt, Prompt.IsPromptAt, Prompt.left_length, Watched.Reading, Watched.Writing, declared.event.Event.Event, declared.fault.ScriptFault.ScriptFault, declared.policy.Policy.Policy}
 use Rattle.cred_cli.proofs.{Fronts.stands_front, Lines.line_ends_longer, Readings.HasCome, Readings.cut_behind, Readings.if_known}
 

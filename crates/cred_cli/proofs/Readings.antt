@@ -3,8 +3,8 @@ use Rattle.std.proofs.Common.{◌≡◌, ℕ, ◌-◌, replicate, List, [], ◌+
 use Rattle.std.proofs.{KnownBytes.Appends-nil, lemmas.List.get_or-replicate, lemmas.List.length-replicate}
 use Rattle.std.specs.Io.KnownBytes.{Consumes, IsAtEnd, Keeps}
 use Rattle.cred_book.specs.{Accounts.Accounts, Works.Task}
-use Rattle.cred_cli.specs.{declared.progress.Progress.Progress, declared.event.Event.Event, Feeding.IsAt, Outcome.StandsAfter, Tickets.HoldTickets, Script.answers_before, Script.start_as, Starving.events_by, declared.policy.Policy.Policy}
-use Rattle.cred_cli.proofs.{Openings.open_at-zero, Names.book_at-zero, Starvings.history_asked}
+use Rattle.cred_cli.specs.{declared.progress.Progress.Progress, declared.event.Event.Event, Feeding.IsAt, Outcome.StandsAfter, Tickets.HoldTickets, Script.answers_before, Script.start_as, Service.events_by, declared.policy.Policy.Policy}
+use Rattle.cred_cli.proofs.{Openings.open_at-zero, Names.book_at-zero, StarvedCommits.history_asked}
 
 no_tickets : (capacity : ℕ) (book : Accounts) (events : List Event) (slots : List (Option Task)) → slots ≡ replicate 64 None → HoldTickets capacity book events 0 slots
 no_tickets capacity book events slots empty = record {

@@ -2,7 +2,7 @@
 use Rattle.std.proofs.{Common.◌≡◌, Common.ℕ, Common.suc, Common.Some, Common.Bool, Common.Result, Common.Ok, Common.Err, Common.OnOk, Common.IfErr, Common.MatchResult, Common.ap, Common.◌∙◌, Common.slice_get, KnownBytes.Appends-trans, lemmas.Option.slice_get_within}
 use Rattle.std.specs.Io.KnownBytes.{Appends}
 use Rattle.cred_cli.specs.{declared.event.Event.Event, declared.fault.ScriptFault.ScriptFault, declared.policy.Policy.Policy, Feeding.Breaks, Feeding.IsAtLine, Feeding.IsBefore, Feeding.IsBehind, Feeding.Standing}
-use Rattle.cred_cli.specs.{declared.answer.AnswerLine.AnswerLine, Answers.IsDone, Answers.line_bytes, Events.IsSound, History.answer_at, Script.ScriptStart, Script.answers_before, Starving.events_by, Steps.WriteFails, Steps.step, Texts.line_of}
+use Rattle.cred_cli.specs.{declared.answer.AnswerLine.AnswerLine, Answers.IsDone, Answers.line_bytes, Events.IsSound, History.answer_at, Script.ScriptStart, Script.answers_before, Service.events_by, Steps.WriteFails, Steps.step, Texts.line_of}
 use Rattle.cred_cli.proofs.{Simulation.IsStep, Simulation.stepped_at}
 
 module _ (policy : Policy) (capacity : ℕ) (script : ScriptStart) (i : ℕ) (event : Event) (sound : IsSound event) (here : slice_get script.events i ≡ Some event)

@@ -4,7 +4,7 @@ use Rattle.std.specs.FinMap as map
 use Rattle.cred_book.specs.{Accounts.Accounts, Works.Task, Works.name_of}
 use Rattle.cred_cli.specs.{declared.answer.AnswerLine.AnswerLine, declared.answer.AnswerLine.TheVariants.Fixed, declared.answer.AnswerLine.TheVariants.Made}
 use Rattle.cred_cli.specs.{declared.event.Event.Event, declared.event.Event.TheVariants.Commit, declared.policy.Mode.Mode, declared.policy.Mode.TheVariants.Service}
-use Rattle.cred_cli.specs.{Starving.hashes, Starving.starved, Steps.Step, Steps.slot, Steps.step, Texts.line_of}
+use Rattle.cred_cli.specs.{Service.hashes, Service.starved, Steps.Step, Steps.slot, Steps.step, Texts.line_of}
 
 abbrev pub line_bytes : AnswerLine → List ℕ
 line_bytes (Fixed bytes) = bytes.now

@@ -4,7 +4,7 @@ use Rattle.cred_book.specs.{Accounts.Accounts, Works.Task}
 use Rattle.cred_cli.specs.{Events.most_kept, declared.event.Event.Event, declared.fault.ScriptFault.ScriptFault, Watched.Reading, Watched.Writing}
 use Rattle.cred_cli.specs.{declared.policy.Policy.Policy, declared.progress.Progress.Progress, declared.run.Run.Run, declared.script.End.End}
 use Rattle.cred_cli.specs.{Outcome.FailsAs, Outcome.IsAnsweredAs, Outcome.StandsAfter, Script.ScriptStart, Script.line_ends, Script.with_events}
-use Rattle.cred_cli.specs.{Starving.EndsAs, Starving.IsHistory, Starving.IsSameBefore, Starving.events_by, Tickets.HoldTickets}
+use Rattle.cred_cli.specs.{Service.EndsAs, Service.IsHistory, Service.IsSameBefore, Service.events_by, Tickets.HoldTickets}
 
 -- the bytes after the last line end
 abbrev pub unfinished_from : List ℕ → List ℕ → List ℕ

@@ -14,7 +14,7 @@ pub mod Outcome
 pub mod Prompt
 pub mod Refusals
 pub mod Script
-pub mod Starving
+pub mod Service
 pub mod Steps
 pub mod Texts
 pub mod Tickets

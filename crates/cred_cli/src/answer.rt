@@ -4,7 +4,7 @@ ghost use Rattle.std.specs.Prelude.{◌≡◌, ◌↔◌, ◌-◌, IfErr, IfOk, 
 ghost use Rattle.std.specs.Io.KnownBytes.{Appends};
 ghost use Rattle.cred_book.specs.Works.{Task, is_for_current};
 ghost use Rattle.cred_cli.specs.{Answers.IsDone, Answers.IsDoneOrStarved, Answers.line_bytes, Events.IsSound, History.Done, History.Refused, History.Shown};
-ghost use Rattle.cred_cli.specs.{Starving.hashes, Steps.WriteFails, Steps.begin_step, Steps.slot, Texts.line_of, Texts.reply_line};
+ghost use Rattle.cred_cli.specs.{Service.hashes, Steps.WriteFails, Steps.begin_step, Steps.slot, Texts.line_of, Texts.reply_line};
 ghost use Rattle.cred_cli.specs.{declared.event.Event.TheVariants.Commit, Watched.Basis, Watched.IsWritten, Watched.failed_of, Watched.held_on};
 
 use crate::event::Event;

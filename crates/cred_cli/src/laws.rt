@@ -5,7 +5,7 @@ ghost use Rattle.std.specs.Prelude.{◌≡◌, ◌+◌, ◌≤◌, ◌++◌, ◌
 ghost use Rattle.cred_book.specs.Accounts.{Accounts};
 ghost use Rattle.cred_cli.specs.{Calls.Call, Costs.is_costly, Costs.within, EventLines.IsLineOf, Events.event_of, Prompt.IsPrompt, Prompt.IsPromptAt};
 ghost use Rattle.cred_cli.specs.History.{answer_at, book_at, deeds_before, is_among, names_at, open_at};
-ghost use Rattle.cred_cli.specs.{Script.ScriptStart, Script.answers_before, Script.events_of, Script.line_ends, Script.script_start, Starving.IsStarved};
+ghost use Rattle.cred_cli.specs.{Script.ScriptStart, Script.answers_before, Script.events_of, Script.line_ends, Script.script_start, Service.IsStarved};
 ghost use Rattle.cred_cli.specs.{Texts.line_of, declared.costs.CostBounds.CostBounds, declared.event.Event.Event, declared.event.Event.TheVariants.Bad};
 ghost use Rattle.cred_cli.specs.declared.refusal.Refusal.TheVariants.{Costly};
 ghost use Rattle.std.specs.FinMap as map;
@@ -31,7 +31,7 @@ pub fn history_is_a_front()
 
 /// The law that a starved commit changes nothing: the book stays, and so does each open number,
 /// its own too; and its answer is `bad 4 memory`.
-#[tactic(auto, using(crate::proofs::Starvings::starved_laws))]
+#[tactic(auto, using(crate::proofs::StarvedCommits::starved_laws))]
 pub fn starved_commits_change_nothing()
     ensures book { (capacity : ℕ) (book : Accounts) (asked events : List Event) (i : ℕ)
         → IsStarved capacity book asked events i

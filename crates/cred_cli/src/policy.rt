@@ -2,7 +2,7 @@
 //! them, and what they are answered with.
 
 ghost use Rattle.std.specs.Prelude.{◌≡◌, MatchBool};
-ghost use Rattle.cred_cli.specs.{Costs.within, Events.IsSound, Events.event_of, Starving.unended};
+ghost use Rattle.cred_cli.specs.{Costs.within, Events.IsSound, Events.event_of, Service.unended};
 
 use crate::costs::CostBounds;
 use crate::event::Event;

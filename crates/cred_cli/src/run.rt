@@ -4,7 +4,7 @@
 ghost use Rattle.std.specs.Prelude.{◌≡◌, ◌+◌, ◌≤◌, false, true, List, [], ◌∷◌, length, Some, IfErr, IfSome, OnOk};
 ghost use Rattle.cred_cli.specs.{Events.IsSound, Outcome.HasCause, Outcome.longest_service, declared.event.Event.Event, declared.progress.Progress.Progress};
 ghost use Rattle.cred_cli.specs.Feeding.{Finishes, IsAt, Plays, Takes, TakesLine, standing, standing_at};
-ghost use Rattle.cred_cli.specs.{Script.ScriptStart, Script.start_as, Starving.EndsAs, Starving.IsHistory, Starving.events_by};
+ghost use Rattle.cred_cli.specs.{Script.ScriptStart, Script.start_as, Service.EndsAs, Service.IsHistory, Service.events_by};
 ghost use Rattle.cred_cli.specs.Watched.{Basis, Fits, GivesAsContracted, IsNew, IsWritten, TakesAsContracted, calls_of, ended_of, failed_of, held_on, left_on, reading_on, writing_on};
 
 use crate::answer::do_event;

@@ -2,7 +2,7 @@
 
 ghost use Rattle.std.specs.Prelude.{◌≡◌, ◌+◌, ◌≤◌, ◌++◌, ℕ, List, true, length, IfErr, IfOk, IfSome, OnOk};
 ghost use Rattle.cred_cli.specs.{Outcome.HasCause, Outcome.IsAnswered, Outcome.ScriptFails, Outcome.longest_script, Outcome.most_calls, Prompt.IsPrompt};
-ghost use Rattle.cred_cli.specs.{Script.out, Script.script_start, Starving.EndsAs};
+ghost use Rattle.cred_cli.specs.{Script.out, Script.script_start, Service.EndsAs};
 ghost use Rattle.cred_cli.specs.Watched.{GivesAsContracted, IsNew, MayFollow, TakesAsContracted, calls_of, ended_of, failed_of, given_of, inner_of, log_of, name_of, taken_of, transcript_reading, transcript_writing};
 
 use crate::costs::CostBounds;

@@ -1,7 +1,7 @@
 //! A script with no end: its lines are answered as they come.
 
 ghost use Rattle.std.specs.Prelude.{◌≡◌, ◌+◌, ◌≤◌, ℕ, List, true, length, IfErr, IfSome, OnOk};
-ghost use Rattle.cred_cli.specs.{Outcome.HasCause, Starving.Serves};
+ghost use Rattle.cred_cli.specs.{Outcome.HasCause, Service.Serves};
 ghost use Rattle.cred_cli.specs.Watched.{GivesAsContracted, IsNew, MayFollow, TakesAsContracted, calls_of, ended_of, failed_of, given_of, inner_of, reading, transcript_reading, transcript_writing, writing};
 
 use crate::costs::CostBounds;

@@ -13,7 +13,7 @@ use Rattle.cred_phc.specs.Values.{RecordValue}
 use Rattle.cred_book.proofs.Rows.{no_some, same_rows}
 use Rattle.cred_book.specs.{Accounts.Accounts, Names.name_cmp}
 use Rattle.cred_file.specs.{Edits.AreApart, Edits.AreThere, Edits.joined, Edits.taken_in, Keeps.Has}
-use Rattle.cred_file.specs.Together.{IsUnderWay, KeepsOthers, MakesWithin}
+use Rattle.cred_file.specs.Transactions.{IsUnderWay, KeepsOthers, MakesWithin}
 use Rattle.cred_file.proofs.TableLemmas.{is_equal}
 
 abbrev pub Entries : Type 0

@@ -7,7 +7,7 @@ use Rattle.sqlite.proofs.Callers.{runs_as, statement_of}
 use Rattle.sqlite_catalog.specs.Listing.{IsSound}
 use Rattle.cred_book.specs.{Accounts.Accounts}
 use Rattle.cred_file.specs.{Schema.IsBookSchema, Table.StandsFor, Keeps.IsTableOf, Keeps.LeavesOnly}
-use Rattle.cred_file.specs.Together.{IsUnderWay}
+use Rattle.cred_file.specs.Transactions.{IsUnderWay}
 use Rattle.cred_file.proofs.Keeping.{IsSettled, IsStep, holds, step_does}
 
 -- nothing is committed until the commit

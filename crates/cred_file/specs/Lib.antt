@@ -5,7 +5,7 @@ pub mod Table
 pub mod Edits
 pub mod Keeps
 pub mod Kept
-pub mod Together
+pub mod Transactions
 pub mod Opening
 pub mod Drafts
 pub mod Failures

@@ -1,8 +1,8 @@
 //! A book that is kept in the table of a database.
 
-mod copying;
+mod batch;
+mod copy;
 mod edits;
-mod entering;
 
 ghost use Rattle.sqlite.specs.Held.{state};
 ghost use Rattle.cred_file.specs.{Schema.no_schema, Failures.IsUnbegun, Keeps.Keeps, Keeps.MayBegin, Opening.IsFound, Opening.IsUnopened};

@@ -8,7 +8,7 @@ mod laws;
 mod reading;
 mod restart;
 mod statements;
-mod together;
+mod transaction;
 
 pub use fault::{Attempt, Lost, OpenFault};
 pub use file_book::FileBook;

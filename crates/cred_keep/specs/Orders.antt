@@ -7,7 +7,7 @@ use Rattle.cred_admin.specs.{Listing.Prints, Listing.Tells, Listing.json_at, Lis
 use Rattle.cred_admin.specs.{Statuses.status_of_fault, declared.fault.Fault.Fault, declared.import.ImportFault.ImportFault, declared.status.Status.Status}
 use Rattle.cred_admin.specs.declared.status.Status.TheVariants.{Done, Io, Memory, Database, Data}
 use Rattle.cred_cli.specs.{Outcome.FailsAs, Outcome.FrontWritten, Outcome.HasCause, Outcome.IsAnswered, Outcome.longest_script, Prompt.IsPrompt}
-use Rattle.cred_cli.specs.{Script.script_start, Starving.Serves, Watched.Reading, Watched.Writing, declared.costs.CostBounds.CostBounds}
+use Rattle.cred_cli.specs.{Script.script_start, Service.Serves, Watched.Reading, Watched.Writing, declared.costs.CostBounds.CostBounds}
 use Rattle.cred_cli.specs.{declared.fault.ScriptFault.ScriptFault, declared.script.End.End}
 use Rattle.cred_file.specs.{Keeps.Keeps as IsKept, Kept.Kept, Opening.IsFound, Opening.IsUnopened, declared.fault.Lost.Lost, declared.fault.OpenFault.OpenFault}
 use Rattle.sqlite.specs.{Held.Held, Held.state, State.HasCleanDisk, State.Survives, Store.Ghosts, declared.error.Error.Error}

@@ -4,4 +4,4 @@ pub mod Lines
 pub mod Listed
 pub mod Seen
 pub mod Serving
-pub mod Together
+pub mod Groups

@@ -4,7 +4,7 @@ use Rattle.rand_core.specs.Stream.{Stream, fill_bytes}
 use Rattle.cred_phc.specs.{Values.SettingValue, Values.setting_of, declared.scheme.Scheme.Scheme, declared.scheme.Scheme.TheVariants.Scrypt}
 use Rattle.cred_book.specs.Accounts.{Accounts}
 use Rattle.cred_cli.specs.{Costs.no_bounds, Script.lines_of, Script.with_unended, declared.costs.CostBounds.CostBounds}
-use Rattle.cred_many.specs.{Asks.Entry, Asks.entry, Asks.entry_of, Asks.refused, declared.service.Means.Means}
+use Rattle.cred_many.specs.{Asks.Entry, Asks.entry, Asks.entry_of, Asks.refused, declared.service.ServiceConfig.ServiceConfig}
 use Rattle.std.specs.FinMap as map
 use Rattle.cred_cli.specs.declared.refusal.Refusal.TheVariants as refusal
 
@@ -18,14 +18,14 @@ pub record Service : Type 0 where
   pub salts : Stream
   pub most : CostBounds
 
-abbrev pub service : Accounts → Option (List ℕ) → Option (List ℕ) → Means → Stream → Service
-service opening input before means salts = record {
+abbrev pub service : Accounts → Option (List ℕ) → Option (List ℕ) → ServiceConfig → Stream → Service
+service opening input before config salts = record {
   opening = opening;
   input = input;
   before = before;
-  costs = means.costs;
+  costs = config.costs;
   salts = salts;
-  most = means.most;
+  most = config.most;
 }
 
 -- what is left of a source after so many salts of 16 bytes

@@ -7,7 +7,7 @@ ghost use Rattle.cred_many.specs.Service.{salts_after};
 
 use crate::costs::Costs;
 use crate::line::Line;
-use crate::service::Means;
+use crate::service::ServiceConfig;
 use crate::service_id::ServiceId;
 use cred_cli::{CostBounds, LineStart};
 use cred_phc::draw_salt;
@@ -33,9 +33,9 @@ pub(crate) struct LineDecoder<J: ServiceId, G: Rng> {
 
 impl<J: ServiceId, G: Rng> LineDecoder<J, G> {
     /// Before the first line.
-    pub(crate) fn new(means: &Means, salts: G) -> LineDecoder<J, G>
-        requires costs { means.now.costs ≡ J.service.costs }
-        requires most { means.now.most ≡ J.service.most }
+    pub(crate) fn new(config: &ServiceConfig, salts: G) -> LineDecoder<J, G>
+        requires costs { config.now.costs ≡ J.service.costs }
+        requires most { config.now.most ≡ J.service.most }
         requires salts { G.stream salts ≡ J.service.salts }
         ensures start { result.start ≡ [] }
         ensures number { result.number ≡ 0 }
@@ -43,8 +43,8 @@ impl<J: ServiceId, G: Rng> LineDecoder<J, G> {
         LineDecoder {
             start: LineStart::new(),
             number: 0,
-            costs: means.costs,
-            most: means.most,
+            costs: config.costs,
+            most: config.most,
             salts,
             of: PhantomData,
         }

@@ -36,6 +36,6 @@ pub use job::{Hashed, Job};
 pub use line::Line;
 pub use scribe::Scribe;
 pub use sender::LineCount;
-pub use service::{Means, serve_file, serve_tagged};
+pub use service::{ServiceConfig, serve_file, serve_tagged};
 pub use service_id::ServiceId;
 pub use source::{LineReader, Source};

@@ -32,7 +32,7 @@ use std::thread::Threads;
 
 /// What lines are hashed with where they say nothing of it.
 #[derive(Clone, Copy)]
-pub struct Means {
+pub struct ServiceConfig {
     /// The costs of new records.
     pub costs: Costs,
     /// How many KiB all hashes together may take.
@@ -49,13 +49,13 @@ pub struct Means {
 ///
 /// Each line is done whole, and its answer is written whole, at one moment between its coming and
 /// its answer. Salts are drawn in the order of the lines, one for each. A line whose setting or
-/// record asks for more than `means.most` is refused, and so is a last line without its end, as
+/// record asks for more than `config.most` is refused, and so is a last line without its end, as
 /// more than that may be lost of it. The source is called again only once each whole line that it
 /// gave was handed on. The writer is one that holds nothing back, as it is never flushed. At a fault
 /// it ends without waiting for the source.
 pub fn serve_tagged<J, T, S, G, K, W>(
     tools: &Tools<'_, T>,
-    means: &Means,
+    config: &ServiceConfig,
     scribe: &mut Scribe<J, K, W>,
     salts: G,
     source: S,
@@ -68,11 +68,11 @@ where
     K: Host,
     W: Write + Drop,
     requires named { J.service ≡ service J.service.opening (S.remaining source)
-        J.service.before means.now (G.stream salts) }
+        J.service.before config.now (G.stream salts) }
     requires given { S.given source ≡ 0 }
     requires going { (S.ended source ≡ false) × (S.failed source ≡ false) }
 {
-    let decoder: LineDecoder<J, G> = LineDecoder::new(means, salts);
+    let decoder: LineDecoder<J, G> = LineDecoder::new(config, salts);
     let Ok((channels, sender)) = make_channels(tools.rt, tools.alloc) else {
         return Ending::new(End::Memory);
     };
@@ -92,7 +92,7 @@ where
         return Ending::new(End::Threads);
     };
     let blank = Blank::new(u64::from(tools.workers));
-    if hash_beside::<Brand, J, T, K, W>(tools, means, scribe, channels, blank) {
+    if hash_in_threads::<Brand, J, T, K, W>(tools, config, scribe, channels, blank) {
         reader.join(tools.rt)
     } else {
         // It isn't waited for: after a fault it may never end.
@@ -106,7 +106,7 @@ where
 /// that were done, perhaps with the change that was under way as the database failed.
 pub fn serve_file<J, T, S, R, W, G>(
     tools: &Tools<'_, T>,
-    means: &Means,
+    config: &ServiceConfig,
     scribe: &mut Scribe<J, FileBook<S>, W>,
     salts: G,
     reader: R,
@@ -119,9 +119,9 @@ where
     W: Write + Drop,
     G: Rng + Send + Drop + 'static,
     requires { J.service ≡ service J.service.opening (R.remaining reader)
-        J.service.before means.now (G.stream salts) }
+        J.service.before config.now (G.stream salts) }
 {
-    serve_tagged(tools, means, scribe, salts, LineReader::new(reader))
+    serve_tagged(tools, config, scribe, salts, LineReader::new(reader))
 }
 
 /// The ends of the channels that the thread with the book has, and those that it gives to the
@@ -164,9 +164,9 @@ fn make_channels<J: ServiceId, T: Wait>(
 
 /// Hashes in other threads, each with a part of the ledger, and does what is handed over in this
 /// one. It answers whether all has come that will.
-fn hash_beside<L, J, T, K, W>(
+fn hash_in_threads<L, J, T, K, W>(
     tools: &Tools<'_, T>,
-    means: &Means,
+    config: &ServiceConfig,
     scribe: &mut Scribe<J, K, W>,
     channels: Channels<J>,
     blank: Blank,
@@ -179,7 +179,7 @@ where
     W: Write + Drop,
     requires name { blank.name ≡ L.name }
     requires parts { (blank.parts ≡ L.parts) × (blank.parts ≡ tools.now.workers) }
-    requires total { means.now.memory ≡ L.total }
+    requires total { config.now.memory ≡ L.total }
 {
     let (taken, share) = blank.open::<L>();
     let Ok(parts) = parts(tools.alloc, share, tools.workers) else {
@@ -187,8 +187,8 @@ where
     };
     let hashing = Hashing {
         alloc: tools.alloc,
-        costs: means.costs,
-        budget: Budget::new(means.memory, taken),
+        costs: config.costs,
+        budget: Budget::new(config.memory, taken),
     };
     attend_beside(tools, &hashing, scribe, channels, parts)
 }

@@ -12,7 +12,7 @@ use clap::{ArgMatches, Error};
 use cred_admin::{Command, Detail, Edit, EmptyPassword, Line, NewPassword, NewSetting, setting_of};
 use cred_cli::exceeds;
 use cred_keep::{Counts, Order};
-use cred_many::{Costs, Means};
+use cred_many::{Costs, ServiceConfig};
 use cred_phc::{PhcError, draw_salt};
 use rand::make_rng;
 use rand::rngs::StdRng;
@@ -151,7 +151,7 @@ fn tagged_in<'a, R: RandomSource + AllocGlobal>(
     };
     Ok(Tagged {
         at_once: threads_in(values, "at-once", 255)?,
-        means: Means {
+        config: ServiceConfig {
             memory,
             costs,
             most,

@@ -14,7 +14,9 @@ use cred_admin::Status;
 use cred_cli::{Tools, Watched};
 use cred_file::{FileBook, Lost};
 use cred_keep::{Failure, explain, refuse};
-use cred_many::{LineReader, Means, Scribe, Served, ServiceFault, ServiceId, Source, serve_file};
+use cred_many::{
+    LineReader, Scribe, Served, ServiceConfig, ServiceFault, ServiceId, Source, serve_file,
+};
 use rand::make_rng;
 use rand::rngs::StdRng;
 use rand_core::Rng;
@@ -31,7 +33,7 @@ pub(crate) struct Tagged {
     /// How many threads hash, if it was said.
     pub(crate) at_once: Option<u8>,
     /// What hashes together may take, the costs of new records, and what lines may ask for.
-    pub(crate) means: Means,
+    pub(crate) config: ServiceConfig,
 }
 
 /// Opens the file, answers tagged lines from standard input, and closes it.
@@ -88,7 +90,7 @@ where
     requires autocommit { conn.in_transaction ≡ false }
     ensures { ServesBook S.Store W.contents ⟦<LineReader<R> as Source>⟧.failed
         (λ book. service book (R.remaining streams.reader) (W.contents streams.writer)
-        tagged.now.means (G.stream streams.salts))
+        tagged.now.config (G.stream streams.salts))
         conn result.0 result.1 ⊎ IsRefused S.Store conn result.0 result.1 }
 {
     let Streams {
@@ -100,7 +102,7 @@ where
         Ok(book) => {
             let served = serve_named::<Brand, T, S, R, W, G>(
                 tools,
-                &tagged.means,
+                &tagged.config,
                 book,
                 salts,
                 reader,
@@ -128,7 +130,7 @@ fn tell_end<F: Write>(faults: &mut F, fault: Option<ServiceFault>, lost: Option<
 /// Makes the scribe of the book and the writer, lends it to the service, and takes it back.
 fn serve_named<J, T, S, R, W, G>(
     tools: &Tools<'_, T>,
-    means: &Means,
+    config: &ServiceConfig,
     book: FileBook<S>,
     salts: G,
     reader: R,
@@ -142,7 +144,7 @@ where
     W: Write + Drop,
     G: Rng + Send + Drop + 'static,
     requires { J.service ≡ service book.book (R.remaining reader) (W.contents writer)
-        means.now (G.stream salts) }
+        config.now (G.stream salts) }
     ensures served { ∥ StandsAtEnd register_capacity J.service
         (left_of (λ b. b.book) (λ b. is_some b.lost) W.contents
         ⟦<LineReader<R> as Source>⟧.failed result) ∥₁ }
@@ -154,7 +156,7 @@ where
         book,
         Watched::new(writer),
     );
-    let ending = serve_file(tools, means, &mut scribe, salts, reader);
+    let ending = serve_file(tools, config, &mut scribe, salts, reader);
     scribe.end(ending)
 }
 
@@ -189,7 +191,7 @@ fn threads_of<T: Threads>(rt: &T, tagged: &Tagged) -> u8 {
         Ok(count) => u64::try_from(count.get()).unwrap_or(1),
         Err(_) => 1,
     };
-    let each = tagged.means.costs.memory().max(1);
-    let fitting = (tagged.means.memory / each).max(1);
+    let each = tagged.config.costs.memory().max(1);
+    let fitting = (tagged.config.memory / each).max(1);
     u8::try_from(processors.min(fitting)).unwrap_or(u8::MAX)
 }

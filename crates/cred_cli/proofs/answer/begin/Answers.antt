@@ -1,6 +1,6 @@
 use Rattle.std.proofs.Common.{◌≡◌, refl, sym}
 use Rattle.cred_book.specs.declared.error.BookError.TheVariants.{NoAccount}
-use Rattle.cred_cli.proofs.Doing.{stays_done, begun_busy, begun_absent, begun_fresh, refused_with}
+use Rattle.cred_cli.proofs.StepLemmas.{stays_done, begun_busy, begun_absent, begun_fresh, refused_with}
 use Rattle.cred_cli.proofs.answer.begin.Goals as goal
 
 pub returns-then-is_open : goal.returns-then-is_open

@@ -1,5 +1,5 @@
 use Rattle.std.proofs.{Common.ap, Common.Some, Common.inl, Common.refl, Common.sym, Common.◌∙◌, lemmas.Result.IfOk-weaker}
-use Rattle.cred_cli.proofs.Doing.{stays_done, commits_idle, commits_done, line_of_reply}
+use Rattle.cred_cli.proofs.StepLemmas.{stays_done, commits_idle, commits_done, line_of_reply}
 use Rattle.cred_cli.proofs.answer.commit.Goals as goal
 
 pub returns-in_default-clause-done : goal.returns-in_default-clause-done

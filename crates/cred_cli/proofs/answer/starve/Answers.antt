@@ -1,6 +1,6 @@
 use Rattle.std.proofs.Common.{◌≡◌, ap, inl, inr, refl, sym, ◌∙◌}
 use Rattle.cred_book.specs.{Works.name_of, declared.reply.Reply.TheVariants.Changed}
-use Rattle.cred_cli.proofs.Doing.{commits_changed, false_true, line_of_reply, opened_again}
+use Rattle.cred_cli.proofs.StepLemmas.{commits_changed, false_true, line_of_reply, opened_again}
 use Rattle.cred_cli.proofs.answer.starve.Goals as goal
 
 -- the record is another by now

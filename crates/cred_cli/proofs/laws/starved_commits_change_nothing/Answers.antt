@@ -1,4 +1,4 @@
-use Rattle.cred_cli.proofs.Starvings.{starved-answer}
+use Rattle.cred_cli.proofs.StarvedCommits.{starved-answer}
 use Rattle.cred_cli.proofs.laws.starved_commits_change_nothing.Goals as goal
 
 pub returns-clause-answer : goal.returns-clause-answer

@@ -1,5 +1,5 @@
 use Rattle.std.proofs.lemmas.Result.{err_from_is_err_and}
-use Rattle.cred_cli.specs.{Script.start_as, Starving.events_by}
+use Rattle.cred_cli.specs.{Script.start_as, Service.events_by}
 use Rattle.cred_cli.proofs.{Programs.unbegun, Readings.if_known, Readings.opening, Basis.none_logged}
 use Rattle.cred_cli.proofs.run.answer_all.Goals as goal
 

@@ -1,6 +1,6 @@
 use Rattle.std.proofs.{Common.inl, Common.refl, lemmas.Option.slice_get_within, lemmas.Result.err_from_is_err_and}
 use Rattle.cred_cli.specs.Watched.{Contract}
-use Rattle.cred_cli.proofs.{Starvings.line_taken, Basis.write_cause}
+use Rattle.cred_cli.proofs.{StarvedCommits.line_taken, Basis.write_cause}
 use Rattle.cred_cli.proofs.run.answer_line.Goals as goal
 
 -- memory was refused, and not to a hash that may be

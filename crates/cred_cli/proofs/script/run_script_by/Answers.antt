@@ -1,6 +1,6 @@
 use Rattle.std.proofs.Common.{◌+◌, ◌≤◌, ◌++◌, [], length, refl, sym, append-nil}
 use Rattle.cred_cli.specs.{Outcome.longest_script, Watched.Contract, Watched.Transcript, Watched.given_of, Watched.transcript_writing}
-use Rattle.cred_cli.proofs.{Starvings.Alone, Starvings.as_asked, Starvings.asked_alone, Basis.alone, Basis.answers_of, Basis.as_passed}
+use Rattle.cred_cli.proofs.{StarvedCommits.Alone, StarvedCommits.as_asked, StarvedCommits.asked_alone, Basis.alone, Basis.answers_of, Basis.as_passed}
 use Rattle.cred_cli.proofs.script.run_script_by.Goals as goal
 
 pub returns-clause-done : goal.returns-clause-done

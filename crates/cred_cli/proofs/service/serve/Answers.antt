@@ -1,5 +1,5 @@
 use Rattle.std.proofs.Common.{◌+◌, ◌≤◌, ◌++◌, List, [], length, refl, sym, append-nil}
-use Rattle.cred_cli.specs.{Outcome.longest_service, Script.start_as, Starving.EndsAs, Starving.IsServed, Starving.events_by, Watched.Contract, Watched.Transcript, Watched.given_of, Watched.transcript_writing, declared.policy.Mode.TheVariants.Service, declared.event.Event.Event}
+use Rattle.cred_cli.specs.{Outcome.longest_service, Script.start_as, Service.EndsAs, Service.IsServed, Service.events_by, Watched.Contract, Watched.Transcript, Watched.given_of, Watched.transcript_writing, declared.policy.Mode.TheVariants.Service, declared.event.Event.Event}
 use Rattle.cred_cli.proofs.Basis.{alone, as_passed}
 use Rattle.cred_cli.proofs.service.serve.Goals as goal
 

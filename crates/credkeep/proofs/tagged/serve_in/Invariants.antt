@@ -4,5 +4,5 @@ use Rattle.credkeep.proofs.tagged.serve_in.Given as goal
 -- the service that begins here
 abbrev pub ghosts-serve_named : goal.ghosts-serve_named
 ghosts-serve_named g a = record {
-  service = service a.book.book (g.R.Read.remaining a.reader) (g.W.Write.contents a.writer) a.means.now (g.G.Rng.stream a.salts);
+  service = service a.book.book (g.R.Read.remaining a.reader) (g.W.Write.contents a.writer) a.config.now (g.G.Rng.stream a.salts);
 }

@@ -1,6 +1,6 @@
 use Rattle.std.proofs.{Common.◌≡◌, Common.◌<◌, Common.arith, Common.refl, Common.sym, Common.◌∙◌, Common.length, Common.suc, Common.Some, Common.slice_get, lemmas.Bool.Decides.nat_tests, lemmas.Result.err_from_is_err_and}
 use Rattle.cred_cli.specs.Script.{line_ends}
-use Rattle.cred_cli.proofs.{Feeds.count-ended, Feeds.has_last, Feeds.none_kept, Feeds.some_kept, Starvings.history-size}
+use Rattle.cred_cli.proofs.{Feeds.count-ended, Feeds.has_last, Feeds.none_kept, Feeds.some_kept, StarvedCommits.history-size}
 use Rattle.cred_cli.proofs.run.Run.finish.Goals as goal
 
 -- every line has its end

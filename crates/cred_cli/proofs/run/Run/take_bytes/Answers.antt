@@ -1,5 +1,5 @@
 use Rattle.std.proofs.{Common.arith, Common.refl, Common.◌∙◌, Common.take, Common.get_or, Common.[], Common.◌∷◌, lemmas.List.take_all, lemmas.List.take_more, lemmas.Result.err_from_is_err_and}
-use Rattle.cred_cli.proofs.{Basis.unwritten, Basis.written_on, Starvings.takes_in_part, Starvings.takes_none, Starvings.takes_then}
+use Rattle.cred_cli.proofs.{Basis.unwritten, Basis.written_on, StarvedCommits.takes_in_part, StarvedCommits.takes_none, StarvedCommits.takes_then}
 use Rattle.cred_cli.proofs.run.Run.take_bytes.Goals as goal
 
 pub loop-byte-init : goal.loop-byte-init

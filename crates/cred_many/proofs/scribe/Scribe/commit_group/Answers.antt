@@ -1,5 +1,5 @@
 use Rattle.std.proofs.Common.{rules}
-use Rattle.cred_many.proofs.{Together.answered_together, Together.replaced}
+use Rattle.cred_many.proofs.{Groups.answered_together, Groups.replaced}
 use Rattle.cred_many.proofs.scribe.Scribe.commit_group.Goals as goal
 
 pub invariant_of-self-clause-history : goal.invariant_of-self-clause-history

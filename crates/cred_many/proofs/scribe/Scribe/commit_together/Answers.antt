@@ -1,4 +1,4 @@
-use Rattle.cred_many.proofs.Together.{none_together}
+use Rattle.cred_many.proofs.Groups.{none_together}
 use Rattle.cred_many.proofs.scribe.Scribe.commit_together.Goals as goal
 
 pub loop-hashed-init : goal.loop-hashed-init

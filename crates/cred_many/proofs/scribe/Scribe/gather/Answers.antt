@@ -1,6 +1,6 @@
 use Rattle.std.proofs.Common.{rules, ◌≡◌, arith, IfSome, subst}
 use Rattle.cred_many.specs.{Asks.IsJobOf, Service.IsLine}
-use Rattle.cred_many.proofs.Together.{pushed_together}
+use Rattle.cred_many.proofs.Groups.{pushed_together}
 use Rattle.cred_many.proofs.scribe.Scribe.gather.Goals as goal
 
 pub returns : goal.returns

@@ -1,0 +1,100 @@
+//! Many accounts that are added to a kept book at once, and many whose records are replaced.
+
+ghost use Rattle.std.specs.Prelude.{◌+◌, ◌≤◌, ◌<◌, MatchBool, ⊤};
+ghost use Rattle.std.specs.FinMap as fin;
+ghost use Rattle.cred_book.specs.Accounts.{register_capacity};
+ghost use Rattle.cred_file.specs.{Edits.AreApart, Edits.AreThere, Edits.Meet, Edits.Misses, Edits.TakesIn, Failures.Remembers};
+ghost use Rattle.cred_file.specs.declared.fault.Attempt.TheVariants as Attempt;
+
+use super::FileBook;
+use crate::fault::{Attempt, Lost};
+use crate::transaction::{remove_all, take_together};
+use cred_book::{BookError, Register};
+use sqlite::Alter;
+
+impl<S: Alter> FileBook<S> {
+    /// Adds accounts and replaces the records of others, by one transaction of the database: so a
+    /// crash leaves the book as it was, or with all of it.
+    ///
+    /// Errors: `Exists` if the book has one of the names that are added; `NoAccount` if it lacks
+    /// one of the others; `Full` if there would be over 2^24 accounts; `Memory` if it runs out, if
+    /// the database fails, and if a change is lost.
+    pub fn take_in(&mut self, added: Register, changed: Register) -> Result<(), BookError>
+        ensures done { TakesIn register_capacity self.old.book self.new.book added changed result }
+        ensures remembers { Remembers (Attempt.TakeIn added changed) (λ _. ⊤)
+            self.old self.new result }
+    {
+        if meets(&self.book, &added) {
+            return Err(BookError::Exists);
+        }
+        if misses(&self.book, &changed) {
+            return Err(BookError::NoAccount);
+        }
+        if !has_room(&self.book, &added) {
+            return Err(BookError::Full);
+        }
+        if self.lost.is_some() || !self.conn.is_autocommit() {
+            return Err(BookError::Memory);
+        }
+        match take_together(self.alloc, &mut self.conn, &mut self.book, &added, &changed) {
+            Ok(()) => Ok(()),
+            Err(error) => {
+                remove_all(&mut self.book, &added);
+                self.lost = Some(Lost::new(error, Attempt::TakeIn { added, changed }));
+                Err(BookError::Memory)
+            }
+        }
+    }
+
+    /// Replaces records by one transaction of the database.
+    ///
+    /// Errors: `NoAccount` if the book lacks one of the names; `Memory` as in `take_in`.
+    pub fn replace_all(&mut self, changed: Register) -> Result<(), BookError>
+        ensures done { TakesIn register_capacity self.old.book self.new.book fin.empty changed
+            result }
+        ensures remembers { Remembers (Attempt.TakeIn fin.empty changed) (λ _. ⊤)
+            self.old self.new result }
+    {
+        self.take_in(Register::new(self.alloc), changed)
+    }
+
+    /// Whether there would be at most 2^24 accounts with these.
+    pub fn has_room_for(&self, added: &Register) -> bool
+        ensures { MatchBool result
+            (fin.len self.now.book + fin.len added.now ≤ register_capacity)
+            (register_capacity < fin.len self.now.book + fin.len added.now) }
+    {
+        has_room(&self.book, added)
+    }
+}
+
+fn has_room(book: &Register, added: &Register) -> bool
+    ensures { MatchBool result (fin.len book.now + fin.len added.now ≤ register_capacity)
+        (register_capacity < fin.len book.now + fin.len added.now) }
+{
+    added.len() <= book.room()
+}
+
+/// Whether a name is in both.
+fn meets(book: &Register, more: &Register) -> bool
+    ensures { MatchBool result (Meet book.now more.now) (AreApart book.now more.now) }
+{
+    for (name, _) in more.iter() {
+        if book.contains(name) {
+            return true;
+        }
+    }
+    false
+}
+
+/// Whether the book lacks one of these names.
+fn misses(book: &Register, changed: &Register) -> bool
+    ensures { MatchBool result (Misses book.now changed.now) (AreThere book.now changed.now) }
+{
+    for (name, _) in changed.iter() {
+        if !book.contains(name) {
+            return true;
+        }
+    }
+    false
+}
