@@ -148,7 +148,7 @@ class Logins(Case):
     @in_namespaces
     def test_passwords_of_local_users(self, room: pathlib.Path) -> None:
         """root's passwd, chpasswd and adduser set a local user's password; one in the book changes by the old one."""
-        need("passwd", "chpasswd", "adduser")
+        need("passwd", "chpasswd", "adduser", "pamtester")
         server = started(room)
         install_stack("/etc/pam.d/common-password")
         own = "setpriv --reuid {} --regid people --clear-groups passwd"
