@@ -3,6 +3,7 @@
 #     make build                    the programs, the library for C and Python, libargon2, and the PAM module
 #     make test                     the gate and the tests after it, and those of the library, of the package
 #                                   for Python, of the crate, of the pages, of the server, of tools and of packages
+#     make wrong-bodies             the gate with every wrong body, as before a release
 #     make deb                      Debian's packages: in c/out, python/out and c/pam/out, with programs that run
 #                                   on every x86-64 processor
 #     make wheel                    the package for Python with the library in it, in python/out
@@ -38,7 +39,7 @@ CPU ?=
 HAS_PAM := $(wildcard /usr/include/security/pam_modules.h)
 PAM_WORDS = DESTDIR='$(DESTDIR)' PAMDIR='$(PAMDIR)' MANDIR='$(MAN)'
 
-.PHONY: build programs library test deb wheel bench interop install install-programs uninstall
+.PHONY: build programs library test wrong-bodies deb wheel bench interop install install-programs uninstall
 .DELETE_ON_ERROR:
 # Each of these works on crates side by side, and no two may work on the same ones.
 .NOTPARALLEL:
@@ -59,6 +60,9 @@ test:
 	$(MAKE) -C python test RT='$(RT)' PYTHON='$(PYTHON)'
 	for tests in rust/tests docs/tests tests/server; do $(PYTHON) -m unittest discover -s $$tests || exit 1; done
 	for tests in tools packages; do $(PYTHON) -m unittest discover -t . -s tests/$$tests || exit 1; done
+
+wrong-bodies:
+	$(PYTHON) tools/wrong_bodies.py --all -- $(RT) ci
 
 deb: library
 	$(MAKE) programs CPU=x86-64 RT='$(RT)' PYTHON='$(PYTHON)'
@@ -91,8 +95,7 @@ install-programs:
 	install -d $(DESTDIR)$(DAEMON)
 	install -m 644 $(MODULES:%=python/rigzumal/server/daemon/%) $(DESTDIR)$(DAEMON)
 	install -d $(DESTDIR)$(MAN)/man1 $(DESTDIR)$(MAN)/man5 $(DESTDIR)$(MAN)/man8
-	for page in $(filter-out %-ask.1,$(PAGES)); do install -m 644 man/$${page#*/} $(DESTDIR)$(MAN)/$$page || exit 1; done
-	ln -sf credkeep.1 $(DESTDIR)$(MAN)/man1/credkeep-ask.1
+	for page in $(PAGES); do install -m 644 man/$${page#*/} $(DESTDIR)$(MAN)/$$page || exit 1; done
 	install -d $(DESTDIR)$(UNIT_DIR)
 	for unit in $(UNITS); do sed 's|/usr/sbin/|$(PREFIX)/sbin/|' units/$$unit > $(DESTDIR)$(UNIT_DIR)/$$unit || exit 1; done
 	$(PYTHON) tools/completions.py $(DESTDIR)$(BASH_DIR) $(DESTDIR)$(ZSH_DIR) $(DESTDIR)$(FISH_DIR)

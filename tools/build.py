@@ -31,9 +31,9 @@ AT_ONCE = 2
 # Seconds between two lines on standard error.
 EVERY = float(os.environ.get("BUILD_SAYS_EVERY", 25))
 RT = os.environ.get("RT", "rt")
-# How long each took on a machine with four processors, beside other work; others count as 60. Only proportions matter.
-SECONDS = {"cred_pool": 44, "cred_blake": 68, "cred_scrypt": 118, "cred_base64": 14, "cred_argon": 132, "cred_phc": 82, "cred_book": 85}
-SECONDS |= {"cred_file": 415, "cred_cli": 509, "cred_admin": 138, "cred_keep": 254, "cred_many": 318, "credkeep": 900}
+# How long each took at its first build on four idle processors; others count as 60. A build leaves what it took in out/seconds.
+SECONDS = {"cred_pool": 26, "cred_blake": 39, "cred_base64": 14, "cred_argon": 110, "cred_scrypt": 76, "cred_phc": 88, "cred_book": 99}
+SECONDS |= {"cred_cli": 264, "credbook": 99, "cred_file": 159, "cred_admin": 207, "cred_keep": 237, "cred_many": 393, "credkeep": 983}
 LEVELS = ("x86-64", "x86-64-v2", "x86-64-v3")
 LOADER = "/lib64/ld-linux-x86-64.so.2"
 
@@ -51,6 +51,12 @@ def folders(room):
     return free
 
 
+def expected(name):
+    """Seconds that a crate is expected to take: what it took last here, or on another machine."""
+    last = CRATES / name / "out/seconds"
+    return max(float(last.read_text()), 1) if last.is_file() else SECONDS.get(name, 60)
+
+
 def bring(name, source, target):
     """Copies what was proved of a library from one folder to another, unless it is there."""
     proved = pathlib.Path("crates") / name / "out"
@@ -62,7 +68,8 @@ class Progress:
     """How far a build is, on standard error."""
 
     def __init__(self, names):
-        self.names, self.running, self.done, self.began = names, [], [], time.monotonic()
+        self.names, self.running, self.done = names, {}, {}
+        self.expected = {it: expected(it) for it in names}
         self.ended = threading.Event()
 
     def __enter__(self):
@@ -81,22 +88,34 @@ class Progress:
 
     @contextlib.contextmanager
     def of(self, name, what):
-        """Tells when one of the names is begun and done."""
-        began = time.monotonic()
-        self.running.append(name)
+        """Tells when one of the names is begun and done, and notes how long it took."""
+        began = self.running[name] = time.monotonic()
         try:
             yield
-            self.done.append(name)
+            self.done[name] = time.monotonic() - began
         finally:
-            self.running.remove(name)
-        self.say(f"{name}: {what}, {time.monotonic() - began:.0f} s")
+            del self.running[name]
+        (CRATES / name / "out/seconds").write_text(f"{self.done[name]:.0f}\n")
+        self.say(f"{name}: {what}, {self.done[name]:.0f} s")
+
+    def rest(self):
+        """Seconds until all are done, if each takes as long as expected at the pace of those that are done."""
+        done = {**self.done}
+        pace = sum(done.values()) / sum(self.expected[it] for it in done) if done else 1
+        running = {name: time.monotonic() - began for name, began in [*self.running.items()]}
+        left = {it: max(pace * self.expected[it] - running.get(it, 0), EVERY) for it in [*running, *self.names] if it not in done}
+        whole = 0
+        while left:
+            working = [it for it in left if not {*left} & {*all_below(it)}][:AT_ONCE]
+            step = min(left[it] for it in working)
+            whole += step
+            left = {it: seconds - step * (it in working) for it, seconds in left.items() if it not in working or seconds > step}
+        return whole
 
     def say(self, what, end="\n"):
-        """What happened, how much is done, and how long the rest takes at the pace so far."""
-        whole, running, done = (sum(SECONDS.get(it, 60) for it in part) for part in (self.names, self.running, self.done))
-        pace = (time.monotonic() - self.began) / (done + running / 2) if done else 0.7
-        left = round((whole - done - running / 2) * pace / 60)
-        rest = f", about {left or 1} minute{'s' if left > 1 else ''} left" if len(self.done) < len(self.names) else ""
+        """What happened, how much is done, and how long the rest takes."""
+        minutes = max(round(self.rest() / 60), 1)
+        rest = f", about {minutes} minute{'s' if minutes > 1 else ''} left" if len(self.done) < len(self.names) else ""
         clear = "\033[K" if sys.stderr.isatty() else ""
         # in one piece, since two threads tell
         sys.stderr.write(f"{clear}{what}; {len(self.done)} of {len(self.names)} done{rest}{end}")

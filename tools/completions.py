@@ -83,7 +83,7 @@ class Program:
         rest = [f"'{at}:command:->command'", "'*::word:->word'"] if self.commands else []
         top = " \\\n        ".join([*map(zsh_option, self.top.options), *first, *rest])
         lines = {"DESCRIBED": "\n".join(commands), "OPTIONS": "\n".join(options) or "        *) ;;", "TOP": top}
-        return {**self.fields(), **lines, "AT": str(at)}
+        return {**self.fields(), **lines, "AT": str(at), "BEFORE": str(at - 1)}
 
     def fish(self):
         at, name = (1 if self.file_first else 0), self.name

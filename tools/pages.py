@@ -27,6 +27,17 @@ PAGES = [
 
 # The folders of proofs by hand: each makes values of one struct with ghost data, and its page says what is trusted of that.
 WALKS = {"cred_cli/proofs/past"}
+MOST = {
+    "words in README.md": 650,
+    "bytes in README.md": 5000,
+    "lines of over 100 columns in src/ and specs/": 28,
+    "lines that tools/english.txt finds": 222,
+}
+FOLDERS = "crates|c|python|rust|tests|docs|tools|bench|interop|examples|man|bin|units|packaging|completions|proofs|specs|src"
+# What pages name where it is installed.
+INSTALLED = {"bin/credkeep"}
+# A variable by which a test speaks to its own programs.
+SET_BY_TESTS = {"FRAMEWORKS_ROOM"}
 # The files that say the version, and how.
 VERSIONED = {
     "c/include/rigzumal.h": r'RIGZUMAL_LIBRARY_VERSION "(.*)"',
@@ -47,10 +58,22 @@ def versions():
         yield None if said and said[1] == there else f"{file} says version {said and said[1]}, and VERSION {there}"
 
 
+def house():
+    """What is to grow no more: README's words and bytes, long lines of code, and places that tools/english.txt finds."""
+    readme, lines = (TOP / "README.md").read_text(), 0
+    for it in [*CRATES.glob("*/src/**/*.rt"), *CRATES.glob("*/specs/**/*.antt")]:
+        lines += sum(len(line) > 100 and "use " not in line for line in source(it).splitlines())
+    found = subprocess.run(["git", "grep", "-cPf", "tools/english.txt", "--", "*.md", "man"], cwd=TOP, capture_output=True, text=True).stdout
+    habits = sum(int(it.rpartition(":")[2]) for it in found.splitlines())
+    counts = {"words in README.md": len(readme.split()), "bytes in README.md": len(readme.encode())}
+    counts |= {"lines of over 100 columns in src/ and specs/": lines, "lines that tools/english.txt finds": habits}
+    yield from (f"{count} {what}, and {MOST[what]} at most are wanted" if count > MOST[what] else None for what, count in counts.items())
+
+
 def figures():
     """What README counts: the crates that the gate proves, the wrong bodies that it tries, and its tests. No time is left open."""
     tests = sum(len(re.findall(r"^\s*#\[test\]", it.read_text(), re.M)) for it in CRATES.glob("*/src/**/*.rt"))
-    there = {"crates": len(listed()), "wrong bodies": len([*CRATES.glob("*/must-fail/*.edit")]), "tests": tests}
+    there = {"crates": len(listed()), "wrong bodies": len([*CRATES.glob("*/wrong-bodies/*.edit")]), "tests": tests}
     readme = (TOP / "README.md").read_text()
     for word, count in there.items():
         said = re.findall(rf"(\d+) {word}", readme)
@@ -108,6 +131,24 @@ def links(page):
             yield None
 
 
+def places(page):
+    """Each file or folder of the tree that a page names in code, seen from the top, from the page or from a crate."""
+    text = re.sub(r"```.*?```|\[[^\]]*\]\([^)]*\)", "", source(page), flags=re.S)
+    for place in re.findall(rf"(?<![\w/.~-])((?:{FOLDERS})/[\w./-]*\w)", text):
+        if place not in INSTALLED and not re.search(r"/out\b|[A-Z]{4}", place):
+            tried = [TOP / place, page.parent / place, *CRATES.glob(f"*/{place}")]
+            yield None if any(it.exists() for it in tried) else f"{page.relative_to(TOP)}: {place} isn't there"
+
+
+def variables():
+    """Each variable that a user or tester may set, on a page or in a manual."""
+    said = "\n".join(source(it) for it in [*PAGES, *TOP.glob("*/README.md"), *TOP.glob("man/*"), *TOP.glob("c/man/*")])
+    files = subprocess.run(["git", "ls-files", "*.py", "*.c", "*.rs"], cwd=TOP, capture_output=True, text=True, check=True).stdout.split()
+    form = r'(?:environ(?:\.get\(|\[)|getenv\()"((?:RIGZUMAL|TORTURE|FRAMEWORKS|SERVER|TEST|CREDKEEP|CREDBOOK)\w*)"'
+    for name in sorted({name for it in files for name in re.findall(form, source(TOP / it))}):
+        yield None if name in SET_BY_TESTS or re.search(rf"\b{name}\b", said) else f"no page names the variable {name}"
+
+
 def plain(code):
     """Code without what sets it in."""
     return re.sub(r"[ \t]+", " ", re.sub(r"^[ \t]+", "", code, flags=re.M)).strip("\n")
@@ -150,8 +191,8 @@ def walks():
 
 
 def main():
-    of_tree = (figures, logic, planted, rooms, definitions, walks, versions, promises.check)
-    of_page = [it(page) for page in PAGES for it in (links, callers)]
+    of_tree = (house, figures, variables, logic, planted, rooms, definitions, walks, versions, promises.check)
+    of_page = [it(page) for page in PAGES for it in (links, callers, places)]
     return report([it for found in [*(check() for check in of_tree), *of_page] for it in found])
 
 

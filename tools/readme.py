@@ -3,10 +3,10 @@
 
     python3 tools/readme.py [FILE..]          (README.md, docs/*.md and crates/*/README.md)
 
-A session is a block marked `sh`; the block marked `text` that follows is what it has to print. All sessions of a page run in one bash and
+A session is a block marked `sh`; the block marked `text` right below is what it has to print. All sessions of a page run in one bash and
 one folder, in their order, with the built programs of crates/*/out (`rt run` builds them) and this Python as `python3` in their path, and
-the Python package beside them. The folder holds links to crates/, c/ and python/ and nothing else. A session with no text below it is named
-and not run. One that needs a program that isn't there is named and skipped. The last line is `N passed, M failed`, and the status is 1
+the Python package beside them. The folder holds links to crates/, c/ and python/ and nothing else. A session with no text below it, or that
+installs something, is named and not run. One that needs a program that isn't there is named and skipped. The last line is `N passed, M failed`, and the status is 1
 if anything failed or nothing passed.
 """
 
@@ -23,6 +23,7 @@ from tree import TOP
 
 BLOCK = re.compile(r"^```(\w+)\n(.*?)^```$", re.M | re.S)
 MARK = "-- the end of session"
+INSTALLS = re.compile(r"\b(sudo|apt|apt-get|make .*install)\b")
 
 # What a session needs if it has this word: a program in the path, or a file of the repository.
 PROGRAMS = ["credbook", "credkeep", "php", "doveadm", "htpasswd", "django-admin"]
@@ -36,14 +37,17 @@ def pages():
 
 def sessions_of(page):
     """Each session with its line and the text that it has to print, or none."""
-    blocks = [(it.group(1), it.group(2), page[: it.start()].count("\n") + 1) for it in BLOCK.finditer(page)]
-    for (kind, script, line), below in zip(blocks, [*blocks[1:], ("", None, 0)]):
-        if kind == "sh":
-            yield line, script, below[1] if below[0] == "text" else None
+    blocks = [*BLOCK.finditer(page), None]
+    for block, below in zip(blocks, blocks[1:]):
+        if block[1] == "sh":
+            is_below = below and below[1] == "text" and not re.search(r"^#", page[block.end() : below.start()], re.M)
+            yield page[: block.start()].count("\n") + 1, block[2], below[2] if is_below else None
 
 
 def missing(script, path):
-    """What a session needs and this machine doesn't have."""
+    """Why a session isn't run: it installs something, or needs what this machine doesn't have."""
+    if INSTALLS.search(script):
+        return "it installs something"
     for name in PROGRAMS:
         if re.search(rf"(^|[\s(|]){name}\s", script, re.M) and shutil.which(name, path=path) is None:
             return f"{name} isn't there"

@@ -38,7 +38,7 @@ def has_test(crate, test):
 
 def has_edit(crate, name):
     """Whether a wrong body stands in the gate."""
-    return (CRATES / crate / "must-fail" / f"{name}.edit").is_file()
+    return (CRATES / crate / "wrong-bodies" / f"{name}.edit").is_file()
 
 
 def report(found):

@@ -72,7 +72,16 @@ class Build(unittest.TestCase):
         self.assertEqual([re.search(r"(\d of \d) done", it)[1] for it in done], ["1 of 4", "2 of 4", "3 of 4", "4 of 4"])
         self.assertTrue(all(re.search(r"about \d+ minutes? left$", it) for it in done[:-1]), done)
         self.assertRegex(done[-1], r"^program: proved and built, \d+ s; 4 of 4 done$")
-        self.assertTrue(any("low, other: at work; 0 of 4 done" in it for it in said), said)
+        self.assertTrue(any("low, other: at work; 0 of 4 done, about 3 minutes left" in it for it in said), said)
+
+    def test_clock(self):
+        """What took longer the last time is expected to take as long; what runs counts by its own time."""
+        for name, seconds in {"low": 600, "other": 1200, "high": 600, "program": 60}.items():
+            (self.top / "crates" / name / "out").mkdir()
+            (self.top / "crates" / name / "out/seconds").write_text(f"{seconds}\n")
+        said = self.build("--cpu", "x86-64", "program").stderr.splitlines()
+        self.assertTrue(any("low, other: at work; 0 of 4 done, about 21 minutes left" in it for it in said), said)
+        self.assertLess(int((self.top / "crates/low/out/seconds").read_text()), 600)
 
     def test_built(self):
         """What is built is taken as it is, until a source, the level or the program changes."""

@@ -1,7 +1,10 @@
 """tools/completions.py: what the shells complete, over programs that show clap's help."""
 
+import contextlib
 import os
 import pathlib
+import pty
+import re
 import shlex
 import shutil
 import subprocess
@@ -45,6 +48,18 @@ case "$*" in
 *) printf 'Usage: credbook run [OPTIONS]\n\nOptions:\n      --workers <N>  Threads\n' ;;
 esac
 exit 1
+"""
+# ^G shows the line as it is then, and ends.
+ZSHRC = """fpath=({} $fpath)
+autoload -U compinit
+compinit -u -D
+finish() {{
+    print -r -- "END $BUFFER"
+    exit
+}}
+zle -N finish
+bindkey '^G' finish
+PS1='READY> '
 """
 # The line before the cursor, and what is offered there.
 CASES = [
@@ -120,6 +135,41 @@ class Completions(unittest.TestCase):
         text = (self.folders[1] / "_credkeep").read_text()
         for word in ("'init:Begins a book'", r"'check:Says whether it'\''s right'", "'--most[At most this]:size:'", "check) _arguments"):
             self.assertIn(word, text)
+
+    @unittest.skipUnless(shutil.which("zsh"), "no zsh")
+    def test_zsh_at_a_terminal(self):
+        """It completes accounts, whatever stands before them, and no account where a new name is due."""
+        for line, completed, listed in (
+            ("credkeep users.db check a", "credkeep users.db check ada", {"ada", "ann"}),
+            ("credkeep-ask users.db check an", "credkeep-ask users.db check ann", set()),
+            ("credkeep 'users.db' check an", "credkeep 'users.db' check ann", set()),
+            ("credkeep --wait 5 users.db check an", "credkeep --wait 5 users.db check ann", set()),
+            ("credkeep users.db ch", "credkeep users.db check a", set()),
+            ("credkeep users.db add a", "credkeep users.db add a", set()),
+            ("credbook run --w", "credbook run --workers", set()),
+        ):
+            with self.subTest(line=line):
+                shown, _, ended = self.typed_to_zsh(line).partition("END ")
+                self.assertEqual(ended.splitlines()[0].rstrip(), completed)
+                self.assertEqual({*re.findall(r"\ba\w\w\b", shown)}, listed, shown)
+
+    def typed_to_zsh(self, line):
+        """What zsh shows after a line and the key Tab, twice."""
+        (self.at / ".zshrc").write_text(ZSHRC.format(self.folders[1]))
+        pid, terminal = pty.fork()
+        if pid == 0:
+            os.chdir(self.at)
+            os.execvpe("zsh", ["zsh", "-di"], {**self.env, "ZDOTDIR": str(self.at), "TERM": "vt100"})
+        shown, typed = b"", f"{line}\t\t\a".encode()
+        with contextlib.suppress(OSError):  # the terminal's end
+            while more := os.read(terminal, 4096):
+                shown += more
+                if b"READY" in shown and typed:
+                    os.write(terminal, typed)
+                    shown, typed = b"", b""
+        os.waitpid(pid, 0)
+        os.close(terminal)
+        return shown.decode().partition(line)[2]
 
     def test_remove(self):
         others = [it / "of-another" for it in self.folders]

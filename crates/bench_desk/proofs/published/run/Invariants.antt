@@ -1,9 +1,0 @@
-use Rattle.std.proofs.Common.{false}
-use Rattle.bench_desk.proofs.published.run.Given as goal
-
--- the list that was just opened, from this book
-abbrev pub ghosts-run_named-J-Naming : goal.ghosts-run_named-J-Naming
-ghosts-run_named-J-Naming g a = record { list = a.opened.list; handouts = a.opened.handouts; opening = a.book.now; loads = false }
-
-abbrev pub ghosts-run_named-J-Ledger : goal.ghosts-run_named-J-Ledger
-ghosts-run_named-J-Ledger g a = record { name = a.opened.ledger; parts = a.opened.sessions }

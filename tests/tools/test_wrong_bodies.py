@@ -1,0 +1,154 @@
+"""tools/wrong_bodies.py over a toolchain that stands in: which wrong bodies it tries, how many at
+once, and what it says of each."""
+
+import os
+import pathlib
+import shutil
+import subprocess
+import sys
+import tempfile
+import unittest
+
+TOOLS = pathlib.Path(__file__).resolve().parents[2] / "tools"
+# `rt doc` names a kit, and `rt lib` leaves a library.
+RT = """#!/bin/sh
+[ "$1" = doc ] && exec echo "$KIT/START-HERE.md"
+name=$(basename "$PWD")
+rm -rf out && mkdir -p "out/rlib/$name.rlib/lang" && cp -r src "out/rlib/$name.rlib/lang/src"
+echo "rt: $name proved"
+"""
+# A function is refused if its body says wrong, or LIMIT and the limit isn't 8; it waits if it calls
+# one that is refused.
+RATTLE = """#!/usr/bin/env python3
+import os, re, sys
+open(os.environ["ASKED"], "a").write(" ".join(sys.argv) + chr(10))
+text = open("src/lib.rt").read()
+bodies = dict(re.findall(r"fn (\\w+)\\(\\) \\{ (.*) \\}", text))
+bad = lambda it: "wrong" in bodies[it] or "LIMIT" in bodies[it] and "LIMIT: u8 = 8" not in text
+waits = [it for it in bodies if any(f"{other}()" in bodies[it] and bad(other) for other in bodies)]
+for it in bodies:
+    said = "no proof: `search` did not prove `returns`" if bad(it) else "proved"
+    said = "no proof: it calls another, which is not proved" if it in waits else said
+    print(f"fn high::{it}: {said}")
+sys.exit(any(map(bad, bodies)))
+"""
+SOURCE = """const LIMIT: u8 = 8;
+fn one() { 1 }
+fn two() { 2 }
+fn three() { one() + LIMIT }
+"""
+EDITS = {
+    "one": "fn: one\nfile: src/lib.rt\nold: { 1 }\nnew: { wrong 1 }\n",
+    "one-otherwise": "fn: one\nfile: src/lib.rt\nold: { 1 }\nnew: { wrong 7 }\n",
+    "two": "fn: two\nfile: src/lib.rt\nold: { 2 }\nnew: { wrong 2 }\n",
+    "three": "fn: three\nfile: src/lib.rt\nold: one() + LIMIT\nnew: one() + wrong\n",
+    "limit": "fn: three\nfile: src/lib.rt\nold: LIMIT: u8 = 8\nnew: LIMIT: u8 = 9\n",
+}
+PAGE = "| Wrong body | Where |\n|---|---|\n| one | `high/one` |\n\nOthers: `high/two`.\n"
+
+
+class WrongBodies(unittest.TestCase):
+    def setUp(self):
+        room = tempfile.TemporaryDirectory()
+        self.addCleanup(room.cleanup)
+        self.top = pathlib.Path(room.name)
+        for name in ("low/src", "high/src", "high/wrong-bodies"):
+            (self.top / "crates" / name).mkdir(parents=True)
+        for name in ("tools", "docs", ".git", "kit/bin"):
+            (self.top / name).mkdir(parents=True)
+        for tool in ("wrong_bodies.py", "tree.py"):
+            shutil.copy(TOOLS / tool, self.top / "tools")
+        for name, text in {"rt": RT, "kit/bin/rattle": RATTLE}.items():
+            (self.top / name).write_text(text)
+            (self.top / name).chmod(0o755)
+        self.write({"crates.txt": "low:\nhigh: low\n", "docs/PLANTED.md": PAGE})
+        self.write({"crates/low/src/lib.rt": "fn low() { 0 }\n", "crates/high/src/lib.rt": SOURCE})
+        self.write({f"crates/high/wrong-bodies/{name}.edit": text for name, text in EDITS.items()})
+
+    def write(self, texts):
+        for name, text in texts.items():
+            (self.top / name).write_text(text)
+
+    def tried(self, *words):
+        """The status, the lines of wrong bodies, and how many checks there were."""
+        asked = self.top / "asked"
+        asked.unlink(missing_ok=True)
+        room = {"RT": self.top / "rt", "KIT": self.top / "kit", "ASKED": asked}
+        env = {**os.environ, **{name: str(it) for name, it in room.items()}}
+        command = [sys.executable, self.top / "tools/wrong_bodies.py", *words]
+        done = subprocess.run(command, env=env, capture_output=True, text=True, timeout=60)
+        lines = sorted(it for it in done.stdout.splitlines() if it.startswith("high"))
+        return done.returncode, lines, len(asked.read_text().splitlines()) if asked.exists() else 0
+
+    def refused(self, *names):
+        functions = {"one-otherwise": "one", "limit": "three"}
+        return sorted(f"high/{it}: refused, in {functions.get(it, it)}: `returns`" for it in names)
+
+    def test_all(self):
+        """One check as the crate stands; one, two and three at once, of whom three waits for one and
+        is tried alone; one-otherwise; and the limit alone, since other functions see it."""
+        self.assertEqual(self.tried("high"), (0, self.refused(*EDITS), 5))
+
+    def test_sums(self):
+        """What was refused is tried again if it's named, or if its crate, a wrong body of the crate,
+        or what can be cited below has changed."""
+        self.assertEqual(self.tried()[1], self.refused(*EDITS))
+        self.assertEqual(self.tried(), (0, self.refused("one"), 2))
+        self.assertEqual(self.tried("--all")[1], self.refused(*EDITS))
+        for name, text in (
+            ("crates/high/src/lib.rt", f"// more\n{SOURCE}"),
+            ("crates/low/src/lib.rt", "fn low() { 1 }\n"),
+            ("crates/high/wrong-bodies/two.edit", EDITS["two"].replace("wrong 2", "wrong 3")),
+        ):
+            with self.subTest(name=name):
+                shutil.rmtree(self.top / "crates/low/out", ignore_errors=True)
+                self.write({name: text})
+                self.assertEqual(self.tried()[1], self.refused(*EDITS))
+                self.assertEqual(self.tried()[1], self.refused("one"))
+
+    def test_not_refused(self):
+        """A body that is right, one that doesn't apply and one that changes nothing are named, and the
+        status is 1, at the next run too."""
+        for text, why in (
+            ("fn: two\nold: { 2 }\nnew: { 1 + 1 }\n", "it is proved with it"),
+            ("fn: two\nold: { 5 }\nnew: { wrong }\n", "its old text isn't in its file once"),
+            ("fn: two\nold: { 2 }\nnew: { 2 }\n", "or the new one is the same"),
+        ):
+            with self.subTest(why=why):
+                text = text.replace("old:", "file: src/lib.rt\nold:")
+                self.write({"crates/high/wrong-bodies/two.edit": text})
+                for _ in range(2):
+                    status, lines, _ = self.tried()
+                    said = "\n".join(lines)
+                    [bad] = [it for it in lines if "NOT REFUSED" in it]
+                    self.assertEqual((status, bad.split(":")[0], len(lines)), (1, "high/two", 5))
+                    self.assertIn(why, said)
+
+    def test_refused_elsewhere(self):
+        """A body that only a caller of its function refuses, or a function that the body adds, is tried
+        alone, and the whole crate is looked at."""
+        for text in (EDITS["limit"].replace("three", "two"), EDITS["limit"].replace("three", "four")):
+            with self.subTest(text=text):
+                self.write({"crates/high/wrong-bodies/two.edit": text})
+                status, lines, _ = self.tried()
+                name = text[4:].split()[0]
+                why = f"high/two: refused, in {name}: not there, but fn high::three, which says less"
+                self.assertEqual((status, lines[-1]), (0, why))
+
+    def test_functions_that_are_not_proved(self):
+        """Nothing is said of a wrong body of a function that isn't proved as it stands."""
+        self.write({"crates/high/src/lib.rt": SOURCE.replace("{ 2 }", "{ wrong 2 }")})
+        status, lines, _ = self.tried()
+        self.assertEqual((status, [it for it in lines if "refused" in it]), (1, []))
+
+    def test_beside_a_command(self):
+        """A crate's turn comes once the command has proved the crate; the command's status is
+        handed on."""
+        prove = 'for it in low high; do (cd crates/$it && "$RT" lib); done; exit '
+        self.assertEqual(self.tried("--", "sh", "-c", prove + "0")[:2], (0, self.refused(*EDITS)))
+        self.assertEqual(self.tried("--", "sh", "-c", prove + "3")[0], 3)
+        self.assertEqual(self.tried("--", "sh", "-c", "exit 3"), (3, [], 0))
+
+
+if __name__ == "__main__":
+    unittest.main()
