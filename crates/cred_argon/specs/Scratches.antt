@@ -5,9 +5,9 @@ use Rattle.cred_argon.specs.declared.block.Block.{Block}
 abbrev pub zero_words : List ℕ
 zero_words = replicate 128 0
 
--- a buffer that holds nothing of a hash
+-- a buffer that is zeros to its whole room
 abbrev pub IsWiped : {A : Type 0} → Vec Block A → Type 0
-IsWiped buffer = All (λ block. block.0 ≡ zero_words) buffer.items
+IsWiped buffer = buffer.items ≡ replicate (vec_capacity buffer) (record { 0 = zero_words })
 
 -- the spare buffers have room for `kept` blocks, at most `most`, and each is wiped
 pub record IsScratch {A : Type 0} (most kept : ℕ) (spare : List (Vec Block A)) : Type 0 where

@@ -1,6 +1,6 @@
 //! Memory that is kept from hash to hash.
-ghost use Rattle.std.specs.Prelude.{◌≡◌, ◌≤◌, IfOk, replicate, vec_len, vec_capacity};
-ghost use Rattle.cred_argon.specs.Scratches.{zero_words};
+ghost use Rattle.std.specs.Prelude.{◌≡◌, ◌≤◌, IfOk, IfSome, vec_len, vec_capacity};
+ghost use Rattle.cred_argon.specs.Scratches.{IsWiped};
 
 use crate::block::Block;
 use crate::segment::Segment;
@@ -9,7 +9,7 @@ use std::marker::Model;
 
 /// Memory for hashes that are made one after another, by
 /// [`argon2_in`](crate::argon2_in). It is kept from hash to hash, up to a bound, and what is kept
-/// holds zeros alone.
+/// holds zeros alone, to its whole room.
 #[derive(Drop)]
 pub struct ArgonScratch {
     /// How many blocks are kept at most. A block is one KiB.
@@ -76,24 +76,33 @@ impl ArgonScratch {
     }
 
     /// Keeps a buffer, wiped, if there is room for it within the bound. Otherwise it is given back.
-    fn keep(&mut self, mut blocks: Vec<Block>)
+    fn keep(&mut self, blocks: Vec<Block>)
         ensures { self.new ≡ self.old }
     {
-        let room = blocks.capacity();
-        if room > self.most - self.kept {
+        let most = self.most - self.kept;
+        if blocks.capacity() > most {
             return;
         }
-        wipe(&mut blocks);
-        if self.spare.push(blocks).is_ok() {
+        let Some(blocks) = wiped(blocks) else {
+            return;
+        };
+        let room = blocks.capacity();
+        if room <= most && self.spare.push(blocks).is_ok() {
             self.kept += room;
         }
     }
 }
 
-/// Writes zeros over all blocks. They stay in the buffer, so the compiler can't leave it out.
-fn wipe(blocks: &mut Vec<Block>)
-    ensures zero { blocks.new.items ≡ replicate (vec_len blocks.old) (record { 0 = zero_words }) }
-    ensures room { vec_capacity blocks.new ≡ vec_capacity blocks.old }
+/// The buffer with zeros in its whole room. They stay in it, so the compiler can't leave them out.
+/// A resize within the room moves nothing, but no clause of it says so: if it did, there is none.
+fn wiped(mut blocks: Vec<Block>) -> Option<Vec<Block>>
+    ensures { IfSome result (λ blocks. IsWiped blocks) }
 {
-    blocks.fill(Block::ZERO);
+    blocks.clear();
+    let room = blocks.capacity();
+    blocks.resize(room, Block::ZERO).ok()?;
+    if blocks.capacity() > room {
+        return None;
+    }
+    Some(blocks)
 }

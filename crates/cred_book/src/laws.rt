@@ -1,13 +1,13 @@
 //! Laws about the definitions that contracts cite. A law is a function that does nothing; its
 //! contract is what holds.
 
-ghost use Rattle.std.specs.Prelude.{◌≡◌, ◌↔◌, Bool, List, MatchOption, Option, true, false, ℕ};
+ghost use Rattle.std.specs.Prelude.{◌≡◌, ◌≢◌, ◌↔◌, Bool, IfSome, length, List, MatchOption, Option, true, false, ℕ};
 ghost use Rattle.std.specs.FinMap as map;
 ghost use Rattle.cred_phc.specs.Values.{RecordValue};
 ghost use Rattle.cred_book.specs.{Accounts.Accounts, Changes.change_of, Changes.judged_book, Commits.commit_outcome, Commits.judgement};
-ghost use Rattle.cred_book.specs.Passwords.{IsPasswordAt, IsPasswordOf};
+ghost use Rattle.cred_book.specs.Passwords.{IsPasswordAt, IsPasswordOf, KeepsTags, made_setting, with_passwords};
 ghost use Rattle.cred_book.specs.Updates.{HasDone, IsConditional, IsExact, IsLog, Rows, Update, answer, operation_of, operations_done, outcome_on, replies_done, seq_after, seq_replies, standing, store_after, update_of, updated};
-ghost use Rattle.cred_book.specs.Works.{Task, makes_change, seq, whole};
+ghost use Rattle.cred_book.specs.Works.{Task, makes_change, name_of, seq, whole};
 
 use crate::reply::Reply;
 use crate::request::Request;
@@ -38,6 +38,27 @@ pub fn yes_is_the_password()
     ensures at_judgement { (book : Accounts) (name pw : List ℕ) (copy : Option RecordValue)
         → (judgement book (Request.Verify name pw, copy)).0 ≡ Reply.Yes
         → IsPasswordAt book name pw }
+{}
+
+/// An answer tells of its own account alone, and leaves every other as it is: it is the same on any
+/// two books that have the same at its name, whatever else they have.
+pub fn an_answer_tells_of_one_account()
+    ensures tells { (one other : Accounts) (request : Request)
+        → map.get one (name_of request) ≡ map.get other (name_of request)
+        → (seq one request).0 ≡ (seq other request).0 }
+    ensures keeps { (book : Accounts) (request : Request) (name : List ℕ)
+        → name ≢ name_of request → map.get (seq book request).1 name ≡ map.get book name }
+{}
+
+/// A password counts by its tags alone. Others may stand in its place that have the same tag under
+/// the setting of the record that stands, and under that of the record that the request may make:
+/// the request is answered alike and leaves the same record. So no answer and no record tells more
+/// of a password than such a tag does.
+pub fn a_password_counts_by_its_tags()
+    ensures { (other : List ℕ → List ℕ) (request : Request) (now : Option RecordValue)
+        → IfSome now (λ stored. KeepsTags other stored.setting (length stored.tag))
+        → IfSome (made_setting request) (λ setting. KeepsTags other setting 32)
+        → whole (with_passwords other request) now ≡ whole request now }
 {}
 
 /// For a store of rows, such as a table in a database, whose clients do any operations: each is any

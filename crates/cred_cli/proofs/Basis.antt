@@ -1,10 +1,10 @@
 -- What is read and written, on either basis.
-use Rattle.std.proofs.Common.{◌≡◌, ℕ, ◌<◌, List, [], ◌∷◌, ◌++◌, length, take, drop, map, Option, Some, Bool, true, false, Result, Ok, Err, OnOk, IfErr, IfOk, IfSome, subst, refl, sym, ap, ◌∙◌, ap₂, append_assoc, append-nil}
-use Rattle.std.proofs.{KnownBytes.Appends-nil, KnownBytes.Appends-trans, KnownBytes.Consumes-nil, KnownBytes.Consumes-trans, Math.Seq.drop-append_seam}
+use Rattle.std.proofs.Common.{◌≡◌, ℕ, ◌<◌, ◌≤◌, ◌+◌, ◌-◌, ◌^◌, min, List, [], ◌∷◌, ◌++◌, length, take, drop, map, Option, Some, Bool, true, false, Result, Ok, Err, OnOk, IfErr, IfOk, IfSome, subst, refl, sym, ap, ◌∙◌, ap₂, append_assoc, append-nil, arith}
+use Rattle.std.proofs.{KnownBytes.Appends-nil, KnownBytes.Appends-trans, KnownBytes.Consumes-nil, KnownBytes.Consumes-trans, Math.Nat.min-eq_left, Math.Seq.drop-append_seam}
 use Rattle.std.specs.Io.KnownBytes.{Consumes, IsAtEnd, Keeps}
 use Rattle.cred_book.specs.Accounts.{Accounts}
 use Rattle.cred_cli.specs.{Calls.Call, Feeding.standing, Outcome.HasCause, Outcome.IsAnsweredAs, Script.out, Script.script_start, Steps.WriteFails, declared.fault.ScriptFault.ScriptFault, declared.run.Run.Run, declared.script.End.End, declared.watched.Watched.Watched}
-use Rattle.cred_cli.specs.Watched.{Basis, Contract, Transcript, Fits, GivesAsContracted, IsWritten, Reading, TakesAsContracted, call_on, ended_of, failed_of, transcript_reading, given_of, held_on, inner_of, left_on, log_on, log_of, name_of, reading_on, taken_of}
+use Rattle.cred_cli.specs.Watched.{Basis, Contract, Transcript, Fits, GivesAsContracted, IsLogged, IsNew, IsWritten, Reading, TakesAsContracted, call_on, calls_of, ended_of, failed_of, transcript_reading, given_of, held_on, inner_of, left_on, log_on, log_of, name_of, reading_on, taken_of}
 use Rattle.cred_cli.proofs.{Prompts.IsCalled, Writes.taken_later}
 
 -- ---- what a writer took
@@ -35,6 +35,17 @@ module _ {R : Type 0} (remaining : R → Option (List ℕ)) where
 
   pub gives_more : (old mid new : Watched R) (bytes : List ℕ) → GivesAsContracted remaining old mid → given_of new ≡ given_of mid ++ bytes → Consumes (remaining (inner_of mid)) (remaining (inner_of new)) bytes → GivesAsContracted remaining old new
   gives_more old mid new bytes (front, given, consumed) later more = (front ++ bytes, taken_later _ _ _ _ _ given later, Consumes-trans _ _ _ _ _ consumed more)
+
+-- ---- the calls of a reader that was new
+
+pub new_logged : {R : Type 0} (reader : Watched R) → IsNew reader → IsLogged reader reader
+new_logged reader new = record { calls = ap length new.log ∙ sym new.calls; named = refl }
+
+pub logged_on : {R : Type 0} (old mid new : Watched R) (call : Call) → calls_of mid + 1 ≤ 2 ^ 64 - 1 → IsLogged old mid → log_of new ≡ call ∷ log_of mid → name_of new ≡ name_of mid → calls_of new ≡ min (calls_of mid + 1) (2 ^ 64 - 1) → IsLogged old new
+logged_on old mid new call small before logged named calls = record {
+  calls = omega (arith, ap length logged, before.calls, calls ∙ min-eq_left small);
+  named = named ∙ before.named;
+}
 
 -- ---- what a reader has left
 

@@ -11,6 +11,7 @@ pub mod Faults
 pub mod Feeding
 pub mod History
 pub mod Outcome
+pub mod Pasts
 pub mod Prompt
 pub mod Refusals
 pub mod Script

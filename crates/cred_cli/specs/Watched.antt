@@ -41,6 +41,12 @@ pub record IsNew {X : Type 0} (watched : Watched X) : Type 0 where
   pub taken : taken_of watched ≡ []
   pub log : log_of watched ≡ []
 
+-- each call on it is in its log, as it was new before; and its past is still its own, since no other
+-- can be shown to have its name
+pub record IsLogged {X : Type 0} (old new : Watched X) : Type 0 where
+  pub calls : length (log_of new) ≡ calls_of new
+  pub named : name_of new ≡ name_of old
+
 -- at `Ok(n)` the first n bytes of the buffer passed, and none at `Err`
 abbrev pub Passes : {E : Type 0} → List ℕ → List ℕ → Result ℕ E → List ℕ → Type 0
 Passes old new result buf = MatchResult result (λ n. new ≡ old ++ take n buf) (λ _. new ≡ old)

@@ -23,10 +23,13 @@ impl Model for Past {
 
 /// What a past may gain.
 pub(crate) trait Note {
-    ghost use Rattle.cred_cli.specs.declared.past.Past.{Past};
+    ghost use Rattle.cred_cli.specs.{Pasts.GoesOn, declared.past.Past.Past};
 
     /// The past with it.
     ghost noted: { Self → Past → Past };
+
+    /// Nothing that the past had is lost.
+    ghost goes_on: { (n : Self) (past : Past) → GoesOn past (noted n past) };
 }
 
 impl Past {

@@ -3,7 +3,7 @@
 ghost use Rattle.std.specs.Prelude.{◌≡◌, ◌⊎◌, ℕ, List, [], false, map};
 ghost use Rattle.clap.specs.Words.{fault_of, subcommand_of, subcommand_rows_of};
 ghost use Rattle.cred_cli.specs.{Arguments.credbook, Commands.Acts, Commands.Ends, Commands.Runs, Commands.is_run, Statuses.status_number};
-ghost use Rattle.cred_cli.specs.Watched.{GivesAsContracted, IsNew, MayFollow, TakesAsContracted, reading, transcript_reading, transcript_writing, writing};
+ghost use Rattle.cred_cli.specs.Watched.{GivesAsContracted, IsLogged, IsNew, MayFollow, TakesAsContracted, reading, transcript_reading, transcript_writing, writing};
 
 use crate::arguments::{matches_of, workers_of};
 use crate::exit_status::ExitStatus;
@@ -59,6 +59,7 @@ pub fn command<T: Threads + Wait + Sync, R: Read, W: Write, F: Write>(
     ensures transcript_refused { (fault_of credbook (map (λ s. s.now) words.entry.now) ≡ [] → ⊥)
         → Ends ExitStatus.Refused (transcript_writing writer.old writer.new) result
         ⊎ Ends ExitStatus.OutOfMemory (transcript_writing writer.old writer.new) result }
+    ensures logged { IsLogged reader.old reader.new }
     ensures gives { GivesAsContracted R.remaining reader.old reader.new }
     ensures takes { TakesAsContracted W.contents writer.old writer.new }
 {
@@ -90,6 +91,7 @@ fn act<T: Threads + Wait + Sync, R: Read, W: Write, F: Write>(
     ensures transcript { (rest : List ℕ) → MayFollow rest reader.new
         → Acts (subcommand_rows_of matches.now) (transcript_reading rest reader.new)
         (transcript_writing writer.old writer.new) (status_number result) }
+    ensures logged { IsLogged reader.old reader.new }
     ensures gives { GivesAsContracted R.remaining reader.old reader.new }
     ensures takes { TakesAsContracted W.contents writer.old writer.new }
     ensures unread { is_run (subcommand_rows_of matches.now) ≡ false
@@ -125,6 +127,7 @@ fn run<T: Threads + Wait + Sync, R: Read, W: Write, F: Write>(
     ensures transcript { (rest : List ℕ) → MayFollow rest reader.new
         → Runs (transcript_reading rest reader.new) (transcript_writing writer.old writer.new)
         (status_number result) }
+    ensures logged { IsLogged reader.old reader.new }
     ensures gives { GivesAsContracted R.remaining reader.old reader.new }
     ensures takes { TakesAsContracted W.contents writer.old writer.new }
 {

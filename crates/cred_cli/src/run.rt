@@ -5,7 +5,7 @@ ghost use Rattle.std.specs.Prelude.{◌≡◌, ◌+◌, ◌≤◌, false, true, 
 ghost use Rattle.cred_cli.specs.{Events.IsSound, Outcome.HasCause, Outcome.longest_service, declared.event.Event.Event, declared.progress.Progress.Progress};
 ghost use Rattle.cred_cli.specs.Feeding.{Finishes, IsAt, Plays, Takes, TakesLine, standing, standing_at};
 ghost use Rattle.cred_cli.specs.{Script.ScriptStart, Script.start_as, Service.EndsAs, Service.IsHistory, Service.events_by};
-ghost use Rattle.cred_cli.specs.Watched.{Basis, Fits, GivesAsContracted, IsNew, IsWritten, TakesAsContracted, calls_of, ended_of, failed_of, held_on, left_on, reading_on, writing_on};
+ghost use Rattle.cred_cli.specs.Watched.{Basis, Fits, GivesAsContracted, IsLogged, IsNew, IsWritten, TakesAsContracted, calls_of, ended_of, failed_of, held_on, left_on, reading_on, writing_on};
 
 use crate::answer::do_event;
 use crate::event::Event;
@@ -45,6 +45,7 @@ pub(crate) fn answer_all<Way, T: Threads + Sync, K: KeeperBy<Way, T>, R: Read, W
     ensures gives { GivesAsContracted R.remaining reader.old reader.new }
     ensures takes { TakesAsContracted W.contents writer.old writer.new }
     ensures cause { IfErr result (HasCause (failed_of reader.new) (failed_of writer.new)) }
+    ensures logged { IsLogged reader.old reader.new }
     ensures calls { calls_of reader.new ≤ limit + 1 }
     ensures few { (basis : Basis) → Fits basis reader.new → IfSome (left_on basis R.remaining reader.old)
         (λ bytes. calls_of reader.new ≤ length bytes + 1) }
@@ -180,6 +181,7 @@ impl Run {
         ensures gives { GivesAsContracted R.remaining reader.old reader.new }
         ensures takes { TakesAsContracted W.contents writer.old writer.new }
         ensures cause { IfErr result (HasCause (failed_of reader.new) (failed_of writer.new)) }
+        ensures logged { IsLogged reader.old reader.new }
         ensures calls { calls_of reader.new ≤ self.old.progress.limit + 1 }
         ensures few { (basis : Basis) → Fits basis reader.new → (script : ScriptStart)
             → left_on basis R.remaining reader.old ≡ Some script.bytes

@@ -3,7 +3,7 @@
 ghost use Rattle.std.specs.Prelude.{◌≡◌, ◌+◌, ◌≤◌, ◌++◌, ℕ, List, true, length, IfErr, IfOk, IfSome, OnOk};
 ghost use Rattle.cred_cli.specs.{Outcome.HasCause, Outcome.IsAnswered, Outcome.ScriptFails, Outcome.longest_script, Outcome.most_calls, Prompt.IsPrompt};
 ghost use Rattle.cred_cli.specs.{Script.out, Script.script_start, Service.EndsAs};
-ghost use Rattle.cred_cli.specs.Watched.{GivesAsContracted, IsNew, MayFollow, TakesAsContracted, calls_of, ended_of, failed_of, given_of, inner_of, log_of, name_of, taken_of, transcript_reading, transcript_writing};
+ghost use Rattle.cred_cli.specs.Watched.{GivesAsContracted, IsLogged, IsNew, MayFollow, TakesAsContracted, calls_of, ended_of, failed_of, given_of, inner_of, log_of, name_of, taken_of, transcript_reading, transcript_writing};
 
 use crate::costs::CostBounds;
 use crate::fault::ScriptFault;
@@ -76,6 +76,7 @@ pub fn run_script<T: Threads + Wait + Sync, K: Keeper, R: Read, W: Write>(
         (given_of reader.new ++ rest) (Some (taken_of writer.old)))
         (transcript_reading rest reader.new) (transcript_writing writer.old writer.new)
         (K.book keeper.new) result }
+    ensures logged { IsLogged reader.old reader.new }
     ensures reads { calls_of reader.new ≤ length (given_of reader.new) + 1 }
     ensures gives { GivesAsContracted R.remaining reader.old reader.new }
     ensures takes { TakesAsContracted W.contents writer.old writer.new }
@@ -120,6 +121,7 @@ pub fn run_script_by<Way, T: Threads + Sync, K: KeeperBy<Way, T>, R: Read, W: Wr
         (given_of reader.new ++ rest) (Some (taken_of writer.old)))
         (transcript_reading rest reader.new) (transcript_writing writer.old writer.new)
         (K.book keeper.new) result }
+    ensures logged { IsLogged reader.old reader.new }
     ensures reads { calls_of reader.new ≤ length (given_of reader.new) + 1 }
     ensures gives { GivesAsContracted R.remaining reader.old reader.new }
     ensures takes { TakesAsContracted W.contents writer.old writer.new }

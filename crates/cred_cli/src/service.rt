@@ -2,7 +2,7 @@
 
 ghost use Rattle.std.specs.Prelude.{◌≡◌, ◌+◌, ◌≤◌, ℕ, List, true, length, IfErr, IfSome, OnOk};
 ghost use Rattle.cred_cli.specs.{Outcome.HasCause, Service.Serves};
-ghost use Rattle.cred_cli.specs.Watched.{GivesAsContracted, IsNew, MayFollow, TakesAsContracted, calls_of, ended_of, failed_of, given_of, inner_of, reading, transcript_reading, transcript_writing, writing};
+ghost use Rattle.cred_cli.specs.Watched.{GivesAsContracted, IsLogged, IsNew, MayFollow, TakesAsContracted, calls_of, ended_of, failed_of, given_of, inner_of, reading, transcript_reading, transcript_writing, writing};
 
 use crate::costs::CostBounds;
 use crate::fault::ScriptFault;
@@ -59,6 +59,7 @@ pub fn serve<Way, T: Threads + Sync, K: KeeperBy<Way, T>, R: Read, W: Write>(
         (transcript_reading rest reader.new) (transcript_writing writer.old writer.new)
         (K.book keeper.old) (K.book keeper.new) result }
     ensures end { OnOk result (ended_of reader.new ≡ true) }
+    ensures logged { IsLogged reader.old reader.new }
     ensures reads { calls_of reader.new ≤ length (given_of reader.new) + 1 }
     ensures gives { GivesAsContracted R.remaining reader.old reader.new }
     ensures takes { TakesAsContracted W.contents writer.old writer.new }

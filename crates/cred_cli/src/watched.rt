@@ -28,8 +28,11 @@ struct Given<'a> {
 
 impl Note for Given<'_> {
     ghost use Rattle.std.specs.Prelude.{◌++◌};
+    ghost use Rattle.cred_cli.specs.Pasts.{given_more};
 
     ghost noted = { λ n past. record past { given = past.given ++ n.bytes.now } };
+
+    ghost goes_on = { λ n past. given_more past n.bytes.now };
 }
 
 /// The bytes that a call on a writer took.
@@ -40,8 +43,11 @@ struct Taken<'a> {
 
 impl Note for Taken<'_> {
     ghost use Rattle.std.specs.Prelude.{◌++◌};
+    ghost use Rattle.cred_cli.specs.Pasts.{taken_more};
 
     ghost noted = { λ n past. record past { taken = past.taken ++ n.bytes.now } };
+
+    ghost goes_on = { λ n past. taken_more past n.bytes.now };
 }
 
 /// A call on a reader beside a keeper and a writer.
@@ -54,7 +60,7 @@ struct Called<'a, K, R, W> {
 
 impl<K: Keeper, R: Read, W: Write> Note for Called<'_, K, R, W> {
     ghost use Rattle.std.specs.Prelude.{◌∷◌};
-    ghost use Rattle.cred_cli.specs.Watched.{inner_of, name_of, taken_of};
+    ghost use Rattle.cred_cli.specs.{Pasts.called_more, Watched.inner_of, Watched.name_of, Watched.taken_of};
 
     ghost noted = { λ n past. record past {
       calls = (record {
@@ -66,6 +72,15 @@ impl<K: Keeper, R: Read, W: Write> Note for Called<'_, K, R, W> {
         accounts = K.book n.keeper.now;
       }) ∷ past.calls;
     } };
+
+    ghost goes_on = { λ n past. called_more past (record {
+      left = R.remaining n.reader.now;
+      given = past.given;
+      beside = name_of n.writer.now;
+      written = W.contents (inner_of n.writer.now);
+      taken = taken_of n.writer.now;
+      accounts = K.book n.keeper.now;
+    }) };
 }
 
 impl<X> Watched<X> {
@@ -134,6 +149,7 @@ impl<R: Read> Watched<R> {
           taken = taken_of writer.now;
           accounts = K.book keeper.now;
         }) ∷ log_of self.old }
+        ensures named { name_of self.new ≡ name_of self.old }
         ensures calls { calls_of self.new ≡ min (calls_of self.old + 1) (2 ^ 64 - 1) }
         ensures failed { OnErr result (failed_of self.new ≡ true) }
         ensures kept { OnOk result (failed_of self.new ≡ failed_of self.old) }
@@ -160,6 +176,7 @@ impl<R: Read> Read for Watched<R> {
             (R.remaining self.new.inner) result buf.new }
         ensures passed { Passes self.old.past.given self.new.past.given result buf.new }
         ensures logged { self.new.past.calls ≡ self.old.past.calls }
+        ensures named { self.new.past.name ≡ self.old.past.name }
         ensures calls { self.new.calls ≡ min (self.old.calls + 1) (2 ^ 64 - 1) }
         ensures failed { OnErr result (self.new.failed ≡ true) }
         ensures kept { OnOk result (self.new.failed ≡ self.old.failed) }

@@ -169,6 +169,18 @@ pub record IsRefused {S : Type 0} (g : Ghosts S) (old new : Held S) (status : St
   pub kept : Survives (state g old) (state g new) (λ _. ⊥)
   pub told : status ≡ status_of_open why
 
+-- the order answers lines as they come
+abbrev pub is_script : Order → Bool
+is_script Run = true
+is_script (Serve most) = true
+is_script (Account name command) = false
+is_script (Edit edit) = false
+is_script (DisableShown name) = false
+is_script (Show name detail) = false
+is_script (ShowJson name detail) = false
+is_script (Lines line) = false
+is_script (Import how) = false
+
 -- the order reads nothing
 abbrev pub is_unread : Order → Bool
 is_unread (Lines line) = true

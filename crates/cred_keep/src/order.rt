@@ -1,10 +1,10 @@
 //! What is asked of a kept book, and doing it.
 
 ghost use Rattle.std.specs.Prelude.{◌≡◌, ◌⊎◌, ℕ, List, OnOk, false, true};
-ghost use Rattle.cred_cli.specs.Watched.{Basis, IsNew, MayFollow, reading, reading_on, transcript_reading, transcript_writing, writing, writing_on};
+ghost use Rattle.cred_cli.specs.Watched.{Basis, IsLogged, IsNew, MayFollow, reading, reading_on, transcript_reading, transcript_writing, writing, writing_on};
 ghost use Rattle.cred_admin.specs.Seen.{FitsSince, seen};
 ghost use Rattle.cred_file.specs.Keeps.{IsTableOf};
-ghost use Rattle.cred_keep.specs.Orders.{IsRefused, IsServed, Leaves, Performs, is_unread, status_of_end};
+ghost use Rattle.cred_keep.specs.Orders.{IsRefused, IsServed, Leaves, Performs, is_script, is_unread, status_of_end};
 ghost use Rattle.sqlite.specs.{State.HasCleanDisk, Held.state};
 
 use crate::import::{Importing, import};
@@ -67,6 +67,7 @@ pub fn serve_in<T: Threads + Sync, S: Alter, R: Read, W: Write, F: Write>(
         (transcript_writing writer.old writer.new) conn result.0 result.1
         ⊎ (IsRefused S.Store conn result.0 result.1 × (reader.new ≡ reader.old)
         × (writer.new ≡ writer.old)) }
+    ensures logged { is_script order.now ≡ true → IsLogged reader.old reader.new }
 {
     match FileBook::open(tools.alloc, conn) {
         Ok(mut book) => {
@@ -97,6 +98,7 @@ pub fn serve<T: Threads + Sync, S: Alter, R: Read, W: Write, F: Write>(
         → (ended : _) × Leaves S.Store order.now (seen (transcript_reading rest reader.new)
         (transcript_writing writer.old writer.new) book.old.book book.new.book) book.new ended
         × (result ≡ status_of_end ended) }
+    ensures logged { is_script order.now ≡ true → IsLogged reader.old reader.new }
     ensures unread { is_unread order.now ≡ true → reader.new ≡ reader.old }
 {
     match perform(tools, book, order, reader, writer) {
@@ -131,6 +133,7 @@ pub fn perform<T: Threads + Sync, S: Alter, R: Read, W: Write>(
     ensures transcript { (rest : List ℕ) → MayFollow rest reader.new
         → Leaves S.Store order.now (seen (transcript_reading rest reader.new)
         (transcript_writing writer.old writer.new) book.old.book book.new.book) book.new result }
+    ensures logged { is_script order.now ≡ true → IsLogged reader.old reader.new }
     ensures unread { is_unread order.now ≡ true → reader.new ≡ reader.old }
     ensures kept { OnOk result (HasCleanDisk (state S.Store book.new.conn)
         → IsTableOf (state S.Store book.new.conn) book.new.book) }
@@ -155,6 +158,7 @@ fn obey<T: Threads + Sync, S: Alter, R: Read, W: Write>(
     ensures done { (basis : Basis) → FitsSince basis reader.old reader.new
         → Performs order.now (seen (reading_on basis R.remaining reader.old reader.new)
         (writing_on basis W.contents writer.old writer.new) book.old.book book.new.book) result }
+    ensures logged { is_script order.now ≡ true → IsLogged reader.old reader.new }
     ensures unread { is_unread order.now ≡ true → reader.new ≡ reader.old }
 {
     match order {

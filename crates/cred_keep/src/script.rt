@@ -3,7 +3,7 @@
 ghost use Rattle.std.specs.Prelude.{◌≡◌, ◌+◌, ◌≤◌, ℕ, List, IfSome, OnOk, length, true};
 ghost use Rattle.cred_admin.specs.Seen.{seen};
 ghost use Rattle.cred_cli.specs.Outcome.{longest_script, most_calls};
-ghost use Rattle.cred_cli.specs.Watched.{GivesAsContracted, IsNew, MayFollow, TakesAsContracted, calls_of, ended_of, given_of, inner_of, reading, transcript_reading, transcript_writing, writing};
+ghost use Rattle.cred_cli.specs.Watched.{GivesAsContracted, IsLogged, IsNew, MayFollow, TakesAsContracted, calls_of, ended_of, given_of, inner_of, reading, transcript_reading, transcript_writing, writing};
 ghost use Rattle.cred_file.specs.Keeps.{Keeps};
 ghost use Rattle.cred_keep.specs.Orders.{RunsWithin, ServesLines};
 
@@ -37,6 +37,7 @@ pub fn run_on_file<T: Threads + Sync, S: Alter, R: Read, W: Write>(
         → RunsWithin longest_script (seen (transcript_reading rest reader.new)
         (transcript_writing writer.old writer.new) book.old.book book.new.book) result }
     ensures end { OnOk result (ended_of reader.new ≡ true) }
+    ensures logged { IsLogged reader.old reader.new }
     ensures reads { calls_of reader.new ≤ length (given_of reader.new) + 1 }
     ensures gives { GivesAsContracted R.remaining reader.old reader.new }
     ensures takes { TakesAsContracted W.contents writer.old writer.new }
@@ -90,6 +91,7 @@ pub fn serve_on_file<T: Threads + Sync, S: Alter, R: Read, W: Write>(
         (seen (transcript_reading rest reader.new) (transcript_writing writer.old writer.new)
         book.old.book book.new.book) result }
     ensures end { OnOk result (ended_of reader.new ≡ true) }
+    ensures logged { IsLogged reader.old reader.new }
     ensures reads { calls_of reader.new ≤ length (given_of reader.new) + 1 }
     ensures gives { GivesAsContracted R.remaining reader.old reader.new }
     ensures takes { TakesAsContracted W.contents writer.old writer.new }

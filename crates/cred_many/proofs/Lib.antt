@@ -5,3 +5,4 @@ pub mod Listed
 pub mod Seen
 pub mod Serving
 pub mod Groups
+pub mod Shares

@@ -9,13 +9,15 @@ use Rattle.std.specs.FinMap as map
 use Rattle.cred_cli.specs.declared.refusal.Refusal.TheVariants as refusal
 
 -- the book at first, what the reader has to give, what was written before, with which costs and
--- from which source of salts settings are drawn, and what the costs of a line may ask for
+-- from which source of salts settings are drawn, how many KiB all hashes together may take, and what
+-- the costs of a line may ask for
 pub record Service : Type 0 where
   pub opening : Accounts
   pub input : Option (List ℕ)
   pub before : Option (List ℕ)
   pub costs : Scheme
   pub salts : Stream
+  pub memory : ℕ
   pub most : CostBounds
 
 abbrev pub service : Accounts → Option (List ℕ) → Option (List ℕ) → ServiceConfig → Stream → Service
@@ -25,6 +27,7 @@ service opening input before config salts = record {
   before = before;
   costs = config.costs;
   salts = salts;
+  memory = config.memory;
   most = config.most;
 }
 
@@ -71,5 +74,6 @@ no_service = record {
     u64_after = λ _. 0;
     bytes_after = λ _ _. [];
   };
+  memory = 0;
   most = no_bounds;
 }

@@ -1,12 +1,16 @@
 //! The threads that hash.
 
-use crate::budget::{Budget, Idle, Limit};
+ghost use Rattle.std.specs.Prelude.{◌≡◌, ◌≤◌};
+ghost use Rattle.cred_cli.specs.Costs.{memory_alone};
+ghost use Rattle.cred_many.specs.Costs.{compared_memory, job_memory, made_memory};
+
+use crate::budget::{Budget, Idle, Limit, Taken};
 use crate::costs::{Costs, NO_SALT};
 use crate::job::{Job, Message};
 use crate::service_id::ServiceId;
 use cred_book::{Request, Ticket};
 use cred_cli::memory_alone;
-use cred_phc::{Password, Scratch, Setting, TagError, tag_in};
+use cred_phc::{Password, Record, Scratch, TagError, tag_in};
 use cred_pool::NoGate;
 use crossbeam_channel::{Receiver, Sender};
 use std::alloc::Global;
@@ -58,24 +62,36 @@ impl<L: Limit> Hashing<L> {
     ) -> (Message<J>, Idle<L>) {
         match self.budget.take(rt, idle, self.memory_of(&job.ticket)) {
             Ok(taken) => {
-                let message = self.hash(scratch, job);
+                let message = self.hash(scratch, job, &taken);
                 (message, self.budget.give_back(rt, taken))
             }
             Err(idle) => (Message::NoMemory(job), idle),
         }
     }
 
-    /// Hashes a job. A name that doesn't exist, and an account without a record, take a hash too.
-    fn hash<J: ServiceId>(&self, scratch: &mut Scratch, job: Job<J>) -> Message<J> {
+    /// Hashes a job, in memory that was taken for it. A name that doesn't exist, and an account
+    /// without a record, take a hash too.
+    #[tactic(auto, using(crate::proofs::Shares::covered, crate::proofs::Shares::covered_in_vain))]
+    fn hash<J: ServiceId>(&self, scratch: &mut Scratch, job: Job<J>, taken: &Taken<L>) -> Message<J>
+        requires { job_memory self.now.costs job.1 ≤ taken.now.kib }
+    {
         let request = job.ticket.request();
-        if job.ticket.copy().is_none() && self.hash_for_nothing(scratch, &request).is_err() {
+        if job.ticket.copy().is_none() && self.hash_for_nothing(scratch, &request, taken).is_err() {
             return Message::NoMemory(job);
         }
-        job.work(scratch, self.alloc)
+        job.work(scratch, self.alloc, taken)
     }
 
-    /// Hashes the password that would be compared if there were a record.
-    fn hash_for_nothing(&self, scratch: &mut Scratch, request: &Request) -> Result<(), TagError> {
+    /// Hashes the password that would be compared if there were a record, with the costs of new
+    /// ones.
+    fn hash_for_nothing(
+        &self,
+        scratch: &mut Scratch,
+        request: &Request,
+        taken: &Taken<L>,
+    ) -> Result<(), TagError>
+        requires { memory_alone self.now.costs ≤ taken.now.kib }
+    {
         let Some(pw) = compared(request) else {
             return Ok(());
         };
@@ -85,14 +101,20 @@ impl<L: Limit> Hashing<L> {
     }
 
     /// How many KiB the hashes of a ticket take, one after another.
-    fn memory_of(&self, ticket: &Ticket) -> u64 {
-        let standing = match ticket.copy() {
+    fn memory_of(&self, ticket: &Ticket) -> u64
+        ensures { result ≡ job_memory self.now.costs ticket.now }
+    {
+        self.compared_memory(ticket.copy())
+            .max(made_memory(&ticket.request()))
+    }
+
+    /// How many KiB the comparison with this record takes.
+    fn compared_memory(&self, copy: Option<Record>) -> u64
+        ensures { result ≡ compared_memory self.now.costs copy }
+    {
+        match copy {
             Some(stored) => memory_alone(&stored.setting()),
             None => self.costs.memory(),
-        };
-        match new_setting(&ticket.request()) {
-            Some(setting) => standing.max(memory_alone(&setting)),
-            None => standing,
         }
     }
 }
@@ -108,12 +130,14 @@ fn compared(request: &Request) -> Option<Password> {
     }
 }
 
-/// The setting of a new record, if one may be made.
-fn new_setting(request: &Request) -> Option<Setting> {
+/// How many KiB the record takes that a request may put.
+fn made_memory(request: &Request) -> u64
+    ensures { result ≡ made_memory request.now }
+{
     match *request {
-        Request::Verify { .. } | Request::Remove { .. } => None,
+        Request::Verify { .. } | Request::Remove { .. } => 0,
         Request::Enrol { setting, .. }
         | Request::Change { setting, .. }
-        | Request::Upgrade { setting, .. } => Some(setting),
+        | Request::Upgrade { setting, .. } => memory_alone(&setting),
     }
 }

@@ -1,7 +1,8 @@
 //! What the thread with the book and those that hash and read hand each other.
 
-ghost use Rattle.cred_many.specs.Asks.{IsJobOf};
+ghost use Rattle.cred_many.specs.{Asks.IsJobOf, Costs.Covers};
 
+use crate::budget::{Limit, Taken};
 use crate::line::Line;
 use crate::service_id::ServiceId;
 use cred_book::{Ticket, Worked};
@@ -66,8 +67,16 @@ impl<J: ServiceId> Job<J> {
         Job { line, ticket }
     }
 
-    /// Hashes it, on this thread alone, in the memory that the thread keeps.
-    pub(crate) fn work(self, scratch: &mut Scratch, alloc: Global) -> Message<J> {
+    /// Hashes it, on this thread alone, in the memory that the thread keeps, within what was taken
+    /// for it.
+    pub(crate) fn work<L: Limit>(
+        self,
+        scratch: &mut Scratch,
+        alloc: Global,
+        taken: &Taken<L>,
+    ) -> Message<J>
+        requires { Covers taken.now.kib self.1 }
+    {
         let Job { line, ticket } = self;
         match ticket.work_in(scratch, alloc, &NoGate) {
             Ok(worked) => Message::Hashed(Hashed::new(line, worked)),

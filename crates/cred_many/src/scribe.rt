@@ -1,6 +1,6 @@
 //! The book that is served, the lines that are open, and the writer of their answers.
 
-ghost use Rattle.std.specs.Prelude.{◌≡◌, [], Bool, false, IfSome, length, None, option_map, Some, true, unwrap_or};
+ghost use Rattle.std.specs.Prelude.{◌≡◌, ◌↔◌, [], Bool, false, IfSome, IsTrue, is_some, length, None, option_map, Some, true, unwrap_or};
 ghost use Rattle.cred_cli.specs.{Script.lines_of, Watched.failed_of, Watched.inner_of};
 ghost use Rattle.cred_book.specs.Works.{is_for_current, name_of};
 ghost use Rattle.cred_many.specs.{Asks.IsJobOf, Asks.hashed_for, Asks.is_reset, Scribe.History, Scribe.IsBusy, Scribe.IsReady, Scribe.is_changed, Scribe.numbers, declared.ask.Ask.TheVariants.Quick};
@@ -83,12 +83,16 @@ impl<J: ServiceId, K: Host, W: Write> Scribe<J, K, W> {
     }
 
     /// Whether nothing is answered any more.
-    pub fn is_over(&self) -> bool {
+    pub fn is_over(&self) -> bool
+        ensures { result ≡ is_some self.now.output.fault }
+    {
         self.output.fault.is_some()
     }
 
     /// Whether each line that came is answered.
-    pub fn is_idle(&self) -> bool {
+    pub fn is_idle(&self) -> bool
+        ensures { IsTrue result ↔ (numbers self.now.output.pending ≡ []) }
+    {
         self.output.pending.is_empty()
     }
 

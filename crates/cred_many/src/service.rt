@@ -180,6 +180,7 @@ where
     requires name { blank.name ≡ L.name }
     requires parts { (blank.parts ≡ L.parts) × (blank.parts ≡ tools.now.workers) }
     requires total { config.now.memory ≡ L.total }
+    requires named { config.now.memory ≡ J.service.memory }
 {
     let (taken, share) = blank.open::<L>();
     let Ok(parts) = parts(tools.alloc, share, tools.workers) else {

@@ -1,5 +1,5 @@
 //! A table that is kept from key to key.
-ghost use Rattle.std.specs.Prelude.{◌≡◌, ◌≤◌, IfOk, [], replicate, vec_len, vec_capacity};
+ghost use Rattle.std.specs.Prelude.{◌≡◌, ◌≤◌, IfOk, IfSome, [], replicate, vec_capacity};
 
 use std::alloc::{AllocError, Global};
 use std::marker::Model;
@@ -9,7 +9,7 @@ use std::mem;
 const KIB: usize = 256;
 
 /// The table of keys that are derived one after another, by [`scrypt_in`](crate::scrypt_in). It is
-/// kept from key to key, up to a bound, and what is kept holds zeros alone.
+/// kept from key to key, up to a bound, and what is kept holds zeros alone, to its whole room.
 #[derive(Drop)]
 pub struct ScryptScratch {
     /// How many KiB are kept at most.
@@ -60,21 +60,30 @@ impl ScryptScratch {
     }
 
     /// Keeps a table, wiped, if it is within the bound. Otherwise it is given back.
-    pub(crate) fn keep(&mut self, mut table: Vec<u32>)
+    pub(crate) fn keep(&mut self, table: Vec<u32>)
         ensures { self.new ≡ self.old }
     {
-        if table.capacity() > KIB * self.most as usize {
+        let most = KIB * self.most as usize;
+        if table.capacity() > most {
             return;
         }
-        wipe(&mut table);
-        self.table = table;
+        match wiped(table) {
+            Some(table) if table.capacity() <= most => self.table = table,
+            _ => {}
+        }
     }
 }
 
-/// Writes zeros over all words. They stay in the table, so the compiler can't leave it out.
-fn wipe(table: &mut Vec<u32>)
-    ensures zero { table.new.items ≡ replicate (vec_len table.old) 0 }
-    ensures room { vec_capacity table.new ≡ vec_capacity table.old }
+/// The table with zeros in its whole room. They stay in it, so the compiler can't leave them out.
+/// A resize within the room moves nothing, but no clause of it says so: if it did, there is none.
+fn wiped(mut table: Vec<u32>) -> Option<Vec<u32>>
+    ensures { IfSome result (λ table. table.items ≡ replicate (vec_capacity table) 0) }
 {
-    table.fill(0);
+    table.clear();
+    let room = table.capacity();
+    table.resize(room, 0).ok()?;
+    if table.capacity() > room {
+        return None;
+    }
+    Some(table)
 }

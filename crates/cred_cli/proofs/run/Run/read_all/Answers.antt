@@ -1,6 +1,6 @@
 use Rattle.std.proofs.{Common.rules, Common.arith, Common.sym, Common.refl, Common.ap, Common.◌∙◌, Common.append-nil, Common.[], Common.◌≤◌, Common.◌<◌, Common.◌+◌, Common.◌-◌, Common.◌^◌, Common.length, Common.length-take-le, Common.take, Math.Nat.min-eq_left, lemmas.List.length-append, lemmas.Result.err_from_is_err_and}
 use Rattle.cred_cli.specs.Script.{with_events}
-use Rattle.cred_cli.proofs.{Prompts.prompt_call, Prompts.read_on, Prompts.read_to_start, Prompts.run_breaks, Prompts.run_ends, Basis.called_on, Basis.fits_before, Basis.gave_on, Basis.gives_more, Basis.gives_nothing, Basis.kept_on, Basis.none_logged, Basis.unwritten, Basis.written_on}
+use Rattle.cred_cli.proofs.{Prompts.prompt_call, Prompts.read_on, Prompts.read_to_start, Prompts.run_breaks, Prompts.run_ends, Basis.called_on, Basis.fits_before, Basis.gave_on, Basis.gives_more, Basis.gives_nothing, Basis.kept_on, Basis.logged_on, Basis.new_logged, Basis.none_logged, Basis.unwritten, Basis.written_on}
 use Rattle.cred_cli.proofs.Readings.{came, came_to_end, cut_behind, kept_left}
 use Rattle.cred_cli.proofs.run.Run.read_all.Goals as goal
 
@@ -8,6 +8,7 @@ pub loop-call-init : goal.loop-call-init
 loop-call-init g c = record {
   at = λ basis fits script known at. read_to_start _ _ script _ _ _ _ known at (none_logged basis _ c.requires.new_reader.log);
   ended = c.requires.new_reader.ended;
+  logged = new_logged c.args.reader.now c.requires.new_reader;
   limit = refl;
   calls = c.requires.new_reader.calls;
   taken = omega (arith, c.requires.new_progress);
@@ -82,6 +83,28 @@ returns-in-Err-clause-ended g c = λ basis fits script known at.
       },
     )
 
+-- ---- each call is in the log
+
+pub returns-in-Ok-eq0-clause-logged : goal.returns-in-Ok-eq0-clause-logged
+returns-in-Ok-eq0-clause-logged g c =
+    let small : c.loop-call.reader.calls + 1 ≤ 2 ^ 64 - 1 = omega (arith, c.loop-call.invariant.calls) in
+    logged_on c.args.reader.now c.loop-call.reader c.read_beside.new.self _ small c.loop-call.invariant.logged c.read_beside.ensures.logged c.read_beside.ensures.named c.read_beside.ensures.calls
+
+pub returns-in_err-lines-in-Ok-eq0-clause-logged : goal.returns-in_err-lines-in-Ok-eq0-clause-logged
+returns-in_err-lines-in-Ok-eq0-clause-logged g c =
+    let small : c.loop-call.reader.calls + 1 ≤ 2 ^ 64 - 1 = omega (arith, c.loop-call.invariant.calls) in
+    logged_on c.args.reader.now c.loop-call.reader c.read_beside.new.self _ small c.loop-call.invariant.logged c.read_beside.ensures.logged c.read_beside.ensures.named c.read_beside.ensures.calls
+
+pub returns-in_err-take_bytes-in-Ok-clause-logged : goal.returns-in_err-take_bytes-in-Ok-clause-logged
+returns-in_err-take_bytes-in-Ok-clause-logged g c =
+    let small : c.loop-call.reader.calls + 1 ≤ 2 ^ 64 - 1 = omega (arith, c.loop-call.invariant.calls) in
+    logged_on c.args.reader.now c.loop-call.reader c.read_beside.new.self _ small c.loop-call.invariant.logged c.read_beside.ensures.logged c.read_beside.ensures.named c.read_beside.ensures.calls
+
+pub returns-in-Err-clause-logged : goal.returns-in-Err-clause-logged
+returns-in-Err-clause-logged g c =
+    let small : c.loop-call.reader.calls + 1 ≤ 2 ^ 64 - 1 = omega (arith, c.loop-call.invariant.calls) in
+    logged_on c.args.reader.now c.loop-call.reader c.read_beside.new.self _ small c.loop-call.invariant.logged c.read_beside.ensures.logged c.read_beside.ensures.named c.read_beside.ensures.calls
+
 pub loop-call-preserved : goal.loop-call-preserved
 loop-call-preserved g c =
     let small : c.loop-call.reader.calls + 1 ≤ 2 ^ 64 - 1 = omega (arith, c.loop-call.invariant.calls) in
@@ -96,6 +119,7 @@ loop-call-preserved g c =
           let some : 0 < length (take c.in-Ok.n c.read_beside.new.buf) = omega (arith, c.in-Ok.n-test, length-take-le c.in-Ok.n c.read_beside.new.buf within) in
           read_on read called _ more some
           (c.in_ok-take_bytes-in-Ok.ensures.fed basis (with_events script read.events) read.front more.left (cut_behind script.bytes read.front read.rest _ _ read.cut more.cut) read.at);
+      logged = logged_on c.args.reader.now c.loop-call.reader c.read_beside.new.self _ small c.loop-call.invariant.logged c.read_beside.ensures.logged c.read_beside.ensures.named c.read_beside.ensures.calls;
       ended = c.in-Ok.ensures.goes_on (omega (arith, c.in-Ok.n-test)) ∙ c.loop-call.invariant.ended;
       limit = c.in_ok-take_bytes-in-Ok.ensures.limit ∙ c.loop-call.invariant.limit;
       calls = c.read_beside.ensures.calls ∙ min-eq_left small ∙ ap (λ n. n + 1) c.loop-call.invariant.calls;

@@ -1,5 +1,5 @@
 use Rattle.std.proofs.Common.{◌≡◌, ◌≤◌, false, [], length, Some}
-use Rattle.cred_cli.specs.{Feeding.IsAt, Feeding.standing, Script.ScriptStart, Watched.Basis, Watched.Fits, Watched.GivesAsContracted, Watched.IsWritten, Watched.held_on, Watched.left_on, Watched.log_on}
+use Rattle.cred_cli.specs.{Feeding.IsAt, Feeding.standing, Script.ScriptStart, Watched.Basis, Watched.Fits, Watched.GivesAsContracted, Watched.IsLogged, Watched.IsWritten, Watched.held_on, Watched.left_on, Watched.log_on}
 use Rattle.cred_cli.proofs.Prompts.{IsReadTo}
 use Rattle.cred_cli.proofs.run.Run.read_all.Given as goal
 
@@ -11,6 +11,7 @@ invariant-loop-call g l = record {
       IsReadTo l.engine.policy g.K.Keeper.capacity script l.fn.writer.past.name (left_on basis g.R.Read.remaining l.reader) (standing (held_on basis g.W.Write.contents l.writer) (g.K.Keeper.book l.keeper) l.self)
       (log_on basis l.reader.past.calls);
   ended : l.reader.ended ≡ false;
+  logged : IsLogged l.fn.reader l.reader;
   limit : l.self.progress.limit ≡ l.fn.self.progress.limit;
   calls : l.reader.calls ≡ l._call;
   taken : l._call ≤ l.self.progress.taken;
