@@ -30,17 +30,22 @@
  * all vector registers of the processor. Blocks of 64 KiB and more are in no core dump, and read as
  * zero in a forked child. Large memory has huge pages.
  *
- * Any x86-64 processor runs the library. The first call chooses a build for x86-64-v2 or x86-64-v3
- * if the processor has all of its features.
+ * The library for x86-64 runs on any such processor. The first call chooses a build for x86-64-v2,
+ * x86-64-v3 or x86-64-v4 if the processor has all of its features and the system keeps its
+ * registers. The library for ARM64 is one build for any such processor.
  *
  * The caller owes this:
  * - A pointer with a size reaches that many bytes; it may be null if the size is 0, and so may a
- *   salt of some calls. Other pointers are never null.
+ *   salt of some calls. Of other inputs null with a size over 0 is a fault, NULL_PASSWORD to
+ *   NULL_ASSOCIATED: a secret that failed to load makes no record and checks none. Other pointers
+ *   are never null.
  * - The output of a call doesn't overlap its inputs.
  * - The stack has RIGZUMAL_STACK_SIZE bytes left below the call: threads with a stack of 32 KiB may
  *   call. The memory of a hash is not on the stack, whatever its costs.
  * - No call is made in a signal handler, nor in the child of a process of several threads that
- *   forked and has not called exec.
+ *   forked and has not called exec. A child that is forked in a handler and goes on with its
+ *   parent's call answers right, or ends by abort.
+ * - No call is left by longjmp: its memory, with what is in it, would stay mapped for ever.
  *
  * The ABI: in librigzumal.so.1 no call, structure or number of this header changes. Calls and
  * faults are only added; treat an unknown fault as a refusal. An incompatible change gets another
@@ -53,6 +58,13 @@
 
 #ifdef __cplusplus
 extern "C" {
+#endif
+
+/* Of a call whose answer a program has to look at: compilers warn where one ignores it. */
+#ifdef __GNUC__
+#define RIGZUMAL_CHECK_ANSWER __attribute__((__warn_unused_result__))
+#else
+#define RIGZUMAL_CHECK_ANSWER
 #endif
 
 /* The version of this header; rigzumal_version answers that of the library. */
@@ -120,7 +132,12 @@ enum rigzumal_fault {
     /* Of a salt that is drawn. */
     RIGZUMAL_NO_RANDOM = 26, /* the system gave no random bytes: see getrandom(2) */
     /* Of rigzumal_needs_rehash. */
-    RIGZUMAL_OTHER_COSTS = 27 /* the record has other costs, or another salt or tag size */
+    RIGZUMAL_OTHER_COSTS = 27, /* the record has other costs, or another salt or tag size */
+    /* Of an input that is null, though its size isn't 0. */
+    RIGZUMAL_NULL_PASSWORD = 28, /* or the new password of a change */
+    RIGZUMAL_NULL_SALT = 29,     /* a new record gets a random one instead */
+    RIGZUMAL_NULL_SECRET = 30,   /* such as a pepper that failed to load */
+    RIGZUMAL_NULL_ASSOCIATED = 31
 };
 
 /* The version of the library in use, such as "0.2.0". */
@@ -132,7 +149,8 @@ const char *rigzumal_version(void);
 size_t rigzumal_trim(void);
 
 /* Bounds the bytes that are kept from now on, in whole huge pages of 2 MiB: 0 keeps none, and
- * 134217728 keeps the table of RIGZUMAL_SCRYPT_COSTS. It gives back the memory that is kept now,
+ * 134217728 keeps the table of RIGZUMAL_SCRYPT_COSTS, or the memory of two callers at once with
+ * RIGZUMAL_ARGON2_COSTS. It gives back the memory that is kept now,
  * and answers the old bound: at the start RIGZUMAL_KEEP of the environment, or 64 MiB. */
 size_t rigzumal_keep(size_t most);
 
@@ -157,11 +175,14 @@ int rigzumal_explain(char *text, size_t text_size, const char *record);
  * Faults: NO_RANDOM; SHAPE to TOO_LONG, of costs and salt as a text; TAG; INPUT_SIZE; MEMORY;
  * NO_ROOM. */
 int rigzumal_record(char *text, size_t text_size, size_t tag_size, const char *costs,
-                    const void *salt, size_t salt_size, const void *password, size_t password_size);
+                    const void *salt, size_t salt_size, const void *password,
+                    size_t password_size) RIGZUMAL_CHECK_ANSWER;
 
-/* Whether the password is the record's: OK, otherwise MISMATCH.
+/* Whether the password is the record's: OK, otherwise MISMATCH. 0 is right, so compare with
+ * RIGZUMAL_OK: `if (rigzumal_check(..))` lets everyone in but the user.
  * Faults: SHAPE to TOO_LONG, of the record; INPUT_SIZE; MEMORY. */
-int rigzumal_check(const char *record, const void *password, size_t password_size);
+int rigzumal_check(const char *record, const void *password,
+                   size_t password_size) RIGZUMAL_CHECK_ANSWER;
 
 /* The two calls above with a secret beside the password: a pepper that the program keeps apart from
  * its records, K of RFC 9106, section 3.1. The text doesn't show it; without the same secret no
@@ -169,14 +190,15 @@ int rigzumal_check(const char *record, const void *password, size_t password_siz
  * Faults: those of rigzumal_record and of rigzumal_check; INPUT_SIZE of the secret too. */
 int rigzumal_record_with_secret(char *text, size_t text_size, size_t tag_size, const char *costs,
                                 const void *salt, size_t salt_size, const void *password,
-                                size_t password_size, const void *secret, size_t secret_size);
+                                size_t password_size, const void *secret,
+                                size_t secret_size) RIGZUMAL_CHECK_ANSWER;
 int rigzumal_check_with_secret(const char *record, const void *password, size_t password_size,
-                               const void *secret, size_t secret_size);
+                               const void *secret, size_t secret_size) RIGZUMAL_CHECK_ANSWER;
 
 /* The fault of a text as a record, or as costs with a salt after them: OK, or SHAPE to TOO_LONG.
  */
-int rigzumal_record_fault(const char *record);
-int rigzumal_setting_fault(const char *setting);
+int rigzumal_record_fault(const char *record) RIGZUMAL_CHECK_ANSWER;
+int rigzumal_setting_fault(const char *setting) RIGZUMAL_CHECK_ANSWER;
 
 /* The numbers of a record, or of costs. */
 struct rigzumal_parts {
@@ -191,13 +213,14 @@ struct rigzumal_parts {
 
 /* Reads the numbers of a record, or of costs, with or without a salt after them: a text without a
  * tag is no record. Faults: SHAPE to TOO_LONG. */
-int rigzumal_parts(struct rigzumal_parts *parts, const char *text);
+int rigzumal_parts(struct rigzumal_parts *parts, const char *text) RIGZUMAL_CHECK_ANSWER;
 
 /* Whether a record needs a rehash: OTHER_COSTS if its scheme, its costs, or the sizes of its salt
  * and tag differ from a new one's, otherwise OK. Rehash after a right login, which has the
  * password. If the costs have a salt, salt_size is 0.
  * Faults: SHAPE to TOO_LONG, of the record, and then of the costs. */
-int rigzumal_needs_rehash(const char *record, const char *costs, size_t salt_size, size_t tag_size);
+int rigzumal_needs_rehash(const char *record, const char *costs, size_t salt_size,
+                          size_t tag_size) RIGZUMAL_CHECK_ANSWER;
 
 /* The operations on the record of an account. */
 enum rigzumal_operation {
@@ -253,7 +276,8 @@ enum rigzumal_reply {
  * LONG_PASSWORD; SHAPE to TOO_LONG, of the setting; MEMORY; NO_ROOM. */
 int rigzumal_step(char *text, size_t text_size, uint32_t *reply, uint32_t operation,
                   const char *copy, const void *password, size_t password_size,
-                  const void *new_password, size_t new_password_size, const char *setting);
+                  const void *new_password, size_t new_password_size,
+                  const char *setting) RIGZUMAL_CHECK_ANSWER;
 
 /* The numbers of an Argon2 tag (RFC 9106, section 3.1). */
 struct rigzumal_argon2 {
@@ -270,12 +294,13 @@ struct rigzumal_argon2 {
 int rigzumal_argon2(void *tag, size_t tag_size, const struct rigzumal_argon2 *numbers,
                     const void *password, size_t password_size, const void *salt, size_t salt_size,
                     const void *secret, size_t secret_size, const void *associated,
-                    size_t associated_size);
+                    size_t associated_size) RIGZUMAL_CHECK_ANSWER;
 
 /* Writes a record of these parts into text, as rigzumal_record does, without a hash.
  * Faults: NO_KIND, NO_VERSION; RANGE to TAG; MEMORY; NO_ROOM. */
 int rigzumal_argon2_write(char *text, size_t text_size, const struct rigzumal_argon2 *numbers,
-                          const void *salt, size_t salt_size, const void *tag, size_t tag_size);
+                          const void *salt, size_t salt_size, const void *tag,
+                          size_t tag_size) RIGZUMAL_CHECK_ANSWER;
 
 /* The numbers of a scrypt key (RFC 7914, section 2). Its table has 128 * r * 2^ln bytes. */
 struct rigzumal_scrypt {
@@ -287,14 +312,16 @@ struct rigzumal_scrypt {
 /* Writes the key over the key_size bytes at key: 1 or more, below 2^32.
  * Faults: SCRYPT_COST to KEY_SIZE; MEMORY. */
 int rigzumal_scrypt(void *key, size_t key_size, const struct rigzumal_scrypt *numbers,
-                    const void *password, size_t password_size, const void *salt, size_t salt_size);
+                    const void *password, size_t password_size, const void *salt,
+                    size_t salt_size) RIGZUMAL_CHECK_ANSWER;
 
 /* The calls below answer as those of the same names without _threads, but up to so many threads
  * work the lanes of Argon2, the caller's among them; 0 means 1. The call uses at most one thread a
  * lane and one for each processor that the caller may run on, and only one below 4 MiB of memory
  * and for scrypt. If the system refuses a thread, the others do its work. They end before the call
  * does; meanwhile they handle no signal, and the caller can't be cancelled. The call clears and
- * unmaps their stacks, which are in no core dump, and read as zero in a child forked meanwhile.
+ * unmaps their stacks, of which a core dump has the highest page of each alone, and which read as
+ * zero in a child forked meanwhile.
  *
  * Use threads to make one login faster on an idle machine. Of 64 MiB, three passes and four lanes,
  * on four processors, a tag took 102 ms on one thread and 32 ms on four. They gain a service
@@ -304,19 +331,21 @@ int rigzumal_scrypt(void *key, size_t key_size, const struct rigzumal_scrypt *nu
 int rigzumal_argon2_threads(void *tag, size_t tag_size, const struct rigzumal_argon2 *numbers,
                             const void *password, size_t password_size, const void *salt,
                             size_t salt_size, const void *secret, size_t secret_size,
-                            const void *associated, size_t associated_size, uint32_t threads);
+                            const void *associated, size_t associated_size,
+                            uint32_t threads) RIGZUMAL_CHECK_ANSWER;
 int rigzumal_record_threads(char *text, size_t text_size, size_t tag_size, const char *costs,
                             const void *salt, size_t salt_size, const void *password,
-                            size_t password_size, uint32_t threads);
+                            size_t password_size, uint32_t threads) RIGZUMAL_CHECK_ANSWER;
 int rigzumal_check_threads(const char *record, const void *password, size_t password_size,
-                           uint32_t threads);
+                           uint32_t threads) RIGZUMAL_CHECK_ANSWER;
 int rigzumal_record_with_secret_threads(char *text, size_t text_size, size_t tag_size,
                                         const char *costs, const void *salt, size_t salt_size,
                                         const void *password, size_t password_size,
-                                        const void *secret, size_t secret_size, uint32_t threads);
+                                        const void *secret, size_t secret_size,
+                                        uint32_t threads) RIGZUMAL_CHECK_ANSWER;
 int rigzumal_check_with_secret_threads(const char *record, const void *password,
                                        size_t password_size, const void *secret, size_t secret_size,
-                                       uint32_t threads);
+                                       uint32_t threads) RIGZUMAL_CHECK_ANSWER;
 
 /* The inputs of the next calls by their names; leave out those that you don't have:
  *
@@ -340,10 +369,11 @@ struct rigzumal_inputs {
 /* rigzumal_argon2_threads, and rigzumal_record_threads and rigzumal_check_threads with a secret and
  * associated data too. Scrypt has neither: SCHEME. */
 int rigzumal_argon2_from(void *tag, size_t tag_size, const struct rigzumal_argon2 *numbers,
-                         const struct rigzumal_inputs *inputs);
+                         const struct rigzumal_inputs *inputs) RIGZUMAL_CHECK_ANSWER;
 int rigzumal_record_from(char *text, size_t text_size, size_t tag_size, const char *costs,
-                         const struct rigzumal_inputs *inputs);
-int rigzumal_check_from(const char *record, const struct rigzumal_inputs *inputs);
+                         const struct rigzumal_inputs *inputs) RIGZUMAL_CHECK_ANSWER;
+int rigzumal_check_from(const char *record,
+                        const struct rigzumal_inputs *inputs) RIGZUMAL_CHECK_ANSWER;
 
 /* The inputs of a step, as those of rigzumal_step. */
 struct rigzumal_step_inputs {
@@ -363,7 +393,7 @@ struct rigzumal_step_inputs {
  * does without: then only the hashing is proved. Scrypt has no secret: SCHEME, of the copy and of
  * the setting. */
 int rigzumal_step_from(char *text, size_t text_size, uint32_t *reply,
-                       const struct rigzumal_step_inputs *inputs);
+                       const struct rigzumal_step_inputs *inputs) RIGZUMAL_CHECK_ANSWER;
 
 #ifdef __cplusplus
 }

@@ -1,6 +1,6 @@
 /* A PAM module that asks a kept book over a socket of credkeep-server: auth, account, password.
  * It keeps nothing between two calls and has no static state, so threads may be in it at once. A
- * call has one connection, sends one line and reads one line, all before its deadline. */
+ * call sends one line and reads one line, on a connection of its own, all before its deadline. */
 #define _GNU_SOURCE
 #include "base64.h"
 #include <errno.h>
@@ -22,7 +22,12 @@ enum {
     MOST_PASSWORD = 256, /* bytes */
     MOST_LINE = 1024,    /* bytes that are sent: "1 change ", a name and two passwords */
     MOST_ANSWER = 64,    /* bytes that are read */
+    FIRST_PAUSE = 10,    /* milliseconds until the module tries again, which double each time .. */
+    LONGEST_PAUSE = 640, /* .. up to these */
 };
+
+/* The answer to a connection for which the server has no room now: it took no line. */
+static const char NO_ROOM[] = "* unavailable";
 
 /* The options, and what is sent: a password that the operation doesn't take is NULL. */
 struct question {
@@ -32,15 +37,16 @@ struct question {
     const char *name, *password, *fresh;
 };
 
-/* What may be asked, the one answer that is success, and what an account without a record is. */
+/* What may be asked, the one answer that is success, what an account without a record is, and one
+ * whose password must be changed: pam_sm_acct_mgmt says so, and not pam_sm_authenticate. */
 struct operation {
     const char *word, *success;
-    int absent;
+    int absent, expired;
 };
 
-static const struct operation VERIFY = {"verify", "yes", PAM_AUTH_ERR};
-static const struct operation KNOWN = {"known", "yes", PAM_ACCT_EXPIRED};
-static const struct operation CHANGE = {"change", "replaced", PAM_AUTH_ERR};
+static const struct operation VERIFY = {"verify", "yes", PAM_AUTH_ERR, PAM_SUCCESS};
+static const struct operation KNOWN = {"known", "yes", PAM_ACCT_EXPIRED, PAM_NEW_AUTHTOK_REQD};
+static const struct operation CHANGE = {"change", "replaced", PAM_AUTH_ERR, PAM_AUTHINFO_UNAVAIL};
 
 static bool read_option(struct question *question, const char *word) {
     char *end = "";
@@ -118,19 +124,22 @@ static long milliseconds(void) {
     return now.tv_sec * 1000 + now.tv_nsec / 1000000;
 }
 
-/* A connection that doesn't block, or -1. At EAGAIN too many others wait to be taken in. */
+/* A connection, or -1. Where too many others wait to be taken in, it waits behind them. */
 static int connection(const char *path, long deadline) {
     struct sockaddr_un at = {.sun_family = AF_UNIX};
     memcpy(at.sun_path, path, strlen(path));
-    int fd = socket(AF_UNIX, SOCK_STREAM | SOCK_CLOEXEC | SOCK_NONBLOCK, 0);
-    while (fd >= 0 && connect(fd, (struct sockaddr *)&at, sizeof at) != 0) {
-        if ((errno != EAGAIN && errno != EINTR) || milliseconds() >= deadline) {
-            close(fd);
-            return -1;
-        }
-        poll(NULL, 0, 5);
+    int fd = socket(AF_UNIX, SOCK_STREAM | SOCK_CLOEXEC, 0);
+    for (long rest; fd >= 0 && (rest = deadline - milliseconds()) > 0;) {
+        struct timeval wait = {.tv_sec = rest / 1000, .tv_usec = rest % 1000 * 1000};
+        setsockopt(fd, SOL_SOCKET, SO_SNDTIMEO, &wait, sizeof wait);
+        if (connect(fd, (struct sockaddr *)&at, sizeof at) == 0)
+            return fd;
+        if (errno != EINTR && errno != EAGAIN)
+            break;
     }
-    return fd;
+    if (fd >= 0)
+        close(fd);
+    return -1;
 }
 
 /* Waits until something can be read or written, or has failed; false at the deadline. */
@@ -147,7 +156,7 @@ static bool is_ready(int fd, short events, long deadline) {
 static bool send_line(int fd, const char *text, size_t size, long deadline) {
     size_t sent = 0;
     while (sent < size && is_ready(fd, POLLOUT, deadline)) {
-        ssize_t more = send(fd, text + sent, size - sent, MSG_NOSIGNAL);
+        ssize_t more = send(fd, text + sent, size - sent, MSG_NOSIGNAL | MSG_DONTWAIT);
         if (more < 0 && errno != EINTR && errno != EAGAIN)
             return false;
         sent += more > 0 ? (size_t)more : 0;
@@ -159,7 +168,7 @@ static bool send_line(int fd, const char *text, size_t size, long deadline) {
 static bool read_answer(int fd, char answer[MOST_ANSWER], long deadline) {
     size_t size = 0;
     while (size < MOST_ANSWER && is_ready(fd, POLLIN, deadline)) {
-        ssize_t got = recv(fd, answer + size, MOST_ANSWER - size, 0);
+        ssize_t got = recv(fd, answer + size, MOST_ANSWER - size, MSG_DONTWAIT);
         if (got == 0 || (got < 0 && errno != EINTR && errno != EAGAIN))
             return false;
         size += got > 0 ? (size_t)got : 0;
@@ -181,6 +190,10 @@ static int result_of(const struct operation *operation, const char *answer) {
         return PAM_AUTH_ERR;
     if (strcmp(answer, "absent") == 0)
         return operation->absent;
+    if (strcmp(answer, "expired") == 0)
+        return operation->expired;
+    if (strcmp(answer, "short") == 0)
+        return PAM_AUTHTOK_ERR;
     if (strcmp(answer, "noaccount") == 0 || strcmp(answer, "bad 3 name") == 0)
         return PAM_USER_UNKNOWN;
     return strcmp(answer, "later") == 0 ? PAM_MAXTRIES : PAM_AUTHINFO_UNAVAIL;
@@ -214,27 +227,41 @@ static void log_result(pam_handle_t *pamh, const struct question *question,
         pam_syslog(pamh, LOG_DEBUG, "%s: %s", operation->word, pam_strerror(pamh, result));
 }
 
-/* Sends a question's line, and says what its answer means. */
-static int answer_to(const struct question *question, const struct operation *operation) {
-    char line[MOST_LINE], answer[MOST_ANSWER];
-    long deadline = milliseconds() + question->seconds * 1000;
-    int fd = connection(question->socket, deadline), result = PAM_AUTHINFO_UNAVAIL;
-    if (fd < 0)
-        return result;
+/* Sends a question's line and reads its answer. A server without room may close before it has read
+ * the line. */
+static bool has_answer(int fd, const struct question *question, const struct operation *operation,
+                       char answer[MOST_ANSWER], long deadline) {
+    char line[MOST_LINE];
     char *end = stpcpy(stpcpy(stpcpy(stpcpy(line, "1 "), operation->word), " "), question->name);
     end = put_password(put_password(end, question->password), question->fresh);
     *end++ = '\n';
-    if (send_line(fd, line, (size_t)(end - line), deadline) && read_answer(fd, answer, deadline))
-        result = result_of(operation, answer);
+    bool is_sent = send_line(fd, line, (size_t)(end - line), deadline);
     explicit_bzero(line, sizeof line);
-    close(fd);
-    return result;
+    return read_answer(fd, answer, deadline) && (is_sent || strcmp(answer, NO_ROOM) == 0);
+}
+
+/* What the answer to a question means, which is asked again while the server has no room. */
+static int answer_to(const struct question *question, const struct operation *operation) {
+    char answer[MOST_ANSWER];
+    long deadline = milliseconds() + question->seconds * 1000, pause = FIRST_PAUSE;
+    for (int fd; (fd = connection(question->socket, deadline)) >= 0;) {
+        bool is_answered = has_answer(fd, question, operation, answer, deadline);
+        close(fd);
+        if (!is_answered || strcmp(answer, NO_ROOM) != 0)
+            return is_answered ? result_of(operation, answer) : PAM_AUTHINFO_UNAVAIL;
+        long next = milliseconds() + pause;
+        is_ready(-1, 0, next < deadline ? next : deadline); /* no file: it only waits */
+        pause = pause < LONGEST_PAUSE ? 2 * pause : pause;
+    }
+    return PAM_AUTHINFO_UNAVAIL;
 }
 
 static int ask(pam_handle_t *pamh, const struct question *question,
                const struct operation *operation) {
     int result = is_name(question) ? answer_to(question, operation) : PAM_USER_UNKNOWN;
     log_result(pamh, question, operation, result);
+    if (result == PAM_AUTHTOK_ERR)
+        pam_error(pamh, "The new password is too short.");
     return result;
 }
 
@@ -246,7 +273,7 @@ static int verify(pam_handle_t *pamh, struct question *question, int flags) {
     struct question known = *question;
     known.password = NULL;
     int result = ask(pamh, &known, &KNOWN);
-    if (result != PAM_SUCCESS && result != PAM_ACCT_EXPIRED)
+    if (result != PAM_SUCCESS && result != PAM_ACCT_EXPIRED && result != PAM_NEW_AUTHTOK_REQD)
         return result;
     log_failure(pamh, question->name);
     return PAM_AUTH_ERR;
@@ -275,6 +302,8 @@ int pam_sm_acct_mgmt(pam_handle_t *pamh, int flags, int argc, const char **argv)
 /* Whether the book has the name; if nobody says so, nothing was asked for yet. */
 static int known(pam_handle_t *pamh, const struct question *question) {
     int result = ask(pamh, question, &KNOWN);
+    if (result == PAM_NEW_AUTHTOK_REQD)
+        return PAM_SUCCESS;
     return result == PAM_AUTHINFO_UNAVAIL ? PAM_TRY_AGAIN : result;
 }
 
@@ -304,13 +333,24 @@ static int finish_change(pam_handle_t *pamh, struct question *question) {
     return result == PAM_AUTH_ERR ? PAM_AUTHTOK_ERR : result;
 }
 
+/* Another module's password must be changed. The second call asks for the new one: a module behind
+ * this one that has use_authtok takes it, and can't ask itself. */
+static int pass_expired(pam_handle_t *pamh, int flags) {
+    const char *fresh;
+    if (flags & PAM_PRELIM_CHECK)
+        return PAM_IGNORE;
+    int result = get_password(pamh, PAM_AUTHTOK, &fresh);
+    return result == PAM_SUCCESS ? PAM_IGNORE : result;
+}
+
 int pam_sm_chauthtok(pam_handle_t *pamh, int flags, int argc, const char **argv) {
     struct question question;
-    if (flags & PAM_CHANGE_EXPIRED_AUTHTOK) /* a book's passwords don't expire */
-        return PAM_IGNORE;
     int result = begin(pamh, &question, argc, argv);
     if (result != PAM_SUCCESS)
         return result;
+    if ((flags & PAM_CHANGE_EXPIRED_AUTHTOK) != 0 &&
+        ask(pamh, &question, &KNOWN) != PAM_NEW_AUTHTOK_REQD)
+        return pass_expired(pamh, flags);
     return flags & PAM_PRELIM_CHECK ? begin_change(pamh, &question)
                                     : finish_change(pamh, &question);
 }

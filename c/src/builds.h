@@ -1,11 +1,10 @@
-/* What the crate cred_c exports, in each of its builds, and the choice between them. The contracts
- * stand in the crate. Its structures are rigzumal_argon2 (Argon2Numbers), rigzumal_scrypt
- * (ScryptNumbers), rigzumal_parts (Parts), and those below. */
+/* What the crate cred_c exports, which is compiled for several levels of a processor: a build for
+ * each. The contracts stand in the crate. Its structures are rigzumal_argon2 (Argon2Numbers),
+ * rigzumal_scrypt (ScryptNumbers), rigzumal_parts (Parts), those of parts.h, and those below. */
 #ifndef BUILDS_H
 #define BUILDS_H
 
-#include "processor.h"
-#include "rigzumal.h"
+#include "parts.h"
 
 #include <stddef.h>
 #include <stdint.h>
@@ -38,38 +37,61 @@ struct step_inputs {
     size_t setting_size;
 };
 
-/* The exports of a build, whose names begin with the build's. */
-#define EXPORTS(build)                                                                             \
-    uint8_t build##_cred_argon2(const struct rigzumal_argon2 *numbers,                             \
-                                const struct argon2_inputs *inputs, uint8_t *tag,                  \
-                                size_t tag_size);                                                  \
-    uint8_t build##_cred_scrypt(const struct rigzumal_scrypt *numbers, bytes password,             \
-                                size_t password_size, bytes salt, size_t salt_size, uint8_t *key,  \
-                                size_t key_size);                                                  \
-    uint8_t build##_cred_check(bytes record, size_t record_size, bytes password,                   \
-                               size_t password_size);                                              \
-    uint8_t build##_cred_hash(bytes setting, size_t setting_size, uint32_t tag_size,               \
-                              bytes password, size_t password_size, uint8_t *text,                 \
-                              size_t text_size, size_t *written);                                  \
-    uint8_t build##_cred_step(const struct step_inputs *inputs, uint32_t *reply, uint8_t *text,    \
-                              size_t text_size, size_t *written)
+uint8_t cred_argon2(const struct rigzumal_argon2 *numbers, const struct argon2_inputs *inputs,
+                    uint8_t *tag, size_t tag_size);
+uint8_t cred_scrypt(const struct rigzumal_scrypt *numbers, bytes password, size_t password_size,
+                    bytes salt, size_t salt_size, uint8_t *key, size_t key_size);
+uint8_t cred_check(bytes record, size_t record_size, bytes password, size_t password_size);
+uint8_t cred_hash(bytes setting, size_t setting_size, uint32_t tag_size, bytes password,
+                  size_t password_size, uint8_t *text, size_t text_size, size_t *written);
+uint8_t cred_step(const struct step_inputs *inputs, uint32_t *reply, uint8_t *text,
+                  size_t text_size, size_t *written);
+uint8_t cred_write(const struct rigzumal_argon2 *numbers, bytes salt, size_t salt_size, bytes tag,
+                   size_t tag_size, uint8_t *text, size_t text_size, size_t *written);
+uint8_t cred_setting_fault(bytes text, size_t text_size);
+uint8_t cred_record_fault(bytes text, size_t text_size);
+uint8_t cred_record_parts(bytes text, size_t text_size, struct rigzumal_parts *parts);
 
-EXPORTS(v1);
-EXPORTS(v2);
-EXPORTS(v3);
+/* A tag in parts: the order of the calls is that of parts.h. */
+uint8_t cred_argon2_segment_len(const struct tag_numbers *numbers, uint32_t *segment);
+uint8_t cred_argon2_begin(const struct tag_numbers *numbers, const struct argon2_inputs *inputs,
+                          struct argon2_block *first, size_t first_count);
+uint8_t cred_argon2_segment(const struct tag_numbers *numbers, const struct segment_index *index,
+                            const struct argon2_block *oldest, size_t oldest_count,
+                            const struct argon2_block *middle, size_t middle_count,
+                            const struct argon2_block *newest, size_t newest_count,
+                            struct argon2_block *own, size_t own_count);
+uint8_t cred_argon2_end(const struct tag_numbers *numbers, const struct argon2_block *last,
+                        size_t last_count, uint8_t *tag, size_t tag_size);
+uint8_t cred_check_read(bytes record, size_t record_size, struct record_reading *reading);
+uint8_t cred_hash_read(bytes setting, size_t setting_size, uint32_t tag_size,
+                       struct setting_reading *reading);
+uint8_t cred_read_begin(const struct setting_reading *reading, bytes password, size_t password_size,
+                        struct argon2_block *first, size_t first_count);
+uint8_t cred_check_end(const struct record_reading *reading, const struct argon2_block *last,
+                       size_t last_count);
+uint8_t cred_hash_end(const struct setting_reading *reading, const struct argon2_block *last,
+                      size_t last_count, uint8_t *text, size_t text_size, size_t *written);
 
-/* What gains nothing by wider vectors is called in the one build that every processor runs. */
-uint8_t v1_cred_write(const struct rigzumal_argon2 *numbers, bytes salt, size_t salt_size,
-                      bytes tag, size_t tag_size, uint8_t *text, size_t text_size, size_t *written);
-uint8_t v1_cred_setting_fault(bytes text, size_t text_size);
-uint8_t v1_cred_record_fault(bytes text, size_t text_size);
-uint8_t v1_cred_record_parts(bytes text, size_t text_size, struct rigzumal_parts *parts);
+/* clang-format off */
+#define EXPORTS(of)                                                                                \
+    of(cred_argon2) of(cred_scrypt) of(cred_check) of(cred_hash) of(cred_step) of(cred_write)      \
+    of(cred_setting_fault) of(cred_record_fault) of(cred_record_parts)                             \
+    of(cred_argon2_segment_len) of(cred_argon2_begin) of(cred_argon2_segment) of(cred_argon2_end)  \
+    of(cred_check_read) of(cred_hash_read) of(cred_read_begin) of(cred_check_end) of(cred_hash_end)
+/* clang-format on */
 
-/* Calls an export in the build that this processor runs. */
-#define CALL(export, ...)                                                                          \
-    (processor_build() == BUILD_V3   ? v3_##export(__VA_ARGS__)                                    \
-     : processor_build() == BUILD_V2 ? v2_##export(__VA_ARGS__)                                    \
-                                     : v1_##export(__VA_ARGS__))
+/* The exports of a build: src/build.c fills it in. */
+#define POINTER(export) __typeof__(export) *export;
+struct build {
+    EXPORTS(POINTER)
+};
+
+/* The best build that this processor runs. */
+const struct build *processor_build(void);
+
+/* Calls an export in that build. */
+#define CALL(export, ...) processor_build()->export(__VA_ARGS__)
 
 /* A pointer and its size, as the exports take them: never null. */
 #define NOTHING ((uint8_t[1]){0})

@@ -35,6 +35,11 @@ static const struct {
     [RIGZUMAL_LONG_PASSWORD] = {"longpassword", "a password has over 256 bytes"},
     [RIGZUMAL_NO_RANDOM] = {"norandom", "the system gave no random bytes for a salt"},
     [RIGZUMAL_OTHER_COSTS] = {"othercosts", "the record has other costs or sizes than a new one"},
+    [RIGZUMAL_NULL_PASSWORD] = {"nullpassword", "the password is null, but its size is not 0"},
+    [RIGZUMAL_NULL_SALT] = {"nullsalt", "the salt is null, but its size is not 0"},
+    [RIGZUMAL_NULL_SECRET] = {"nullsecret", "the secret is null, but its size is not 0"},
+    [RIGZUMAL_NULL_ASSOCIATED] = {"nullassociated",
+                                  "the associated data is null, but its size is not 0"},
 };
 
 enum { FAULTS = sizeof faults / sizeof faults[0] };

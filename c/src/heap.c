@@ -18,6 +18,7 @@
 #include <stdlib.h>
 #include <string.h>
 #include <sys/mman.h>
+#include <unistd.h>
 
 enum { KIB = 1024, MIB = 1024 * KIB };
 #define LEAST_LARGE ((size_t)64 * KIB)
@@ -72,7 +73,7 @@ static void unmap_area(area it) {
  * after it is lowered. An area's bytes are counted before it is put into its place, and until it is
  * taken out. */
 
-enum { PLACES = 4 };
+enum { PLACES = 128 }; /* for 2 GiB in areas that blocks are cut from */
 static _Atomic(area) kept_areas[PLACES];
 static atomic_size_t kept, most_kept = 64 * MIB;
 
@@ -223,8 +224,9 @@ struct block {
 static _Thread_local struct {
     struct block *blocks;
     size_t count, room;
-    area area;   /* the one that blocks are cut from, or 0 */
-    size_t used; /* how many of its bytes are cut off */
+    pid_t process; /* that took the first of them */
+    area area;     /* the one that blocks are cut from, or 0 */
+    size_t used;   /* how many of its bytes are cut off */
 } taken;
 
 static bool has_room_for_block(void) {
@@ -304,6 +306,8 @@ struct tried rattle_alloc(size_t size, size_t align) {
     if (size <= PTRDIFF_MAX && align <= LEAST_ALIGN && has_room_for_block()) {
         struct block block = new_block(size == 0 ? align : size);
         if (block.start != NULL) {
+            if (taken.count == 0)
+                taken.process = getpid();
             taken.blocks[taken.count++] = block;
             return (struct tried){true, block.start};
         }
@@ -328,12 +332,25 @@ static struct block struck_out(const void *start) {
     return block;
 }
 
-/* Gives back a block that is cleared, and no longer in the table. */
+void end_child_of(pid_t process) {
+    static const char said[] = "rigzumal: a forked child went on with its parent's call\n";
+    if (getpid() == process)
+        return;
+    if (write(STDERR_FILENO, said, sizeof said - 1) < 0) {
+        /* it ends all the same */
+    }
+    abort();
+}
+
+/* Gives back a block that is cleared, and no longer in the table. One of an area was zero all along
+ * in a child, whose call would end with a wrong answer. */
 static void give_back(struct block block) {
-    if (block.area == 0)
+    if (block.area == 0) {
         free(block.start);
-    else
+    } else {
+        end_child_of(taken.process);
         give_area_block(block);
+    }
     free_empty_table();
 }
 

@@ -5,6 +5,7 @@
 
 #include <stdbool.h>
 #include <stddef.h>
+#include <sys/types.h>
 
 /* What the proved code calls. An answer that isn't ok has a pointer that isn't null all the same.
  */
@@ -23,6 +24,11 @@ void *take_zeros(size_t size);
 
 /* Gives them back, on the thread that took them, when all are zero again. */
 void give_zeros(void *start);
+
+/* Ends this process with a word on standard error if it isn't that one but a child of it, forked in
+ * a signal handler, that went on with its call: it has neither the call's memory nor its threads.
+ */
+void end_child_of(pid_t process);
 
 /* Gives the kept areas back to the system: how many bytes they have. */
 size_t unmap_kept_areas(void);

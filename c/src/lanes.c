@@ -18,11 +18,14 @@
 #include <sys/mman.h>
 #include <unistd.h>
 
-enum { SLICES = 4, MOST_HELPERS = 254, PAGE = 4096, LEAST_STACK = 1024 * 1024 };
+enum { SLICES = 4, MOST_HELPERS = 254, LEAST_STACK = 1024 * 1024 };
 
-/* What neither a child nor a core dump gets of a helper's stack: the whole pages of what is
- * cleared. */
-enum { HIDDEN_STACK = CLEARED_STACK / PAGE * PAGE };
+/* The largest page that a system has, as some for ARM64: smaller ones divide it. */
+enum { PAGE = 64 * 1024 };
+
+/* What a child doesn't get of a helper's stack: the pages of what is cleared, and one for the gap
+ * above that. */
+enum { HIDDEN_STACK = (CLEARED_STACK + PAGE - 1) / PAGE * PAGE + PAGE };
 
 /* In KiB: where four lanes begin to gain by threads on an idle machine. */
 #ifndef LEAST_SHARED_MEMORY
@@ -31,6 +34,7 @@ enum { HIDDEN_STACK = CLEARED_STACK / PAGE * PAGE };
 
 struct run {
     const struct task *task;
+    pid_t process;
     struct argon2_block *slices[SLICES];
     size_t segment_size, slice_size; /* in blocks */
     uint64_t segments;               /* how many there are to be worked */
@@ -41,14 +45,30 @@ struct run {
     pthread_cond_t more_done;
 };
 
+/* Blocks all signals, and answers which were blocked. A thread that waits for others handles none:
+ * a handler may fork, and in the child nobody would end the wait. A child of before ends here. */
+static sigset_t block_signals(const struct run *run) {
+    sigset_t all, before;
+    sigfillset(&all);
+    pthread_sigmask(SIG_SETMASK, &all, &before);
+    end_child_of(run->process);
+    return before;
+}
+
+static void restore_signals(sigset_t before) {
+    pthread_sigmask(SIG_SETMASK, &before, NULL);
+}
+
 /* Waits until so many are done. */
 static void await(struct run *run, uint64_t done) {
     if (atomic_load(&run->done) >= done)
         return;
+    sigset_t before = block_signals(run);
     pthread_mutex_lock(&run->lock);
     while (atomic_load(&run->done) < done)
         pthread_cond_wait(&run->more_done, &run->lock);
     pthread_mutex_unlock(&run->lock);
+    restore_signals(before);
 }
 
 /* Counts one more, and wakes those who may wait for it: for the end of a slice, or for the tag. */
@@ -56,9 +76,11 @@ static void count_done(struct run *run) {
     uint64_t done = atomic_fetch_add(&run->done, 1) + 1;
     if (done <= run->segments && done % run->task->numbers.lanes != 0)
         return;
+    sigset_t before = block_signals(run);
     pthread_mutex_lock(&run->lock);
     pthread_cond_broadcast(&run->more_done);
     pthread_mutex_unlock(&run->lock);
+    restore_signals(before);
 }
 
 static void note_fault(struct run *run, uint8_t fault) {
@@ -113,13 +135,12 @@ static void clear_segments(struct run *run) {
     }
 }
 
-/* What a helper does. Its stack is hidden as deep as calls reach below the first page's end in a
- * gap above them: what lies higher is the C library's, which reads it in a child. */
+/* What a helper does. A child doesn't get its stack as deep as calls reach below the first page's
+ * end in a gap above them: what lies higher is the C library's, which reads it there. */
 static void *help(void *run) {
     unsigned char gap[PAGE];
     unsigned char *end = gap + PAGE - (uintptr_t)(gap + PAGE) % PAGE;
     madvise(end - HIDDEN_STACK, HIDDEN_STACK, MADV_WIPEONFORK);
-    madvise(end - HIDDEN_STACK, HIDDEN_STACK, MADV_DONTDUMP);
     work_segments(run);
     clear_segments(run);
     clear_traces();
@@ -147,8 +168,10 @@ static bool map_stacks(struct stacks *stacks, pthread_attr_t *attributes) {
     return stacks->start != MAP_FAILED;
 }
 
+/* The stack is in no core dump but for its highest page, in which debuggers find the thread. */
 static bool start_helper(struct run *run, pthread_t *helper, pthread_attr_t *attributes,
                          unsigned char *stack, size_t size) {
+    madvise(stack, size - (size_t)sysconf(_SC_PAGESIZE), MADV_DONTDUMP);
     return mprotect(stack, PAGE, PROT_NONE) == 0 &&
            pthread_attr_setstack(attributes, stack + PAGE, size - PAGE) == 0 &&
            pthread_create(helper, attributes, help, run) == 0;
@@ -157,19 +180,17 @@ static bool start_helper(struct run *run, pthread_t *helper, pthread_attr_t *att
 /* Starts a helper on each stack or on as many as there can be: no signal is handled there. */
 static uint32_t start_helpers(struct run *run, pthread_t *helpers, struct stacks *stacks) {
     pthread_attr_t attributes;
-    sigset_t all, before;
     uint32_t started = 0;
-    if (pthread_attr_init(&attributes) != 0)
+    if (stacks->count == 0 || pthread_attr_init(&attributes) != 0)
         return 0;
     if (!map_stacks(stacks, &attributes))
         stacks->count = 0;
-    sigfillset(&all);
-    pthread_sigmask(SIG_SETMASK, &all, &before);
+    sigset_t before = block_signals(run);
     while (started < stacks->count &&
            start_helper(run, &helpers[started], &attributes, stacks->start + started * stacks->size,
                         stacks->size))
         started++;
-    pthread_sigmask(SIG_SETMASK, &before, NULL);
+    restore_signals(before);
     pthread_attr_destroy(&attributes);
     return started;
 }
@@ -182,8 +203,10 @@ static void work_with_helpers(struct run *run, uint32_t wanted) {
     work_segments(run);
     make_tag(run);
     clear_segments(run);
+    sigset_t before = block_signals(run);
     for (uint32_t i = 0; i < started; i++)
         pthread_join(helpers[i], NULL);
+    restore_signals(before);
     if (stacks.count > 0)
         munmap(stacks.start, stacks.count * stacks.size);
 }
@@ -220,6 +243,7 @@ static uint8_t work(struct run *run, uint32_t threads) {
     if (!take_slices(run))
         return RIGZUMAL_MEMORY;
     uint8_t fault = run->task->begin(run->task->inputs, run->slices[0], run->slice_size);
+    clear_traces(); /* of the inputs' hash too, H0 of RFC 9106, section 3.2 */
     if (fault == RIGZUMAL_OK) {
         work_with_helpers(run, threads - 1);
         fault = atomic_load(&run->fault);
@@ -230,7 +254,7 @@ static uint8_t work(struct run *run, uint32_t threads) {
 
 uint8_t size_of_slices(const struct tag_numbers *numbers, size_t *size) {
     uint32_t segment_size;
-    uint8_t fault = v1_cred_argon2_segment_len(numbers, &segment_size);
+    uint8_t fault = CALL(cred_argon2_segment_len, numbers, &segment_size);
     if (fault == RIGZUMAL_OK)
         *size = (size_t)SLICES * numbers->lanes * segment_size * sizeof(struct argon2_block);
     return fault;
@@ -243,6 +267,7 @@ uint8_t work_lanes(const struct task *task, uint32_t threads) {
         return fault;
     size_t slice_size = size / SLICES / sizeof(struct argon2_block);
     struct run run = {.task = task,
+                      .process = getpid(),
                       .segment_size = slice_size / task->numbers.lanes,
                       .slice_size = slice_size,
                       .segments = (uint64_t)SLICES * task->numbers.passes * task->numbers.lanes,

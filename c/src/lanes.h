@@ -2,7 +2,7 @@
 #ifndef LANES_H
 #define LANES_H
 
-#include "parts.h"
+#include "builds.h"
 
 /* What is worked: a tag's numbers, and how its memory begins and what is made of it at the end.
  * Both are called on the caller's thread, once, with all blocks of the first slice and of the last.

@@ -7,15 +7,15 @@
  * tags are proved all the same. Lanes are worked by as many threads as the context has, as the
  * original does, or as are of use; one that can't be started is no fault. A context's callbacks
  * give the memory and get it back cleared; without them up to 64 MiB, cleared, are kept for the
- * next call, as rigzumal.h says. The inputs may overlap what is written, but not one another where
- * flags have one of them cleared. */
+ * next call, as rigzumal.h says. What flags have cleared is cleared before the memory is filled, as
+ * in the original, and what was hashed of it too. The inputs may overlap what is written, but not
+ * one another where flags have one of them cleared. */
 #define _GNU_SOURCE
 #include "libargon2.h"
 
 #include "heap.h"
-#include "rigzumal.h"
+#include "lanes.h"
 #include "secrets.h"
-#include "with_threads.h"
 
 #include <stdlib.h>
 #include <string.h>
@@ -44,15 +44,50 @@ static int number_of(int fault) {
 }
 
 /* Clears what the caller wants to have cleared. */
-static void clear_inputs(argon2_context *context) {
-    if (context->flags & FLAG_CLEAR_PASSWORD) {
+static void clear_inputs(const argon2_context *context) {
+    if (context->flags & FLAG_CLEAR_PASSWORD)
         explicit_bzero(context->pwd, context->pwdlen);
-        context->pwdlen = 0;
+    if (context->flags & FLAG_CLEAR_SECRET)
+        explicit_bzero(context->secret, context->secretlen);
+}
+
+/* What is cleared has no size any more. After a refusal it has no place: so a second try is refused
+ * too, and isn't of an empty password. */
+static void forget_inputs(argon2_context *context, bool is_done) {
+    if (context->flags & FLAG_CLEAR_PASSWORD) {
+        context->pwdlen = is_done ? 0 : context->pwdlen;
+        context->pwd = is_done ? context->pwd : NULL;
     }
     if (context->flags & FLAG_CLEAR_SECRET) {
-        explicit_bzero(context->secret, context->secretlen);
-        context->secretlen = 0;
+        context->secretlen = is_done ? 0 : context->secretlen;
+        context->secret = is_done ? context->secret : NULL;
     }
+}
+
+/* A context's tag in parts: by its own numbers, and where to. */
+struct tag_in_parts {
+    argon2_context *context;
+    struct tag_numbers numbers;
+    uint8_t *tag;
+    bool *is_begun;
+};
+
+/* After it nobody reads the inputs. */
+static uint8_t begin_tag(const void *inputs, struct argon2_block *first, size_t count) {
+    const struct tag_in_parts *it = inputs;
+    const argon2_context *from = it->context;
+    struct argon2_inputs all = {BYTES(from->pwd, from->pwdlen), BYTES(from->salt, from->saltlen),
+                                BYTES(from->secret, from->secretlen), BYTES(from->ad, from->adlen)};
+    uint8_t fault = CALL(cred_argon2_begin, &it->numbers, &all, first, count);
+    *it->is_begun = fault == RIGZUMAL_OK;
+    if (*it->is_begun)
+        clear_inputs(from);
+    return fault;
+}
+
+static uint8_t end_tag(const void *inputs, const struct argon2_block *last, size_t count) {
+    const struct tag_in_parts *it = inputs;
+    return CALL(cred_argon2_end, &it->numbers, last, count, it->tag, it->numbers.tag_size);
 }
 
 static struct rigzumal_argon2 numbers_of(const argon2_context *context, argon2_type type) {
@@ -71,30 +106,43 @@ static uint8_t *memory_of(const argon2_context *context, size_t size) {
     return memory;
 }
 
-/* Writes the tag, which is worked in memory that the caller's functions give and get back. */
-static int make_tag_by_callbacks(uint8_t *tag, const argon2_context *context, argon2_type type,
-                                 const struct rigzumal_inputs *inputs) {
-    struct tag_numbers numbers = {(uint32_t)type,  context->version, context->m_cost,
-                                  context->t_cost, context->lanes,   context->outlen};
+/* Works a task in memory that the caller's functions give and get back. */
+static int work_by_callbacks(struct task *task, const argon2_context *context) {
     size_t size;
-    int fault = size_of_slices(&numbers, &size);
+    int fault = size_of_slices(&task->numbers, &size);
     if (fault != RIGZUMAL_OK)
         return fault;
     uint8_t *memory = memory_of(context, size);
     if (memory == NULL)
         return RIGZUMAL_MEMORY;
     memset(memory, 0, size);
-    fault = make_tag_in((struct argon2_block *)memory, tag, &numbers, inputs);
+    task->memory = (struct argon2_block *)memory;
+    fault = work_lanes(task, useful_threads(&task->numbers, context->threads));
     context->free_cbk(memory, size);
     return fault;
 }
 
-static int make_tag(uint8_t *tag, const argon2_context *context, argon2_type type) {
+static int make_tag_in_parts(uint8_t *tag, argon2_context *context, argon2_type type) {
+    struct tag_numbers numbers = {(uint32_t)type,  context->version, context->m_cost,
+                                  context->t_cost, context->lanes,   context->outlen};
+    bool is_begun = false;
+    struct tag_in_parts made = {context, numbers, tag, &is_begun};
+    struct task task = {numbers, begin_tag, end_tag, &made, NULL};
+    int fault = context->allocate_cbk != NULL
+                    ? work_by_callbacks(&task, context)
+                    : work_lanes(&task, useful_threads(&numbers, context->threads));
+    if (is_begun)
+        forget_inputs(context, fault == RIGZUMAL_OK);
+    return fault;
+}
+
+/* With a flag in parts, whose later ones need no input; without, one export does all of it. */
+static int make_tag(uint8_t *tag, argon2_context *context, argon2_type type) {
+    if (context->allocate_cbk != NULL || context->flags & (FLAG_CLEAR_PASSWORD | FLAG_CLEAR_SECRET))
+        return cleared(make_tag_in_parts(tag, context, type));
     struct rigzumal_inputs inputs = {context->pwd,     context->pwdlen, context->salt,
                                      context->saltlen, context->secret, context->secretlen,
                                      context->ad,      context->adlen,  context->threads};
-    if (context->allocate_cbk != NULL)
-        return make_tag_by_callbacks(tag, context, type, &inputs);
     struct rigzumal_argon2 numbers = numbers_of(context, type);
     return rigzumal_argon2_from(tag, context->outlen, &numbers, &inputs);
 }
@@ -109,10 +157,8 @@ PUBLIC int argon2_ctx(argon2_context *context, argon2_type type) {
     if (tag == NULL)
         return ARGON2_MEMORY_ALLOCATION_ERROR;
     number = number_of(make_tag(tag, context, type));
-    if (number == ARGON2_OK) {
-        clear_inputs(context);
+    if (number == ARGON2_OK)
         memcpy(context->out, tag, context->outlen);
-    }
     explicit_bzero(tag, context->outlen);
     free(tag);
     clear_traces();

@@ -30,11 +30,11 @@ static bool read_number(const char **text, uint32_t *number) {
     return read <= UINT32_MAX;
 }
 
-/* A byte that is no ASCII reads as '/': so the original has it. Which letters there are decides
- * nothing but the end. */
+/* A char below zero reads as '/', as in the original: there is none where chars have no sign, as on
+ * ARM64. Which letters there are decides nothing but the end. */
 static int value_of(char letter) {
-    uint8_t is_high = (uint8_t)(0u - ((uint8_t)letter >> 7));
-    return base64_value((uint8_t)(((uint8_t)letter & ~is_high) | ('/' & is_high)));
+    uint8_t is_negative = (uint8_t)(0u - ((uint32_t)letter >> 31));
+    return base64_value((uint8_t)(((uint8_t)letter & ~is_negative) | ('/' & is_negative)));
 }
 
 /* Base64, whose bits that stand for no byte are zero, into as many bytes as there is room for. */

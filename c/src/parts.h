@@ -1,6 +1,5 @@
-/* Argon2 in parts, for lanes that are worked by several threads: what the crate cred_c exports of
- * it in each of its builds. The contracts stand in the crate, where each part is proved. What
- * nobody proves is that the parts are called as they have to be:
+/* Argon2 in parts, for lanes that are worked by several threads. Each part is proved in the crate.
+ * What nobody proves is that the parts are called as they have to be:
  *
  * - All calls for a tag have the same numbers. All calls for a record have what the text's reading
  *   wrote, unchanged, and its numbers.
@@ -17,7 +16,9 @@
 #ifndef PARTS_H
 #define PARTS_H
 
-#include "builds.h"
+#include "rigzumal.h"
+
+#include <stdint.h>
 
 /* A block of the memory (RFC 9106, section 3.2). */
 struct argon2_block {
@@ -49,36 +50,5 @@ struct record_reading {
     struct setting_reading setting;
     uint8_t tag[RIGZUMAL_TAG_SIZE_MAX];
 };
-
-#define PARTS(build)                                                                               \
-    uint8_t build##_cred_argon2_begin(const struct tag_numbers *numbers,                           \
-                                      const struct argon2_inputs *inputs,                          \
-                                      struct argon2_block *first, size_t first_count);             \
-    uint8_t build##_cred_argon2_segment(                                                           \
-        const struct tag_numbers *numbers, const struct segment_index *index,                      \
-        const struct argon2_block *oldest, size_t oldest_count, const struct argon2_block *middle, \
-        size_t middle_count, const struct argon2_block *newest, size_t newest_count,               \
-        struct argon2_block *own, size_t own_count);                                               \
-    uint8_t build##_cred_argon2_end(const struct tag_numbers *numbers,                             \
-                                    const struct argon2_block *last, size_t last_count,            \
-                                    uint8_t *tag, size_t tag_size);                                \
-    uint8_t build##_cred_read_begin(const struct setting_reading *reading, bytes password,         \
-                                    size_t password_size, struct argon2_block *first,              \
-                                    size_t first_count);                                           \
-    uint8_t build##_cred_check_end(const struct record_reading *reading,                           \
-                                   const struct argon2_block *last, size_t last_count);            \
-    uint8_t build##_cred_hash_end(const struct setting_reading *reading,                           \
-                                  const struct argon2_block *last, size_t last_count,              \
-                                  uint8_t *text, size_t text_size, size_t *written)
-
-PARTS(v1);
-PARTS(v2);
-PARTS(v3);
-
-/* How many blocks a segment has, and what a record or a setting says. */
-uint8_t v1_cred_argon2_segment_len(const struct tag_numbers *numbers, uint32_t *segment);
-uint8_t v1_cred_check_read(bytes record, size_t record_size, struct record_reading *reading);
-uint8_t v1_cred_hash_read(bytes setting, size_t setting_size, uint32_t tag_size,
-                          struct setting_reading *reading);
 
 #endif

@@ -1,38 +1,23 @@
-/* Which build of the proved code a processor runs. */
+/* What each processor has a file of its own for, as x86_64.c, which has processor_build of builds.h
+ * too. */
 #ifndef PROCESSOR_H
 #define PROCESSOR_H
 
-#include <stdatomic.h>
-#include <stdint.h>
+#include <stddef.h>
 
-/* The levels of x86-64 as its processor supplement (psABI) names them, and one build for each. */
-enum build { BUILD_V1 = 1, BUILD_V2 = 2, BUILD_V3 = 3 };
+/* Clears a multiple of 16 bytes with no further call, which could reach below a stack. */
+void clear_bytes(void *start, size_t size);
 
-/* The highest level of which this processor has every feature, and the system keeps the registers.
- */
-enum build processor_build(void);
+/* Clears the general registers that a call need not preserve, and every vector and mask register
+ * that the processor has and the system keeps. What is left in one stands on the stack as soon as
+ * the program binds a function lazily. */
+void clear_registers(void);
 
-/* Which registers the system keeps of a thread that it interrupts, as the bits of XCR0, where the
- * processor has OSXSAVE; a test has a system that keeps fewer. */
-#ifndef READ_KEPT_REGISTERS
-#define READ_KEPT_REGISTERS "xgetbv"
-#endif
-
-static inline uint32_t kept_registers(void) {
-    uint32_t low, high;
-    __asm__ volatile(READ_KEPT_REGISTERS : "=a"(low), "=d"(high) : "c"(0));
-    return low;
-}
-
-/* What a question answers, never 0, that is asked once, since a virtual machine answers slowly;
- * threads that ask at once find the same. */
-static inline int asked_once(_Atomic(int) *known, int (*ask)(void)) {
-    int answer = atomic_load_explicit(known, memory_order_relaxed);
-    if (answer == 0) {
-        answer = ask();
-        atomic_store_explicit(known, answer, memory_order_relaxed);
-    }
-    return answer;
-}
+/* Each of some registers: of(0) to of(7), and so on. */
+#define EIGHT(of) of(0) of(1) of(2) of(3) of(4) of(5) of(6) of(7)
+#define NEXT_EIGHT(of) of(8) of(9) of(10) of(11) of(12) of(13) of(14) of(15)
+#define UPPER_SIXTEEN(of)                                                                          \
+    of(16) of(17) of(18) of(19) of(20) of(21) of(22) of(23) of(24) of(25) of(26) of(27) of(28)     \
+        of(29) of(30) of(31)
 
 #endif

@@ -4,6 +4,7 @@
 
 #include "builds.h"
 #include "heap.h"
+#include "inputs.h"
 #include "secrets.h"
 #include "setting.h"
 
@@ -23,6 +24,11 @@ int rigzumal_argon2(void *tag, size_t tag_size, const struct rigzumal_argon2 *nu
                     const void *password, size_t password_size, const void *salt, size_t salt_size,
                     const void *secret, size_t secret_size, const void *associated,
                     size_t associated_size) {
+    int fault =
+        null_fault(&(struct rigzumal_inputs){password, password_size, salt, salt_size, secret,
+                                             secret_size, associated, associated_size, 1});
+    if (fault != RIGZUMAL_OK)
+        return fault;
     struct argon2_inputs inputs = {BYTES(password, password_size), BYTES(salt, salt_size),
                                    BYTES(secret, secret_size), BYTES(associated, associated_size)};
     return cleared(CALL(cred_argon2, numbers, &inputs, tag_size == 0 ? NOTHING : tag, tag_size));
@@ -31,11 +37,20 @@ int rigzumal_argon2(void *tag, size_t tag_size, const struct rigzumal_argon2 *nu
 int rigzumal_scrypt(void *key, size_t key_size, const struct rigzumal_scrypt *numbers,
                     const void *password, size_t password_size, const void *salt,
                     size_t salt_size) {
+    int fault = null_fault(&(struct rigzumal_inputs){.password = password,
+                                                     .password_size = password_size,
+                                                     .salt = salt,
+                                                     .salt_size = salt_size});
+    if (fault != RIGZUMAL_OK)
+        return fault;
     return cleared(CALL(cred_scrypt, numbers, BYTES(password, password_size),
                         BYTES(salt, salt_size), key_size == 0 ? NOTHING : key, key_size));
 }
 
 int rigzumal_check(const char *record, const void *password, size_t password_size) {
+    int fault = null_password_fault(password, password_size);
+    if (fault != RIGZUMAL_OK)
+        return fault;
     return cleared(CALL(cred_check, TEXT(record), BYTES(password, password_size)));
 }
 
@@ -51,7 +66,9 @@ int rigzumal_record(char *text, size_t text_size, size_t tag_size, const char *c
                     const void *salt, size_t salt_size, const void *password,
                     size_t password_size) {
     struct setting setting;
-    int fault = make_setting(&setting, costs, salt, salt_size);
+    int fault = null_password_fault(password, password_size);
+    if (fault == RIGZUMAL_OK)
+        fault = make_setting(&setting, costs, salt, salt_size);
     if (fault != RIGZUMAL_OK)
         return fault;
     size_t written = 0;
@@ -67,6 +84,11 @@ int rigzumal_record(char *text, size_t text_size, size_t tag_size, const char *c
 int rigzumal_step(char *text, size_t text_size, uint32_t *reply, uint32_t operation,
                   const char *copy, const void *password, size_t password_size,
                   const void *new_password, size_t new_password_size, const char *setting) {
+    int fault = null_password_fault(password, password_size);
+    if (fault == RIGZUMAL_OK && operation == RIGZUMAL_CHANGE)
+        fault = null_password_fault(new_password, new_password_size);
+    if (fault != RIGZUMAL_OK)
+        return fault;
     size_t written = 0;
     /* To the export an empty copy is none, and here it is a text that is no record. */
     if (copy != NULL && copy[0] == '\0')
@@ -80,7 +102,7 @@ int rigzumal_step(char *text, size_t text_size, uint32_t *reply, uint32_t operat
 int rigzumal_argon2_write(char *text, size_t text_size, const struct rigzumal_argon2 *numbers,
                           const void *salt, size_t salt_size, const void *tag, size_t tag_size) {
     size_t written = 0;
-    uint8_t answer = v1_cred_write(numbers, BYTES(salt, salt_size), BYTES(tag, tag_size),
-                                   ROOM(text, text_size), &written);
+    uint8_t answer = CALL(cred_write, numbers, BYTES(salt, salt_size), BYTES(tag, tag_size),
+                          ROOM(text, text_size), &written);
     return ended(answer, text, written);
 }

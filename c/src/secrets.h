@@ -9,8 +9,8 @@
  * too, which tests/stacks.c measures. It fits into RIGZUMAL_STACK_SIZE. */
 enum { CLEARED_STACK = 22 * 1024 };
 
-/* Clears the stack below the caller's frame, and the vector registers: to be called after all that
- * a call did with secrets. */
+/* Clears the stack below the caller's frame, and the registers: to be called after all that a call
+ * did with secrets. */
 void clear_traces(void);
 
 /* Clears what a call left, and hands its answer on. */

@@ -2,6 +2,7 @@
  * a record and make one. */
 #define _GNU_SOURCE
 #include "builds.h"
+#include "inputs.h"
 #include "secrets.h"
 #include "setting.h"
 
@@ -23,9 +24,24 @@ static int setting_fault(const struct rigzumal_step_inputs *inputs) {
     return is_scrypt ? RIGZUMAL_SCHEME : fault;
 }
 
+static struct rigzumal_inputs inputs_of(const struct rigzumal_step_inputs *step, bool is_new) {
+    return (struct rigzumal_inputs){.password = is_new ? step->new_password : step->password,
+                                    .password_size =
+                                        is_new ? step->new_password_size : step->password_size,
+                                    .secret = step->secret,
+                                    .secret_size = step->secret_size,
+                                    .threads = step->threads};
+}
+
 /* What is wrong with a step before anything is hashed. */
 static int fault_of_step(const struct rigzumal_step_inputs *inputs) {
     uint32_t operation = inputs->operation;
+    struct rigzumal_inputs judged = inputs_of(inputs, false), made = inputs_of(inputs, true);
+    int fault = null_fault(&judged);
+    if (fault == RIGZUMAL_OK && operation == RIGZUMAL_CHANGE)
+        fault = null_fault(&made);
+    if (fault != RIGZUMAL_OK)
+        return fault;
     if (operation < RIGZUMAL_ENROL || operation > RIGZUMAL_REMOVE)
         return RIGZUMAL_NO_OPERATION;
     if (inputs->copy != NULL && rigzumal_record_fault(inputs->copy) != RIGZUMAL_OK)
@@ -34,15 +50,6 @@ static int fault_of_step(const struct rigzumal_step_inputs *inputs) {
         (operation == RIGZUMAL_CHANGE && inputs->new_password_size > LONGEST_PASSWORD))
         return RIGZUMAL_LONG_PASSWORD;
     return has_setting(operation) ? setting_fault(inputs) : RIGZUMAL_OK;
-}
-
-static struct rigzumal_inputs inputs_of(const struct rigzumal_step_inputs *step, bool is_new) {
-    return (struct rigzumal_inputs){.password = is_new ? step->new_password : step->password,
-                                    .password_size =
-                                        is_new ? step->new_password_size : step->password_size,
-                                    .secret = step->secret,
-                                    .secret_size = step->secret_size,
-                                    .threads = step->threads};
 }
 
 /* Whether the costs of the copy are those of the setting: an upgrade has nothing to do then. */
@@ -95,7 +102,7 @@ static int step_at_record(char *text, size_t text_size, uint32_t *reply,
 
 int rigzumal_step_from(char *text, size_t text_size, uint32_t *reply,
                        const struct rigzumal_step_inputs *inputs) {
-    if (inputs->secret == NULL && inputs->threads <= 1)
+    if (inputs->secret == NULL && inputs->secret_size == 0 && inputs->threads <= 1)
         return rigzumal_step(text, text_size, reply, inputs->operation, inputs->copy,
                              inputs->password, inputs->password_size, inputs->new_password,
                              inputs->new_password_size, inputs->setting);

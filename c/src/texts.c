@@ -5,11 +5,11 @@
 #include "setting.h"
 
 int rigzumal_record_fault(const char *record) {
-    return cleared(v1_cred_record_fault(TEXT(record)));
+    return cleared(CALL(cred_record_fault, TEXT(record)));
 }
 
 int rigzumal_setting_fault(const char *setting) {
-    return cleared(v1_cred_setting_fault(TEXT(setting)));
+    return cleared(CALL(cred_setting_fault, TEXT(setting)));
 }
 
 /* A salt of 8 bytes and a tag of 4, to make a record of costs and of a setting. */
@@ -17,25 +17,25 @@ static const char any_salt[] = "$AAAAAAAAAAA", any_tag[] = "$AAAAAA";
 
 /* Reads a text with others behind it as a record, if all but the tag is a setting. */
 static uint8_t read_longer(struct rigzumal_parts *parts, const char *text, const char *salt) {
-    uint8_t longer[LONGEST_TEXT];
+    uint8_t longer[LONGEST_TEXT + sizeof any_salt + sizeof any_tag];
     size_t size = strlen(text), salt_size = strlen(salt);
-    if (size + salt_size + sizeof any_tag > sizeof longer)
+    if (size > LONGEST_TEXT)
         return RIGZUMAL_TOO_LONG;
     memcpy(longer, text, size);
     memcpy(longer + size, salt, salt_size);
     size += salt_size;
-    uint8_t fault = v1_cred_setting_fault(longer, size);
+    uint8_t fault = CALL(cred_setting_fault, longer, size);
     if (fault != RIGZUMAL_OK)
         return fault;
     memcpy(longer + size, any_tag, strlen(any_tag));
-    return v1_cred_record_parts(longer, size + strlen(any_tag), parts);
+    return CALL(cred_record_parts, longer, size + strlen(any_tag), parts);
 }
 
 /* In a setting that is read as a record a field is missing, and in costs that are read as a
  * setting. */
 int rigzumal_parts(struct rigzumal_parts *parts, const char *text) {
     struct rigzumal_parts read;
-    uint8_t fault = v1_cred_record_parts(TEXT(text), &read);
+    uint8_t fault = CALL(cred_record_parts, TEXT(text), &read);
     if (fault == RIGZUMAL_SHAPE) {
         fault = read_longer(&read, text, "");
         read.tag_size = 0;
@@ -58,7 +58,7 @@ bool has_same_costs(const struct rigzumal_parts *one, const struct rigzumal_part
 int rigzumal_needs_rehash(const char *record, const char *costs, size_t salt_size,
                           size_t tag_size) {
     struct rigzumal_parts found, wanted;
-    int fault = cleared(v1_cred_record_parts(TEXT(record), &found));
+    int fault = cleared(CALL(cred_record_parts, TEXT(record), &found));
     if (fault == RIGZUMAL_OK)
         fault = rigzumal_parts(&wanted, costs);
     if (fault != RIGZUMAL_OK)

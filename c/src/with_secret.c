@@ -1,7 +1,8 @@
 /* Records whose tags have a secret or associated data (K and X of RFC 9106) beside the password.
  * The proved code reads and writes the texts and makes the tags; here two tags are compared. */
 #define _GNU_SOURCE
-#include "parts.h"
+#include "builds.h"
+#include "inputs.h"
 #include "secrets.h"
 #include "setting.h"
 
@@ -23,9 +24,12 @@ static int make_record(char *text, size_t text_size, size_t tag_size, const char
                        const struct rigzumal_inputs *inputs) {
     struct setting setting;
     struct setting_reading reading;
-    int fault = make_setting(&setting, costs, inputs->salt, inputs->salt_size);
+    int fault = null_fault_of_record(inputs);
     if (fault == RIGZUMAL_OK)
-        fault = v1_cred_hash_read(setting.text, setting.size, narrow_tag_size(tag_size), &reading);
+        fault = make_setting(&setting, costs, inputs->salt, inputs->salt_size);
+    if (fault == RIGZUMAL_OK)
+        fault =
+            CALL(cred_hash_read, setting.text, setting.size, narrow_tag_size(tag_size), &reading);
     uint8_t tag[RIGZUMAL_TAG_SIZE_MAX];
     if (fault == RIGZUMAL_OK)
         fault = make_tag(tag, &reading, inputs);
@@ -40,7 +44,9 @@ static int make_record(char *text, size_t text_size, size_t tag_size, const char
 
 static int check(const char *record, const struct rigzumal_inputs *inputs) {
     struct record_reading reading;
-    int fault = v1_cred_check_read(TEXT(record), &reading);
+    int fault = null_fault_of_record(inputs);
+    if (fault == RIGZUMAL_OK)
+        fault = CALL(cred_check_read, TEXT(record), &reading);
     uint8_t tag[RIGZUMAL_TAG_SIZE_MAX];
     if (fault == RIGZUMAL_OK)
         fault = make_tag(tag, &reading.setting, inputs);
@@ -81,9 +87,15 @@ int rigzumal_check_with_secret(const char *record, const void *password, size_t 
                                               1);
 }
 
+/* A secret that failed to load counts. */
+static bool has_secret(const struct rigzumal_inputs *inputs) {
+    return inputs->secret != NULL || inputs->secret_size != 0 || inputs->associated != NULL ||
+           inputs->associated_size != 0;
+}
+
 int rigzumal_record_from(char *text, size_t text_size, size_t tag_size, const char *costs,
                          const struct rigzumal_inputs *inputs) {
-    if (inputs->secret != NULL || inputs->associated != NULL)
+    if (has_secret(inputs))
         return make_record(text, text_size, tag_size, costs, inputs);
     return rigzumal_record_threads(text, text_size, tag_size, costs, inputs->salt,
                                    inputs->salt_size, inputs->password, inputs->password_size,
@@ -91,7 +103,7 @@ int rigzumal_record_from(char *text, size_t text_size, size_t tag_size, const ch
 }
 
 int rigzumal_check_from(const char *record, const struct rigzumal_inputs *inputs) {
-    if (inputs->secret != NULL || inputs->associated != NULL)
+    if (has_secret(inputs))
         return check(record, inputs);
     return rigzumal_check_threads(record, inputs->password, inputs->password_size, inputs->threads);
 }

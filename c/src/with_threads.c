@@ -2,8 +2,8 @@
  * worked by lanes.c. Where one thread is enough, and for a text that has a fault or is scrypt's,
  * the call without threads does it. */
 #define _GNU_SOURCE
-#include "with_threads.h"
-
+#include "inputs.h"
+#include "lanes.h"
 #include "secrets.h"
 #include "setting.h"
 
@@ -28,29 +28,18 @@ static uint8_t end_tag(const void *inputs, const struct argon2_block *last, size
     return CALL(cred_argon2_end, it->numbers, last, count, it->tag, it->numbers->tag_size);
 }
 
-static int work_tag(struct argon2_block *memory, const struct tag_inputs *inputs,
-                    uint32_t threads) {
-    struct task task = {*inputs->numbers, begin_tag, end_tag, inputs, memory};
-    return cleared(work_lanes(&task, threads));
-}
-
-int make_tag_in(struct argon2_block *memory, uint8_t *tag, const struct tag_numbers *numbers,
-                const struct rigzumal_inputs *inputs) {
-    struct tag_inputs made = {numbers, inputs, tag};
-    return work_tag(memory, &made, useful_threads(numbers, inputs->threads));
-}
-
 int rigzumal_argon2_from(void *tag, size_t tag_size, const struct rigzumal_argon2 *numbers,
                          const struct rigzumal_inputs *inputs) {
     struct tag_numbers all = {numbers->kind,   numbers->version, numbers->memory,
                               numbers->passes, numbers->lanes,   (uint32_t)tag_size};
     uint32_t threads = useful_threads(&all, inputs->threads);
-    if (threads == 1 || tag_size > UINT32_MAX)
+    if (threads == 1 || tag_size > UINT32_MAX || null_fault(inputs) != RIGZUMAL_OK)
         return rigzumal_argon2(tag, tag_size, numbers, inputs->password, inputs->password_size,
                                inputs->salt, inputs->salt_size, inputs->secret, inputs->secret_size,
                                inputs->associated, inputs->associated_size);
     struct tag_inputs made = {&all, inputs, tag};
-    return work_tag(NULL, &made, threads);
+    struct task task = {all, begin_tag, end_tag, &made, NULL};
+    return cleared(work_lanes(&task, threads));
 }
 
 int rigzumal_argon2_threads(void *tag, size_t tag_size, const struct rigzumal_argon2 *numbers,
@@ -92,11 +81,12 @@ static uint8_t end_record(const void *inputs, const struct argon2_block *last, s
 int rigzumal_check_threads(const char *record, const void *password, size_t password_size,
                            uint32_t threads) {
     struct record_reading reading;
-    uint8_t fault = v1_cred_check_read(TEXT(record), &reading);
+    uint8_t fault = CALL(cred_check_read, TEXT(record), &reading);
     int answer;
     if (fault == RIGZUMAL_OK)
         threads = useful_threads(&reading.setting.numbers, threads);
-    if (fault != RIGZUMAL_OK || threads == 1) {
+    if (fault != RIGZUMAL_OK || threads == 1 ||
+        null_password_fault(password, password_size) != RIGZUMAL_OK) {
         answer = rigzumal_check(record, password, password_size);
     } else {
         struct text_inputs inputs = {.setting = &reading.setting,
@@ -118,10 +108,11 @@ int rigzumal_record_threads(char *text, size_t text_size, size_t tag_size, const
     if (fault != RIGZUMAL_OK)
         return fault;
     struct setting_reading reading;
-    fault = v1_cred_hash_read(setting.text, setting.size, narrow_tag_size(tag_size), &reading);
+    fault = CALL(cred_hash_read, setting.text, setting.size, narrow_tag_size(tag_size), &reading);
     if (fault == RIGZUMAL_OK)
         threads = useful_threads(&reading.numbers, threads);
-    if (fault != RIGZUMAL_OK || threads == 1)
+    if (fault != RIGZUMAL_OK || threads == 1 ||
+        null_password_fault(password, password_size) != RIGZUMAL_OK)
         return rigzumal_record(text, text_size, tag_size, (const char *)setting.text, NULL, 0,
                                password, password_size);
     size_t written = 0;

@@ -11,6 +11,7 @@
 
 #include <pthread.h>
 #include <stdatomic.h>
+#include <sys/mman.h>
 #include <unistd.h>
 
 enum { LANES = 4, SEGMENT = 64, TURNS = 10 };
@@ -18,10 +19,28 @@ enum { LANES = 4, SEGMENT = 64, TURNS = 10 };
 static pthread_t caller;
 static _Atomic(int) marked, is_forked;
 
+/* All of a helper's stack is in no core dump, but its highest page. Nobody may touch the page below
+ * it. */
+static void check_stack(void) {
+    size_t page_size = (size_t)sysconf(_SC_PAGESIZE);
+    pthread_attr_t attributes;
+    void *start;
+    size_t size;
+    CHECK(pthread_getattr_np(pthread_self(), &attributes) == 0);
+    CHECK(pthread_attr_getstack(&attributes, &start, &size) == 0);
+    pthread_attr_destroy(&attributes);
+    unsigned char *top = (unsigned char *)start + size - page_size;
+    for (unsigned char *page = start; page < top; page += size / 16 / page_size * page_size)
+        CHECK(has_flag(page, " dd"));
+    CHECK(has_flag(top - 1, " dd") && !has_flag(top, " dd"));
+    CHECK(!has_flag((unsigned char *)start - 1, " rd"));
+}
+
 static uint8_t segment(const struct given_segment *it) {
     if (!pthread_equal(pthread_self(), caller)) {
         char here; /* in no core dump, as long as it is there */
         CHECK(is_hidden(&here));
+        check_stack();
         leave_marks();
         it->own->words[5] = MARK;
         marked++;
@@ -31,12 +50,34 @@ static uint8_t segment(const struct given_segment *it) {
     return 0;
 }
 
-STAND_INS(segment)
+/* Stacks and what a child doesn't get of them are whole pages of any system, up to 64 KiB each. */
 
-uint8_t v1_cred_argon2_segment_len(const struct tag_numbers *numbers, uint32_t *segment_size) {
+enum { LARGEST_PAGE = 64 * 1024 };
+
+WRAP(int, mprotect, void *start, size_t size, int rights) {
+    CHECK(size % LARGEST_PAGE == 0);
+    return __real_mprotect(start, size, rights);
+}
+
+WRAP(int, madvise, void *start, size_t size, int advice) {
+    size_t page = advice == MADV_DONTDUMP ? (size_t)sysconf(_SC_PAGESIZE) : LARGEST_PAGE;
+    CHECK(size % page == 0 && (uintptr_t)start % page == 0);
+    return __real_madvise(start, size, advice);
+}
+
+STAND_IN(segment)
+
+static uint8_t segment_len(const struct tag_numbers *numbers, uint32_t *segment_size) {
     (void)numbers;
     *segment_size = SEGMENT;
     return 0;
+}
+
+static const struct build build = {.cred_argon2_segment = stand_in,
+                                   .cred_argon2_segment_len = segment_len};
+
+WRAP(const struct build *, processor_build, void) {
+    return &build;
 }
 
 static uint8_t begin(const void *inputs, struct argon2_block *first, size_t count) {

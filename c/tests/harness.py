@@ -4,6 +4,7 @@ import functools
 import os
 import pathlib
 import re
+import shlex
 import sys
 import unittest
 
@@ -12,19 +13,38 @@ TOP = HERE.parent
 sys.path.insert(0, str(TOP.parent))
 
 from tests import helpers
-from tests.helpers import files_below, need, need_module  # noqa: F401 (for the tests)
+from tests.helpers import files_below, need, need_module, need_root  # noqa: F401 (for the tests)
 
-OUT = TOP / "out"
-ORIGINAL = pathlib.Path("/usr/lib/x86_64-linux-gnu/libargon2.so.1")
+ARCH = os.environ.get("ARCH", "x86_64")
+IS_NATIVE = ARCH == "x86_64"
+TRIPLET = "x86_64-linux-gnu" if IS_NATIVE else "aarch64-linux-gnu"
+COMPILER = os.environ.get("CC", "cc" if IS_NATIVE else f"{TRIPLET}-gcc")
+# Whether programs of this machine can load the library.
+IS_HOST = IS_NATIVE and "musl" not in COMPILER
+OUT = TOP / os.environ.get("OUT", "out" if IS_NATIVE else f"out/{ARCH}")
+# Programs of another processor run under qemu-user, over Debian's cross libraries. Its Python and
+# libargon2 lie where tests/arm64/root.sh puts them.
+EMULATOR = ["qemu-aarch64", "-L", f"/usr/{TRIPLET}"]
+ROOT = pathlib.Path("/") if IS_NATIVE else OUT / "root/at"
+ORIGINAL = ROOT / f"usr/lib/{TRIPLET}/libargon2.so.1"
 OURS = {"LD_LIBRARY_PATH": str(OUT)}
 ALL_WARNINGS = "-Wall -Wextra -Wpedantic -Werror"
-WARNINGS = ["-std=c11", "-g", "-pthread", "-Iinclude", "-Isrc"]
+WARNINGS = ["-std=c11", "-g", "-pthread", "-Iinclude", "-Isrc", "-Itests", f"-Itests/{ARCH}"]
 WARNINGS += os.environ.get("TEST_WARNINGS", ALL_WARNINGS).split()
-SANITIZED = ["-O1", "-fsanitize=address,undefined", "-fno-sanitize-recover=all"]
+# qemu-user keeps the last two signals, and takes its time.
+WARNINGS += [] if IS_NATIVE else ["-DLAST_SIGNAL=62", "-DSETS=40"]
+# No sanitizer is for another processor or C library.
+SANITIZED = ["-O1", "-fsanitize=address,undefined", "-fno-sanitize-recover=all"] * IS_HOST
+RACES = ["-O1", "-fsanitize=thread"] * IS_HOST
+AVX512 = {"avx512f", "avx512dq", "avx512cd", "avx512bw", "avx512vl"}
+BUILDS = ("v1", "v2", "v3", "v4") if IS_NATIVE else ("generic",)
 C_FILES = sorted(str(it.relative_to(TOP)) for it in (TOP / "src").glob("*.c"))
 LIBARGON2 = [it for it in C_FILES if it.startswith("src/libargon2")]
-SOURCES = [it for it in C_FILES if it not in LIBARGON2]
-SOURCES += [f"out/v{level}.o" for level in (1, 2, 3)]
+OTHERS = {"src/build.c", "src/x86_64.c", "src/arm64.c"} - {f"src/{ARCH}.c"}
+SOURCES = [it for it in C_FILES if it not in {*LIBARGON2, *OTHERS}]
+SOURCES += [str(OUT / f"{build}.o") for build in BUILDS]
+# What needs none of the builds.
+WITHOUT_BUILDS = ["src/secrets.c", f"src/{ARCH}.c", f"tests/{ARCH}/no_builds.c"]
 VALGRIND = "valgrind -q --error-exitcode=9 --leak-check=full --errors-for-leak-kinds=all".split()
 
 # Has tags of every size worked in threads where a call asks for them.
@@ -36,13 +56,20 @@ ROOM = helpers.common_folder()
 run = functools.partial(helpers.run, at=TOP)
 
 
-def compiler():
-    return os.environ.get("CC", "cc")
+def need_host():
+    """Skips a test of what is for this machine's processor and C library alone."""
+    if not IS_HOST:
+        raise unittest.SkipTest(f"{OUT} is for another processor or C library")
+
+
+def need_glibc():
+    if "musl" in COMPILER:
+        raise unittest.SkipTest("musl has nothing of the kind")
 
 
 def need_original():
     if not ORIGINAL.exists():
-        raise unittest.SkipTest("libargon2-1 isn't installed")
+        raise unittest.SkipTest(f"{ORIGINAL} is not there")
 
 
 def wraps(sources):
@@ -56,9 +83,33 @@ def wraps(sources):
 def built(name, flags, linked, cc=None):
     """A test in C, built by a compiler."""
     program = ROOM / f"{name}-{len(list(ROOM.iterdir()))}"
-    sources = [f"tests/{name}.c", *map(str, linked)]
-    run(cc or compiler(), *WARNINGS, *flags, *wraps(sources), *sources, "-o", program)
-    return program
+    folder = "tests" if (HERE / f"{name}.c").exists() else f"tests/{ARCH}"
+    sources = [f"{folder}/{name}.c", *map(str, linked)]
+    run(cc or COMPILER, *WARNINGS, *flags, *wraps(sources), *sources, "-o", program)
+    return runnable(program)
+
+
+def runnable(program):
+    """A program, or the script that runs one of another processor."""
+    if IS_NATIVE:
+        return program
+    need(EMULATOR[0])
+    script = program.with_suffix(".sh")
+    script.write_text(f'#!/bin/sh\nexec {shlex.join(EMULATOR)} {program} "$@"\n')
+    script.chmod(0o755)
+    return script
+
+
+def python(*words, env=None, at=TOP):
+    """Runs a Python of the processor that the library is for."""
+    if IS_NATIVE:
+        need_host()
+        return helpers.run(sys.executable, *words, env=env, at=at)
+    need(EMULATOR[0])
+    if not (ROOT / "usr/bin/python3").exists():
+        raise unittest.SkipTest(f"{ROOT} is not there: tests/arm64/root.sh makes it")
+    line = (EMULATOR[0], "-L", ROOT, ROOT / "usr/bin/python3", *words)
+    return helpers.run(*line, env={**(env or {}), "PYTHONHOME": str(ROOT / "usr")}, at=at)
 
 
 def run_sanitized(*words):
@@ -68,13 +119,25 @@ def run_sanitized(*words):
     if not library.exists():
         flags = [*WARNINGS, *SANITIZED, IN_THREADS, "-fPIC", "-shared", "-Wl,-Bsymbolic"]
         sources = ["tests/getrandom.c", *LIBARGON2, *SOURCES]
-        run(compiler(), *flags, *wraps(sources), *sources, "-o", library)
-    preloaded = run(compiler(), "-print-file-name=libasan.so").strip()
-    env = {"LD_PRELOAD": preloaded, "ASAN_OPTIONS": "detect_leaks=0", "PYTHONMALLOC": "malloc"}
-    return helpers.run(sys.executable, *words, env={**env, "LIBRARY": str(library)}, at=HERE)
+        run(COMPILER, *flags, *wraps(sources), *sources, "-o", library)
+    env = {"LIBRARY": str(library)}
+    if SANITIZED:
+        preloaded = run(COMPILER, "-print-file-name=libasan.so").strip()
+        env |= {"LD_PRELOAD": preloaded, "ASAN_OPTIONS": "detect_leaks=0"}
+        env |= {"PYTHONMALLOC": "malloc"}
+    return python(*words, env=env, at=HERE)
+
+
+def need_build(build):
+    """Skips a test of a build that the toolchain couldn't make, or that this processor lacks."""
+    if " cred_check\n" not in run("nm", OUT / f"{build}.o"):
+        raise unittest.SkipTest(f"the toolchain made no {build}")
+    features = pathlib.Path("/proc/cpuinfo").read_text().split()
+    if build == "v4" and not AVX512 <= {*features}:
+        raise unittest.SkipTest(f"this processor has no {build}")
 
 
 def sources_for(build):
-    """The sources with one build alone."""
-    given = [it for it in SOURCES if not it.endswith("processor.c")]
-    return [f"-DGIVEN=BUILD_{build.upper()}", "tests/given_build.c", *given]
+    """The sources, of whose builds one is chosen."""
+    need_build(build)
+    return [f"-DGIVEN=build_{build}", "tests/given_build.c", *SOURCES]

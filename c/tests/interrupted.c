@@ -1,5 +1,5 @@
-/* Calls with threads in a program that gets signals, cancels its threads, forks, and may start no
- * thread: each tag is right, helpers handle no signal, and none is there after the call. */
+/* Calls in a program that gets signals, cancels its threads, forks, and may start no thread: each
+ * tag is right, helpers handle no signal, and none is there after the call. */
 #define _GNU_SOURCE
 #include "check.h"
 #include "rigzumal.h"
@@ -8,7 +8,9 @@
 #include <pthread.h>
 #include <signal.h>
 #include <stdatomic.h>
+#include <stdbool.h>
 #include <sys/resource.h>
+#include <sys/time.h>
 #include <unistd.h>
 
 enum { LANES = 4, SIGNALS = 400, CANCELS = 20, FORKS = 20, NOBODY = 65534 };
@@ -141,6 +143,41 @@ static void test_forks(void) {
     check_threads();
 }
 
+static pid_t forked;
+
+static void fork_in_handler(int number) {
+    (void)number;
+    if (forked == -1)
+        forked = fork();
+}
+
+/* A child that is forked by a handler in the midst of a call, and goes on with it, answers right or
+ * ends by abort: it neither answers wrong nor waits for ever. */
+static void test_forks_in_calls(void) {
+    struct sigaction action = {.sa_handler = fork_in_handler};
+    CHECK(sigaction(SIGALRM, &action, NULL) == 0);
+    int aborted = 0;
+    for (int turn = 0; turn < 2 * FORKS; turn++) {
+        struct itimerval soon = {.it_value.tv_usec = 300 + turn * 317};
+        unsigned char tag[32];
+        forked = -1;
+        CHECK(setitimer(ITIMER_REAL, &soon, NULL) == 0);
+        while (forked == -1)
+            make_tag(tag, turn % 2 == 0 ? 1 : LANES);
+        bool is_right = memcmp(tag, wanted, sizeof tag) == 0;
+        if (forked == 0)
+            _exit(!is_right);
+        int status, waits = 0;
+        while (waitpid(forked, &status, WNOHANG) == 0 && waits++ < 20000)
+            usleep(1000);
+        CHECK(waits < 20000 || kill(forked, SIGKILL) != 0);
+        CHECK(is_right &&
+              (WIFEXITED(status) ? WEXITSTATUS(status) == 0 : WTERMSIG(status) == SIGABRT));
+        aborted += WIFSIGNALED(status);
+    }
+    CHECK(aborted > 0);
+}
+
 /* In a child that may start no thread, while its parent calls too: neither reaches what the other
  * has. */
 static void test_no_threads(void) {
@@ -165,6 +202,7 @@ int main(void) {
     test_signals();
     test_cancellation();
     test_forks();
+    test_forks_in_calls();
     test_no_threads();
     return 0;
 }

@@ -144,8 +144,8 @@ static int libargon2_verify_ctx(struct vault *it) {
     return argon2_verify_ctx(&context, (const char *)it->tag_with_secret, Argon2_id);
 }
 
-/* What the caller wants cleared is cleared when the tag is made, and as it was after a refusal: a
- * second try is of the same password. */
+/* What the caller wants cleared is cleared. After a refusal it is as it was, and a second try is of
+ * the same password; or if the tag was begun it is gone, and a second try is refused too. */
 static int clearing(struct vault *it, argon2_context context) {
     context.pwd = memcpy(it->given_password, it->password, sizeof it->password);
     context.secret = memcpy(it->given_secret, it->secret, sizeof it->secret);
@@ -157,8 +157,14 @@ static int clearing(struct vault *it, argon2_context context) {
         return answer;
     }
     CHECK(context.pwdlen == sizeof it->password && context.secretlen == sizeof it->secret);
-    CHECK(memcmp(it->given_password, it->password, sizeof it->password) == 0);
-    CHECK(memcmp(it->given_secret, it->secret, sizeof it->secret) == 0);
+    if (context.pwd == NULL) {
+        CHECK(is_all(it->given_password, 0, sizeof it->password));
+        CHECK(context.secret == NULL && is_all(it->given_secret, 0, sizeof it->secret));
+        CHECK_NUMBER(argon2_ctx(&context, Argon2_id), ARGON2_PWD_PTR_MISMATCH);
+    } else {
+        CHECK(memcmp(context.pwd, it->password, sizeof it->password) == 0);
+        CHECK(memcmp(context.secret, it->secret, sizeof it->secret) == 0);
+    }
     memset(it->given_password, 0, sizeof it->password);
     memset(it->given_secret, 0, sizeof it->secret);
     return answer;

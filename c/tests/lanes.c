@@ -106,11 +106,12 @@ static void test_blocked_signals(void) {
     pthread_sigmask(SIG_SETMASK, &before, NULL);
 }
 
-/* In a program whose threads have small stacks. */
+/* In a program whose threads have small stacks, of 64 KiB or the least that the system allows. */
 static void test_small_stacks(void) {
+    size_t least = (size_t)__real_sysconf(_SC_THREAD_STACK_MIN);
     pthread_attr_t attributes;
     CHECK(pthread_getattr_default_np(&attributes) == 0);
-    CHECK(pthread_attr_setstacksize(&attributes, 64 * 1024) == 0);
+    CHECK(pthread_attr_setstacksize(&attributes, least > 64 * 1024 ? least : 64 * 1024) == 0);
     CHECK(pthread_setattr_default_np(&attributes) == 0);
     test_order(5);
     CHECK(pthread_attr_setstacksize(&attributes, 1024 * 1024) == 0);

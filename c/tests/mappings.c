@@ -112,6 +112,24 @@ static void test_kept_areas(void) {
     }
 }
 
+/* A bound of 2 GiB keeps so much of many callers at one time. */
+static void test_many_areas(void) {
+    enum { MANY = 128 };
+    unsigned char *taken[MANY];
+    keep_at_most((size_t)MANY * AREA);
+    for (int turn = 0; turn < 2; turn++) {
+        for (int i = 0; i < MANY; i++)
+            taken[i] = take_zeros(AREA);
+        most_mapped = mapped; /* those of the first turn are taken again */
+        CHECK(mapped == (size_t)MANY * AREA);
+        for (int i = 0; i < MANY; i++)
+            give_zeros(taken[i]);
+    }
+    most_mapped = SIZE_MAX;
+    CHECK(unmap_kept_areas() == (size_t)MANY * AREA);
+    keep_at_most(KEPT);
+}
+
 /* The smallest area that is large enough is taken, and the others stay for what needs them. */
 static void test_smallest_area(void) {
     unmap_kept_areas();
@@ -206,6 +224,7 @@ int main(void) {
     test_advice();
     test_giving_back();
     test_kept_areas();
+    test_many_areas();
     test_smallest_area();
     test_replaced_areas();
     test_grown_areas();

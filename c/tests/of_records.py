@@ -9,7 +9,23 @@ from rigzumal_calls import call, inputs, numbers, written, written_text
 
 COSTS = "$argon2id$v=19$m=256,t=2,p=1"
 SECRETS = (None, b"secret")
+# Of more lanes, and so of no password that is known here.
+COSTS_OF_LANES, RECORD_OF_LANES = COSTS.replace("p=1", "p=2"), RECORD.replace("p=1", "p=2")
 LONG = 2**32
+# An input that failed to load has a size and no bytes: its fault.
+LOST = {
+    "password": N.NULL_PASSWORD,
+    "salt": N.NULL_SALT,
+    "secret": N.NULL_SECRET,
+    "associated": N.NULL_ASSOCIATED,
+}
+
+
+def lost(name, **others):
+    """Good inputs but for one that is lost."""
+    return inputs(
+        **{"password": "password", "salt": "somesalt", name: None, f"{name}_size": 32}, **others
+    )
 
 
 class Records(unittest.TestCase):
@@ -94,6 +110,44 @@ class Records(unittest.TestCase):
                 found = written_text("record_from", room, tag_size, costs, given)
                 self.assertEqual(found, (fault, ""), (costs, salt, tag_size, secret, threads))
 
+    def test_lost_inputs(self):
+        """A password, a secret or data that is lost makes no record and checks none. A salt that is
+        lost makes no tag; a new record has a random one, and a check reads none."""
+        for (name, fault), threads in itertools.product(LOST.items(), (1, 2)):
+            with self.subTest(name, threads=threads):
+                given = lost(name, threads=threads)
+                tag = (numbers(2, 19, 64, 1, 2), given)
+                self.assertEqual(written("argon2_from", 32, *tag)[0], fault)
+                for costs, record, verdict in (
+                    (COSTS, RECORD, N.OK),
+                    (COSTS_OF_LANES, RECORD_OF_LANES, N.MISMATCH),
+                ):
+                    made = written_text("record_from", N.TEXT_SIZE, 32, costs, given)[0]
+                    judged = call("check_from", record, given)
+                    wanted = (N.OK, verdict) if name == "salt" else (fault, fault)
+                    self.assertEqual((made, judged), wanted)
+
+    def test_lost_inputs_by_place(self):
+        """The same of the calls that have their inputs in places."""
+        good = {"password": b"password", "salt": b"somesalt", "secret": b"", "associated": b""}
+        for name, fault in LOST.items():
+            given = {**good, name: (None, 32)}
+            password, secret = given["password"], given["secret"]
+            calls = [written("argon2", 32, numbers(2, 19, 8, 1, 1), *given.values())]
+            if name in ("password", "salt"):
+                calls.append(written("scrypt", 32, numbers(1, 1, 1), password, given["salt"]))
+            if name in ("password", "secret"):
+                new = (N.TEXT_SIZE, 32, COSTS, b"somesalt", password, secret)
+                calls.append(written_text("record_with_secret", *new))
+                calls.append((call("check_with_secret", RECORD, password, secret),))
+            if name == "password":
+                new = (N.TEXT_SIZE, 32, COSTS_OF_LANES, b"somesalt", password)
+                calls += [written_text("record", *new), written_text("record_threads", *new, 2)]
+                calls.append((call("check", RECORD_OF_LANES, password),))
+                calls.append((call("check_threads", RECORD_OF_LANES, password, 2),))
+            for answer, *_ in calls:
+                self.assertEqual(answer, fault, name)
+
     def test_long_inputs(self):
         """An input of 2^32 bytes, which are never read."""
         names = ("password", "salt", "secret", "associated")
@@ -109,3 +163,11 @@ class Records(unittest.TestCase):
             found = written_text("record_from", N.TEXT_SIZE, 32, COSTS, given)
             self.assertEqual(found, (N.INPUT_SIZE, ""))
             self.assertEqual(call("check_from", RECORD, given), N.INPUT_SIZE)
+            for size in (
+                LONG,
+                3 * 2**62 + 12,
+                2**64 - 1,
+            ):  # 4/3 of the second are 16 in 64 bits
+                given = inputs(password="", salt_size=size, secret=secret, threads=threads)
+                found = written_text("record_from", N.TEXT_SIZE, 32, COSTS, given)
+                self.assertEqual(found, (N.TOO_LONG, ""))

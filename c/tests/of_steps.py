@@ -90,6 +90,26 @@ class Steps(unittest.TestCase):
             found = step(operation, copy, password, new, setting, room)
             self.assertEqual(found, (fault, "", NO_REPLY), (operation, copy))
 
+    def test_lost_inputs(self):
+        """A password or a secret that has a size and no bytes is refused, whatever the copy."""
+        lost, good = (None, 8), pair("password")
+        for operation, copy, secret, threads in itertools.product(
+            OPERATIONS, (None, RECORD), (None, "pepper"), (1, 2)
+        ):
+            given = {"secret": secret, "threads": threads}
+            with self.subTest(operation=operation, copy=copy, **given):
+                found = step_from(operation, copy, lost, good, COSTS, **given)
+                self.assertEqual(found, (N.NULL_PASSWORD, "", NO_REPLY))
+                if operation == N.CHANGE:
+                    found = step_from(operation, copy, good, lost, COSTS, **given)
+                    self.assertEqual(found, (N.NULL_PASSWORD, "", NO_REPLY))
+                given |= {"secret": None, "secret_size": 8}
+                found = step_from(operation, copy, good, good, COSTS, **given)
+                self.assertEqual(found, (N.NULL_SECRET, "", NO_REPLY))
+        for password, new in ((lost, good), (good, lost)):
+            found = step(N.CHANGE, RECORD, password, new, COSTS)
+            self.assertEqual(found, (N.NULL_PASSWORD, "", NO_REPLY))
+
     def test_beside_the_proved_one(self):
         """An empty secret changes no tag: so with it, and with threads, each step is the proved
         one's, with good inputs and with bad ones."""

@@ -74,7 +74,8 @@ MEANINGS = (
     "the tag|out of memory|512 bytes|another password|room|kind of Argon2|version of Argon2|"
     "lanes is not 1 to 255|8 KiB a lane to 2 GiB|pass|4 to 2^32 - 1 bytes|an input has 2^32 bytes|"
     "the cost is out of range|the block size is not 1 to 255|the parallelization is not 1 to 255|"
-    "the key has not 1|operation|the copy is not a record|256 bytes|random bytes|other costs"
+    "the key has not 1|operation|the copy is not a record|256 bytes|random bytes|other costs|"
+    "the password is null|the salt is null|the secret is null|the associated data is null"
 ).split("|")
 
 
@@ -131,6 +132,11 @@ class Texts(unittest.TestCase):
             self.check_fault("$" * size, N.SCHEME if size < N.TEXT_SIZE else N.TOO_LONG)
             fault, _ = parts("$scrypt$ln=4,r=8,p=1$".ljust(size, "A"))
             self.assertIn(fault, (N.SALT, N.TOO_LONG, N.SHAPE))
+            one_too_many = f"{RECORD}$".ljust(size, "A")
+            fault = N.SHAPE if size < N.TEXT_SIZE else N.TOO_LONG
+            self.check_fault(one_too_many, fault)
+            self.assertEqual(call("needs_rehash", one_too_many, COSTS, 8, 32), fault)
+            self.assertEqual(call("needs_rehash", RECORD, one_too_many, 8, 32), fault)
 
     def test_long_costs(self):
         """The same of costs and salts, which are joined."""
@@ -149,7 +155,9 @@ class Texts(unittest.TestCase):
 
     def test_needs_rehash(self):
         i, scrypt = COSTS.replace("2id", "2i"), "$scrypt$ln=8,r=8,p=1"
-        other_scrypt = [f"$scrypt$ln={n},r={r},p={p}" for n, r, p in ((7, 8, 1), (8, 9, 1), (8, 8, 2))]
+        other_scrypt = [
+            f"$scrypt$ln={n},r={r},p={p}" for n, r, p in ((7, 8, 1), (8, 9, 1), (8, 8, 2))
+        ]
         for record, costs, salt_size, tag_size, wanted in (
             (RECORD, COSTS, 8, 32, N.OK),
             (RECORD, f"{COSTS}${SALT}", 0, 32, N.OK),

@@ -1,9 +1,9 @@
-/* Stand-ins for the exports that work a segment, in each build: what they are given goes to a
- * function of the test. */
+/* A stand-in for the export that works a segment: what it is given goes to a function of the test.
+ */
 #ifndef SEGMENTS_H
 #define SEGMENTS_H
 
-#include "parts.h"
+#include "builds.h"
 
 struct given_segment {
     const struct tag_numbers *numbers;
@@ -14,18 +14,16 @@ struct given_segment {
     size_t own_count;
 };
 
-#define STAND_IN(build, work)                                                                      \
-    uint8_t build##_cred_argon2_segment(                                                           \
-        const struct tag_numbers *numbers, const struct segment_index *index,                      \
-        const struct argon2_block *oldest, size_t oldest_count, const struct argon2_block *middle, \
-        size_t middle_count, const struct argon2_block *newest, size_t newest_count,               \
-        struct argon2_block *own, size_t own_count) {                                              \
+#define STAND_IN(work)                                                                             \
+    static uint8_t stand_in(const struct tag_numbers *numbers, const struct segment_index *index,  \
+                            const struct argon2_block *oldest, size_t oldest_count,                \
+                            const struct argon2_block *middle, size_t middle_count,                \
+                            const struct argon2_block *newest, size_t newest_count,                \
+                            struct argon2_block *own, size_t own_count) {                          \
         struct given_segment given = {                                                             \
             numbers,      index,        oldest,       middle, newest,                              \
             oldest_count, middle_count, newest_count, own,    own_count};                          \
         return work(&given);                                                                       \
     }
-
-#define STAND_INS(work) STAND_IN(v1, work) STAND_IN(v2, work) STAND_IN(v3, work)
 
 #endif

@@ -1,8 +1,8 @@
-/* Each call on small stacks: of RIGZUMAL_STACK_SIZE bytes, and of a thread with 32 KiB. Below each
- * stack no page can be read or written, so that a call which reaches deeper ends the program. On a
- * painted stack, of which it clears nothing, a call shows how deep it reaches: a quarter more is
- * cleared. The program is bound lazily, and LD_BIND_NOT has each call of the C library looked up
- * anew. */
+/* Each call on small stacks: of RIGZUMAL_STACK_SIZE bytes, and of a thread with 32 KiB or the least
+ * that the system allows. Below each stack no page can be read or written, so that a call which
+ * reaches deeper ends the program. On a painted stack, of which it clears nothing, a call shows how
+ * deep it reaches: a quarter more is cleared. The program is bound lazily, and LD_BIND_NOT has each
+ * call of the C library looked up anew. */
 #define _GNU_SOURCE
 #include "check.h"
 #include "jobs.h"
@@ -12,6 +12,7 @@
 #include <stdbool.h>
 #include <sys/mman.h>
 #include <ucontext.h>
+#include <unistd.h>
 
 enum { PAGE = 4096, PAINT = 0xa5 };
 
@@ -79,11 +80,12 @@ static void call_on_paint(unsigned char *stack, size_t size) {
 }
 
 int main(void) {
-    static const struct {
+    size_t least = (size_t)sysconf(_SC_THREAD_STACK_MIN);
+    const struct {
         void (*call)(unsigned char *stack, size_t size);
         size_t size;
     } ways[] = {{call_on_stack, RIGZUMAL_STACK_SIZE},
-                {call_on_thread, 32 * 1024},
+                {call_on_thread, least > 32 * 1024 ? least : 32 * 1024},
                 {call_on_paint, 256 * 1024}};
     fill_vault(&vault);
     for (size_t at = 0; at < (size_t)job_count * COUNT(ways); at++) {

@@ -1,23 +1,12 @@
 """Tests of each call, of the choice of a build, and of what the libraries show."""
 
+import pathlib
 import re
+import sys
 import unittest
 
-from harness import ALL_WARNINGS, JOBS, LIBARGON2, ORIGINAL, OUT, ROOM, SANITIZED, SOURCES, TOP
-from harness import built, need, run, sources_for
-
-
-BUILDS = {"v1", "v2", "v3"}
-
-
-def with_one_build(build):
-    """The sources with a build alone: a call of another's exports ends the program."""
-    one, other = BUILDS - {build}
-    for name in (one, other):
-        run("objcopy", "--weaken", OUT / f"{name}.o", ROOM / f"weak-{name}.o")
-    others = [it for it in sources_for(build) if it not in (f"out/{one}.o", f"out/{other}.o")]
-    weak = [ROOM / f"weak-{it}.o" for it in (one, other)]
-    return ["tests/other_builds.c", f"-DONE={one}", f"-DOTHER={other}", *others, *weak]
+from harness import ALL_WARNINGS, BUILDS, JOBS, LIBARGON2, ORIGINAL, OUT, ROOM, SANITIZED, SOURCES
+from harness import TOP, WITHOUT_BUILDS, built, need, need_host, run, sources_for
 
 
 # The build that processors are to run, as qemu calls them.
@@ -28,6 +17,16 @@ PROCESSORS = {
 }
 LEVEL_2 = "sse3 ssse3 sse4.1 sse4.2 cx16 popcnt lahf-lm".split()
 LEVEL_3 = "avx avx2 bmi1 bmi2 f16c fma abm movbe xsave".split()
+# Bits of leaf 7 and of XCR0: qemu has no such processor.
+LEVEL_4 = {"avx512f": 16, "avx512dq": 17, "avx512cd": 28, "avx512bw": 30, "avx512vl": 31}
+STATES = {"sse": 1, "avx": 2, "k0 to k7": 5, "zmm0 to zmm15": 6, "zmm16 to zmm31": 7}
+LOADER = pathlib.Path("/lib64/ld-linux-x86-64.so.2")
+
+
+def processor(*flags, kept=None):
+    """The test of which build is chosen, in a system that keeps some registers, as XCR0 has them."""
+    system = [] if kept is None else [f'-DREAD_KEPT_REGISTERS="mov ${kept}, %0; mov $0, %1"']
+    return built("processor", ["-O2", "-static", *flags, *system], WITHOUT_BUILDS)
 
 
 class Calls(unittest.TestCase):
@@ -35,19 +34,21 @@ class Calls(unittest.TestCase):
         """clang-format leaves the sources as they are."""
         need("clang-format")
         files = [
-            it for folder in ("src", "include", "tests") for it in (TOP / folder).glob("*.[ch]")
+            it for folder in ("src", "include", "tests") for it in (TOP / folder).rglob("*.[ch]")
         ]
         run("clang-format", "--dry-run", "-Werror", *files)
 
     def test_calls_of_each_build(self):
         """Each call as on processors of each level, under the sanitizers."""
-        for build in sorted(BUILDS):
-            run(built("calls", [*SANITIZED, *JOBS], LIBARGON2 + with_one_build(build)))
+        for build in BUILDS:
+            with self.subTest(build):
+                run(built("calls", [*SANITIZED, *JOBS], LIBARGON2 + sources_for(build)))
 
     def test_processors(self):
         """Each build is chosen where every feature of its level is there."""
+        need_host()
         need("qemu-x86_64")
-        program = built("processor", ["-O2", "-static"], ["src/processor.c"])
+        program = processor()
         wanted = {name: build for build, names in PROCESSORS.items() for name in names.split()}
         wanted.update({f"Haswell,-{feature}": "v1" for feature in LEVEL_2})
         wanted.update({f"Haswell,-{feature}": "v2" for feature in LEVEL_3})
@@ -55,13 +56,41 @@ class Calls(unittest.TestCase):
             chosen = run("qemu-x86_64", "-cpu", name, program).split()[-1]
             self.assertEqual(chosen, build, name)
         for kept in (1, 3, 5):  # the bits of x87, SSE and AVX: not both of the last two
-            system = [f'-DREAD_KEPT_REGISTERS="mov ${kept}, %0; mov $0, %1"', "-O2", "-static"]
-            program = built("processor", system, ["src/processor.c"])
-            chosen = run("qemu-x86_64", "-cpu", "Haswell", program).split()[-1]
+            chosen = run("qemu-x86_64", "-cpu", "Haswell", processor(kept=kept)).split()[-1]
             self.assertEqual(chosen, "v2", f"a system that keeps the registers {kept}")
+
+    def test_processors_with_avx512(self):
+        """The newest build is chosen where every feature of its level is there, the system keeps its
+        registers, and the toolchain could make it."""
+        need_host()
+        every, lacking = 0xE7, "-Itests/x86_64/lacking"
+        program = processor(lacking, kept=every)
+        self.assertEqual(run(program), "v4\n")
+        for name, bit in LEVEL_4.items():
+            self.assertEqual(run(program, "7", bit), "v3\n", name)
+        for name, bit in STATES.items():
+            said = run(processor(lacking, kept=every & ~(1 << bit)))
+            self.assertEqual(said, "v2\n" if bit < 5 else "v3\n", name)
+        self.assertEqual(run(processor(lacking, "-DLEFT_OUT", kept=every)), "v3\n")
+
+    def test_toolchain_without_clang(self):
+        """Where the toolchain has no clang for the newest build, its maker says so and fails."""
+        words = (sys.executable, "build_v4.py", ROOM / "v4.a")
+        said = run(*words, env={"RT": "false"}, status=1)
+        self.assertIn("The library is built without x86-64-v4", said)
+        self.assertFalse((ROOM / "v4.a").exists())
+
+    def test_this_processor(self):
+        """The build that is chosen here is of the highest level that the loader sees."""
+        need_host()
+        if not LOADER.exists():
+            self.skipTest(f"{LOADER} is not there")
+        levels = re.findall(r"x86-64-(v\d) \(supported", run(LOADER, "--help"))
+        self.assertEqual(run(processor()).strip(), max(levels, default="v1"))
 
     def test_calls_on_processors(self):
         """Each call on a processor of each level, which knows no instructions of the next one."""
+        need_host()
         need("qemu-x86_64")
         program = built("calls", ["-O2", "-static", *JOBS], LIBARGON2 + SOURCES)
         for processor in ("qemu64", "Nehalem", "Haswell"):
@@ -69,18 +98,42 @@ class Calls(unittest.TestCase):
 
     def test_older_compilers(self):
         """The oldest compilers that Debian has, under all warnings."""
+        need_host()
         need("gcc-11", "clang-13")
         for compiler in ("gcc-11", "clang-13"):
             run(built("calls", ["-O2", *JOBS], LIBARGON2 + SOURCES, compiler))
 
     def test_header_in_cpp(self):
         """The header is one of C++ too."""
+        need_host()
         need("c++")
         source, program = ROOM / "header.cc", ROOM / "header"
         main = "int main() { return rigzumal_strerror(0) == nullptr; }"
         source.write_text(f'#include "rigzumal.h"\n{main}\n')
         run("c++", *ALL_WARNINGS.split(), "-Iinclude", source, "out/librigzumal.a", "-o", program)
         run(program)
+
+    def test_ignored_answers(self):
+        """Compilers warn of each call of which a program ignores the fault, and of no other use."""
+        header = (TOP / "include/rigzumal.h").read_text()
+        calls = re.findall(r"^int (rigzumal_\w+)\(([^;]*)\)", header, re.MULTILINE)
+        lines = [f"{name}({', '.join('0' for _ in given.split(','))})" for name, given in calls]
+        source = ROOM / "uses.c"
+        for use, wanted in (
+            ("{};", [it for it in lines if "explain" not in it]),
+            ("if ({} == RIGZUMAL_OK) return;", []),
+        ):
+            body = "".join(f"    {use.format(it)}\n" for it in lines)
+            source.write_text(
+                f'#include "rigzumal.h"\nvoid use(void);\nvoid use(void) {{\n{body}}}\n'
+            )
+            for cc in ("gcc", "clang", "g++"):
+                with self.subTest(use, cc=cc):
+                    need(cc)
+                    options = ("-Wall", "-Iinclude", "-c", "-o", "/dev/null")
+                    said = run(cc, *options, source)
+                    warned = re.findall(r"uses.c:(\d+):.*ignoring return value", said)
+                    self.assertEqual([lines[int(it) - 4] for it in warned], wanted)
 
     def test_symbols(self):
         """The libraries show their calls and no others: those of the header, and the original's."""

@@ -6,14 +6,14 @@ import sys
 import unittest
 
 from harness import HERE, ORIGINAL, OURS, OUT, ROOM
-from harness import need, need_module, need_original, run, run_sanitized
+from harness import need, need_host, need_module, need_original, python, run, run_sanitized
 
 
 class Libargon2(unittest.TestCase):
     def test_against_libargon2(self):
         """The original's answers over random calls, good and bad."""
         need_original()
-        run(sys.executable, HERE / "against_libargon2.py", OUT / "libargon2.so.1", ORIGINAL, "1")
+        python(HERE / "against_libargon2.py", OUT / "libargon2.so.1", ORIGINAL, "1")
 
     def test_against_libargon2_sanitized(self):
         """The same with our C under the sanitizers and all lanes in threads, over other calls."""
@@ -22,6 +22,7 @@ class Libargon2(unittest.TestCase):
 
     def test_passlib_argon2(self):
         """passlib's own tests for Argon2 run as with the original."""
+        need_host()
         need_original()
         need_module("argon2", "passlib.tests.test_handlers_argon2")
         words = (sys.executable, "-W", "ignore", "-m", "unittest")
@@ -31,6 +32,7 @@ class Libargon2(unittest.TestCase):
 
     def test_php(self):
         """password_hash under each library, password_verify under the other."""
+        need_host()
         need_original()
         need("php")
         if "libargon2" not in run("ldd", shutil.which("php")):
@@ -46,6 +48,7 @@ class Libargon2(unittest.TestCase):
 
     def test_cryptsetup(self):
         """A LUKS2 header made under each library is opened under the other."""
+        need_host()
         need_original()
         need("cryptsetup")
         try:

@@ -1,11 +1,14 @@
 """Tests of what is installed and packed of the library."""
 
+import os
 import re
+import shlex
 import shutil
 import stat
 import unittest
 
-from harness import OUT, ROOM, TOP, compiler, files_below, need, run
+from harness import COMPILER, IS_HOST, OUT, ROOM, TOP, TRIPLET
+from harness import files_below, need, need_glibc, need_host, run, runnable
 
 
 VERSION = (TOP.parent / "VERSION").read_text().strip()
@@ -20,7 +23,7 @@ INSTALLED = {
     "lib/rigzumal/libargon2.so.1",
     "share/man/man3/rigzumal.3",
 }
-LIBRARIES = "usr/lib/x86_64-linux-gnu"
+LIBRARIES = f"usr/lib/{TRIPLET}"
 LOADED = {"lib/librigzumal.so.1", "lib/rigzumal/libargon2.so.1"}
 
 
@@ -49,50 +52,106 @@ def check_pkg_config(env):
 
 CMAKE = """cmake_minimum_required(VERSION 3.10)
 project(threads C)
-find_package(rigzumal 0.2 REQUIRED)
+find_package(rigzumal {version} EXACT REQUIRED)
 foreach(kind rigzumal static)
-  add_executable(threads-${kind} threads.c)
-  target_link_libraries(threads-${kind} rigzumal::${kind})
+  add_executable(threads-${{kind}} threads.c)
+  target_link_libraries(threads-${{kind}} rigzumal::${{kind}})
 endforeach()
-find_package(rigzumal 99 QUIET)
-if(rigzumal_FOUND)
-  message(FATAL_ERROR "a later version is found")
-endif()
+foreach(wanted {wanted})
+  find_package(rigzumal ${{wanted}} QUIET)
+  message("${{wanted}} is found: ${{rigzumal_FOUND}}")
+endforeach()
 """
+# What a program may ask for, and whether this version is that.
+ASKED = {
+    "0.1": True,
+    VERSION: True,
+    "99": False,
+    "0.1...99": True,
+    f"0.1...{VERSION}": True,
+    f"0.1...<{VERSION}": False,
+    "0.1...0.1.9": False,
+    "98...99": False,
+}
 
 
 class Package(unittest.TestCase):
-    def test_installed(self):
-        """A program built by pkg-config over what `make install` put there."""
-        need("pkg-config")
-        prefix = ROOM / "installed"
-        run("sh", "-c", f"umask 077; make install PREFIX={prefix}")
-        self.assertEqual(files_below(prefix), INSTALLED)
-        for it in prefix.rglob("*"):  # everybody may read it, whoever installed it
-            wanted = 0o755 if it.is_dir() else 0o644
-            self.assertEqual(stat.S_IMODE(it.stat().st_mode), wanted, it)
+    def check_program(self, prefix, libdir, *options):
+        """A program built by pkg-config over what is installed in a folder."""
         env = {
-            "PKG_CONFIG_PATH": str(prefix / "lib/pkgconfig"),
-            "LD_LIBRARY_PATH": str(prefix / "lib"),
+            "PKG_CONFIG_PATH": str(prefix / libdir / "pkgconfig"),
+            "LD_LIBRARY_PATH": str(prefix / libdir),
         }
         check_pkg_config(env)
-        flags = run("pkg-config", "--cflags", "--libs", "rigzumal", env=env).split()
-        run(compiler(), "tests/threads.c", "-pthread", *flags, "-o", ROOM / "of-installed")
-        run(ROOM / "of-installed", env=env)
+        said = run("pkg-config", *options, "--cflags", "--libs", "rigzumal", env=env)
+        self.assertIn(f"-I{prefix}/include", shlex.split(said))
+        flags = (*shlex.split(said), "-o", ROOM / "of-installed")
+        run(COMPILER, "tests/threads.c", "-pthread", *flags)
+        if IS_HOST:
+            linked = run("ldd", ROOM / "of-installed", env=env)
+            self.assertIn(f"{prefix / libdir}/librigzumal", linked)
+        run(runnable(ROOM / "of-installed"), env=env)
+
+    def test_installed(self):
+        """What `make install` puts into folders of any name; it stays right if it is moved."""
+        need("pkg-config")
+        for libdir in ("lib", "lib/of this"):
+            prefix = ROOM / f"installed in {libdir.replace('/', ' ')}"
+            words = f"PREFIX='{prefix}' LIBDIR='{prefix / libdir}'"
+            run("sh", "-c", f"umask 077; make install {words}")
+            wanted = {re.sub("^lib/", f"{libdir}/", it) for it in INSTALLED}
+            self.assertEqual(files_below(prefix), wanted)
+            for it in prefix.rglob("*"):  # everybody may read it, whoever installed it
+                mode = 0o755 if it.is_dir() else 0o644
+                self.assertEqual(stat.S_IMODE(it.stat().st_mode), mode, it)
+            self.check_program(prefix, libdir)
+        moved = (ROOM / "installed in lib").rename(ROOM / "moved")
+        self.check_program(moved, "lib", "--define-prefix")
 
     def test_cmake(self):
-        """A program built by CMake over what `make install` put there, with either library."""
+        """A program built by CMake over what `make install` put there, with either library, after the
+        folder was moved; and which versions are found."""
+        need_host()
         need("cmake")
-        prefix, room = ROOM / "installed-for-cmake", ROOM / "cmake"
+        prefix, room = ROOM / "installed for CMake", ROOM / "cmake"
         run("make", "install", f"PREFIX={prefix}")
+        prefix = prefix.rename(ROOM / "moved for CMake")
         room.mkdir()
         shutil.copy(TOP / "tests/threads.c", room)
         shutil.copy(TOP / "tests/check.h", room)
-        (room / "CMakeLists.txt").write_text(CMAKE)
-        run("cmake", "-S", room, "-B", room / "out", f"-DCMAKE_PREFIX_PATH={prefix}")
+        wanted = " ".join(f'"{it}"' for it in ASKED)
+        (room / "CMakeLists.txt").write_text(CMAKE.format(version=VERSION, wanted=wanted))
+        said = run("cmake", "-S", room, "-B", room / "out", f"-DCMAKE_PREFIX_PATH={prefix}")
+        found = re.findall(r"^(\S+) is found: (\d)$", said, re.M)
+        self.assertEqual({version: it == "1" for version, it in found}, ASKED)
         run("cmake", "--build", room / "out")
         for kind in ("rigzumal", "static"):
             run(room / "out" / f"threads-{kind}")
+
+    def test_rebuilt(self):
+        """What is told otherwise is made anew, and nothing else, whatever the times of the files: a
+        copy proves nothing again."""
+        need_host()
+        room = ROOM / "copied"
+        shutil.copytree(TOP, room / "c", ignore=shutil.ignore_patterns("*.o", "deb"))
+        for name in ("crates", "crates.txt", "VERSION"):
+            (room / name).symlink_to(TOP.parent / name)
+        out = room / "c" / OUT.relative_to(TOP)
+        for at, name in enumerate(("proved.sum", "v1.a", "v2.a", "v3.a", "v4.a")):
+            os.utime(out / name, (at, at))  # older than all sources
+
+        def made(*words):
+            return run("make", "RT=false", *words, at=room / "c")
+
+        made()
+        self.assertNotIn(COMPILER, made())
+        self.assertIn("-DUNUSED", made("CFLAGS=-O2 -DUNUSED"))
+        self.assertNotIn("-DUNUSED", made("CFLAGS=-O2 -DUNUSED"))
+        made("CFLAGS=-O2 -DUNUSED", "LDFLAGS=-Wl,--build-id=0x1234567890abcdef")
+        for name in ("librigzumal.so.1", "libargon2.so.1"):
+            self.assertIn("1234567890abcdef", run("readelf", "-n", out / name))
+        (out / "proved.sum").write_text("of other sources")
+        run("make", "RT=false", at=room / "c", status=2)
 
     def test_debian_symbols(self):
         """Debian's package says the library's symbols, each since a version that there was."""
@@ -122,7 +181,9 @@ class Package(unittest.TestCase):
         for with_others in (False, True):
             run("make", "install", *words)
             self.assertEqual(files_below(room), {f"opt/rigzumal/{name}" for name in INSTALLED})
-            config = (room / "opt/rigzumal/lib/pkgconfig/rigzumal.pc").read_text()
+            libraries = room / "opt/rigzumal/lib"
+            self.assertEqual(os.readlink(libraries / "librigzumal.so"), "librigzumal.so.1")
+            config = (libraries / "pkgconfig/rigzumal.pc").read_text()
             self.assertTrue(config.startswith("prefix=/opt/rigzumal\n"), config)
             self.assertNotIn("@", config)
             for name in others if with_others else ():
@@ -132,6 +193,12 @@ class Package(unittest.TestCase):
             for folder in ("rigzumal", "cmake/rigzumal"):
                 left = (room / "opt/rigzumal/lib" / folder).exists()
                 self.assertEqual(left, with_others, folder)
+
+    def test_static(self):
+        """A program that needs no shared library, over the archive."""
+        flags = ["-static", "-Iinclude", "-pthread"]
+        run(COMPILER, *flags, "tests/threads.c", OUT / "librigzumal.a", "-o", ROOM / "static")
+        run(runnable(ROOM / "static"))
 
     def test_hardened(self):
         """What the loader writes is read-only before the first call, and no stack can be run. No
@@ -144,6 +211,7 @@ class Package(unittest.TestCase):
     def test_debs(self):
         """Debian's packages: what lintian says of them, and a program over what they hold."""
         need("dpkg-deb", "lintian", "pkg-config")
+        need_glibc()
         for deb in OUT.glob("*.deb"):
             deb.unlink()
         run("make", "deb")
@@ -168,5 +236,5 @@ class Package(unittest.TestCase):
         check_pkg_config({"PKG_CONFIG_PATH": str(libraries / "pkgconfig")})
         program = ROOM / "of-debs"
         folders = (f"-I{room / 'usr/include'}", f"-L{libraries}")
-        run(compiler(), "tests/threads.c", "-pthread", *folders, "-lrigzumal", "-o", program)
-        run(program, env={"LD_LIBRARY_PATH": str(libraries)})
+        run(COMPILER, "tests/threads.c", "-pthread", *folders, "-lrigzumal", "-o", program)
+        run(runnable(program), env={"LD_LIBRARY_PATH": str(libraries)})

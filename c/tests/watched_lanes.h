@@ -39,7 +39,7 @@ static struct watched {
     uint64_t bad_segment, last_segment;
     _Atomic(int) takes, gives, begins, ends, starts, joins, alive;
     _Atomic(int) begun[MOST_SEGMENTS];
-    _Atomic(int) segments_over, has_fault;
+    _Atomic(int) segments_over, has_fault, child_looks;
     struct argon2_block *_Atomic bases[SLICES];
 } now;
 
@@ -75,9 +75,15 @@ static int is_caller(void) {
     return pthread_equal(pthread_self(), now.caller);
 }
 
-/* Every signal that a program may block; the C library keeps two of its own. */
+/* Every signal that a program may block; the C library keeps two of its own, and qemu-user the
+ * last two. */
+#ifndef LAST_SIGNAL
+#define LAST_SIGNAL SIGRTMAX
+#endif
+
 static bool is_signal(int number) {
-    return number != SIGKILL && number != SIGSTOP && (number < 32 || number >= SIGRTMIN);
+    return number != SIGKILL && number != SIGSTOP && number <= LAST_SIGNAL &&
+           (number < 32 || number >= SIGRTMIN);
 }
 
 static bool are_same_signals(const sigset_t *one, const sigset_t *other) {
@@ -85,6 +91,13 @@ static bool are_same_signals(const sigset_t *one, const sigset_t *other) {
         if (is_signal(number) && sigismember(one, number) != sigismember(other, number))
             return false;
     return true;
+}
+
+static void check_all_are_blocked(void) {
+    sigset_t blocked;
+    pthread_sigmask(SIG_SETMASK, NULL, &blocked);
+    for (int number = 1; number <= SIGRTMAX; number++)
+        CHECK(!is_signal(number) || sigismember(&blocked, number));
 }
 
 /* Whether each block of a row has this stamp. */
@@ -116,6 +129,13 @@ void *take_zeros(size_t size) {
     now.taken[number] = calloc(1, size);
     CHECK(now.taken[number] != NULL);
     return now.taken[number];
+}
+
+/* It is asked while nobody can fork any more before the wait. */
+void end_child_of(pid_t process) {
+    CHECK(process == getpid());
+    check_all_are_blocked();
+    count(&now.child_looks);
 }
 
 void give_zeros(void *start) {
@@ -205,13 +225,20 @@ static uint8_t segment(const struct given_segment *it) {
     return 0;
 }
 
-STAND_INS(segment)
+STAND_IN(segment)
 
-uint8_t v1_cred_argon2_segment_len(const struct tag_numbers *numbers, uint32_t *segment_size) {
+static uint8_t segment_len(const struct tag_numbers *numbers, uint32_t *segment_size) {
     if (numbers->kind > 2)
         return RIGZUMAL_NO_KIND;
     *segment_size = (uint32_t)now.segment;
     return 0;
+}
+
+static const struct build build = {.cred_argon2_segment = stand_in,
+                                   .cred_argon2_segment_len = segment_len};
+
+WRAP(const struct build *, processor_build, void) {
+    return &build;
 }
 
 static uint8_t end(const void *inputs, const struct argon2_block *last, size_t blocks) {
@@ -241,10 +268,7 @@ static struct start {
 
 static void *run_counted(void *given) {
     struct start *start = given;
-    sigset_t blocked;
-    pthread_sigmask(SIG_SETMASK, NULL, &blocked);
-    for (int number = 1; number <= SIGRTMAX; number++)
-        CHECK(!is_signal(number) || sigismember(&blocked, number));
+    check_all_are_blocked();
     void *result = start->run(start->given);
     usleep(200);
     now.alive--;
@@ -264,7 +288,14 @@ WRAP(int, pthread_create, pthread_t *thread, const pthread_attr_t *attributes, v
     return __real_pthread_create(thread, attributes, run_counted, start);
 }
 
+WRAP(int, pthread_cond_wait, pthread_cond_t *more, pthread_mutex_t *lock) {
+    check_all_are_blocked();
+    CHECK(seen(&now.child_looks) > 0);
+    return __real_pthread_cond_wait(more, lock);
+}
+
 WRAP(int, pthread_join, pthread_t thread, void **result) {
+    check_all_are_blocked();
     now.joins++;
     return __real_pthread_join(thread, result);
 }

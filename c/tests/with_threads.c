@@ -9,7 +9,11 @@
 #include <pthread.h>
 #include <sched.h>
 
-enum { SETS = 400, MOST_INPUT = 80, TEXT = RIGZUMAL_TEXT_SIZE };
+#ifndef SETS
+#define SETS 400
+#endif
+
+enum { MOST_INPUT = 80, TEXT = RIGZUMAL_TEXT_SIZE };
 
 static uint32_t refusals; /* of four */
 static uint64_t started;

@@ -6,7 +6,7 @@ import enum
 
 from rigzumal import _library
 from rigzumal._frozen import Frozen
-from rigzumal._library import Secret, in_range
+from rigzumal._library import Secret, in_range, whole_number
 
 TYPE_CHECKING = False
 if TYPE_CHECKING:
@@ -103,8 +103,9 @@ class _Hasher(Frozen):
     def _verified(self, hash: Secret, password: Secret) -> int:
         """Which of the secrets the record is of, counted from 0."""
         for place, secret in enumerate(self._secrets()):
-            fault = _library.check(hash, password, secret, self._threads())
-            if fault != _library.MISMATCH:
+            # Without a secret records of scrypt are verified too, and with one they aren't.
+            fault = _library.check(hash, password, secret or None, self._threads())
+            if fault not in (_library.MISMATCH, _library.SCHEME):
                 break
         _library.raise_fault(fault, hash)
         return place
@@ -144,7 +145,8 @@ class PasswordHasher(_Hasher):
         salt_len: bytes of a generated salt, 8 to 48.
         type: the kind of Argon2.
         secret: a pepper, which you keep apart from the records: RFC 9106's K. With it the hasher
-            verifies records of the same secret alone, and none of scrypt. No repr shows it.
+            verifies records of the same secret alone, and none of scrypt. It is never empty: an
+            unset variable is no pepper. No repr shows it.
         threads: how many threads may work the lanes of one record, the caller's among them; it
             changes no record. 1 is right for a service: other logins use the other processors.
             `parallelism` is right for a program that hashes one password at a time: 64 MiB and
@@ -153,11 +155,13 @@ class PasswordHasher(_Hasher):
         secrets: the new pepper and older ones, instead of `secret`, while peppers rotate. Records
             are made with the first, which is then `secret`, and verified with any: a wrong
             password costs a hash for each. `verify_and_rehash` replaces records of older ones.
+            b"" among the older ones stands for records that were made without a pepper.
 
     Raises:
         InvalidNumbersError: a number is out of its range.
         TypeError: a number is no int, or a secret isn't bytes.
-        ValueError: no such kind exists, or both a secret and secrets are given.
+        ValueError: no such kind exists, both a secret and secrets are given, or a new record
+            would have an empty secret.
     """
 
     time_cost: int
@@ -179,17 +183,22 @@ class PasswordHasher(_Hasher):
         type: Type = Type.ID,
         secret: Optional[Bytes] = None,
         threads: int = 1,
-        secrets: Iterable[Bytes] = (),
+        secrets: Optional[Iterable[Bytes]] = None,
     ) -> None:
         in_range("time_cost", time_cost, 1, _MOST, _PASSES)
         in_range("parallelism", parallelism, 1, 255, _LANES)
         in_range("memory_cost", memory_cost, 8 * parallelism, _MOST_MEMORY, _COST)
         in_range("threads", threads, 1, _MOST, _RANGE)
+        whole_number("type", type)
         self._check_sizes(hash_len, salt_len)
         one = None if secret is None else _library.data_of(secret)
-        several = tuple(_library.data_of(it) for it in secrets)
+        several = tuple(_library.data_of(it) for it in secrets or ())
         if several and one not in (None, several[0]):
             raise ValueError("secret and secrets are both given; give one of them")
+        if secrets is not None and not several:
+            raise ValueError("secrets is empty; without a pepper leave it out")
+        if b"" in (one, *several[:1]):
+            raise ValueError("the secret is empty; without a pepper leave it out")
         self._set(
             time_cost=time_cost,
             memory_cost=memory_cost,
@@ -206,7 +215,7 @@ class PasswordHasher(_Hasher):
         """The same with other values of some attributes."""
         if "secrets" in changes:
             changes = {"secret": None, **changes}
-        return super().replace(**changes)
+        return super().replace(**{"secrets": self.secrets or None, **changes})
 
     def _shown(self) -> dict[str, object]:
         hidden = ("secret", "secrets")
@@ -305,8 +314,9 @@ def argon2(
         OutOfMemoryError: too little memory was free.
         TypeError: an input isn't bytes, or a number is no int.
     """
+    whole_number("type", type)
     return _library.raw_argon2(
-        (int(type), version, memory_cost, time_cost, parallelism),
+        (type, version, memory_cost, time_cost, parallelism),
         _library.bytes_of(password),
         _library.data_of(salt),
         _library.bytes_of(secret),

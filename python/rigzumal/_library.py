@@ -17,6 +17,7 @@ Secret: TypeAlias = "Union[bytes, str]"
 
 TEXT_SIZE: Final = 513
 OK: Final = 0
+SCHEME: Final = 2
 RANGE: Final = 5
 MEMORY: Final = 8
 MISMATCH: Final = 10
@@ -204,6 +205,8 @@ def _load() -> Any:
     library.rigzumal_record_with_secret_threads.argtypes = [*made, *data, threads]
     library.rigzumal_check_threads.argtypes = [*check, threads]
     library.rigzumal_check_with_secret_threads.argtypes = [*check, *data, threads]
+    answer: list[Any] = [ctypes.POINTER(ctypes.c_uint32), ctypes.c_uint32]
+    library.rigzumal_step.argtypes = [*data, *answer, pointer, *data, *data, pointer]
     library.rigzumal_record_fault.argtypes = [pointer]
     library.rigzumal_setting_fault.argtypes = [pointer]
     library.rigzumal_parts.argtypes = [ctypes.POINTER(Parts), pointer]
@@ -293,6 +296,11 @@ def parts(text: Secret) -> Parts:
     if found.tag_size == 0:
         raise InvalidRecordError(1)
     return found
+
+
+def check_text(text: Secret) -> None:
+    """rigzumal_record_fault: raises InvalidRecordError if the text is no record."""
+    raise_fault(_library.rigzumal_record_fault(text_bytes(text)), text)
 
 
 def in_range(name: str, number: int, least: int, most: int, fault: int) -> None:

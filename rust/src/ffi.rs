@@ -93,8 +93,11 @@ pub(crate) fn parts(record: &CStr) -> Result<Parts, Error> {
 }
 
 pub(crate) fn needs_rehash(record: &CStr, costs: &CStr, salt_len: usize, tag_len: usize) -> bool {
+    const OTHER_COSTS: c_int = 27;
     // SAFETY: both texts end with a zero byte.
-    unsafe { rigzumal_needs_rehash(record.as_ptr(), costs.as_ptr(), salt_len, tag_len) != 0 }
+    unsafe {
+        rigzumal_needs_rehash(record.as_ptr(), costs.as_ptr(), salt_len, tag_len) == OTHER_COSTS
+    }
 }
 
 #[rustfmt::skip]

@@ -1,7 +1,7 @@
 //! What makes records and verifies them.
 
 use crate::{ffi, Algorithm, Error, Record};
-use alloc::{boxed::Box, ffi::CString, string::ToString};
+use alloc::{boxed::Box, ffi::CString, format, string::ToString};
 use core::fmt;
 
 /// By which function a new record is made, and its costs.
@@ -74,11 +74,12 @@ impl Drop for Secret {
 
 /// Makes records and verifies them.
 ///
-/// It is `Send` and `Sync`: one is enough for all threads of a program.
+/// It is `Send` and `Sync`: one is enough for all threads of a program. Costs and sizes that no
+/// record can have are refused as the hasher is made, and not at a user's login.
 ///
 /// ```
 /// use rigzumal::{Costs, Error, Hasher};
-/// let hasher = Hasher::new(Costs::argon2id(256, 2, 1));
+/// let hasher = Hasher::new(Costs::argon2id(256, 2, 1))?;
 /// let record = hasher.hash_password(b"correct horse")?;
 /// assert_eq!(hasher.verify_password(b"correct horse", &record), Ok(()));
 /// assert_eq!(hasher.verify_password(b"another", &record), Err(Error::Mismatch));
@@ -97,29 +98,41 @@ pub struct Hasher {
 
 impl Hasher {
     /// A hasher with drawn salts of 16 bytes, tags of 32, no secret and one thread.
-    #[must_use]
-    pub fn new(costs: Costs) -> Hasher {
-        Hasher { costs, ..Hasher::default() }
+    ///
+    /// # Errors
+    /// [`Error::Range`] if a number is outside its range.
+    pub fn new(costs: Costs) -> Result<Hasher, Error> {
+        Hasher { costs, ..Hasher::default() }.readable()
     }
 
     /// The same with drawn salts of so many bytes: 8 to 48, of scrypt 1 to 48.
-    #[must_use]
-    pub fn salt_len(self, bytes: usize) -> Hasher {
-        Hasher { salt_len: Some(bytes), ..self }
+    ///
+    /// # Errors
+    /// [`Error::Salt`] for fewer or more.
+    pub fn salt_len(self, bytes: usize) -> Result<Hasher, Error> {
+        Hasher { salt_len: Some(bytes), ..self }.readable()
     }
 
     /// The same with tags of so many bytes: 4 to 64.
-    #[must_use]
-    pub fn tag_len(self, bytes: usize) -> Hasher {
-        Hasher { tag_len: Some(bytes), ..self }
+    ///
+    /// # Errors
+    /// [`Error::Tag`] for fewer or more.
+    pub fn tag_len(self, bytes: usize) -> Result<Hasher, Error> {
+        Hasher { tag_len: Some(bytes), ..self }.readable()
     }
 
     /// The same with a secret beside each password, which a program keeps apart from its records:
     /// K of RFC 9106, section 3.1. Such a hasher verifies records of this secret alone, and none of
     /// scrypt: [`Error::Scheme`]. It clears its copy when it is dropped.
-    #[must_use]
-    pub fn secret(self, secret: &[u8]) -> Hasher {
-        Hasher { secret: Some(Secret(secret.into())), ..self }
+    ///
+    /// # Errors
+    /// [`Error::Scheme`] if the hasher's own costs are scrypt's; [`Error::InputSize`].
+    pub fn secret(self, secret: &[u8]) -> Result<Hasher, Error> {
+        if matches!(self.costs, Costs::Scrypt { .. }) {
+            return Err(Error::Scheme);
+        }
+        u32::try_from(secret.len()).map_err(|_| Error::InputSize)?;
+        Ok(Hasher { secret: Some(Secret(secret.into())), ..self })
     }
 
     /// The same with up to so many threads for the lanes of each record. They make one login faster
@@ -141,10 +154,18 @@ impl Hasher {
         self.salt_len.unwrap_or(16)
     }
 
+    /// Itself, if a record of its costs and sizes can be read.
+    fn readable(self) -> Result<Hasher, Error> {
+        const OVER: usize = 65; // no salt and no tag has so many bytes, nor more
+        let zeros = |bytes: usize| "A".repeat((bytes.min(OVER) * 4 + 2) / 3);
+        let (salt, tag) = (zeros(self.salt_size()), zeros(self.tag_size()));
+        format!("{}${salt}${tag}", self.costs).parse::<Record>()?;
+        Ok(self)
+    }
+
     /// A new record of the password, with a salt that the system's getrandom gives.
     ///
     /// # Errors
-    /// [`Error::Range`], [`Error::Salt`] or [`Error::Tag`] for a cost or a size;
     /// [`Error::InputSize`]; [`Error::Memory`]; [`Error::NoRandom`].
     pub fn hash_password(&self, password: &[u8]) -> Result<Record, Error> {
         ffi::record(self, &self.costs.text(), password, None).map(Record::of_library)
@@ -153,7 +174,8 @@ impl Hasher {
     /// A new record of the password with this salt, which is to be fresh.
     ///
     /// # Errors
-    /// Those of [`hash_password`](Hasher::hash_password); [`Error::Shape`] if the salt is empty.
+    /// Those of [`hash_password`](Hasher::hash_password) but the last; [`Error::Salt`] for the
+    /// salt's size, and [`Error::Shape`] if it is empty.
     pub fn hash_password_with_salt(&self, password: &[u8], salt: &[u8]) -> Result<Record, Error> {
         ffi::record(self, &self.costs.text(), password, Some(salt)).map(Record::of_library)
     }

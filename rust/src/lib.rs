@@ -6,7 +6,7 @@
 //! ```
 //! use rigzumal::{verify, Costs, Error, Hasher, Record};
 //!
-//! let hasher = Hasher::new(Costs::argon2id(1024, 1, 1)); // Hasher::default() has 64 MiB
+//! let hasher = Hasher::new(Costs::argon2id(1024, 1, 1))?; // Hasher::default() has 64 MiB
 //! store(&hasher.hash_password(b"correct horse")?);
 //!
 //! let record: Record = stored().parse()?;
@@ -70,8 +70,9 @@
 //! # Building
 //!
 //! `build.rs` takes the library from the folder that `RIGZUMAL_LIB_DIR` names, from `c/out` beside
-//! the crate, or from where pkg-config finds it: `librigzumal.a` where it lies there, or else
-//! `librigzumal.so`.
+//! the crate, or from where pkg-config finds it. If `librigzumal.a` is there it is linked in, and a
+//! program needs nothing at run time. Otherwise `librigzumal.so` is linked, and the loader has to
+//! find `librigzumal.so.1`: in a folder that ldconfig knows, or that `LD_LIBRARY_PATH` names.
 
 #![cfg_attr(not(feature = "std"), no_std)]
 #![deny(missing_docs, unsafe_code, unsafe_op_in_unsafe_fn)]

@@ -37,6 +37,7 @@ class Pam(enum.IntEnum):
     AUTHINFO_UNAVAIL = 9
     USER_UNKNOWN = 10
     MAXTRIES = 11
+    NEW_AUTHTOK_REQD = 12
     ACCT_EXPIRED = 13
     AUTHTOK_ERR = 20
     TRY_AGAIN = 24

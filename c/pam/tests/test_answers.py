@@ -8,7 +8,7 @@ import time
 from driven import PLAIN, ROOM, Case, Pam, Question
 from driven import answers, asked, line_of, peer, sends
 
-YES = b"1 yes\n"
+YES, NO_ROOM = b"1 yes\n", b"* unavailable\n"
 VERIFY, KNOWN = line_of("verify", "ada", b"secret"), line_of("known", "ada")
 
 # What is no answer: each edit of one byte, other words and lines, and what is too long for a line.
@@ -16,7 +16,7 @@ EDITS = [(at, 0, new) for at in range(7) for new in (b" ", b"\0", b"1")]
 EDITS += [(at, 1, new) for at in range(6) for new in (b"", b"Y")]
 NO_ANSWERS = {YES[:at] + new + YES[at + cut :] for at, cut, new in EDITS} - {YES}
 LINES = b"|1|1 |yes|1 no yes|2 yes|1 yes\r|1 yes\0no|1 YES|1 yes\n1 yes|1 no\n1 yes|2 no\n1 yes|1 replaced"
-LINES += b"|* unavailable|1 unavailable|1 denied|1 bad 14 busy|1 n|1 none|1 noyes"
+LINES += b"|1 unavailable|* denied|1 denied|1 bad 14 busy|1 n|1 none|1 noyes"
 NO_ANSWERS |= {line + b"\n" for line in LINES.split(b"|")}
 NO_ANSWERS |= {b"1 " + b"y" * 62, b"1 " + b"y" * 61 + b"\n", b"1 yes" + b" " * 70 + b"\n", b""}
 NO_ANSWERS |= {b"x" * 1000000, bytes(range(256)), b"\xff" * 63 + b"\n"}
@@ -164,7 +164,39 @@ class Answers(Case):
             for task, ought in results.items():
                 said = asked(Question(tasks=task), path)
                 self.assertEqual(said.codes, [ought], f"{task} at {path}")
-        self.check(b"", unavailable, VERIFY)  # it closes
+        said = self.check(b"", unavailable, VERIFY, options="timeout=60")  # it closes
+        self.assertLess(said.seconds, 30)
+
+    def test_no_room(self) -> None:
+        """A server that has no room is asked again, ever less often, until it has some or time is up."""
+
+        def has_room(line: bytes, client: socket.socket) -> None:
+            client.sendall(YES if len(it.lines) == 4 else NO_ROOM)
+
+        for task, line in (("authenticate", VERIFY), ("account", KNOWN)):
+            with peer(has_room) as it:
+                self.assertEqual(asked(Question(tasks=task), it.path).codes, [Pam.SUCCESS])
+                self.assertEqual(it.lines, [line] * 4)
+        with peer(sends(NO_ROOM)) as it:
+            self.check_deadline(it.path, 7)
+            self.assertLess(len(it.lines), 9)
+
+    def test_no_room_at_once(self) -> None:
+        """So too if it says so and closes before it has read the line, or amid it."""
+        it = peer(sends(b""))
+
+        def says_so() -> None:
+            for reads in (0, 1, 9, 1024):
+                client, _ = it.socket.accept()
+                client.sendall(YES if reads == 1024 else NO_ROOM)
+                client.recv(reads)
+                client.close()
+
+        for environment in ({}, {"PIECES": "1"}):
+            threading.Thread(target=says_so, daemon=True).start()
+            said = asked(Question(environment=environment), it.path)
+            self.assertEqual(said.codes, [Pam.SUCCESS])
+        it.server_close()
 
     def test_closes_amid(self) -> None:
         """A server that closes while the line is being sent ends nothing but the call."""

@@ -100,9 +100,42 @@ class Changes(Case):
             self.assertEqual((said.codes, sent[1:]), ([Pam.SUCCESS], [line]))
 
     def test_expired_passwords(self) -> None:
-        service = "password [ignore=done default=die] {module}\npassword required pam_deny.so\n"
-        said, lines = said_at(YES, Question(tasks="expired", service=service))
-        self.assertEqual((lines, said.prompts), ([], []))
+        """Where the book's needn't be changed the new one is asked for, and is for the next module."""
+        service = "password [ignore={} default=die] {{module}}\npassword required pam_{}.so\n"
+        prompts = ["New password: ", "Retype new password: "]
+        for answer in (YES, b"1 absent\n", b"1 noaccount\n", b"1 unavailable\n"):
+            for given, ought in (
+                ((b"fresh", b"fresh"), Pam.SUCCESS),
+                ((b"fresh", b"other"), Pam.TRY_AGAIN),
+            ):
+                question = {"service": service.format("ignore", "permit"), "answers": given}
+                said = self.check(answer, ought, KNOWN, KNOWN, task="expired", **question)
+                self.assertEqual(said.prompts[:2], prompts)
+        for options, given in (("use_authtok", (b"fresh", b"fresh")), ("frob", (b"x", b"x"))):
+            said, lines = said_at(YES, Question(tasks="expired", options=options, answers=given))
+            self.assertNotIn(said.codes[0], (Pam.SUCCESS, Pam.AUTHINFO_UNAVAIL))
+            sent = [KNOWN] if options == "use_authtok" else []
+            self.assertEqual((lines, said.prompts), (sent, []), options)
+
+    def test_a_book_that_demands_a_change(self) -> None:
+        """A right password lets in, `account` says that another is due, and a change sets it."""
+        self.check(b"1 expired\n", Pam.SUCCESS, VERIFY)
+        self.check(b"1 expired\n", Pam.NEW_AUTHTOK_REQD, KNOWN, task="account")
+        self.check(b"1 expired\n", Pam.AUTH_ERR, KNOWN, answers=[b"x" * 257])
+        change = line_of("change", "ada", b"secret", b"fresh")
+        for task, known in (("change", [KNOWN]), ("expired", [KNOWN, KNOWN])):
+            for change_is, ought in ((b"replaced", Pam.SUCCESS), (b"expired", Pam.AUTHINFO_UNAVAIL)):
+                expired, said_of_it = b"1 expired\n", b"1 " + change_is + b"\n"
+                with peer(answers(known=expired, verify=expired, change=said_of_it)) as it:
+                    said = asked(Question(tasks=task, answers=FRESH), it.path)
+                self.assertEqual(said.codes, [ought], task)
+                self.assertEqual(it.lines, [*known, VERIFY, *known, change])
+
+    def test_a_short_password(self) -> None:
+        """The user is told why the server refuses a new password."""
+        said, sent = changed(FRESH, change=b"short")
+        self.assertEqual((said.codes, len(sent)), ([Pam.AUTHTOK_ERR], 2))
+        self.assertIn("The new password is too short.", said.prompts)
 
     def test_names_of_another_module(self) -> None:
         """At a name that the book lacks no old password is asked for; the new one is, for a module

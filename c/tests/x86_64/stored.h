@@ -2,7 +2,7 @@
 #ifndef STORED_H
 #define STORED_H
 
-#include "registers.h"
+#include "processor.h"
 
 #include <stdint.h>
 #include <string.h>

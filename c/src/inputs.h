@@ -1,0 +1,35 @@
+/* What is looked at of a call's inputs before any of them is read. */
+#ifndef INPUTS_H
+#define INPUTS_H
+
+#include "rigzumal.h"
+
+/* The fault of the first input of a tag that is null though its size isn't 0. */
+static inline int null_fault(const struct rigzumal_inputs *inputs) {
+    const struct {
+        const void *start;
+        size_t size;
+        int fault;
+    } all[] = {{inputs->password, inputs->password_size, RIGZUMAL_NULL_PASSWORD},
+               {inputs->salt, inputs->salt_size, RIGZUMAL_NULL_SALT},
+               {inputs->secret, inputs->secret_size, RIGZUMAL_NULL_SECRET},
+               {inputs->associated, inputs->associated_size, RIGZUMAL_NULL_ASSOCIATED}};
+    for (size_t i = 0; i < sizeof all / sizeof all[0]; i++)
+        if (all[i].start == NULL && all[i].size != 0)
+            return all[i].fault;
+    return RIGZUMAL_OK;
+}
+
+/* The same of a record: the salt of a new one may be null, and a check reads none. */
+static inline int null_fault_of_record(const struct rigzumal_inputs *inputs) {
+    struct rigzumal_inputs others = *inputs;
+    others.salt_size = 0;
+    return null_fault(&others);
+}
+
+/* The same of a call that has the password alone. */
+static inline int null_password_fault(const void *password, size_t size) {
+    return null_fault(&(struct rigzumal_inputs){.password = password, .password_size = size});
+}
+
+#endif

@@ -1,0 +1,176 @@
+/* The builds for the levels of x86-64, as its processor supplement (psABI) names them, and the
+ * registers of these processors. */
+#include "builds.h"
+#include "processor.h"
+
+#include <cpuid.h>
+#include <stdatomic.h>
+#include <stdbool.h>
+
+extern const struct build build_v1, build_v2, build_v3, build_v4;
+
+/* The features are asked for one by one, as compilers know the levels' names only since gcc 12 and
+ * clang 16. A level that lacks one feature is not taken: what compilers make of a build may use any
+ * of them. */
+#define BIT(n) (1u << (n))
+
+/* Of leaf 1, ecx. */
+enum {
+    SSE3 = BIT(0),
+    SSSE3 = BIT(9),
+    FMA = BIT(12),
+    CMPXCHG16B = BIT(13),
+    SSE4_1 = BIT(19),
+    SSE4_2 = BIT(20),
+    MOVBE = BIT(22),
+    POPCNT = BIT(23),
+    OSXSAVE = BIT(27),
+    AVX = BIT(28),
+    F16C = BIT(29)
+};
+
+/* Of leaf 7, ebx. */
+#define AVX512VL BIT(31)
+enum {
+    BMI1 = BIT(3),
+    AVX2 = BIT(5),
+    BMI2 = BIT(8),
+    AVX512F = BIT(16),
+    AVX512DQ = BIT(17),
+    AVX512CD = BIT(28),
+    AVX512BW = BIT(30)
+};
+
+/* Of leaf 0x80000001, ecx. */
+enum { LAHF = BIT(0), LZCNT = BIT(5) };
+
+/* Of XCR0: the states of SSE and AVX, and those of AVX-512 with them. */
+enum { WIDE_STATES = 0x6, WIDEST_STATES = 0xe6 };
+
+struct features {
+    uint32_t basic, extended, added; /* of the three leaves */
+    uint32_t kept;                   /* of XCR0: the registers that the system keeps */
+};
+
+/* The levels that a processor may have, each with the features that the one before lacks. */
+static const struct level {
+    struct features added;
+    const struct build *build;
+} levels[] = {
+    {{0, 0, 0, 0}, &build_v1},
+    {{SSE3 | SSSE3 | CMPXCHG16B | SSE4_1 | SSE4_2 | POPCNT, 0, LAHF, 0}, &build_v2},
+    {{FMA | MOVBE | OSXSAVE | AVX | F16C, BMI1 | AVX2 | BMI2, LZCNT, WIDE_STATES}, &build_v3},
+    {{0, AVX512F | AVX512DQ | AVX512CD | AVX512BW | AVX512VL, 0, WIDEST_STATES}, &build_v4},
+};
+
+/* With AVX512VL instructions on the upper registers may be narrow: wide ones slow some processors
+ * down for a while. */
+static const struct features of_avx = {OSXSAVE, 0, 0, WIDE_STATES};
+static const struct features of_avx512 = {OSXSAVE, AVX512F, 0, WIDEST_STATES};
+static const struct features of_narrow_forms = {OSXSAVE, AVX512F | AVX512VL, 0, WIDEST_STATES};
+
+/* A test has a system that keeps fewer registers. */
+#ifndef READ_KEPT_REGISTERS
+#define READ_KEPT_REGISTERS "xgetbv"
+#endif
+
+static uint32_t kept_registers(void) {
+    uint32_t low, high;
+    __asm__ volatile(READ_KEPT_REGISTERS : "=a"(low), "=d"(high) : "c"(0));
+    return low;
+}
+
+static struct features of_processor(void) {
+    struct features found = {0, 0, 0, 0};
+    uint32_t a, b, c, d;
+    if (__get_cpuid(1, &a, &b, &c, &d))
+        found.basic = c;
+    if (__get_cpuid_count(7, 0, &a, &b, &c, &d))
+        found.extended = b;
+    if (__get_cpuid(0x80000001, &a, &b, &c, &d))
+        found.added = c;
+    if (found.basic & OSXSAVE)
+        found.kept = kept_registers();
+    return found;
+}
+
+static bool has(const struct features *found, const struct features *wanted) {
+    return (found->basic & wanted->basic) == wanted->basic &&
+           (found->extended & wanted->extended) == wanted->extended &&
+           (found->added & wanted->added) == wanted->added &&
+           (found->kept & wanted->kept) == wanted->kept;
+}
+
+/* What a question answers, never 0, that is asked once, since a virtual machine answers slowly;
+ * threads that ask at once find the same. */
+static int asked_once(_Atomic(int) *known, int (*ask)(const struct features *found)) {
+    int answer = atomic_load_explicit(known, memory_order_relaxed);
+    if (answer == 0) {
+        struct features found = of_processor();
+        answer = ask(&found);
+        atomic_store_explicit(known, answer, memory_order_relaxed);
+    }
+    return answer;
+}
+
+/* A level is left out whose build the toolchain couldn't make. */
+static int level_of(const struct features *found) {
+    int level = 1, count = sizeof levels / sizeof levels[0];
+    while (level < count && has(found, &levels[level].added) &&
+           levels[level].build->cred_check != NULL)
+        level++;
+    return level;
+}
+
+const struct build *processor_build(void) {
+    static _Atomic(int) known;
+    return levels[asked_once(&known, level_of) - 1].build;
+}
+
+void clear_bytes(void *start, size_t size) {
+    __asm__ volatile("rep stosb" : "+D"(start), "+c"(size) : "a"(0) : "memory");
+}
+
+/* All vector registers that there are, whatever build the proved code has: the C library copies and
+ * clears in zmm16 to zmm31 where it finds AVX-512. */
+enum vectors { SSE_ONLY = 1, WITH_AVX, WITH_AVX512, WITH_NARROW_FORMS };
+
+static int vectors_of(const struct features *found) {
+    if (!has(found, &of_avx))
+        return SSE_ONLY;
+    if (!has(found, &of_avx512))
+        return WITH_AVX;
+    return has(found, &of_narrow_forms) ? WITH_NARROW_FORMS : WITH_AVX512;
+}
+
+#define CLEAR(n) "pxor %%xmm" #n ", %%xmm" #n "\n\t"
+#define CLEAR_NARROW(n) "vpxord %%xmm" #n ", %%xmm" #n ", %%xmm" #n "\n\t"
+#define CLEAR_WIDEST(n) "vpxord %%zmm" #n ", %%zmm" #n ", %%zmm" #n "\n\t"
+#define CLEAR_MASK(n) "kxorw %%k" #n ", %%k" #n ", %%k" #n "\n\t"
+
+/* The others hold no value of a compiler's: the library is built for any x86-64 processor. */
+#define CHANGED                                                                                    \
+    "xmm0", "xmm1", "xmm2", "xmm3", "xmm4", "xmm5", "xmm6", "xmm7", "xmm8", "xmm9", "xmm10",       \
+        "xmm11", "xmm12", "xmm13", "xmm14", "xmm15"
+
+static void clear_vectors(void) {
+    static _Atomic(int) known;
+    int found = asked_once(&known, vectors_of);
+    if (found == SSE_ONLY)
+        __asm__ volatile(EIGHT(CLEAR) NEXT_EIGHT(CLEAR)::: CHANGED);
+    else
+        __asm__ volatile("vzeroall" ::: CHANGED);
+    if (found == WITH_NARROW_FORMS)
+        __asm__ volatile(UPPER_SIXTEEN(CLEAR_NARROW) EIGHT(CLEAR_MASK)::);
+    if (found == WITH_AVX512)
+        __asm__ volatile(UPPER_SIXTEEN(CLEAR_WIDEST) EIGHT(CLEAR_MASK)::);
+}
+
+void clear_registers(void) {
+    clear_vectors();
+    __asm__ volatile(
+        "xor %%eax, %%eax\n\txor %%ecx, %%ecx\n\txor %%edx, %%edx\n\t"
+        "xor %%esi, %%esi\n\txor %%edi, %%edi\n\txor %%r8d, %%r8d\n\t"
+        "xor %%r9d, %%r9d\n\txor %%r10d, %%r10d\n\txor %%r11d, %%r11d" ::
+            : "rax", "rcx", "rdx", "rsi", "rdi", "r8", "r9", "r10", "r11", "cc");
+}

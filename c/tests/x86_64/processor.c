@@ -1,0 +1,25 @@
+/* Says which build is chosen, on processors that lack a feature each: this one, or in lacking/ one
+ * that has all but one, of which the words say the leaf of cpuid and the bit. */
+#include "builds.h"
+#include "check.h"
+
+extern const struct build build_v1, build_v2, build_v3, build_v4;
+static unsigned lacking_leaf, lacking_bit;
+
+unsigned features_of(unsigned leaf, unsigned found);
+unsigned features_of(unsigned leaf, unsigned found) {
+    (void)found;
+    return leaf == lacking_leaf ? ~(1u << lacking_bit) : ~0u;
+}
+
+int main(int count, char **words) {
+    if (count == 3) {
+        lacking_leaf = (unsigned)strtoul(words[1], NULL, 16);
+        lacking_bit = (unsigned)atoi(words[2]);
+    }
+    const struct build *builds[] = {&build_v1, &build_v2, &build_v3, &build_v4};
+    for (int i = 0; i < 4; i++)
+        if (processor_build() == builds[i])
+            printf("v%d\n", i + 1);
+    return 0;
+}
