@@ -2,14 +2,16 @@
 
     python3 build_backend.py FOLDER
 
-The wheel holds the library that `make -C c` has built. It is for Linux on x86-64, and for every
-Python 3: the library is loaded by ctypes.
+The wheel holds the library that `make -C c` has built, or with ARCH=arm64 in the environment `make
+-C c ARCH=arm64`. It is for Linux on that processor, and for every Python 3: the library is loaded by
+ctypes.
 """
 
 from __future__ import annotations
 
 import base64
 import hashlib
+import os
 import pathlib
 import re
 import sys
@@ -17,7 +19,11 @@ import zipfile
 from typing import Any, Optional
 
 HERE = pathlib.Path(__file__).resolve().parent
-LIBRARY = HERE.parent / "c" / "out" / "librigzumal.so.1"
+# What a wheel's name and the library's head (e_machine, at 18) call a processor.
+MACHINES = {62: "x86_64", 183: "aarch64"}
+IS_ARM64 = os.environ.get("ARCH") == "arm64"
+OUT = HERE.parent / "c" / "out" / ("arm64" if IS_ARM64 else "")
+LIBRARY = OUT / "librigzumal.so.1"
 
 
 def version() -> str:
@@ -37,8 +43,10 @@ def field(name: str) -> str:
 
 def tag() -> str:
     """The wheel's tag: the newest glibc that the library names is the oldest that runs it."""
-    names = re.findall(rb"GLIBC_2\.(\d+)\0", LIBRARY.read_bytes())
-    return f"py3-none-manylinux_2_{max(map(int, names))}_x86_64"
+    library = LIBRARY.read_bytes()
+    names = re.findall(rb"GLIBC_2\.(\d+)\0", library)
+    machine = MACHINES[int.from_bytes(library[18:20], "little")]
+    return f"py3-none-manylinux_2_{max(map(int, names))}_{machine}"
 
 
 def metadata() -> dict[str, bytes]:

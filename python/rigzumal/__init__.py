@@ -21,6 +21,7 @@ from rigzumal._library import (
     trim,
     version,
 )
+from rigzumal._opaque import opaque_string
 from rigzumal._parts import Parts, parts
 
 __version__ = version()
@@ -38,6 +39,7 @@ __all__ = [
     "VerifyMismatchError",
     "argon2",
     "keep",
+    "opaque_string",
     "parts",
     "scrypt",
     "trim",

@@ -12,7 +12,6 @@ standard input, with a newline at its end too. The exit statuses are credkeep's:
 from __future__ import annotations
 
 import argparse
-import getpass
 import os
 import sys
 
@@ -21,7 +20,7 @@ from rigzumal import _library
 from rigzumal._calibrate import LEAST_SAFE_MEMORY, trials, why_busy
 from rigzumal._parts import none_of_ours
 from rigzumal._commands import Refusal, Status, Words, add_costs, hasher_of, hint
-from rigzumal._commands import memory, positive, say, status_of
+from rigzumal._commands import is_empty, memory, positive, read_password, say, status_of
 
 _LEAST_TARGET, _MOST_TARGET = 10, 60_000
 
@@ -85,21 +84,11 @@ def _words() -> argparse.ArgumentParser:
     return words
 
 
-def _password(is_new: bool) -> bytes:
-    """The password that is typed, or all of standard input."""
-    if not sys.stdin.isatty():
-        return sys.stdin.buffer.read()
-    password = getpass.getpass("Password: ")
-    if is_new and getpass.getpass("The same again: ") != password:
-        raise Refusal("the two passwords differ")
-    return password.encode(errors="surrogateescape")
-
-
 def _hash(given: argparse.Namespace) -> None:
     """Writes a new record."""
     hasher = hasher_of(given)
-    password = _password(is_new=True)
-    if password in (b"", b"\n") and not given.empty:
+    password = read_password(is_new=True)
+    if is_empty(password) and not given.empty:
         raise Refusal("the password is empty; --empty allows it")
     print(hasher.hash(password))
 
@@ -110,7 +99,7 @@ def _verify(record: str) -> int:
     def is_right(password: bytes) -> bool:
         return _library.check(record, password) == _library.OK
 
-    password = _password(is_new=False)
+    password = read_password()
     try:
         PasswordHasher().verify(record, password)
     except VerifyMismatchError:
@@ -158,9 +147,6 @@ def _run(given: argparse.Namespace) -> int:
     except Refusal as refusal:
         say(str(refusal))
         return refusal.status
-    except EOFError:
-        say("no password was typed")
-        return Status.INPUT
     except KeyboardInterrupt:
         return 130
     except OSError as fault:

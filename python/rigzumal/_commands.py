@@ -3,7 +3,9 @@
 from __future__ import annotations
 
 import argparse
+import difflib
 import enum
+import getpass
 import sys
 from collections.abc import Callable
 from typing import NoReturn, Optional, Union
@@ -46,8 +48,13 @@ class Words(argparse.ArgumentParser):
 
     def error(self, message: str) -> NoReturn:
         """Ends the program, and repeats no word too many: it may be a password."""
-        if message.startswith("unrecognized arguments"):
+        front, _, words = message.partition("unrecognized arguments: ")
+        if words and not front:
             message = "a word too many; a password is never an argument"
+            first = words.split()[0].partition("=")[0]
+            near = difflib.get_close_matches(first, self._option_string_actions, 1, 0.7)
+            if near and first.startswith("--"):
+                message += f"; is {near[0]} meant?"
         self.print_usage(sys.stderr)
         self.exit(Status.WORDS, f"{self.prog}: error: {message}\n")
 
@@ -75,20 +82,54 @@ def memory(text: str) -> int:
     return int(number) * _UNITS.get(unit, 1)
 
 
+_OF_ARGON2 = {"passes": 3, "memory": 65536, "lanes": 4}
+_OF_SCRYPT = {"log2_n": 17}
+
+
 def add_costs(words: argparse.ArgumentParser) -> None:
     """Adds the words that say what a new record costs."""
     words.add_argument("--scrypt", action="store_true", help="by scrypt, not Argon2id")
-    words.add_argument("--memory", type=memory, default=65536, help="of Argon2, as 64M")
-    words.add_argument("--passes", type=int, default=3, help="of Argon2")
-    words.add_argument("--lanes", type=int, default=4, help="of Argon2")
-    words.add_argument("--log2-n", type=int, default=17, help="of scrypt")
+    words.add_argument("--memory", type=memory, help="of Argon2, as 64M (by default)")
+    words.add_argument("--passes", type=int, help="of Argon2; by default 3")
+    words.add_argument("--lanes", type=int, help="of Argon2; by default 4")
+    words.add_argument("--log2-n", type=int, help="of scrypt; by default 17")
 
 
 def hasher_of(given: argparse.Namespace) -> Union[PasswordHasher, ScryptHasher]:
-    """The hasher of these costs."""
+    """The hasher of these costs; a Refusal if one is the other scheme's."""
+    asked = {name: it for name, it in vars(given).items() if it is not None}
+    of, others = _OF_ARGON2, _OF_SCRYPT
+    hint = "of scrypt, and --scrypt is missing"
     if given.scrypt:
-        return ScryptHasher(log2_n=given.log2_n)
-    return PasswordHasher(given.passes, given.memory, given.lanes)
+        of, others, hint = _OF_SCRYPT, _OF_ARGON2, "of Argon2, and --scrypt is given"
+    for name in sorted(asked.keys() & others.keys()):
+        raise Refusal(f"--{name.replace('_', '-')} is {hint}", Status.WORDS)
+    costs = [asked.get(name, number) for name, number in of.items()]
+    return ScryptHasher(*costs) if given.scrypt else PasswordHasher(*costs)
+
+
+def read_password(prompt: str = "Password", *, is_new: bool = False) -> bytes:
+    """All of standard input, or the password that is typed: a new one twice.
+
+    Raises:
+        Refusal: two that were typed differ, none was typed, or nothing can be read.
+    """
+    if sys.stdin is None:
+        raise Refusal("there is no standard input", Status.STREAM)
+    if not sys.stdin.isatty():
+        return sys.stdin.buffer.read()
+    try:
+        password = getpass.getpass(f"{prompt}: ")
+        if is_new and getpass.getpass("The same again: ") != password:
+            raise Refusal("the two passwords differ")
+    except EOFError:
+        raise Refusal("no password was typed") from None
+    return password.encode(errors="surrogateescape")
+
+
+def is_empty(password: bytes) -> bool:
+    """Whether a password is nothing but a line's end: a variable was unset, perhaps."""
+    return not password.strip(b"\r\n")
 
 
 def hint(password: bytes, is_right: Callable[[bytes], bool]) -> Optional[str]:

@@ -79,12 +79,18 @@ _OTHERS: Final = (
 )
 
 
-def none_of_ours(record: str) -> str:
-    """The scheme of another program's record, for people; empty if the record shows none."""
+def scheme_of_another(record: str) -> str:
+    """The scheme that another program's record shows; empty if it shows none."""
     import re
 
     found = re.match(_OTHERS, record)
     name = found and (found[1] or found[2])
     if not name or name in _SCHEMES and record.startswith("$"):
         return ""
-    return f"the record's scheme is {name}"
+    return name
+
+
+def none_of_ours(record: str) -> str:
+    """The same, for people."""
+    scheme = scheme_of_another(record)
+    return f"the record's scheme is {scheme}" if scheme else ""

@@ -8,7 +8,7 @@ from typing import TYPE_CHECKING, Any, TypeVar
 
 from rigzumal._library import Secret
 from rigzumal.accounts._operations import Operations
-from rigzumal.accounts._session import AsyncRuntime, Hook, Runtime, run
+from rigzumal.accounts._session import AsyncRuntime, Hook, HookFailed, Runtime, run
 from rigzumal.accounts.parts import Answer, Key, Kind, Reply, Request, Ticket, Worked
 from rigzumal.accounts.dialects._dialect import Fault
 from rigzumal.accounts.pools import AsyncPool, Pool
@@ -34,10 +34,12 @@ class Accounts(Operations[Pool]):
             the connection or rolls it back before it gives it out again.
         dialect: of the database, with the names of the table and its columns.
         hasher: PasswordHasher or ScryptHasher, for the costs of new records. Its tags
-            have 32 bytes, and it has no secret. Its threads don't matter.
+            have 32 bytes. Its threads don't matter. With a secret no record of scrypt is
+            read; of `secrets` a login replaces a record of an older one.
         replica: a pool for the copies. It may lag, since an answer rests on a look at the
-            primary, and it may be down, since the primary is then asked for copies too.
-        foreign: judges texts of other schemes, as (text, password) -> bool or None.
+            primary. If it is down or refuses, the primary is asked for copies too.
+        foreign: judges texts of other schemes, as (text, password) -> bool or None. Any
+            other answer is a TypeError, and nothing is stored.
         upgrade_from: costs such as "$argon2i$v=19$m=65536,t=3,p=4" that an upgrade
             replaces even if its own aren't higher.
         tries: how often to try an operation whose commit finds another record; 1 or more.
@@ -46,23 +48,31 @@ class Accounts(Operations[Pool]):
         confirm: confirm an answer without a change, such as a verify's, by writing the
             record over itself. It is for servers that show a change before it is safe
             (MariaDB without a binary log), and makes a login cost as much as a change.
+        least_length: characters that a new password has at least; it ends no login.
+        prepare: makes of a password that is text the one that is hashed, new or present,
+            such as `rigzumal.opaque_string`. Give it from the table's first record on:
+            a record of another form of the password is one of another password.
 
     Raises:
-        TypeError: the pool or the hasher is of another kind.
-        ValueError: a number, or the hasher's tag or secret, is refused.
+        TypeError: the pool, the dialect, the hasher or the hook is of another kind.
+        ValueError: a number, or the size of the hasher's tag, is refused.
         InvalidRecordError: one of `upgrade_from` isn't costs.
 
     `also`, of each operation, is a function of the driver's connection and the reply. It
-    is called in the operation's transaction before COMMIT, so that your own rows, such as
-    a session, are committed with the reply or not at all. If the transaction is undone,
-    it is called again in the next; for CHANGED it isn't called. Its exceptions undo all
-    and reach the caller, but for errors that mean "again".
+    is called in the operation's transaction, while the account's row is locked and before
+    its record is written. So your own rows, such as a session, are committed with the
+    reply or not at all. If the server undoes the transaction, `also` is called again in
+    the next; for CHANGED it isn't called. Its exceptions undo all and reach the caller,
+    but for its connection's errors that mean "again". It leaves the transaction open and
+    the record alone, and calls no operation of accounts on the same connection.
 
     Every operation may raise:
         TypeError: the key is of another type than its column, or a password is neither
-            bytes nor text; no row was read.
-        ValueError: a new password has over 256 bytes, or no UTF-8; no row was read.
-            As a present password it is a wrong one, after one hash.
+            bytes nor text; no row was read. A hook's answer is none that it may give, or
+            `also` has ended the transaction; no record was written.
+        ValueError: a new password is too short, has over 256 bytes or no UTF-8, or is
+            refused by `prepare`; no row was read. As a present password it is a wrong
+            one, after one hash.
         StoreFault: the table, the server or the connection has a fault.
         InvalidRecordError: the record is of another scheme, and no hook judges it.
         Unavailable: no server did it in time, and no change was made.
@@ -72,7 +82,7 @@ class Accounts(Operations[Pool]):
         Exception: the pool's or the hooks' own.
     """
 
-    _runtime = Runtime()
+    _kind = Runtime
 
     def _done(self, doing: Coroutine[Any, Any, T]) -> T:
         """What an operation answers; AsyncAccounts leaves it to be awaited."""
@@ -126,21 +136,22 @@ class Accounts(Operations[Pool]):
 
         Raises:
             TypeError: the password is neither bytes nor text.
-            ValueError: the password has over 256 bytes, or no UTF-8.
+            ValueError: the password is too short or too long, or is refused.
         """
-        return self._done(self._runtime.call(self._judge.new_record, password))
+        return self._done(self._new_record(password))
 
-    def examine(self) -> list[Fault]:
-        """The faults of the table and the server; empty if they have none.
+    def examine(self, *used: Kind) -> list[Fault]:
+        """The faults of the table, the server and the replica; empty if they have none.
 
         It writes a record into a new row, or into one of the table's if a new one is
-        impossible, in a transaction that it rolls back.
+        impossible, in a transaction that it rolls back. Name Kind.REMOVE if the service
+        removes records: then a column that is NOT NULL is an error.
 
         Raises:
             StoreFault: the connection isn't in autocommit, or has a transaction open.
             Exception: whatever the driver raises.
         """
-        return self._done(self._examined())
+        return self._done(self._examined(used))
 
     # ---- in parts: see rigzumal.accounts.parts
 
@@ -191,8 +202,12 @@ def _awaited(
     @functools.wraps(method)
     async def operation(accounts: Any, /, *given: P.args, **named: P.kwargs) -> T:
         doing: Any = method(accounts, *given, **named)
-        answer: T = await doing
-        return answer
+        try:
+            answer: T = await doing
+            return answer
+        except HookFailed as failed:
+            error = failed.error
+        raise error
 
     return operation
 
@@ -200,12 +215,18 @@ def _awaited(
 class AsyncAccounts(Operations[AsyncPool]):
     """`Accounts` with coroutines, over psycopg's AsyncConnection.
 
-    Arguments, replies and exceptions are the same; `also` may be a coroutine function. A
-    hash runs in a thread, so that other tasks go on. If a task is cancelled during a
-    change, the change may be done or not, as after `OutcomeUnknown`.
+    Arguments, replies and exceptions are the same; `also` and `foreign` may be coroutine
+    functions. Hashes, and a `foreign` that is a function, run in threads of the executor,
+    so that other tasks go on. If a task is cancelled during a change, the change may be
+    done or not, as after `OutcomeUnknown`.
+
+    Args:
+        executor: a ThreadPoolExecutor, of AsyncAccounts alone. Each of its threads may need
+            the memory of a hash at a time. By default it is asyncio's own, in which
+            look-ups of hosts wait too.
     """
 
-    _runtime = AsyncRuntime()
+    _kind = AsyncRuntime
 
     def _done(self, doing: T) -> T:
         return doing

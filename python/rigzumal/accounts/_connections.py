@@ -2,16 +2,21 @@
 
 from __future__ import annotations
 
+import logging
 import random
 import re
 import time
-from dataclasses import dataclass
+from dataclasses import dataclass, field
 from typing import Any, Final, Optional
 
 from rigzumal.accounts._session import Job, Runtime
 from rigzumal.accounts._table import Lost, Table, Undone
-from rigzumal.accounts.parts import Unavailable
-from rigzumal.accounts.dialects._dialect import Verdict, is_of_driver
+from rigzumal.accounts.parts import AccountsError, Unavailable
+from rigzumal.accounts.dialects._dialect import Fault, Verdict, error as fault_of
+from rigzumal.accounts.dialects._dialect import is_of_driver, warning
+
+LOGGER: Final = logging.getLogger("rigzumal.accounts")
+"""Warns of what an operation overcomes, or may not: with no name, record or password."""
 
 _AT_ONCE: Final = 0.5  # seconds in which a pool's dead connections are worked through
 _LONGEST: Final = 400  # letters of a reason
@@ -21,7 +26,7 @@ _DSN_PASSWORD: Final = re.compile(
 )
 
 
-@dataclass(frozen=True)
+@dataclass
 class Connections:
     """Where jobs are done: pools of the primary, and perhaps of a replica that lags."""
 
@@ -30,12 +35,40 @@ class Connections:
     replica: Optional[Any]
     table: Table
     patience: float
+    _is_passed_over: bool = field(default=False, init=False)
 
     async def at_replica(self, job: Job[Any]) -> Any:
-        """Does a job once, if there is a replica; Undone if there is none, or it fails."""
+        """Does a job once at the replica; Undone if none exists, or it fails or refuses."""
         if self.replica is None:
             return Undone(None)
-        return await self._once(self.replica, job)
+        try:
+            done = await self._once(self.replica, job)
+        except Exception as raised:
+            if not (isinstance(raised, AccountsError) or is_of_driver(raised)):
+                raise
+            done = Undone(raised)
+        is_passed_over = isinstance(done, Undone)
+        if is_passed_over and not self._is_passed_over:
+            LOGGER.warning("the replica is passed over: %s", self._why(done))
+        self._is_passed_over = is_passed_over
+        return done
+
+    async def replica_faults(self, job: Job[Any]) -> list[Fault]:
+        """What is wrong with the replica, if one exists."""
+        done = None if self.replica is None else await self.at_replica(job)
+        if not isinstance(done, Undone):
+            return []
+        is_away = not isinstance(done.cause, AccountsError) and done.reason
+        kind, code = (warning, "away") if is_away else (fault_of, "refuses")
+        text = f"the replica is passed over: {self._why(done)}{done.reason}"
+        return [kind(f"replica-{code}", text)]
+
+    def _why(self, done: Undone) -> str:
+        """Why nothing was done; the text of a driver's error may have a row."""
+        cause = done.cause.__cause__ if isinstance(done.cause, Lost) else done.cause
+        if isinstance(cause, AccountsError):
+            return f"{type(cause).__name__}: {cause}"
+        return self.table.name(cause)
 
     async def patiently(self, job: Job[Any], patience: Optional[float] = None) -> Any:
         """Does a job at the primary until it was done, and waits longer by turns.
@@ -43,18 +76,22 @@ class Connections:
         Done again is what did nothing: a lost connection, a transaction that the server
         undid. Nothing is hashed again.
         """
-        waits = Waits(self.patience if patience is None else patience)
+        begun, waits = time.monotonic(), None
         while True:
             done = await self._once(self.primary, job)
             if not isinstance(done, Undone):
                 return done
             cause, is_dead = done.cause, False
+            if waits is None:
+                waits = Waits(self.patience if patience is None else patience, begun)
             if isinstance(cause, Lost):
                 cause, is_dead = cause.__cause__, waits.age < _AT_ONCE
+            name = self.table.name(cause)
             if waits.are_over:
-                name = self.table.name(cause)
                 said = f"no server did it in time: {name}{done.reason}"
                 raise Unavailable(said) from cause
+            if waits.is_first:
+                LOGGER.warning("an operation is tried again: %s", name)
             await self.runtime.pause(waits.next(is_dead))
 
     async def _once(self, pool: Any, job: Job[Any]) -> Any:
@@ -65,6 +102,8 @@ class Connections:
             return Undone(lost)
         except Exception as error:  # of the pool, which makes connections
             verdict = self.table.dialect.verdict
+            if any(kind.__name__ == "PoolClosed" for kind in type(error).__mro__):
+                raise Unavailable(f"the pool is closed{_reason(error)}") from error
             if not is_of_driver(error) or verdict(error) is Verdict.REFUSED:
                 raise
             return Undone(error, _reason(error))
@@ -73,9 +112,10 @@ class Connections:
 class Waits:
     """Pauses that grow, for so many seconds."""
 
-    def __init__(self, patience: float, first: float = 0.002) -> None:
-        self._begun = time.monotonic()
-        self._patience, self._next = patience, first
+    is_first = True
+
+    def __init__(self, patience: float, begun: float, first: float = 0.002) -> None:
+        self._patience, self._begun, self._next = patience, begun, first
 
     @property
     def age(self) -> float:
@@ -87,7 +127,7 @@ class Waits:
 
     def next(self, is_dead: bool = False) -> float:
         """The next pause; as long as the last where the connection was a dead one."""
-        pause = self._next
+        pause, self.is_first = self._next, False
         if not is_dead:
             self._next = min(pause * 2, 0.5)
         return pause * random.uniform(0.5, 1.5)

@@ -2,17 +2,23 @@
 
 from __future__ import annotations
 
+import itertools
 import pathlib
+import re
 import sys
 import time
+from collections import Counter
 from collections.abc import Callable, Iterable, Iterator, Sequence
+from contextlib import closing
 from dataclasses import dataclass
-from typing import Optional
+from typing import Any, Final, Optional
 
+from rigzumal import _library
 from rigzumal._library import InvalidRecordError
 from rigzumal._parts import none_of_ours, parts
-from rigzumal._commands import Refusal, Status
+from rigzumal._commands import Refusal, Status, say
 from rigzumal.accounts._accounts import Accounts
+from rigzumal.accounts._report import numbers_of
 from rigzumal.accounts._session import Session, run
 from rigzumal.accounts.parts import Key, Reply
 from rigzumal.accounts.dialects._dialect import Dialect
@@ -21,6 +27,7 @@ from rigzumal.accounts.pools import Pool
 
 BATCH = 500  # lines of an import that are committed together
 Line = tuple[Key, str]
+_NO_UTF8: Final = re.compile("[\udc80-\udcff]")
 
 
 @dataclass
@@ -33,16 +40,33 @@ class Import:
     takes_foreign: bool = False  # records of other schemes, for a hook to judge
 
     def take(self, file: pathlib.Path, key_of: Callable[[str], Key]) -> dict[str, int]:
-        """Adds the accounts of lines "NAME RECORD", and counts what became of them."""
-        counts = {"added": 0, "there": 0, "another": 0}
+        """Adds the accounts of lines "NAME RECORD", and counts what became of them.
+
+        The lines that aren't taken are named on standard error.
+        """
         with open(file, encoding="utf-8", errors="surrogateescape") as lines:
             records = list(self._records(lines, key_of))
-        begun = time.monotonic()
-        for start in range(0, len(records), BATCH):
-            for word in self.put(records[start : start + BATCH]):
-                counts[word] += 1
-            _progress(min(start + BATCH, len(records)), len(records), begun)
-        return counts
+        spaced = [place for place, (key, _) in enumerate(records) if " " in str(key)]
+        if spaced:
+            name = shown(records[spaced[0]][0])
+            say(
+                f"line {spaced[0] + 1}: {name!r} has a space; names with one: {len(spaced)}"
+            )
+        begun, words = time.monotonic(), list[str]()
+        while len(words) < len(records):
+            start, batch = len(words), records[len(words) : len(words) + BATCH]
+            try:
+                words += self.put(batch)
+            except Exception:
+                say(f"no line from {start + 1} on is known to be taken")
+                raise
+            for place in range(start, len(words)):
+                if words[place] == "another":
+                    name = shown(records[place][0])
+                    say(f"line {place + 1}: {name} has another record, which stays")
+            _progress(len(words), len(records), begun)
+        counts = Counter(words)
+        return {word: counts[word] for word in ("added", "there", "another")}
 
     def _records(
         self, lines: Iterable[str], key_of: Callable[[str], Key]
@@ -56,15 +80,19 @@ class Import:
 
     def _record(self, line: str, key_of: Callable[[str], Key]) -> Line:
         name, _, record = line.rpartition(" ")
-        if any("\udc80" <= it <= "\udcff" for it in line):
+        if _NO_UTF8.search(line):
             raise Refusal("it is not in UTF-8")
-        if not name:
+        if line.startswith("\ufeff"):
+            raise Refusal("it begins with a byte order mark")
+        if not name.strip():
             raise Refusal('it is no "NAME RECORD", with a space between')
+        if name != name.strip():
+            raise Refusal("the name begins or ends with a blank")
         key = key_of(name)
         if not self.dialect.can_stand(key):
             raise Refusal("no column holds this name")
         try:
-            parts(record)
+            _library.check_text(record)
         except InvalidRecordError as fault:
             # A column of ours holds 1 to 512 letters of ASCII without blanks.
             is_held = 0 < len(record) <= 512 and all("!" <= it <= "~" for it in record)
@@ -77,12 +105,67 @@ class Import:
         with self.pool() as conn:
             session = Session(conn)
             run(self.dialect.start(session))
-            words = [self._put(session, *line) for line in batch]
+            words = self._put_at_once(session, batch)
+            if words is None:
+                run(self.dialect.undo(session))
+                run(self.dialect.start(session))
+                words = [self._named(session, *line) for line in batch]
             run(self.dialect.commit(session))
         return words
 
+    def _put_at_once(
+        self, session: Session, batch: Sequence[Line]
+    ) -> Optional[list[str]]:
+        """Puts a batch by a few statements; None if other records stand then."""
+        stands, new = (
+            self._standing(session, [key for key, _ in batch]),
+            dict[Key, str](),
+        )
+        for key, record in batch:
+            if stands.get(key) is None:
+                new.setdefault(key, record)
+        added = [(key, new[key]) for key in new if key not in stands]
+        enrolled = [(new[key], key, None) for key in new if key in stands]
+        try:
+            if added:
+                sql = self.dialect.add(len(added))
+                run(session.execute(sql, *itertools.chain.from_iterable(added)))
+            with closing(session.conn.cursor()) as cursor:
+                if enrolled:
+                    cursor.executemany(self.dialect.update, enrolled)
+        except Exception:
+            return None
+        # A trigger, a collation or another program may have come between.
+        if self._standing(session, [*new]) != new:
+            return None
+        words = []
+        for key, record in batch:
+            if key in new:
+                words.append("added")
+                stands[key] = new.pop(key)
+            else:
+                words.append("there" if stands[key] == record else "another")
+        return words
+
+    def _standing(self, session: Session, keys: Sequence[Key]) -> dict[Any, Any]:
+        """The rows of these keys: their records, or None."""
+        if not keys:
+            return {}
+        dialect = self.dialect
+        k, r = dialect.quoted(dialect.key_name), dialect.quoted(dialect.record_name)
+        marks = ", ".join([dialect.mark] * len(keys))
+        sql = f"SELECT {k}, {r} FROM {dialect.table} WHERE {k} IN ({marks})"
+        return {key: record for key, record in run(session.execute(sql, *keys)).rows}
+
+    def _named(self, session: Session, key: Key, record: str) -> str:
+        try:
+            return self._put(session, key, record)
+        except Exception:
+            say(f"stopped at the account {shown(key)}")
+            raise
+
     def _put(self, session: Session, key: Key, record: str) -> str:
-        """An enrolment in the open transaction, of an account that may not be there."""
+        """An enrolment in the open transaction, of an account that may not exist."""
         if not run(session.execute(self.dialect.select, key)).rows:
             run(session.execute(self.dialect.insert, key))
         ticket = Ticket(Request(Kind.ENROL, key), None)
@@ -108,11 +191,7 @@ def costs_of(record: Optional[str]) -> Optional[str]:
         found = parts(record or "")
     except InvalidRecordError:
         return None
-    names = ("ln", "r", "p") if found.scheme == "scrypt" else ("m", "t", "p")
-    values = (found.memory, found.passes, found.lanes)
-    numbers = ",".join(f"{name}={value}" for name, value in zip(names, values))
-    version = f"v={found.version}$" if found.version else ""
-    return f"${found.scheme}${version}{numbers}"
+    return f"${found.scheme}${numbers_of(found).replace(' ', '$')}"
 
 
 def why(record: object, fault: InvalidRecordError) -> str:

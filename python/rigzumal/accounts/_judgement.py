@@ -5,7 +5,7 @@ from __future__ import annotations
 import base64
 import ctypes
 import os
-from collections.abc import Callable, Iterable
+from collections.abc import Awaitable, Callable, Iterable
 from typing import Final, Optional, Union
 
 from rigzumal import _library
@@ -17,14 +17,17 @@ from rigzumal.accounts.parts import bytes_of_password
 
 Hasher = Union[PasswordHasher, ScryptHasher]
 
-Foreign = Callable[[str, bytes], Optional[bool]]
+Foreign = Callable[[str, bytes], Union[Optional[bool], Awaitable[Optional[bool]]]]
 """Judges a text that is no record of ours: whether it is one of the password.
 
-None says that no password is right and that nothing was hashed, as of a login that was
-shut: then a hash of ours is made, so that it takes as long.
+It answers True or False. None says that no password is right and that nothing was hashed,
+as of a login that was shut: then a hash of ours is made, so that it takes as long. Any
+other answer is a TypeError. AsyncAccounts awaits a coroutine function, and calls a
+function in its executor.
 """
 
 _TAG_SIZE: Final = 32
+_KNOWN: Final = 64  # costs of which a judge knows whether they are upgraded
 # Their numbers in the library for C are their places.
 _OPERATIONS: Final = {kind: number for number, kind in enumerate(Kind, 1)}
 _REPLIES: Final = dict(enumerate(Reply, 1))
@@ -35,6 +38,7 @@ class Judge:
 
     Attributes:
         sample: a record of the hasher's costs that no password is right for.
+        foreign: the hook for texts of other schemes, if one was given.
     """
 
     def __init__(
@@ -48,9 +52,14 @@ class Judge:
             raise TypeError(f"a PasswordHasher or a ScryptHasher is wanted, not {kind}")
         if hasher.hash_len != _TAG_SIZE:
             raise ValueError(f"records of accounts have tags of {_TAG_SIZE} bytes")
-        if getattr(hasher, "secret", None) is not None:
-            raise ValueError("records of accounts are made without a secret")
-        self._hasher, self._foreign = hasher, foreign
+        if foreign is not None and not callable(foreign):
+            kind = type(foreign).__name__
+            raise TypeError(f"`foreign` is to be a function, not a {kind}")
+        self._hasher, self.foreign = hasher, foreign
+        self._upgraded: dict[str, bool] = {}
+        # b"" among older secrets stands for records without one.
+        self._secrets = [it or None for it in hasher._secrets()]
+        self._secret = self._secrets[0]
         self.sample = f"{self._setting()}${_base64(os.urandom(_TAG_SIZE))}"
         self._parts = parts(self.sample)
         rest = f"${'A' * 22}${_base64(bytes(_TAG_SIZE))}"
@@ -63,55 +72,101 @@ class Judge:
         """A new record of a password that an account may have."""
         return self._made(bytes_of_password(password))
 
-    def work(self, ticket: Ticket) -> Worked:
+    def question(self, ticket: Ticket) -> Optional[tuple[Foreign, str, bytes]]:
+        """The hook, if it is to judge: with a text of another scheme, and the password."""
+        request, copy = ticket.request, ticket.copy
+        if self.foreign is None or not isinstance(copy, str):
+            return None
+        if request.kind in (Kind.ENROL, Kind.RESET) or not request.can_be_right:
+            return None
+        try:
+            parts(copy)
+        except InvalidRecordError:
+            assert isinstance(request.password, bytes)
+            return self.foreign, copy, request.password
+        return None
+
+    def work(self, ticket: Ticket, right: Optional[bool] = None) -> Worked:
         """What the whole operation does at the ticket's copy.
 
-        Whoever has no record costs one hash too, as does an account that isn't there.
+        `right` is what the hook has answered to the ticket's question. Whoever has no
+        record costs one hash too, as does an account that doesn't exist.
         """
         request, copy = ticket.request, ticket.copy
-        reply, after = self._judged(ticket)
+        reply, after = self._judged(ticket, right)
         if not isinstance(copy, str) and request.kind not in (Kind.ENROL, Kind.RESET):
-            is_right(self.sample, request.password)
+            self._spend(self.sample, request.password, self._secrets)
         return Worked(ticket, reply, after)
 
-    def _judged(self, ticket: Ticket) -> tuple[Reply, Copy]:
+    def _judged(self, ticket: Ticket, right: Optional[bool]) -> tuple[Reply, Copy]:
         request, copy = ticket.request, ticket.copy
         if copy is not None and not isinstance(copy, str):
             return Reply.NO_ACCOUNT, copy
-        password, new = request.password, request.new_password
+        password = request.password
         if request.kind is Kind.RESET:
             reply = Reply.ENROLLED if copy is None else Reply.REPLACED
-            return reply, self._made(new)
+            return reply, self._made(request.new_password)
         if copy is not None and request.kind is Kind.ENROL:
             # Whatever text stands: an enrolment doesn't read it, and a step would.
             return Reply.EXISTS, copy
-        setting = self._setting()
         if copy is not None:
             try:
-                found = parts(copy)
+                _library.check_text(copy)
             except InvalidRecordError:
-                if self._foreign is None:
+                if self.foreign is None:
                     raise
-                return self._judged_by_hook(self._foreign, ticket, copy)
+                return self._judged_by_hook(ticket, copy, right)
+            secrets = self._secrets_of(copy)
             if not request.can_be_right:
-                is_right(copy, b"")  # whoever was wrong waits for a hash
+                self._spend(copy, b"", secrets)  # whoever was wrong waits for a hash
                 return _wrong(request), copy
-            if request.kind is Kind.UPGRADE and not self._goes_up(found):
-                reply, _ = step(Kind.VERIFY, copy, password, b"", setting)
-                return (Reply.KEPT if reply is Reply.YES else Reply.WRONG), copy
-        return step(request.kind, copy, password, new, setting)
+            if secrets[0] == self._secret:
+                reply, after = self._stepped(request, copy)
+                if reply is not _wrong(request):
+                    return reply, after
+                del secrets[0]
+            if any(is_right(copy, password, it) for it in secrets):
+                return self._at_right(request, copy)
+            return _wrong(request), copy
+        return self._stepped(request, copy)
+
+    def _stepped(self, request: Request, copy: Optional[str]) -> tuple[Reply, Copy]:
+        """What the step answers under the first secret, and the record after it."""
+        kind, password, secret = request.kind, request.password, self._secret
+        if kind is Kind.UPGRADE and copy is not None and not self._is_upgraded(copy):
+            reply, _ = step(Kind.VERIFY, copy, password, b"", "", secret)
+            return (Reply.KEPT if reply is Reply.YES else Reply.WRONG), copy
+        if kind in (Kind.VERIFY, Kind.REMOVE):
+            return step(kind, copy, password, b"", "", secret)
+        new, setting = request.new_password, self._setting()
+        return step(kind, copy, password, new, setting, secret)
 
     def _judged_by_hook(
-        self, foreign: Foreign, ticket: Ticket, copy: str
+        self, ticket: Ticket, copy: str, right: Optional[bool]
     ) -> tuple[Reply, Copy]:
         """The same at a text of another scheme, which any upgrade replaces."""
         request = ticket.request
-        assert isinstance(request.password, bytes)
-        right = foreign(copy, request.password) if request.can_be_right else None
         if right is None:
-            is_right(self.sample, request.password)
-        if not right:
+            self._spend(self.sample, request.password, self._secrets)
+        if right is not True:
             return _wrong(request), copy
+        return self._at_right(request, copy)
+
+    def _secrets_of(self, record: str) -> list[Optional[bytes]]:
+        """The secrets that a record may be of: one of scrypt has none, if that is known."""
+        if record.startswith("$scrypt$") and None in self._secrets:
+            return [None]
+        return [*self._secrets]
+
+    def _spend(
+        self, record: str, password: Secret, secrets: Iterable[Optional[bytes]]
+    ) -> None:
+        """As many hashes as a wrong password costs."""
+        for secret in secrets:
+            is_right(record, password, secret)
+
+    def _at_right(self, request: Request, copy: str) -> tuple[Reply, Copy]:
+        """The same at a right password of a record that any upgrade replaces."""
         if request.kind is Kind.VERIFY:
             return Reply.YES, copy
         if request.kind is Kind.REMOVE:
@@ -121,7 +176,8 @@ class Judge:
         return Reply.UPGRADED, self._made(request.password)
 
     def _made(self, password: Secret) -> str:
-        _, made = step(Kind.ENROL, None, password, b"", self._setting())
+        setting = self._setting()
+        _, made = step(Kind.ENROL, None, password, b"", setting, self._secret)
         assert made is not None
         return made
 
@@ -129,7 +185,17 @@ class Judge:
         salt = os.urandom(self._hasher.salt_len)
         return f"{self._hasher.costs}${_base64(salt)}"
 
-    def _goes_up(self, found: Parts) -> bool:
+    def _is_upgraded(self, record: str) -> bool:
+        """Whether an upgrade replaces a record, which its costs decide."""
+        costs = record.rsplit("$", 2)[0]
+        found = self._upgraded.get(costs)
+        if found is None:
+            if len(self._upgraded) == _KNOWN:
+                self._upgraded.clear()
+            found = self._upgraded[costs] = self.goes_up(parts(record))
+        return found
+
+    def goes_up(self, found: Parts) -> bool:
         """Whether an upgrade replaces a record of these numbers.
 
         No way up leads back: of one scheme, neither version, memory nor work is lower,
@@ -141,6 +207,14 @@ class Judge:
             return False
         old, new = _dearness(found), _dearness(self._parts)
         return old != new and all(one <= two for one, two in zip(old, new))
+
+
+def verdict_of(answer: object) -> Optional[bool]:
+    """A hook's answer, if it is one: a pair, a word or a number would be a yes."""
+    if answer is None or isinstance(answer, bool):
+        return answer
+    kind = type(answer).__name__
+    raise TypeError(f"`foreign` answers True, False or None, and not a {kind}")
 
 
 def _wrong(request: Request) -> Reply:
@@ -159,37 +233,58 @@ def _base64(data: bytes) -> str:
     return base64.b64encode(data).decode().rstrip("=")
 
 
+class _StepInputs(ctypes.Structure):
+    """struct rigzumal_step_inputs."""
+
+    _fields_ = [
+        ("operation", ctypes.c_uint32),
+        ("copy", ctypes.c_char_p),
+        ("password", ctypes.c_char_p),
+        ("password_size", ctypes.c_size_t),
+        ("new_password", ctypes.c_char_p),
+        ("new_password_size", ctypes.c_size_t),
+        ("setting", ctypes.c_char_p),
+        ("secret", ctypes.c_char_p),
+        ("secret_size", ctypes.c_size_t),
+        ("threads", ctypes.c_uint32),
+    ]
+
+
 def step(
     kind: Kind,
     copy: Optional[str],
     password: Secret,
-    new_password: Secret,
-    setting: str,
+    new_password: Secret = b"",
+    setting: str = "",
+    secret: Optional[bytes] = None,
 ) -> tuple[Reply, Optional[str]]:
     """The reply of a whole operation at a record of ours, and the record after it.
 
-    It is rigzumal_step, whose answer is proved; it resets none. The setting is costs
-    with a fresh salt, for a new record.
+    It is rigzumal_step, whose answer is proved, or with a secret rigzumal_step_from; it
+    resets none. The setting is costs with a fresh salt, for a new record.
     """
-    text, reply = ctypes.create_string_buffer(_library.TEXT_SIZE), ctypes.c_uint32()
-    made = text, ctypes.c_size_t(_library.TEXT_SIZE), ctypes.byref(reply)
-    asked = ctypes.c_uint32(_OPERATIONS[kind]), copy if copy is None else text_bytes(
-        copy
-    )
+    size = _library.TEXT_SIZE if setting else 0
+    text = ctypes.create_string_buffer(size) if setting else None
+    answer, number = ctypes.c_uint32(), _OPERATIONS[kind]
     given, new = bytes_of(password), bytes_of(new_password)
-    words = given, ctypes.c_size_t(len(given)), new, ctypes.c_size_t(len(new))
-    rigzumal_step = _library._library.rigzumal_step
-    fault = rigzumal_step(*made, *asked, *words, text_bytes(setting))
+    record = None if copy is None else text_bytes(copy)
+    words = (number, record, given, len(given), new, len(new), text_bytes(setting))
+    made = (text, ctypes.c_size_t(size), ctypes.byref(answer))
+    if secret is None:
+        fault = _library._library.rigzumal_step(*made, *words)
+    else:
+        inputs = ctypes.byref(_StepInputs(*words, secret, len(secret), 1))
+        fault = _library._library.rigzumal_step_from(*made, inputs)
     _library.raise_fault(fault)
-    said = _REPLIES[reply.value]
-    if not said.makes_change:
-        return said, copy
-    return said, text.value.decode() or None
+    reply = _REPLIES[answer.value]
+    if not reply.makes_change:
+        return reply, copy
+    return reply, None if text is None else text.value.decode()
 
 
-def is_right(record: str, password: Secret) -> bool:
+def is_right(record: str, password: Secret, secret: Optional[bytes] = None) -> bool:
     """Whether a record is one of the password."""
-    fault = _library.check(record, password)
+    fault = _library.check(record, password, secret)
     if fault == _library.MISMATCH:
         return False
     _library.raise_fault(fault)

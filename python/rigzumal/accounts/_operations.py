@@ -9,14 +9,17 @@ is looked at once more at the primary.
 
 from __future__ import annotations
 
-from collections.abc import Iterable
+import time
+from collections.abc import Container, Iterable
+from concurrent.futures import ThreadPoolExecutor
 from typing import Any, ClassVar, Final, Generic, Optional, TypeVar
 
-from rigzumal._library import OutOfMemoryError, Secret
-from rigzumal.accounts._connections import Connections, Waits
-from rigzumal.accounts._judgement import Foreign, Hasher, Judge
+from rigzumal._library import OutOfMemoryError, Secret, whole_number
+from rigzumal.accounts._connections import LOGGER, Connections, Waits
+from rigzumal.accounts._judgement import Foreign, Hasher, Judge, verdict_of
+from rigzumal.accounts._passwords import Passwords, Prepare
 from rigzumal.accounts._session import Hook, Job, Runtime
-from rigzumal.accounts._table import Broken, Table, Undone, judged
+from rigzumal.accounts._table import Broken, Table, Undone, judged, unused_key
 from rigzumal.accounts.parts import NO_ROW, Answer, Copy, Key, Kind, OutcomeUnknown
 from rigzumal.accounts.parts import Reply, Request, StoreFault, Ticket, Unavailable
 from rigzumal.accounts.parts import Worked
@@ -36,7 +39,8 @@ AS_A_VERIFY: Final = {
 class Operations(Generic[AnyPool]):
     """What accounts do, over any runtime: Accounts and AsyncAccounts say it to callers."""
 
-    _runtime: ClassVar[Runtime]
+    _kind: ClassVar[type[Runtime]]
+    _runtime: Runtime
 
     def __init__(
         self,
@@ -50,14 +54,22 @@ class Operations(Generic[AnyPool]):
         tries: int = 8,
         patience: float = 10.0,
         confirm: bool = False,
+        least_length: int = 1,
+        prepare: Optional[Prepare] = None,
+        executor: Optional[ThreadPoolExecutor] = None,
     ) -> None:
+        whole_number("tries", tries)
         if tries < 1 or not patience >= 0:
             raise ValueError("tries is 1 or more, and patience 0 or more")
-        for it in (pool, replica):
-            if it is not None:
-                check_pool(it)
+        for it in (pool, *([] if replica is None else [replica])):
+            check_pool(it)
+        if not isinstance(dialect, Dialect):
+            wanted = 'a dialect is wanted, such as Postgres("users", "id", "record")'
+            raise TypeError(f"{wanted}, not a {type(dialect).__name__}")
         self._judge = Judge(hasher, foreign, upgrade_from)
+        self._passwords = Passwords(least_length, prepare)
         self._dialect, self._tries = dialect, tries
+        self._runtime = self._kind(dialect.execute_options, executor)
         self._table = Table(dialect, confirm, self._before_commit)
         self._connections = Connections(
             self._runtime, pool, replica, self._table, patience
@@ -73,8 +85,8 @@ class Operations(Generic[AnyPool]):
         patience: Optional[float] = None
         try:
             request = Request(Kind.UPGRADE, key, password)
-            answer = await self._perform(request, _as_a_verify(also))
-            return AS_A_VERIFY.get(answer.reply, answer.reply)
+            reply = (await self._perform(request, _as_a_verify(also))).reply
+            return AS_A_VERIFY.get(reply, reply)
         except OutcomeUnknown:
             if also is not None:
                 raise  # its rows may stand
@@ -85,13 +97,20 @@ class Operations(Generic[AnyPool]):
         verify = Request(Kind.VERIFY, key, password)
         return (await self._perform(verify, also, patience)).reply
 
-    async def _examined(self) -> list[Fault]:
+    async def _examined(self, used: Container[Kind]) -> list[Fault]:
         record, pool = self._judge.sample, self._connections.primary
-        return await self._runtime.use(
-            pool, lambda session: self._table.examine(session, record)
+        faults = await self._runtime.use(
+            pool, lambda session: self._table.examine(session, record, used)
         )
+        key = unused_key(self._dialect.key_type)
+        return faults + await self._connections.replica_faults(self._looking(key))
+
+    async def _new_record(self, password: Secret) -> str:
+        given = self._passwords.new(password)
+        return await self._runtime.call(self._judge.new_record, given)
 
     async def _begin(self, request: Request) -> Ticket:
+        request = self._passwords.of(request)
         return Ticket(request, (await self._first_copy(request))[0])
 
     async def _commit_in(self, conn: Any, worked: Worked) -> Answer:
@@ -101,6 +120,7 @@ class Operations(Generic[AnyPool]):
         self, request: Request, also: Hook = None, patience: Optional[float] = None
     ) -> Answer:
         """The whole operation, done again if another record stands at its commit."""
+        request = self._passwords.of(request)
         copy, is_settled = await self._first_copy(request, patience)
         answer = Answer(Reply.CHANGED, copy, copy)
         for _ in range(self._tries):
@@ -115,18 +135,24 @@ class Operations(Generic[AnyPool]):
         return answer
 
     async def _work(self, ticket: Ticket) -> Worked:
-        return await self._runtime.call(self._judge.work, ticket)
+        judge, call = self._judge, self._runtime.call
+        asked = judge.question(ticket)
+        if asked is None:
+            return await call(judge.work, ticket)
+        answer = await self._runtime.ask("foreign", *asked)
+        return await call(judge.work, ticket, verdict_of(answer))
 
     async def _first_copy(
         self, request: Request, patience: Optional[float] = None
     ) -> tuple[Copy, bool]:
         """A copy to work at, and whether it is what stood at the primary."""
         self._dialect.check_key(request.key)
-        if self._dialect.can_stand(request.key):
+        has_replica = self._connections.replica is not None
+        if has_replica and self._dialect.can_stand(request.key):
             found = await self._connections.at_replica(self._looking(request.key))
             if not isinstance(found, Undone):
                 return found, False
-        # There is no replica, or it is away: logins go on.
+        # No replica exists, or it is away: logins go on.
         return await self._look(request.key, patience), True
 
     async def _look(self, key: Key, patience: Optional[float] = None) -> Copy:
@@ -150,8 +176,9 @@ class Operations(Generic[AnyPool]):
             return judged(worked, await self._look(key, patience))
         try:
             return await self._change(worked, also, patience)
-        except Broken:
-            pass
+        except Broken as broken:
+            cause = broken.__cause__
+        LOGGER.warning("COMMIT had no answer: %s", self._table.name(cause))
         return await self._settled(worked, also)
 
     async def _change(
@@ -173,7 +200,7 @@ class Operations(Generic[AnyPool]):
         record that was replaced never stands again. That isn't so of NULL. To enrol
         again might bring back what another has removed since.
         """
-        waits, why = Waits(self._connections.patience, 0.01), ""
+        waits, why = Waits(self._connections.patience, time.monotonic(), 0.01), ""
         while worked.reply.makes_change:
             try:
                 if await self._put_again(worked, also):

@@ -7,17 +7,40 @@ but the driver itself, so `run` has what they answer at once.
 from __future__ import annotations
 
 import asyncio
+import contextvars
+import inspect
 import time
-from collections.abc import Awaitable, Callable, Coroutine, Iterable, Mapping
-from contextlib import closing
+from collections.abc import AsyncGenerator, Awaitable, Callable, Coroutine, Generator
+from collections.abc import Iterable, Mapping
+from concurrent.futures import ThreadPoolExecutor
 from typing import Any, Generic, NamedTuple, Optional, TypeVar
 
 from rigzumal.accounts.parts import Reply, StoreFault
+from rigzumal.accounts.pools import lent
 
 T = TypeVar("T")
 
 Hook = Optional[Callable[[Any, Reply], Any]]
 """A caller's own statements: called with the driver's connection and the reply."""
+
+
+class HookFailed(Exception):
+    """A caller's hook has raised `error`, and nothing was done; the caller is to have it."""
+
+    def __init__(self, error: Exception) -> None:
+        super().__init__()
+        self.error = error
+
+
+def at_once(name: str, answer: Any) -> Any:
+    """The answer of a caller's function; raises TypeError if its body hasn't run."""
+    if isinstance(answer, Coroutine):
+        answer.close()
+    if isinstance(answer, Awaitable):
+        raise TypeError(f"`{name}` has answered a coroutine: use AsyncAccounts")
+    if isinstance(answer, (Generator, AsyncGenerator)):
+        raise TypeError(f"`{name}` has answered a generator, which nobody runs")
+    return answer
 
 
 class Result(NamedTuple):
@@ -29,24 +52,28 @@ class Result(NamedTuple):
 
 
 class Session:
-    """A connection of the DB-API (PEP 249), and how a statement is done on it."""
+    """A connection of the DB-API (PEP 249), and how a statement is done on it.
 
-    def __init__(self, conn: Any) -> None:
-        self.conn = conn
+    `options` are keywords of the driver's `execute`.
+    """
+
+    def __init__(self, conn: Any, options: Mapping[str, Any] = {}) -> None:
+        self.conn, self._options = conn, options
 
     async def execute(self, sql: str, *values: object) -> Result:
         """Does a statement to its end: a cursor that isn't keeps SQLite's snapshot."""
-        with closing(self.conn.cursor()) as cursor:
+        cursor = self.conn.cursor()
+        try:
             # Without values no driver looks for marks in it.
-            cursor.execute(sql, *([values] if values else []))
+            given = (sql, values) if values else (sql,)
+            cursor.execute(*given, **self._options)
             return _result(cursor, cursor.fetchall() if cursor.description else ())
+        finally:
+            cursor.close()
 
-    async def wait(self, said: Any) -> None:
-        """Waits for a caller's own function, which answered so."""
-        if isinstance(said, Coroutine):
-            said.close()
-        if isinstance(said, Awaitable):
-            raise TypeError("`also` has answered a coroutine: use AsyncAccounts")
+    async def wait(self, answer: Any) -> None:
+        """Waits for a caller's `also`, which has answered this."""
+        at_once("also", answer)
 
 
 class AsyncSession(Session):
@@ -54,24 +81,21 @@ class AsyncSession(Session):
 
     async def execute(self, sql: str, *values: object) -> Result:
         async with self.conn.cursor() as cursor:
-            await cursor.execute(sql, *([values] if values else []))
+            await cursor.execute(sql, *([values] if values else []), **self._options)
             fetched = await cursor.fetchall() if cursor.description else ()
             return _result(cursor, fetched)
 
-    async def wait(self, said: Any) -> None:
-        if isinstance(said, Awaitable):
-            await said
+    async def wait(self, answer: Any) -> None:
+        at_once("also", await answer if isinstance(answer, Awaitable) else answer)
 
 
 def _result(cursor: Any, fetched: Any) -> Result:
-    status = getattr(cursor, "statusmessage", None)
-    return Result([_values(row) for row in fetched], cursor.rowcount, status)
+    rows = [row if type(row) is tuple else _values(row) for row in fetched]
+    return Result(rows, cursor.rowcount, getattr(cursor, "statusmessage", None))
 
 
 def _values(row: Any) -> tuple[Any, ...]:
-    """A row's values, whether the driver makes tuples of rows or dictionaries."""
-    if type(row) is tuple:
-        return row
+    """A row's values, of a driver that makes no tuples of rows."""
     if not isinstance(row, Iterable):
         raise StoreFault(f"a row is {type(row).__name__}, and no tuple or dictionary")
     return tuple(row.values() if isinstance(row, Mapping) else row)
@@ -114,14 +138,31 @@ def run(coroutine: Coroutine[Any, Any, T]) -> T:
     except StopIteration as end:
         answer: T = end.value
         return answer
-    coroutine.close()
-    raise TypeError("a blocking operation has awaited something: use AsyncAccounts")
+    except HookFailed as failed:
+        error = failed.error
+    else:
+        coroutine.close()
+        error = TypeError("a blocking operation has awaited: use AsyncAccounts")
+    raise error
 
 
 class Runtime:
-    """Waits as a thread does."""
+    """Waits as a thread does; `options` are those of its sessions."""
 
-    session: type[Session] = Session
+    _session: type[Session] = Session
+    _executors: tuple[type[ThreadPoolExecutor], ...] = ()  # those that it can use
+
+    def __init__(
+        self, options: Mapping[str, Any], executor: Optional[ThreadPoolExecutor] = None
+    ) -> None:
+        if executor is not None and not isinstance(executor, self._executors):
+            kind = type(executor).__name__
+            raise TypeError(f"AsyncAccounts takes a ThreadPoolExecutor, and not {kind}")
+        self._options, self._executor = options, executor
+
+    def session(self, conn: Any) -> Session:
+        """A session on a connection."""
+        return self._session(conn, self._options)
 
     async def use(self, pool: Any, job: Job[T]) -> T:
         """Does a job on a connection of a pool."""
@@ -134,7 +175,7 @@ class Runtime:
         return ending.answer()
 
     async def _enter(self, pool: Any, job: Job[T], ending: Ending[T]) -> None:
-        with pool() as conn:
+        with lent(pool, "__enter__") as conn:
             await ending.note(job, self.session(conn))
 
     async def pause(self, seconds: float) -> None:
@@ -145,18 +186,31 @@ class Runtime:
         """Does work that needs a processor for a while."""
         return work(*given)
 
+    async def ask(self, name: str, hook: Callable[..., Any], *given: Any) -> Any:
+        """What a caller's hook answers, which may hash too."""
+        return at_once(name, hook(*given))
+
 
 class AsyncRuntime(Runtime):
-    """Waits as a task of asyncio does, and hashes in a thread."""
+    """Waits as a task of asyncio does, and hashes in a thread of an executor."""
 
-    session = AsyncSession
+    _session = AsyncSession
+    _executors = (ThreadPoolExecutor,)
 
     async def _enter(self, pool: Any, job: Job[T], ending: Ending[T]) -> None:
-        async with pool() as conn:
+        async with lent(pool, "__aenter__") as conn:
             await ending.note(job, self.session(conn))
 
     async def pause(self, seconds: float) -> None:
         await asyncio.sleep(seconds)
 
     async def call(self, work: Callable[..., T], *given: Any) -> T:
-        return await asyncio.to_thread(work, *given)
+        # As asyncio.to_thread, which has no executor to choose.
+        run_in, loop = contextvars.copy_context().run, asyncio.get_running_loop()
+        return await loop.run_in_executor(self._executor, lambda: run_in(work, *given))
+
+    async def ask(self, name: str, hook: Callable[..., Any], *given: Any) -> Any:
+        if inspect.iscoroutinefunction(hook):
+            return await hook(*given)
+        answer = await self.call(hook, *given)
+        return await answer if isinstance(answer, Awaitable) else answer

@@ -9,15 +9,21 @@ from __future__ import annotations
 
 import secrets
 import uuid
-from collections.abc import Callable
+from collections.abc import Callable, Container
 from dataclasses import dataclass
-from typing import Any, NoReturn, Optional, Union
+from typing import Any, Final, NoReturn, Optional, Union
 
-from rigzumal.accounts._session import Hook, Session
-from rigzumal.accounts.dialects._dialect import ANOTHER_RECORD, Dialect, Fault
-from rigzumal.accounts.dialects._dialect import Severity, Verdict, is_of_driver
+from rigzumal.accounts._session import Hook, HookFailed, Session
+from rigzumal.accounts.dialects._dialect import ANOTHER_RECORD, NOT_NULL, Dialect
+from rigzumal.accounts.dialects._dialect import Fault, Severity, Verdict, is_of_driver
 from rigzumal.accounts.parts import NO_ROW, Answer, Copy, Key, Kind, Reply, Request
 from rigzumal.accounts.parts import StoreFault, Ticket, Worked
+
+ENDED: Final = (
+    "`also` has ended the operation's transaction, closed its connection, or swallowed an"
+    " error by which the transaction has failed"
+)
+WROTE: Final = "`also` has changed the account's own record"
 
 
 class Lost(Exception):
@@ -60,8 +66,13 @@ class Table:
         self._raise(caught)
 
     async def one(self, session: Session, sql: str, key: Key) -> Copy:
-        """The record that a statement reads."""
-        return _record((await session.execute(sql, key)).rows)
+        """The record that a statement reads; NO_ROW of a key that no column holds."""
+        try:
+            return _record((await session.execute(sql, key)).rows)
+        except Exception as error:
+            if not self.dialect.lacks_key(error):
+                raise
+        return NO_ROW
 
     async def change(
         self, session: Session, worked: Worked, also: Hook = None
@@ -111,26 +122,59 @@ class Table:
     async def _transaction(
         self, session: Session, worked: Worked, also: Hook
     ) -> Union[Answer, Undone]:
-        dialect, is_theirs, is_sent = self.dialect, False, False
+        dialect, is_sent = self.dialect, False
         try:
             await dialect.prepare(session)
             await dialect.start(session)
-            answer = await self.compare(session, worked)
-            if also is not None and answer.reply is not Reply.CHANGED:
-                is_theirs = True
-                await session.wait(also(session.conn, answer.reply))
-                is_theirs = False
+            answer = await self._answer(session, worked, also)
             if answer.reply.makes_change:
                 self.before_commit(worked)
             is_sent = True
             await dialect.commit(session)
             return answer
+        except HookFailed as failed:
+            theirs: Optional[Exception] = failed.error
         except Exception as error:
-            caught = error
+            theirs, caught = None, error
+        if theirs is not None:
+            return await self._hook_failed(session, theirs)
         if is_sent and self._may_stand(caught):
             wrote = answer.reply.makes_change or also is not None
             raise (Broken if wrote else Lost)() from caught
-        return await self._undone(session, caught, is_theirs)
+        return await self._undone(session, caught)
+
+    async def _answer(self, session: Session, worked: Worked, also: Hook) -> Answer:
+        """Compares and puts, after a caller's hook was told the reply.
+
+        The row is locked meanwhile. The record is written last, so that it doesn't stand
+        if the hook has ended the transaction.
+        """
+        if also is None:
+            return await self.compare(session, worked)
+        locked, key = self.dialect.locked, worked.ticket.request.key
+        can_stand = self.dialect.can_stand(key)
+        now = await self.one(session, locked, key) if can_stand else NO_ROW
+        told = judged(worked, now)
+        if told.reply is Reply.CHANGED:
+            return told
+        try:
+            await session.wait(also(session.conn, told.reply))
+        except Exception as error:
+            raise HookFailed(error)
+        if not self._is_open(session):
+            raise HookFailed(TypeError(ENDED))
+        answer = await self.compare(session, worked)
+        if answer.reply is not told.reply:
+            raise HookFailed(TypeError(WROTE))
+        return answer
+
+    def _is_open(self, session: Session) -> bool:
+        """Whether a transaction is open, and goes on, on a connection that may be closed."""
+        try:
+            mode = self.dialect.mode(session.conn)
+        except Exception:
+            return False
+        return mode.has_transaction and not mode.has_failed
 
     async def commit_in(self, session: Session, worked: Worked) -> Answer:
         """The same within a transaction that another has begun, and ends."""
@@ -145,34 +189,37 @@ class Table:
         if not dialect.can_stand(key):
             return Answer(Reply.NO_ACCOUNT, NO_ROW, NO_ROW)
         if not self.writes(worked):
-            return judged(worked, await self.one(session, dialect.share, key))
+            return judged(worked, await self.one(session, dialect.locked, key))
         rows, count, _ = await dialect.put(session, worked.after, key, copy)
-        if count == 1:
-            # A trigger, a short column or a character set may have made another of it.
-            if not dialect.returns:
-                rows = (await session.execute(dialect.select, key)).rows
-            if _record(rows) != worked.after:
-                raise StoreFault(ANOTHER_RECORD)
-            return Answer(worked.reply, copy, worked.after)
-        if count != 0:
+        if count == 0:
+            # With a lock: a plain SELECT may read an old snapshot where the UPDATE didn't.
+            answer = judged(worked, await self.one(session, dialect.locked, key))
+            if answer.reply is not worked.reply:
+                return answer
+            # NULL may have come back since the UPDATE, and stays by the lock.
+            rows, count, _ = await dialect.put(session, worked.after, key, copy)
+        if count == 0:
+            raise StoreFault("the row has the copy, and an UPDATE doesn't change it")
+        if count != 1:
             raise StoreFault(f"the UPDATE says {count} rows, and one is wanted")
-        # With a lock: a plain SELECT may read an old snapshot where the UPDATE didn't.
-        answer = judged(worked, await self.one(session, dialect.share, key))
-        if answer.reply is worked.reply:
-            # NULL may have come back since the UPDATE; a record that was replaced
-            # doesn't.
-            if answer.after is not None:
-                fault = "the row has the copy, and an UPDATE doesn't change it"
-                raise StoreFault(fault)
-            return Answer(Reply.CHANGED, None, None)
-        return answer
+        # A trigger, a short column or a character set may have made another of it.
+        if not dialect.returns:
+            rows = (await session.execute(dialect.select, key)).rows
+        if _record(rows) != worked.after:
+            raise StoreFault(ANOTHER_RECORD)
+        return Answer(worked.reply, copy, worked.after)
 
-    async def examine(self, session: Session, record: str) -> list[Fault]:
+    async def examine(
+        self, session: Session, record: str, used: Container[Kind]
+    ) -> list[Fault]:
         """What the engine shows to be wrong, and a trial: no catalogue shows a role that may
         not update, a rule that does nothing, or a CHECK that no record passes."""
         self.dialect.fresh(session.conn)
         found = await self.dialect.examine(session)
         faults = [*found.faults, *(() if self.confirm else found.unless_confirmed)]
+        for place, fault in enumerate(faults):
+            if fault.code == NOT_NULL and Kind.REMOVE in used:
+                faults[place] = Fault(Severity.ERROR, fault.code, fault.text)
         text = await self._trial(session, record) if found.is_usable else None
         return faults + ([Fault(Severity.ERROR, "no-update", text)] if text else [])
 
@@ -182,15 +229,15 @@ class Table:
         try:
             await self.dialect.start(session)
             key = await self._row(session)
-            if key is not None:
+            if key is None:
+                # No row tells, but the server does if the role may not update.
+                absent = unused_key(self.dialect.key_type)
+                await self.dialect.put(session, record, absent, None)
+            else:
                 # With a lock, so that nobody else's change comes between.
-                copy = await self.one(session, self.dialect.share, key)
+                copy = await self.one(session, self.dialect.locked, key)
                 ticket = Ticket(Request(Kind.RESET, key), copy)
-                done = await self.compare(
-                    session, Worked(ticket, Reply.REPLACED, record)
-                )
-                if done.reply is not Reply.REPLACED:
-                    fault = "no record can be written: an UPDATE doesn't change a row"
+                await self.compare(session, Worked(ticket, Reply.REPLACED, record))
         except StoreFault as raised:
             fault = str(raised)
         except Exception as raised:
@@ -201,21 +248,40 @@ class Table:
     async def _row(self, session: Session) -> Optional[Key]:
         """The key of a new row, or of any; None if no new one is taken, and none stands."""
         dialect = self.dialect
-        key = _unused_key(dialect.key_type)
+        key = unused_key(dialect.key_type)
         try:
             await session.execute(dialect.insert, key)
-            return key
+            if await self.one(session, dialect.select, key) is not NO_ROW:
+                return key
         except Exception:
-            # The role adds no rows, or they have columns of their own.
-            await dialect.undo(session)
+            pass
+        # The role adds no rows, they have columns of their own, or a key is padded.
+        await dialect.undo(session)
         await dialect.start(session)
         k, t = dialect.quoted(dialect.key_name), dialect.table
         found = await session.execute(dialect.alone(f"SELECT {k} FROM {t} LIMIT 1"))
         return found.rows[0][0] if found.rows else None
 
-    async def _undone(
-        self, session: Session, error: Exception, is_theirs: bool = False
-    ) -> Undone:
+    async def _hook_failed(self, session: Session, error: Exception) -> Undone:
+        """Rolls back after a caller's hook has raised this.
+
+        It is done again for what the server says on this connection alone: the hook may
+        have asked others, whose errors look alike.
+        """
+        verdict, is_open = Verdict.REFUSED, True
+        if self.dialect.is_drivers(error):
+            verdict = self.dialect.verdict(error)
+        try:
+            await self.dialect.undo(session)
+        except Exception:
+            is_open = False
+        if verdict is Verdict.AGAIN and is_open:
+            return Undone(error)
+        if verdict is Verdict.REFUSED or (verdict is Verdict.LOST and is_open):
+            raise HookFailed(error)
+        raise Lost() from error
+
+    async def _undone(self, session: Session, error: Exception) -> Undone:
         """Rolls back after an error: it is to be tried again, or raises."""
         verdict = self.dialect.verdict(error) if is_of_driver(error) else None
         is_kept = verdict is not Verdict.LOST
@@ -226,8 +292,6 @@ class Table:
                 is_kept = False  # the pool gives up a connection that a job raised on
         if verdict is Verdict.AGAIN and is_kept:
             return Undone(error)
-        if is_theirs and verdict in (None, Verdict.REFUSED):
-            raise error
         self._raise(error)
 
     def _raise(self, error: Exception) -> NoReturn:
@@ -268,11 +332,10 @@ def _record(rows: list[tuple[Any, ...]]) -> Copy:
     return record
 
 
-def _unused_key(kind: type) -> Key:
+def unused_key(kind: type) -> Key:
+    """A key that no row has."""
     number = uuid.uuid4()
-    if kind is uuid.UUID:
-        return number
-    # A column of two bytes holds it.
+    # A column of two bytes holds the whole number.
     small = -1 - secrets.randbelow(30_000)
-    keys: dict[type, Key] = {str: number.hex[:16], int: small, bytes: number.bytes[:8]}
-    return keys[kind]
+    keys: dict[type, Key] = {str: number.hex[:16], int: small, bytes: number.bytes}
+    return keys.get(kind, number)

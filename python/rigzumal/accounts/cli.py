@@ -1,8 +1,9 @@
 """The command: python3 -m rigzumal accounts --database URL --table T COMMAND.
 
 At a terminal the command asks for a password; otherwise the password is standard
-input, without one newline at its end. An empty input is refused. The URL may be in
-RIGZUMAL_DATABASE instead, where no list of processes shows it.
+input, without one newline at its end. `change` reads two lines: the old password and
+the new one. An empty password is refused. The URL may be in RIGZUMAL_DATABASE instead,
+where no list of processes shows it. Options stand before COMMAND or behind it.
 
 Exit statuses are credkeep's: 0 done or yes, 1 a word was refused, 2 reading or
 writing failed, 3 out of memory, 4 no, 5 the database failed or has a fault, 6 the
@@ -13,26 +14,25 @@ from __future__ import annotations
 
 import argparse
 import functools
-import getpass
 import json
-import os
-import pathlib
 import shutil
-import sys
-from collections.abc import Callable, Iterator, Sequence
-from typing import Any, Final, Optional
+from collections.abc import Callable, Sequence
+from typing import Final, Optional
 
-from rigzumal import RigzumalError
-from rigzumal._library import InvalidRecordError, bytes_of
-from rigzumal._commands import Refusal, Status, Words, add_costs, hasher_of, hint
-from rigzumal._commands import positive, say, status_of
+from rigzumal import RigzumalError, opaque_string
+from rigzumal._library import InvalidRecordError
+from rigzumal._commands import Refusal, Status, hint, say, status_of
 from rigzumal.accounts._accounts import Accounts
 from rigzumal.accounts._import import Import, costs_of, shown, why
+from rigzumal.accounts._report import as_prometheus, report
+from rigzumal.accounts._rows import Rows, line_of
 from rigzumal.accounts._session import Session, run
+from rigzumal.accounts._words import accounts_hasher, old_and_new, parser
+from rigzumal.accounts._words import password_of
 from rigzumal.accounts.parts import LONGEST_PASSWORD, NO_ROW, AccountsError, Key, Reply
 from rigzumal.accounts.database import Database
 from rigzumal.accounts.dialects import Dialect
-from rigzumal.accounts.parts import Kind, Request
+from rigzumal.accounts.parts import Kind, Request, Ticket, Worked
 from rigzumal.accounts.pools import PerThread
 
 DRIVERS = ("sqlite3", "psycopg", "pymysql")
@@ -40,7 +40,8 @@ DRIVERS = ("sqlite3", "psycopg", "pymysql")
 
 def main(words: Optional[Sequence[str]] = None) -> int:
     """Runs the command, and answers its exit status."""
-    given = _parser().parse_args(words)
+    commands = {name: text for name, (_, text) in _COMMANDS.items()}
+    given = parser(__doc__.partition("\n\n")[2], commands).parse_args(words)
     try:
         run, _ = _COMMANDS[given.command]
         return run(_Command(given))
@@ -98,9 +99,18 @@ class _Command:
         kind = int if given.numbers else str
         return self.database.dialect_kind()(given.table, given.key, given.record, kind)
 
+    @property
+    def rows(self) -> Rows:
+        return Rows(self.pool, self.dialect)
+
     def accounts(self) -> Accounts:
-        hasher = hasher_of(self.given)
-        return Accounts(self.pool, self.dialect, hasher, confirm=self.given.confirm)
+        return Accounts(
+            self.pool,
+            self.dialect,
+            accounts_hasher(self.given),
+            confirm=self.given.confirm,
+            prepare=opaque_string if self.given.opaque else None,
+        )
 
     def key(self, name: str) -> Key:
         if not self.given.numbers:
@@ -120,13 +130,18 @@ class _Command:
         self.execute(self.dialect.create())
         return self.examine()
 
-    def add(self) -> int:
-        """The account and its record, in one transaction."""
-        accounts, key = self.accounts(), self.key(self.given.name)
+    def new_key(self, name: str) -> Key:
+        """A name that an account may get."""
+        key = self.key(name)
         if not self.dialect.can_stand(key):
             raise Refusal("no column holds this name", Status.WORDS)
-        password = _password(twice=True)
-        if isinstance(accounts.begin(Request(Kind.ENROL, key)).copy, str):
+        return key
+
+    def add(self) -> int:
+        """The account and its record, in one transaction."""
+        accounts, key = self.accounts(), self.new_key(self.given.name)
+        password = password_of(is_new=True)
+        if isinstance(accounts.begin(Request(Kind.VERIFY, key)).copy, str):
             return self.say(Reply.EXISTS)
         record = accounts.new_record(password)
         (word,) = Import(accounts, self.dialect, self.pool).put([(key, record)])
@@ -134,7 +149,7 @@ class _Command:
         return self.say(reply, Reply.ENROLLED)
 
     def check(self) -> int:
-        accounts, password = self.accounts(), _password()
+        accounts, password = self.accounts(), password_of()
         key = self.key(self.given.name)
         try:
             reply = accounts.verify(key, password)
@@ -149,10 +164,48 @@ class _Command:
 
     def reset(self) -> int:
         accounts, key = self.accounts(), self.key(self.given.name)
-        if accounts.begin(Request(Kind.RESET, key)).copy is NO_ROW:
+        if accounts.begin(Request(Kind.VERIFY, key)).copy is NO_ROW:
             return self.say(Reply.NO_ACCOUNT)
-        reply = accounts.reset(key, _password(twice=True))
+        reply = accounts.reset(key, password_of(is_new=True))
         return self.say(reply, Reply.REPLACED, Reply.ENROLLED)
+
+    def change(self) -> int:
+        accounts, key = self.accounts(), self.key(self.given.name)
+        return self.say(accounts.change(key, *old_and_new()), Reply.REPLACED)
+
+    def disable(self) -> int:
+        """Takes the record away, and with --show writes it as a line for an import."""
+        accounts, key = self.accounts(), self.key(self.given.name)
+        copy = accounts.begin(Request(Kind.REMOVE, key)).copy
+        while isinstance(copy, str):
+            ticket = Ticket(Request(Kind.REMOVE, key), copy)
+            answer = accounts.commit(Worked(ticket, Reply.REMOVED, None))
+            if answer.reply is Reply.REMOVED:
+                text = f"{self.given.name} {copy}" if self.given.show else "disabled"
+                fields = {"record": copy} if self.given.show else {}
+                return self.answer("disabled", True, text, **fields)
+            copy = answer.after
+        return self.say(Reply.NO_ACCOUNT if copy is NO_ROW else Reply.ABSENT)
+
+    def delete(self) -> int:
+        is_done = self.rows.delete(self.new_key(self.given.name))
+        return self.answer("deleted", True) if is_done else self.say(Reply.NO_ACCOUNT)
+
+    def rename(self) -> int:
+        key, new = self.new_key(self.given.name), self.new_key(self.given.new)
+        accounts = self.accounts()
+        try:
+            is_done = self.rows.rename(key, new)
+        except Exception:
+            if accounts.begin(Request(Kind.VERIFY, new)).copy is NO_ROW:
+                raise
+            return self.say(Reply.EXISTS)
+        return self.answer("renamed", True) if is_done else self.say(Reply.NO_ACCOUNT)
+
+    def answer(self, word: str, is_good: bool, text: str = "", **fields: str) -> int:
+        """Writes an answer that isn't one of an operation."""
+        self.write(text or word, reply=word, **fields)
+        return Status.DONE if is_good else Status.NO
 
     def say(self, reply: Reply, *good: Reply) -> int:
         """Writes a reply; its status is a no unless it is a good one."""
@@ -174,18 +227,37 @@ class _Command:
         return Status.DATABASE if any(it.is_error for it in faults) else Status.DONE
 
     def show(self) -> int:
-        with self.pool() as conn:
-            cursor = conn.cursor()
-            cursor.execute(self.dialect.every)
-            rows: Iterator[tuple[Any, Any]] = iter(cursor.fetchone, None)
-            for name, record in rows:
-                costs = costs_of(record)
-                fields = {"name": name, "costs": costs}
-                text = costs[1:].replace("$", " ") if costs else "no record"
-                if record is not None and costs is None:
-                    text, fields["foreign"] = "another scheme", True
-                self.write(f"{shown(name)} {text}", **fields)
-            cursor.close()
+        for name, record in self.rows.every():
+            costs = costs_of(record)
+            fields = {"name": name, "costs": costs}
+            text = costs[1:].replace("$", " ") if costs else "no record"
+            if record is not None and costs is None:
+                text, fields["foreign"] = "another scheme", True
+            self.write(f"{shown(name)} {text}", **fields)
+        return Status.DONE
+
+    def export(self) -> int:
+        """Lines for an import; the status tells that a row was left out."""
+        left_out = 0
+        for name, record in self.rows.every():
+            line = line_of(name, record)
+            if line or self.given.json:
+                self.write(line, name=name, record=record)
+            elif record is not None:
+                left_out += 1
+        if left_out:
+            say(f"{left_out} accounts fit no line, and are left out: see --json")
+        return Status.DATABASE if left_out else Status.DONE
+
+    def report(self) -> int:
+        """How many records are of which scheme and costs, and what a login makes of them."""
+        counts = report(self.rows.every(), self.accounts()._judge.goes_up)
+        if self.given.prometheus:
+            print(*as_prometheus(counts), sep="\n")
+            return Status.DONE
+        for (state, scheme, costs), count in counts:
+            text = f"{count:>9} {state.value:10} {scheme} {costs}".rstrip()
+            self.write(text, state=state.value, scheme=scheme, costs=costs, count=count)
         return Status.DONE
 
     def take(self) -> int:
@@ -200,7 +272,12 @@ class _Command:
         self.write(said, **counts)
         return Status.NO if another else Status.DONE
 
+    def refuse_json(self) -> None:
+        if self.given.json:
+            raise Refusal(f"{self.given.command} writes text alone", Status.WORDS)
+
     def torture(self) -> int:
+        self.refuse_json()
         from rigzumal.accounts import torture
         from rigzumal.accounts.torture import logs
 
@@ -228,6 +305,7 @@ class _Command:
         return Status.DONE
 
     def history(self) -> int:
+        self.refuse_json()
         from rigzumal.accounts.torture import logs
 
         try:
@@ -241,9 +319,21 @@ _COMMANDS: Final[dict[str, tuple[Callable[[_Command], int], str]]] = {
     "init": (_Command.init, "create the table"),
     "add": (_Command.add, "add an account with a password"),
     "check": (_Command.check, "write yes, or no with status 4"),
+    "change": (_Command.change, "replace a password by one who knows it"),
     "reset": (_Command.reset, "give an account another password"),
+    "disable": (
+        _Command.disable,
+        "take an account's record away: no password is right",
+    ),
+    "delete": (_Command.delete, "delete an account with its row"),
+    "rename": (_Command.rename, "give an account another name"),
     "import": (_Command.take, "add a file's new accounts, of a bad file none"),
+    "export": (_Command.export, 'write each account with its record, as "NAME RECORD"'),
     "list": (_Command.show, "write each account, and the costs of its record"),
+    "report": (
+        _Command.report,
+        "count records by scheme and costs, and those to rehash",
+    ),
     "examine": (_Command.examine, "name faults of the table and the server"),
     "torture": (
         _Command.torture,
@@ -251,54 +341,3 @@ _COMMANDS: Final[dict[str, tuple[Callable[[_Command], int], str]]] = {
     ),
     "history": (_Command.history, "judge logs"),
 }
-
-
-def _parser() -> argparse.ArgumentParser:
-    words = Words(
-        prog="python3 -m rigzumal accounts",
-        description=__doc__.partition("\n\n")[2],
-        formatter_class=argparse.RawDescriptionHelpFormatter,
-    )
-    url = os.environ.get("RIGZUMAL_DATABASE")
-    words.add_argument("--database", metavar="URL", default=url)
-    words.add_argument("--table", default="accounts", help="by default: accounts")
-    words.add_argument("--key", default="name", help="its column of names")
-    words.add_argument("--record", default="record", help="its column of records")
-    words.add_argument("--numbers", action="store_true", help="names are whole numbers")
-    words.add_argument("--json", action="store_true", help="write lines of JSON")
-    confirm = "confirm each answer by a write (docs/SCALE.md)"
-    words.add_argument("--confirm", action="store_true", help=confirm)
-    add_costs(words)
-    commands = words.add_subparsers(
-        dest="command", required=True, metavar="COMMAND", parser_class=Words
-    )
-    made = {
-        name: commands.add_parser(name, help=text, description=f"{text}.".capitalize())
-        for name, (_, text) in _COMMANDS.items()
-    }
-    for name in ("add", "check", "reset"):
-        made[name].add_argument("name")
-    made["import"].add_argument("file", type=pathlib.Path, help='lines "NAME RECORD"')
-    foreign = "accept records of other schemes, which your hook judges"
-    made["import"].add_argument("--foreign", action="store_true", help=foreign)
-    torture = made["torture"]
-    torture.add_argument("--processes", type=positive, default=8)
-    torture.add_argument("--seconds", type=positive, default=60)
-    torture.add_argument("--accounts", type=positive, default=4)
-    torture.add_argument("--kill", action="store_true", help="processes, now and then")
-    torture.add_argument("--logs", type=pathlib.Path, help="a folder for the logs")
-    made["history"].add_argument("logs", nargs="+")
-    return words
-
-
-def _password(twice: bool = False) -> bytes:
-    if sys.stdin.isatty():
-        password = getpass.getpass("password: ")
-        if twice and getpass.getpass("once more: ") != password:
-            raise Refusal("the two passwords differ")
-        given = bytes_of(password)
-    else:
-        given = sys.stdin.buffer.read().removesuffix(b"\n")
-    if not given:
-        raise Refusal("no password: the input is empty")
-    return given

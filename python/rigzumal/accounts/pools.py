@@ -17,12 +17,17 @@ Your own closes a connection, or rolls it back, after any exception, BaseExcepti
 
 from __future__ import annotations
 
+import asyncio
+import inspect
 import os
 import threading
+import weakref
 from collections.abc import AsyncIterator, Awaitable, Callable, Iterator
 from contextlib import AbstractAsyncContextManager, AbstractContextManager
 from contextlib import asynccontextmanager, contextmanager, suppress
-from typing import Any, Optional
+from typing import Any, Final, Optional
+
+from rigzumal.accounts.parts import Unavailable
 
 Pool = Callable[[], AbstractContextManager[Any]]
 AsyncPool = Callable[[], AbstractAsyncContextManager[Any]]
@@ -35,8 +40,26 @@ def check_pool(pool: object) -> None:
         raise TypeError(f"a pool is wanted, not a {type(pool).__name__}: {_MAKERS}")
 
 
+def lent(pool: Any, enter: str) -> Any:
+    """What a pool lends a connection by; raises TypeError if `enter` is none of its methods.
+
+    A connection of psycopg or sqlite3 is a context manager too, which doesn't close it.
+    """
+    given = pool()
+    kind = type(given)
+    if hasattr(kind, enter) and not hasattr(kind, "cursor"):
+        return given
+    if inspect.iscoroutine(given):
+        given.close()
+    wanted = "`with`" if enter == "__enter__" else "`async with`"
+    fault = f"a pool gives connections by {wanted}, and this one answers"
+    raise TypeError(f"{fault} a {kind.__name__}: {_MAKERS}")
+
+
 class _Held:
     """A connection that is closed with its thread, in the process that made it."""
+
+    is_lent = False
 
     def __init__(self, conn: Any) -> None:
         self.conn, self._pid = conn, os.getpid()
@@ -65,15 +88,27 @@ class PerThread:
         self._local = threading.local()
         self._parents: list[_Held] = []
 
-    @contextmanager
-    def __call__(self) -> Iterator[Any]:
+    def __call__(self) -> PerThread:
+        return self
+
+    def __enter__(self) -> Any:
         held = self._take()
-        try:
-            yield held.conn
-        except BaseException:
+        if held.is_lent:
+            fault = (
+                "this thread's connection is in use: within `also`, use its argument"
+            )
+            raise TypeError(fault)
+        held.is_lent = True
+        return held.conn
+
+    def __exit__(self, kind: Any, *error: object) -> None:
+        held = self._mine()
+        if held is None:
+            return  # closed meanwhile
+        held.is_lent = False
+        if kind is not None:
             self._local.held = None
             held.close()
-            raise
 
     def close(self) -> None:
         """Closes this thread's connection, if it has one."""
@@ -94,23 +129,59 @@ class PerThread:
     def _take(self) -> _Held:
         held = self._mine()
         if held is None:
-            held = self._local.held = _Held(self._connect())
+            held = self._local.held = _Held(self._connected())
         return held
+
+    def _connected(self) -> Any:
+        conn = self._connect()
+        if inspect.isawaitable(conn):
+            if inspect.iscoroutine(conn):
+                conn.close()
+            fault = (
+                "`connect` has answered what is awaited: use AsyncAccounts and PerUse"
+            )
+            raise TypeError(fault)
+        return conn
+
+
+_CONNECTING: Final = 4  # connections that are opened at a time: each holds up the loop
 
 
 class PerUse:
-    """A connection for each use, for AsyncAccounts; `connect` makes one in autocommit."""
+    """A connection for each use, for AsyncAccounts; `connect` makes one in autocommit.
+
+    A connection is closed whenever its task is cancelled, while it is opened too. For many
+    uses at once a pool that keeps its connections is faster.
+    """
 
     def __init__(self, connect: Callable[[], Awaitable[Any]]) -> None:
         self._connect = connect
+        self._turns: weakref.WeakKeyDictionary[Any, asyncio.Semaphore]
+        self._turns = weakref.WeakKeyDictionary()
 
     @asynccontextmanager
     async def __call__(self) -> AsyncIterator[Any]:
-        conn = await self._connect()
+        conn = await self._opened()
         try:
             yield conn
         finally:
-            await conn.close()
+            await asyncio.shield(conn.close())
+
+    async def _opened(self) -> Any:
+        loop = asyncio.get_running_loop()
+        async with self._turns.setdefault(loop, asyncio.Semaphore(_CONNECTING)):
+            opening = asyncio.ensure_future(self._connect())
+            try:
+                return await asyncio.shield(opening)
+            except asyncio.CancelledError:
+                opening.add_done_callback(_close)
+                raise
+
+
+def _close(opening: asyncio.Future[Any]) -> None:
+    """Closes a connection that was opened after its task was cancelled."""
+    if not opening.cancelled() and opening.exception() is None:
+        asyncio.ensure_future(opening.result().close())
 
 
 def of_engine(engine: Any) -> Any:
@@ -118,7 +189,8 @@ def of_engine(engine: Any) -> Any:
 
     Of an Engine it is one for Accounts, of an AsyncEngine one for AsyncAccounts. The
     engine is made with isolation_level="AUTOCOMMIT", or is
-    `engine.execution_options(isolation_level="AUTOCOMMIT")`.
+    `engine.execution_options(isolation_level="AUTOCOMMIT")`. If its pool has no
+    connection to give in time, an operation is Unavailable.
     """
 
     @contextmanager
@@ -153,4 +225,6 @@ def _drivers_error() -> Iterator[None]:
     try:
         yield
     except Exception as error:
+        if type(error).__name__ == "TimeoutError":  # of its pool
+            raise Unavailable(f"no connection was free: {error}") from error
         raise getattr(error, "orig", None) or error

@@ -50,11 +50,11 @@ class CompareAndSetBackend(ModelBackend):
         try:
             user = users.get_by_natural_key(username)
         except model.DoesNotExist:
-            hashers.make_password("")  # as long as a wrong password takes
+            _spend(password)
             users.filter(**{model.USERNAME_FIELD: username}).exists()
             return None
         if not self.user_can_authenticate(user):
-            hashers.make_password("")
+            _spend(password)
             records.Row(user).look()
             return None
         try:
@@ -65,3 +65,12 @@ class CompareAndSetBackend(ModelBackend):
     def aauthenticate(self, *given: Any, **credentials: Any) -> Awaitable[Any]:
         """`authenticate`, in a thread; Django calls it from 5.2 on."""
         return records.in_thread(lambda: self.authenticate(*given, **credentials))
+
+
+@hidden
+def _spend(password: Any) -> None:
+    """Hashes what was typed, as long as a wrong password of that length takes."""
+    try:
+        hashers.make_password(password)
+    except ValueError:  # the text has no form in UTF-8, and is judged as an empty one
+        hashers.make_password("")

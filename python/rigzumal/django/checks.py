@@ -5,6 +5,7 @@
 
 from __future__ import annotations
 
+import difflib
 import re
 from collections.abc import Iterator
 from typing import Any, Optional
@@ -40,8 +41,7 @@ _LEVEL = re.compile(r"isolation(?:[ _-]level)?[ =']+(repeatable|serializable)")
 
 def register() -> None:
     """Registers the checks; called once, by the app."""
-    hashers_checks = (first_hasher, shadowed_hashers)
-    settings_checks = (backends, column, *hashers_checks, isolation, own_methods)
+    settings_checks = (backends, column, hashers_listed, isolation, own_methods)
     for check in (*settings_checks, user_model, admin_sites, url_views, command):
         checks.register(check, checks.Tags.security)
     checks.register(unlisted_hashers, checks.Tags.database)
@@ -67,25 +67,59 @@ def _password_field() -> Optional[Any]:
         return None
 
 
+def _classes(setting: str, number: str) -> tuple[list[tuple[str, type]], Messages]:
+    """The classes that a setting lists, with their paths, and what is amiss with the list."""
+    listed = getattr(settings, setting)
+    if isinstance(listed, str):
+        text = f"{setting} is a text, where a list is wanted."
+        return [], [_said(number, text, f"Put {listed!r} into a list.")]
+    found: list[tuple[str, type]] = []
+    amiss: Messages = []
+    for path in listed:
+        try:
+            it = import_string(path)
+        except (ImportError, ValueError, AttributeError) as fault:
+            text = f"{setting} has {path!r}, which can't be imported."
+            amiss.append(_said(number, text, str(fault)))
+            continue
+        if isinstance(it, type):
+            found.append((path, it))
+        else:
+            text = f"{setting} has {path!r}, which is no class."
+            amiss.append(_said(number, text, "Name a class by its whole path."))
+    if not listed:
+        amiss.append(_said(number, f"{setting} is empty.", "Nobody can log in."))
+    return found, amiss
+
+
+def _misspelt(setting: str) -> str:
+    """What a hint says of a setting whose name is nearly this one's."""
+    others = set(dir(settings)) - {setting}
+    near = difflib.get_close_matches(setting, others, 1, 0.9)
+    return f" The settings have {near[0]}: is {setting} meant?" if near else ""
+
+
 def backends(**_: Any) -> Messages:
     """W001: the backend isn't used. W002: one that doesn't compare is used too.
-    E012: one can't be imported.
+    E012: one can't be imported. W014: the model compares, under Django's own backend.
 
     A model that compares does so under any backend which calls its check_password.
     """
-    amiss: Messages = []
-    found = []
-    for path in settings.AUTHENTICATION_BACKENDS:
-        try:
-            found.append(import_string(path))
-        except ImportError as fault:
-            text = f"AUTHENTICATION_BACKENDS has {path!r}, which can't be imported."
-            amiss.append(_said("E012", text, str(fault)))
+    listed, amiss = _classes("AUTHENTICATION_BACKENDS", "E012")
+    found = [it for _, it in listed]
+    is_used = any(issubclass(it, CompareAndSetBackend) for it in found)
+    hint = "Put 'rigzumal.django.backends.CompareAndSetBackend' for ModelBackend."
+    hint += _misspelt("AUTHENTICATION_BACKENDS")
     if _compares():
+        if ModelBackend in found and not is_used:
+            text = (
+                "The only ModelBackend is Django's own: a login that loses to changes is"
+                " an error page, and an inactive user's right password is rehashed."
+            )
+            amiss.append(_said("W014", text, hint))
         return amiss
-    if not any(issubclass(it, CompareAndSetBackend) for it in found):
+    if not is_used:
         text = "No backend is a CompareAndSetBackend: a login may undo a change."
-        hint = "Put 'rigzumal.django.backends.CompareAndSetBackend' for ModelBackend."
         amiss.append(_said("W001", text, hint))
     judging_none = (CompareAndSetBackend, RemoteUserBackend)
     for it in found:
@@ -106,25 +140,23 @@ def column(**_: Any) -> Messages:
     return [_said("E003", text, f"Give it max_length={WIDTH}.")]
 
 
-def first_hasher(**_: Any) -> Messages:
-    """W004: new records are made by another library."""
-    if issubclass(import_string(settings.PASSWORD_HASHERS[0]), OURS):
-        return []
-    text = "The first of PASSWORD_HASHERS, which makes new records, isn't Rigzumal's."
-    hint = "Put 'rigzumal.django.hashers.Argon2PasswordHasher' before the others."
-    return [_said("W004", text, hint)]
-
-
-def shadowed_hashers(**_: Any) -> Messages:
-    """E013: another hasher has the name of ours, and judges its records.
+def hashers_listed(**_: Any) -> Messages:
+    """E015: one of PASSWORD_HASHERS can't be imported, or none is listed.
+    W004: new records are made by another library.
+    E013: another hasher has the name of ours, and judges its records.
 
     Of two hashers of one algorithm Django asks the later.
     """
-    listed = [(path, import_string(path)) for path in settings.PASSWORD_HASHERS]
-    judges = {it.algorithm: it for _, it in listed}
-    amiss: Messages = []
+    listed, amiss = _classes("PASSWORD_HASHERS", "E015")
+    if listed and not issubclass(listed[0][1], OURS):
+        text = (
+            "The first of PASSWORD_HASHERS, which makes new records, isn't Rigzumal's."
+        )
+        hint = "Put 'rigzumal.django.hashers.Argon2PasswordHasher' before the others."
+        amiss.append(_said("W004", text, hint + _misspelt("PASSWORD_HASHERS")))
+    judges = {getattr(it, "algorithm", None): it for _, it in listed}
     for path, ours in listed:
-        judge = judges[ours.algorithm]
+        judge = judges[getattr(ours, "algorithm", None)]
         if issubclass(ours, OURS) and not issubclass(judge, OURS):
             text = f"{_path(judge)} comes after {path}, so Django asks it instead."
             hint = f"Remove {_path(judge)}: Rigzumal's reads its records."
@@ -180,7 +212,7 @@ def user_model(**_: Any) -> Messages:
     name = get_user_model()._meta.label
     text = f"{name}.save and check_password don't compare: they may undo a change."
     hint = "Set RIGZUMAL_USER_COMPARES = True, or give the model CompareAndSetMixin."
-    return [_said("W007", text, hint)]
+    return [_said("W007", text, hint + _misspelt("RIGZUMAL_USER_COMPARES"))]
 
 
 def _outcome() -> str:
@@ -250,8 +282,10 @@ def command(**_: Any) -> Messages:
 def unlisted_hashers(databases: Any = None, **_: Any) -> Messages:
     """W011: the table has records whose hasher isn't listed: their users can't log in."""
     field, amiss = _password_field(), Messages()
+    if field is None or _classes("PASSWORD_HASHERS", "E015")[1]:
+        return amiss
     for alias in databases or []:
-        if field is None or not router.allow_migrate_model(alias, field.model):
+        if not router.allow_migrate_model(alias, field.model):
             continue
         found = _unlisted(field.model, alias)
         if found is not None:

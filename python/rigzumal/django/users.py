@@ -153,7 +153,8 @@ class CompareAndSetMixin(models.Model):
         if given[0] == copy.newest and not copy.is_in_doubt(using):
             others = [it for it in values if it[0].attname != "password"]
             return update(rows, using, pk, others, *rest, **more)
-        compared = rows.filter(password__in=copy.records)
+        # A `bulk_update` of this user may have put the new record already.
+        compared = rows.filter(password__in=[*copy.records, given[0]])
         updated = update(compared, using, pk, values, *rest, **more)
         if updated:
             records.note_put(self, using, copy.followed_by(given[0], using))

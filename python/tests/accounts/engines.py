@@ -6,7 +6,7 @@ import sqlite3
 import uuid
 
 import servers
-from support import LOW, Awaiting, Base
+from support import CHECK_FAILED, LOW, Awaiting, Base
 from rigzumal.accounts import AsyncAccounts, MariaDB, MySQL, Postgres, Sqlite
 from rigzumal.accounts.pools import PerUse
 
@@ -25,7 +25,7 @@ class OnSqlite:
     # What is sent: a change at once, in a transaction, and an answer that is confirmed.
     one = several = confirmed = "BEGIN UPDATE SELECT COMMIT"
     levels = ("SELECT 1",)
-    check_number = "SQLITE_CONSTRAINT_CHECK"
+    check_number = CHECK_FAILED
     holding = "SELECT 1 FROM users"
     lock_timeout = statement_timeout = "PRAGMA busy_timeout = 10"
     # Columns of keys, with a key, and with another that no row has.
@@ -35,9 +35,18 @@ class OnSqlite:
         " UPDATE users SET record = upper(NEW.record) WHERE name = NEW.name; END",
     )
     ignoring = (f"{IGNORING} BEGIN SELECT RAISE(IGNORE); END",)
+    emptying = (
+        "CREATE TRIGGER tr AFTER UPDATE ON users BEGIN"
+        " UPDATE users SET record = NULL WHERE name = NEW.name; END",
+    )
     # Columns whose collation takes other texts for the same, columns that change a record, and
     # settings of connections under which they do.
     folding, changing, modes = ("TEXT COLLATE NOCASE",), (), ()
+    begins_late = True
+
+    def patient(self):
+        """A connection that waits for others as long as a test may take."""
+        return self.connect(timeout=60)
 
     def as_dictionaries(self):
         def dictionary(cursor, row):
@@ -52,7 +61,11 @@ class OnSqlite:
 class OnServer:
     broken = lost_look = ConnectionError("planted")
     unknown = (broken,)
+    begins_late = False
     holding = "SELECT 1 FROM users FOR UPDATE"
+
+    def patient(self):
+        return self.connect()
 
 
 class OnPostgres(OnServer):
@@ -80,6 +93,11 @@ class OnPostgres(OnServer):
         "CREATE OR REPLACE FUNCTION nothing() RETURNS trigger LANGUAGE plpgsql AS"
         " 'BEGIN RETURN NULL; END'",
         f"{IGNORING} FOR EACH ROW EXECUTE FUNCTION nothing()",
+    )
+    emptying = (
+        "CREATE OR REPLACE FUNCTION empty() RETURNS trigger LANGUAGE plpgsql AS"
+        " 'BEGIN NEW.record = NULL; RETURN NEW; END'",
+        f"{IGNORING} FOR EACH ROW EXECUTE FUNCTION empty()",
     )
     folding, changing = ("text COLLATE ci", "citext", "char(20)"), ("char(300)", "varchar(60)")
     modes = ("SELECT 1",)
@@ -140,6 +158,7 @@ class OnMariaDB(OnServer):
     lock_timeout = "SET innodb_lock_wait_timeout = 1"
     statement_timeout = "SET SESSION max_statement_time = 0.2"
     shouting = (f"{IGNORING} FOR EACH ROW SET NEW.record = UPPER(NEW.record)",)
+    emptying = (f"{IGNORING} FOR EACH ROW SET NEW.record = NULL",)
     ignoring = ()
     folding = ("TEXT CHARACTER SET utf8mb4 COLLATE utf8mb4_general_ci",)
     changing = ("VARCHAR(60)", "VARCHAR(90)")

@@ -64,8 +64,10 @@ class Operations:
                 if name == "login":
                     continue
                 self.put(record)
-                given = ["", *given] if name == "reset" else given
-                answer = accounts.perform(Request(Kind(name), key, *given))
+                given, told = ["", *given] if name == "reset" else given, []
+                also = [{}, {"also": lambda conn, reply: told.append(reply)}][hasher is LOW]
+                answer = accounts.perform(Request(Kind(name), key, *given), **also)
+                self.assertEqual(told, [answer.reply] if also else [])
                 self.assertIs(answer.reply, Reply(reply))
                 self.assertEqual(answer.before, NO_ROW if key == "bob" else record)
                 self.assertEqual(answer.after, NO_ROW if key == "bob" else self.stands())
@@ -131,8 +133,12 @@ class Connections:
         manual = self.another(autocommit=False)
         with self.assertRaisesRegex(StoreFault, "the connections of the pool have to be in"):
             self.accounts(connect=lambda: manual).verify("ann", "one")
-        with self.assertRaisesRegex(StoreFault, "no transaction is open"):
-            self.accounts().commit_in(self.conn, worked)
+        # Out of autocommit too none is open on SQLite before the first change.
+        lone = [self.conn, *([self.another(autocommit=False)] if self.begins_late else [])]
+        for conn in lone:
+            for worked in (worked, self.worked(self.accounts(), Kind.VERIFY, "one")):
+                with self.assertRaisesRegex(StoreFault, "no transaction is open"):
+                    self.accounts().commit_in(conn, worked)
         self.assertTrue(self.is_right("one"))
 
     def test_a_callers_transaction(self):
@@ -171,8 +177,10 @@ class Connections:
         """No statement too many: docs/SCALE.md has these lists. Of none to a record, and of a
         record to none, what stands wouldn't tell enough for one statement."""
         conn, one, several = self.another(), self.one, self.several
-        looked = f"{self.dialect.begin.split()[0]} SELECT COMMIT"
+        begin, _, rest = several.partition(" ")
+        # Locked for `also`, and compared after it.
         own = {"also": lambda conn, reply: None}
+        changed, looked = f"{begin} SELECT {rest}", f"{begin} SELECT SELECT COMMIT"
         for hasher, stands, text, reply in CALLS:
             plain, confirming = (self.kept(hasher, conn, confirm=it) for it in (False, True))
             changes = Reply(reply).makes_change or (hasher is HIGH and reply == "yes")
@@ -180,7 +188,7 @@ class Connections:
             confirmed = "" if reply == "noaccount" else self.confirmed
             for accounts, more, words in (
                 (plain, {}, at_once if changes else ""),
-                (plain, own, several if changes else looked),
+                (plain, own, changed if changes else looked),
                 (confirming, {}, at_once if changes else confirmed),
             ):
                 record = stands and LOW.hash(stands)
@@ -349,10 +357,11 @@ class Connections:
         for sql in self.ignoring:
             self.execute(sql)
         accounts = self.accounts()
-        self.put(LOW.hash("one"))
-        with self.assertRaisesRegex(StoreFault, "an UPDATE doesn't change"):
-            accounts.change("ann", "one", "two")
-        self.assertIn("an UPDATE doesn't change a row", self.said(accounts))
+        for stands, text in (("one", "change ann one two"), (None, "enrol ann two")):
+            self.put(stands and LOW.hash(stands))
+            with self.assertRaisesRegex(StoreFault, "an UPDATE doesn't change"):
+                called(accounts, text)
+        self.assertIn("an UPDATE doesn't change it", self.said(accounts))
 
 
 class LostAnswers:
@@ -426,7 +435,11 @@ class LostAnswers:
             return put(session, after, key, copy)
 
         accounts._dialect.put = noted
-        self.assertIs(accounts.change("ann", "one", "two"), Reply.REPLACED)
+        with self.assertLogs("rigzumal.accounts", "WARNING") as logs:
+            self.assertIs(accounts.change("ann", "one", "two"), Reply.REPLACED)
+        (line,) = logs.output
+        self.assertIn("COMMIT had no answer: " + type(self.broken).__name__, line)
+        self.assertNotRegex(line, r"\bann\b|argon2|two")
         self.assertIs(puts[-1], True)
 
     def test_a_fault_after_a_lost_answer_says_nothing_of_it(self):
@@ -492,113 +505,6 @@ class AtOnce:
         self.put(LOW.hash("one"))
         accounts = self.accounts(connect=self.of_role("SELECT"))
         self.assertRaisesRegex(StoreFault, "42501|1142", accounts.change, "ann", "one", "two")
-
-
-class RowsOfOnesOwn:
-    """What is put by `also` stands exactly if the reply does."""
-
-    def setUp(self):
-        super().setUp()
-        self.execute("DROP TABLE IF EXISTS sessions")
-        self.execute("CREATE TABLE sessions (name VARCHAR(150), reply VARCHAR(20))")
-        self.calls = []
-
-    def also(self, conn, reply):
-        self.calls.append(reply)
-        self.execute("INSERT INTO sessions VALUES ('ann', %s)", reply.value, conn=conn)
-
-    def begin(self, record):
-        """With this record and no row."""
-        self.put(record)
-        self.execute("DELETE FROM sessions")
-        self.calls.clear()
-
-    def rows(self):
-        return [value for (value,) in self.execute("SELECT reply FROM sessions")]
-
-    def test_each_reply(self):
-        """It is told what its caller is, and its row is committed."""
-        for hasher, stands, text, reply in (*CALLS, (LOW, None, "login b\0b one", "noaccount")):
-            self.begin(stands and LOW.hash(stands))
-            with self.subTest(text=text):
-                self.assertEqual(called(self.accounts(hasher), text, also=self.also), reply)
-                self.assertEqual(self.calls, [Reply(reply)])
-                self.assertEqual(self.rows(), [reply])
-
-    def test_an_exception_undoes_all(self):
-        """It comes through as it is, be it a driver's, and nothing stands."""
-        record = LOW.hash("one")
-        accounts = self.accounts(patience=60.0)
-
-        def raising(error):
-            def raises(conn, reply):
-                self.also(conn, reply)
-                if error is None:
-                    self.execute("INSERT INTO nowhere VALUES (1)", conn=conn)
-                raise error
-
-            return raises
-
-        for error in (KeyError("mine"), FileNotFoundError("mine"), RuntimeError("mine"), None):
-            also = raising(error)
-            for text in ("change ann one two", "login ann one", "remove ann one"):
-                self.begin(record)
-                with self.assertRaises(Exception) as raised:
-                    called(accounts, text, also=also)
-                self.assertNotIsInstance(raised.exception, (StoreFault, Unavailable))
-                self.assertIs(raised.exception, error or raised.exception)
-                self.assertEqual(len(self.calls), 1)
-                self.assertEqual((self.rows(), self.stands()), ([], record))
-        self.assertIs(accounts.verify("ann", "one"), Reply.YES)
-
-    def test_it_is_called_again_at_each_turn(self):
-        """Another record stands at the first commit: its row was undone with it."""
-        accounts, owner = self.accounts(HIGH), self.accounts()
-        for text, reply in (("login ann one", "no"), ("change ann one x", "wrong")):
-            self.begin(LOW.hash("one"))
-            after_hash(accounts, lambda: owner.reset("ann", "two"))
-            self.assertEqual(called(accounts, text, also=self.also), reply)
-            self.assertEqual(self.rows(), [reply])
-
-    def test_what_may_pass_is_done_again(self):
-        """From its BEGIN: what the server undid, and what broke with its connection."""
-        accounts = self.accounts()
-        for error in (self.again, self.lost_look):
-            self.begin(LOW.hash("one"))
-            errors = [error]
-
-            def fails(conn, reply):
-                self.also(conn, reply)
-                if errors:
-                    raise errors.pop()
-
-            self.assertIs(accounts.change("ann", "one", "two", also=fails), Reply.REPLACED)
-            self.assertEqual(self.rows(), ["replaced"])
-            self.assertEqual(len(self.calls), 2)
-
-    def test_a_commit_without_an_answer(self):
-        """Of a change one row stands, as the record does; otherwise nobody knows."""
-        for before in (True, False):
-            self.begin(LOW.hash("one"))
-            reply = self.losing(before).change("ann", "one", "two", also=self.also)
-            self.assertIs(reply, Reply.REPLACED)
-            self.assertEqual(self.rows(), ["replaced"])
-            self.assertTrue(self.is_right("two"))
-            self.execute("DELETE FROM sessions")
-            for name in ("login", "verify"):
-                with self.assertRaises(OutcomeUnknown):
-                    getattr(self.losing(before), name)("ann", "two", also=self.also)
-            self.assertEqual(self.rows(), [] if before else ["yes"] * 2)
-
-    def test_a_coroutine_is_refused(self):
-        self.put(LOW.hash("one"))
-
-        async def awaited(conn, reply):
-            raise AssertionError
-
-        with self.assertRaisesRegex(TypeError, "AsyncAccounts"):
-            self.accounts().change("ann", "one", "two", also=awaited)
-        self.assertTrue(self.is_right("one"))
 
 
 class OnServers:

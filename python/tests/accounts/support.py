@@ -2,6 +2,8 @@
 
 import concurrent.futures
 import contextlib
+import importlib
+import logging
 import os
 import pathlib
 import sqlite3
@@ -12,19 +14,26 @@ import warnings
 from unittest import mock
 
 PACKAGE = pathlib.Path(__file__).resolve().parents[2]
-sys.path.insert(0, str(PACKAGE))
+sys.path[:0] = str(PACKAGE), str(PACKAGE.parent)
 os.environ["PYTHONPATH"] = f"{PACKAGE}:{os.environ.get('PYTHONPATH', '')}".rstrip(":")
 
 import servers
+import tests.helpers  # noqa: F401: unittest as in Python 3.11
 from rigzumal import PasswordHasher, VerifyMismatchError
 from rigzumal.accounts import Accounts, PerThread, Sqlite, _judgement
 from rigzumal.accounts._session import Session, run  # noqa: F401: of each test
 from rigzumal.accounts.parts import Kind, Request
 
+# Of sqlite3's errors, which have their names from Python 3.11 on.
+CHECK_FAILED, FOREIGN_KEY_FAILED = (
+    f"SQLITE_CONSTRAINT_{it}" if sys.version_info >= (3, 11) else ""
+    for it in ("CHECK", "FOREIGNKEY")
+)
 LOW = PasswordHasher(time_cost=1, memory_cost=64, parallelism=1)
 HIGH = PasswordHasher(time_cost=1, memory_cost=128, parallelism=1)
 # Made by the reference program, of the older version.
 OLDER = "$argon2i$m=256,t=2,p=1$c29tZXNhbHQ$/U3YPXYsSb3q9XxHvc0MLxur+GP960kN9j7emXX8zwY"
+logging.getLogger("rigzumal.accounts").addHandler(logging.NullHandler())
 READS = (Kind.VERIFY, Kind.CHANGE, Kind.UPGRADE, Kind.REMOVE)
 SERVERS = {}
 
@@ -42,6 +51,14 @@ def server(kind):
     if isinstance(SERVERS[kind], Exception):
         raise SERVERS[kind]
     return SERVERS[kind]
+
+
+def module(name):
+    """A module, or a skipped test."""
+    try:
+        return importlib.import_module(name)
+    except ImportError:
+        raise unittest.SkipTest(f"Python's {name} is not there") from None
 
 
 class Base(unittest.TestCase):
@@ -164,7 +181,9 @@ class Base(unittest.TestCase):
 
     def assert_no_record(self, error):
         """None is in what is raised, nor in what it was raised from."""
-        self.assertNotIn("$argon2", "".join(traceback.format_exception(error)))
+        self.assertNotIn(
+            "$argon2", "".join(traceback.format_exception(type(error), error, error.__traceback__))
+        )
 
 
 def closed(conn):

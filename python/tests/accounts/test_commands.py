@@ -5,11 +5,16 @@ import io
 import json
 import os
 import pathlib
+import re
+import shlex
 import sqlite3
+import subprocess
 import sys
 from unittest import mock
 
-from support import LOW, Base
+import support
+from support import HIGH, LOW, Base, sent
+from rigzumal import parts
 from rigzumal.accounts import cli
 from rigzumal.accounts.database import Database
 
@@ -30,7 +35,7 @@ class Commands(Base):
         said, error = io.StringIO(), io.StringIO()
         error.isatty = lambda: shows
         stdin = mock.Mock(buffer=io.BytesIO(given), isatty=lambda: bool(typed))
-        asked = mock.patch.object(cli.getpass, "getpass", side_effect=typed)
+        asked = mock.patch("getpass.getpass", side_effect=typed)
         with mock.patch.object(sys, "stdin", stdin), asked, contextlib.redirect_stdout(said):
             with contextlib.redirect_stderr(error):
                 try:
@@ -76,7 +81,27 @@ class Commands(Base):
             (["reset", "ann"], b"\n", 6, ""),
             (["check", "ann"], b"two", 0, "yes"),
             (["reset", "eve"], b"two", 4, "no account"),
+            (["change", "ann"], b"two\nthree\n", 0, "replaced"),
+            (["change", "ann"], b"two\nfour", 4, "wrong"),
+            *(
+                (["change", "ann"], it, 6, "")
+                for it in (b"three", b"three\n\n", b"\nx", b"a\nb\nc")
+            ),
+            (["change", "eve"], b"two\nthree", 4, "no account"),
+            (["change", "ann"], b"three\ntwo", 0, "replaced"),
             (["import", str(one)], b"", 0, "1 added, 0 there already"),
+            (["rename", "ann", "bob"], b"", 4, "exists"),
+            (["rename", "eve", "ben"], b"", 4, "no account"),
+            (["rename", "ann", "eve\udcff"], b"", 1, ""),
+            (["rename", "ann", "amy"], b"", 0, "renamed"),
+            (["check", "amy"], b"two", 0, "yes"),
+            (["disable", "amy"], b"", 0, "disabled"),
+            (["check", "amy"], b"two", 4, "no record"),
+            (["disable", "amy"], b"", 4, "no record"),
+            (["disable", "eve"], b"", 4, "no account"),
+            (["delete", "amy"], b"", 0, "deleted"),
+            (["delete", "amy"], b"", 4, "no account"),
+            (["add", "ann"], b"two", 0, "enrolled"),
             (
                 *(["import", str(two)], b"", 4),
                 "0 added, 0 there already, 1 with another record, which stays",
@@ -92,6 +117,10 @@ class Commands(Base):
             (["list", "hunter2"], b"", 1, ""),
             (["lists"], b"", 1, ""),
             (["--lanes", "0", "add", "eve"], b"one", 1, ""),
+            (["add", "eve", "--log2-n", "10"], b"one", 1, ""),
+            (["add", "eve", "--scrypt"], b"one", 1, ""),  # the costs in front are Argon2's
+            (["--json", "torture"], b"", 1, ""),
+            (["--json", "history", "none"], b"", 1, ""),
             (["--table", "none", "check", "ann"], b"two", 5, ""),
             (["--database", "oracle://x", "examine"], b"", 1, ""),
             (["--database", "sqlite:////nowhere/at/all.db", "examine"], b"", 5, ""),
@@ -103,7 +132,8 @@ class Commands(Base):
             with self.subTest(words=words, given=given):
                 found, error = self.streams(*words, given=given, status=status)
                 self.assertEqual(found, said and f"{said}\n")
-                self.assertEqual(status not in (0, 4), bool(error), error)
+                is_named = "1 with another" in said
+                self.assertEqual(status not in (0, 4) or is_named, bool(error), error)
                 self.assertNotIn("hunter2", error)
         self.conn.execute("DROP TABLE accounts")
         self.conn.execute("CREATE TABLE accounts (name, record)")
@@ -127,6 +157,13 @@ class Commands(Base):
         self.assertEqual(told("add", "dan", given=b"one"), [{"reply": "enrolled"}])
         self.assertEqual(told("check", "dan", given=b"one"), [{"reply": "yes"}])
         self.assertEqual(told("check", "eve", given=b"x", status=4), [{"reply": "noaccount"}])
+        self.assertEqual(told("change", "dan", given=b"one\ntwo"), [{"reply": "replaced"}])
+        (kept,) = told("disable", "--show", "dan")
+        self.assertEqual((kept["reply"], parts(kept["record"]).memory), ("disabled", 64))
+        self.assertEqual(told("rename", "dan", "dot"), [{"reply": "renamed"}])
+        self.assertEqual(told("rename", "dot", "dan"), [{"reply": "renamed"}])
+        self.assertEqual(told("delete", "dan"), [{"reply": "deleted"}])
+        self.assertEqual(told("add", "dan", given=b"one"), [{"reply": "enrolled"}])
         self.conn.execute("INSERT INTO accounts VALUES ('eve', NULL)")
         rows = [
             {"name": "ann", **costs},
@@ -141,6 +178,161 @@ class Commands(Base):
         found = [(it["severity"], it["code"]) for it in told("examine", status=5)]
         self.assertIn(("error", "key-not-unique"), found)
 
+    def test_an_export_is_an_import(self):
+        """Of all accounts that have a record, and none is left out without a word."""
+        self.run_command("init")
+        rows = {"ann": RECORD, "b\u00e9 two": LOW.hash("two"), "cid": FOREIGN}
+        for row in (*rows.items(), ("none", None)):
+            self.conn.execute("INSERT INTO accounts VALUES (?, ?)", row)
+        said, error = self.streams("export")
+        self.assertEqual((len(said.splitlines()), error), (3, ""))
+        self.conn.execute("DELETE FROM accounts")
+        self.run_command("import", "--foreign", self.file(*said.splitlines()))
+        self.assertEqual(dict(self.conn.execute("SELECT * FROM accounts").fetchall()), rows)
+        odd = (("a\nroot", RECORD), (" x", RECORD), ("x ", RECORD), ("dan", "a b"), ("eve", "a\nb"))
+        for row in odd:
+            self.conn.execute("INSERT INTO accounts VALUES (?, ?)", row)
+        found, error = self.streams("export", status=5)
+        self.assertEqual((found, error.split()[1]), (said, str(len(odd))))
+        found = [json.loads(it) for it in self.run_command("--json", "export").splitlines()]
+        self.assertEqual({it["name"]: it["record"] for it in found}, {**rows, **dict(odd)})
+
+    def test_what_was_disabled_comes_back(self):
+        self.run_command("init")
+        self.run_command("add", "ann", given=b"one")
+        kept = self.run_command("disable", "--show", "ann")
+        self.assertEqual(self.run_command("check", "ann", given=b"one", status=4), "no record\n")
+        self.run_command("import", self.file(kept.rstrip("\n")))
+        self.assertEqual(self.run_command("check", "ann", given=b"one"), "yes\n")
+
+    def test_a_report_counts_what_a_login_makes_of_records(self):
+        self.run_command("init")
+        for name, record in {
+            **dict.fromkeys("abc", RECORD),
+            "d": HIGH.hash("x"),
+            "e": "$argon2i$v=19$m=64,t=1,p=1$c29tZXNhbHQ$AAAAAA",
+            "f": FOREIGN,
+            "g": "pbkdf2_sha256$1000$x$y",
+            "h": "hunter2",
+            "i": "$argon2id$v=19$m=64",
+            "j": None,
+        }.items():
+            self.conn.execute("INSERT INTO accounts VALUES (?, ?)", (name, record))
+        lines = [
+            ("current", 1, "argon2id", "v=19 m=128,t=1,p=1"),
+            ("current", 1, "argon2i", "v=19 m=64,t=1,p=1"),
+            ("rehash", 3, "argon2id", "v=19 m=64,t=1,p=1"),
+            ("foreign", 1, "2y", ""),
+            ("foreign", 1, "pbkdf2_sha256", ""),
+            ("unreadable", 2, "", ""),
+            ("absent", 1, "", ""),
+        ]
+        # An upgrade goes to higher costs of one scheme alone.
+        dear = ("report", "--memory", "128")
+        said = self.run_command(*dear).splitlines()
+        found = [(it.split()[1], int(it.split()[0]), *it.split()[2:]) for it in said]
+        wanted = [
+            (state, count, *f"{scheme} {costs}".split()) for state, count, scheme, costs in lines
+        ]
+        self.assertEqual(sorted(found), sorted(wanted))
+        names = ("state", "count", "scheme", "costs")
+        told = [json.loads(it) for it in self.run_command("--json", *dear).splitlines()]
+        self.assertCountEqual(told, [dict(zip(names, it)) for it in lines])
+        about, kind, *said = self.run_command(*dear, "--prometheus").splitlines()
+        self.assertEqual((about[:7], kind), ("# HELP ", "# TYPE rigzumal_accounts gauge"))
+        label = 'rigzumal_accounts{{state="{}",scheme="{}",costs="{}"}} {}'
+        self.assertCountEqual(said, [label.format(it[0], *it[2:], it[1]) for it in lines])
+        self.assertNotIn("hunter2", "".join(said))
+
+    def test_options_before_the_command_and_behind_it(self):
+        self.run_command("init")
+        for words in (
+            ["--numbers", "add", "7"],
+            ["add", "7", "--numbers"],
+            ["add", "--numbers", "7"],
+        ):
+            said = self.run_command(*words, given=b"", status=6)
+            self.assertEqual(said, "rigzumal: no password: the input is empty\n")
+        with mock.patch.dict(os.environ, {"RIGZUMAL_DATABASE": ""}):
+            self.run_command("list", status=1)
+            self.run_command("list", "--database", self.server.url)
+            self.run_command("--database", self.server.url, "list")
+        said = self.run_command("list", "--databas=hunter2", "--tabel", "hunter3", status=1)
+        self.assertNotIn("hunter", said)
+        said = self.run_command("add", "--memroy", "hunter2", "ann", status=1)
+        self.assertIn("is --memory meant?", said)
+        self.assertNotIn("hunter", said)
+
+    def test_the_manual_and_the_completions_name_each_command_and_option(self):
+        top, shells = support.PACKAGE.parent, ("bash", "zsh", "fish")
+        page = (top / "man/rigzumal.1").read_text().replace("\\-", "-")
+        completed = [(top / f"completions/rigzumal/{it}").read_text() for it in shells]
+        words = [[], ["hash"], ["calibrate"], ["accounts"]]
+        words += [["accounts", it] for it in ("disable", "import", "report", "torture")]
+        for given in words:
+            command = [sys.executable, "-m", "rigzumal", *given, "--help"]
+            done = subprocess.run(command, capture_output=True, text=True)
+            for option in set(re.findall(r"--([a-z][a-z0-9-]+)", done.stdout)) - {"help"}:
+                with self.subTest(option=option):
+                    self.assertTrue(option == "version" or f"--{option}" in page)
+                    for text in completed:
+                        self.assertRegex(text, rf"\b{option}\b")
+        for command in ("hash", "verify", "calibrate", *cli._COMMANDS):
+            self.assertRegex(page, rf"(?m)^\.(B|BI) {command}( |$)")
+            for text in completed:
+                self.assertRegex(text, rf"\b{command}\b")
+
+    def test_what_bash_completes(self):
+        script = support.PACKAGE.parent / "completions/rigzumal/bash"
+        for line, offered in (
+            ("rigzumal ", "hash verify calibrate accounts --version"),
+            ("rigzumal hash --e", "--empty"),
+            ("rigzumal accounts re", "reset rename report"),
+            ("rigzumal accounts --database x re", "reset rename report"),
+            ("rigzumal accounts --json report --pro", "--prometheus"),
+            ("rigzumal accounts --table ", ""),
+            ("rigzumal accounts check --secret ", ""),
+        ):
+            words = [*line.split(), *([""] if line.endswith(" ") else [])]
+            quoted = " ".join(map(shlex.quote, words))
+            code = f"source {script}; compopt() {{ :; }}; COMP_WORDS=({quoted})"
+            code += f'; COMP_CWORD={len(words) - 1}; _rigzumal; echo "${{COMPREPLY[*]}}"'
+            done = subprocess.run(["bash", "--norc", "-c", code], capture_output=True, text=True)
+            self.assertEqual((done.stdout.strip(), done.stderr), (offered, ""), line)
+
+    def test_one_form_of_a_password(self):
+        self.run_command("init")
+        self.run_command("add", "--opaque", "ann", given="cafe\u0301".encode())
+        typed = "caf\u00e9".encode()
+        self.assertEqual(self.run_command("check", "--opaque", "ann", given=typed), "yes\n")
+        self.assertEqual(self.run_command("check", "ann", given=typed), "yes\n")
+        self.run_command("reset", "--opaque", "ann", given=b"one\ttwo", status=1)
+
+    def test_a_pepper_in_a_file(self):
+        self.run_command("init")
+        new, old, empty = (
+            pathlib.Path(f"{self.server.path}.{it}") for it in ("new", "old", "none")
+        )
+        for path, text in ((new, "new\n"), (old, "old"), (empty, "")):
+            path.write_text(text)
+        self.run_command("add", "ann", "--secret", str(old), given=b"one")
+        ((record,),) = self.conn.execute("SELECT record FROM accounts").fetchall()
+        self.assertTrue(LOW.replace(secret=b"old").verify(record, "one"))
+        for words, said in (([str(new)], "no\n"), ([str(new), "--secret", str(old)], "yes\n")):
+            status = 0 if said == "yes\n" else 4
+            found, _ = self.streams("check", "ann", "--secret", *words, given=b"one", status=status)
+            self.assertEqual(found, said)
+        self.run_command("check", "ann", given=b"one", status=4)
+        self.run_command("check", "ann", "--secret", str(empty), given=b"one", status=1)
+        self.run_command("check", "ann", "--secret", "nowhere", given=b"one", status=2)
+
+    def test_without_standard_input(self):
+        self.run_command("init")
+        error = io.StringIO()
+        with mock.patch.object(sys, "stdin", None), contextlib.redirect_stderr(error):
+            self.assertEqual(cli.main(["check", "ann"]), 2)
+        self.assertEqual(error.getvalue(), "rigzumal: there is no standard input\n")
+
     def test_a_file_that_is_mistyped(self):
         """It isn't made; what `init` makes has what SCALE.md asks of SQLite."""
         path, typo = f"{self.server.path}.typo", ("--database", f"{self.server.url}.typo")
@@ -152,18 +344,42 @@ class Commands(Base):
             self.assertEqual(conn.execute("PRAGMA journal_mode").fetchone(), ("wal",))
 
     def test_imports(self):
-        """Whole batches, by lines of any end."""
+        """Whole batches, by lines of any end; of few statements, however many lines."""
         self.run_command("init")
-        lines = [f"user {number}@x {RECORD}" for number in range(1200)]
-        said = self.run_command("import", self.file(*lines))
+        self.conn.executemany(
+            "INSERT INTO accounts VALUES (?, NULL)", [(f"user{it}@x",) for it in range(300)]
+        )
+        lines = [f"user{number}@x {RECORD}" for number in range(1200)]
+        with sent() as found:
+            said = self.run_command("import", self.file(*lines))
         self.assertEqual(said, "1200 added, 0 there already\n")
-        lines[7] = f"user 7@x {LOW.hash('two')}"
+        self.assertEqual(found, ["BEGIN", "SELECT", "INSERT", "SELECT", "COMMIT"] * 3)
+        two = LOW.hash("two")
+        lines[7] = lines[901] = f"user7@x {two}"
         file = pathlib.Path(self.file())
-        file.write_text("\r\n".join([*lines, f"new {RECORD}"]))
-        said = self.run_command("import", str(file), status=4)
-        another = "1 with another record, which stays"
+        file.write_text("\r\n".join([*lines, f"new {RECORD}", f"new {two}", f"new {RECORD}"]))
+        said, error = self.streams("import", str(file), status=4)
+        another = "3 with another record, which stays"
         self.assertEqual(said, f"1 added, 1199 there already, {another}\n")
-        self.assertEqual(self.run_command("check", "user 7@x", given=b"one"), "yes\n")
+        places = ((8, "user7@x"), (902, "user7@x"), (1202, "new"))
+        named = "rigzumal: line {}: {} has another record, which stays\n"
+        self.assertEqual(error, "".join(named.format(*it) for it in places))
+        self.assertEqual(self.run_command("check", "user7@x", given=b"one"), "yes\n")
+
+    def test_an_import_that_fails(self):
+        """Its batch is undone, the ones before it stay, and the lines are named."""
+        self.run_command("init")
+        self.conn.execute(
+            "CREATE TRIGGER tr BEFORE INSERT ON accounts WHEN NEW.name = 'user700'"
+            " BEGIN SELECT RAISE(ABORT, 'not this one'); END"
+        )
+        file = self.file(*(f"user{it} {RECORD}" for it in range(1200)))
+        said, error = self.streams("import", file, status=5)
+        self.assertEqual(said, "")
+        named = "rigzumal: stopped at the account user700\n"
+        self.assertIn(f"{named}rigzumal: no line from 501 on is known to be taken\n", error)
+        self.assertIn("not this one", error)
+        self.assertEqual(self.count(), 500)
 
     def test_a_bad_line_anywhere_imports_nothing(self):
         """All lines are read before the first is put, past every batch too."""
@@ -175,6 +391,10 @@ class Commands(Base):
         for bad, said in (
             ("ann", ""),
             (f" {RECORD}", 'it is no "NAME RECORD"'),
+            (f"  {RECORD}", 'it is no "NAME RECORD"'),
+            (f"ann  {RECORD}", "the name begins or ends with a blank"),
+            (f"\u00a0ann {RECORD}", "the name begins or ends with a blank"),
+            (f"\ufeffann {RECORD}", "it begins with a byte order mark"),
             (f"\udcff {RECORD}", "it is not in UTF-8"),
             (f"be\0n {RECORD}", "no column holds this name"),
             ("ann $2b$12$R9h/cIPz0gi.URNNX3kh2O", "the record's scheme is 2b, and "),
@@ -197,6 +417,14 @@ class Commands(Base):
                     self.assertIn(said, found)
                     self.assertNotIn("hunter2", found)
                     self.conn.execute("DELETE FROM accounts")
+
+    def test_names_with_spaces(self):
+        """They may be meant, or be a field of another file: they are named."""
+        self.run_command("init")
+        file = self.file(f"ann {RECORD}", f"ben lee {RECORD}", f"cid x {RECORD}")
+        said, error = self.streams("import", file)
+        self.assertEqual(said, "3 added, 0 there already\n")
+        self.assertEqual(error, "rigzumal: line 2: 'ben lee' has a space; names with one: 2\n")
 
     def test_records_of_other_schemes_are_taken_if_asked_for(self):
         self.run_command("init")
@@ -242,6 +470,10 @@ class Commands(Base):
         self.assertEqual(said, "rigzumal: the two passwords differ\n")
         self.assertEqual(self.run_command("add", "ann", typed=("one", "one")), "enrolled\n")
         self.assertEqual(self.run_command("check", "ann", typed=("one",)), "yes\n")
+        typed = ("one", "two", "two")
+        self.assertEqual(self.run_command("change", "ann", typed=typed), "replaced\n")
+        self.run_command("change", "ann", typed=("two", "three", "four"), status=6)
+        self.assertEqual(self.run_command("check", "ann", typed=("two",)), "yes\n")
 
     def test_an_own_table(self):
         self.conn.execute("CREATE TABLE people (id INTEGER PRIMARY KEY, pw TEXT)")
@@ -252,9 +484,25 @@ class Commands(Base):
             ([*names, "add", "7"], 0, "enrolled\n"),
             ([*names, "check", "7"], 0, "yes\n"),
             ([*names, "check", "x"], 1, "rigzumal: 'x' is no whole number\n"),
+            ([*names, "rename", "7", "8"], 0, "renamed\n"),
+            ([*names, "rename", "8", "7"], 0, "renamed\n"),
             ([*names[:-1], "check", "7"], 0, "yes\n"),
         ):
             self.assertEqual(self.run_command(*words, given=b"one", status=status), said)
+        ((record,),) = self.conn.execute("SELECT pw FROM people").fetchall()
+        self.assertEqual(self.run_command(*names, "export"), f"7 {record}\n")
+
+    def test_a_name_that_the_table_keeps(self):
+        """Whatever refuses another name, it isn't said that the other exists."""
+        self.run_command("init")
+        self.run_command("add", "ann", given=b"one")
+        self.conn.execute(
+            "CREATE TRIGGER tr BEFORE UPDATE OF name ON accounts"
+            " BEGIN SELECT RAISE(ABORT, 'a bill has this name'); END"
+        )
+        said = self.run_command("rename", "ann", "amy", status=5)
+        self.assertEqual(said, "rigzumal: IntegrityError: a bill has this name\n")
+        self.assertEqual(self.run_command("check", "ann", given=b"one"), "yes\n")
 
     def test_an_addition_is_whole(self):
         """No account is left without a record if its record isn't put."""
@@ -262,11 +510,16 @@ class Commands(Base):
         self.conn.execute(
             "CREATE TRIGGER tr BEFORE UPDATE ON accounts BEGIN SELECT RAISE(IGNORE); END"
         )
-        self.run_command("add", "ann", given=b"one", status=5)
-        self.assertEqual(self.count(), 0)
-        self.conn.execute("DROP TRIGGER tr")
         self.conn.execute("INSERT INTO accounts VALUES ('ben', NULL)")
+        self.run_command("add", "ben", given=b"one", status=5)
+        self.conn.execute("DROP TRIGGER tr")
         self.assertEqual(self.run_command("add", "ben", given=b"one"), "enrolled\n")
+        self.conn.execute(
+            "CREATE TRIGGER tr AFTER INSERT ON accounts BEGIN"
+            " UPDATE accounts SET record = upper(record) WHERE name = NEW.name; END"
+        )
+        self.assertEqual(self.run_command("add", "ann", given=b"one"), "enrolled\n")
+        self.assertEqual(self.run_command("check", "ann", given=b"one"), "yes\n")
 
     def test_names_that_write_to_the_terminal(self):
         self.run_command("init")

@@ -45,7 +45,10 @@ class Patience(unittest.TestCase):
         """Of a server that can't be reached, and of one that undoes what is sent."""
         for answer in (BUSY, Undone(BUSY)):
             runtime, connections = self.connections(*[answer] * 12)
-            self.assertEqual(run(connections.patiently(None)), "done")
+            with self.assertLogs("rigzumal.accounts", "WARNING") as logs:
+                self.assertEqual(run(connections.patiently(None)), "done")
+            name = "WARNING:rigzumal.accounts:an operation is tried again: OperationalError"
+            self.assertEqual(logs.output, [name])
             wanted = [0.002 * 2**it for it in range(8)] + [0.5] * 4
             self.assertEqual([round(it, 3) for it in runtime.pauses], wanted)
 
@@ -88,16 +91,22 @@ class Patience(unittest.TestCase):
             self.assertEqual(runtime.pauses, [])
 
     def test_a_replica_is_asked_once(self):
-        """What may pass leaves the work to the primary; all else is a fault to be told of."""
-        for answer in (BUSY, Lost(), Undone(BUSY)):
-            runtime, connections = self.connections(answer, replica="replica")
-            self.assertIsInstance(run(connections.at_replica(None)), Undone)
-            self.assertEqual((runtime.used, runtime.pauses), (["replica"], []))
+        """What fails or refuses there leaves the work to the primary, which is told once; a
+        program's fault comes through."""
+        faults = (REFUSED, StoreFault("x"), Unavailable("its pool is full"))
+        for answer in (BUSY, Lost(), Undone(BUSY), *faults):
+            given = (answer, answer, "done", answer)
+            runtime, connections = self.connections(*given, replica="replica")
+            with self.assertLogs("rigzumal.accounts", "WARNING") as logs:
+                done = [run(connections.at_replica(None)) for _ in given]
+            self.assertEqual([isinstance(it, Undone) for it in done], [True, True, False, True])
+            self.assertEqual((runtime.used, runtime.pauses), (["replica"] * 4, []))
+            self.assertEqual(len(logs.output), 2)
+            self.assertIn("the replica is passed over: ", logs.output[0])
         runtime, connections = self.connections("a record", replica="replica")
         self.assertEqual(run(connections.at_replica(None)), "a record")
-        for error in (REFUSED, StoreFault("x"), KeyError("x")):
-            _, connections = self.connections(error, replica="replica")
-            self.assertRaises(type(error), run, connections.at_replica(None))
+        _, connections = self.connections(KeyError("x"), replica="replica")
+        self.assertRaises(KeyError, run, connections.at_replica(None))
         runtime, connections = self.connections()
         self.assertIsInstance(run(connections.at_replica(None)), Undone)
         self.assertEqual(run(connections.patiently(None)), "done")
@@ -107,6 +116,6 @@ class Patience(unittest.TestCase):
 class Spread(unittest.TestCase):
     def test_pauses_differ(self):
         """So that many who wait don't come at a time."""
-        pauses = {Waits(1.0).next() for _ in range(20)}
+        pauses = {Waits(1.0, 0.0).next() for _ in range(20)}
         self.assertGreater(len(pauses), 1)
         self.assertTrue(all(0.001 <= it <= 0.003 for it in pauses))

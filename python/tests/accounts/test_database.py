@@ -75,8 +75,19 @@ class MySQL(unittest.TestCase):
         Database("mysql://one,two,three/d", 4).connect()
         self.assertEqual(self.tried[5:], [("two", 3306)])
 
+    def test_addresses_and_options(self):
+        url = "mysql://a:b@[::1]:3307,[fe80::1]/d?charset=utf8mb4&ssl_ca=%2Fca.pem"
+        given = Database(url).connect()
+        wanted = {"database": "d", "charset": "utf8mb4", "ssl_ca": "/ca.pem"}
+        self.assertEqual({**given, **wanted}, given)
+        Database(url, 1).connect()
+        self.assertEqual(self.tried, [("::1", 3307), ("fe80::1", 3306)])
+
     def test_what_is_no_url(self):
-        self.assertRaises(ValueError, Database("mysql://ada@db").connect)
+        bad = ("ada@db", "[::1/d", "::1/d", "db:x/d", "db:/d", "/d", "db/d?chars=x", "db/d?host=x")
+        for rest in bad:
+            with self.subTest(rest=rest), self.assertRaisesRegex(ValueError, "[a-z]"):
+                Database(f"mysql://{rest}").connect()
         self.assertEqual(self.tried, [])
         files = ("sqlite://", "sqlite:///", "sqlite:///:memory:")
         for url in (*files, "", "oracle://x", "sqlite", "/tmp/x.db"):

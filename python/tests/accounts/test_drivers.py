@@ -10,18 +10,10 @@ import engines
 import servers
 import support
 from engines import Awaited
-from support import LOW
+from support import LOW, module
 from rigzumal.accounts import Accounts, AsyncAccounts, MariaDB, Postgres, Reply, Sqlite, StoreFault
-from rigzumal.accounts import of_engine
+from rigzumal.accounts import Unavailable, of_engine
 from rigzumal.accounts.parts import Kind, Request, Ticket
-
-
-def module(name):
-    """A module, or a skipped test."""
-    try:
-        return __import__(name)
-    except ImportError:
-        raise unittest.SkipTest(f"Python's {name} is not there") from None
 
 
 class Refused(unittest.TestCase):
@@ -127,12 +119,14 @@ class Engines:
         self.assert_given_up(of_engine(engine), KeyError, KeyboardInterrupt)
         self.assertEqual(engine.pool.checkedout(), 0)
 
-    def test_a_pool_that_is_empty_is_no_lost_connection(self):
+    def test_a_pool_that_is_empty(self):
+        """It has waited for a connection by its own timeout, and isn't asked again."""
         kind = self.sqlalchemy.pool.QueuePool
         engine = self.engine(poolclass=kind, pool_size=1, max_overflow=0, pool_timeout=0.01)
         with of_engine(engine)():
-            with self.assertRaises(self.sqlalchemy.exc.TimeoutError):
-                self.over(engine).verify("ann", "one")
+            with self.assertRaisesRegex(Unavailable, "no connection was free: QueuePool limit"):
+                self.over(engine, patience=60.0).verify("ann", "one")
+        self.assertIs(self.over(engine).verify("ann", "one"), Reply.ABSENT)
 
 
 class AwaitedEngines(Engines):
@@ -141,7 +135,10 @@ class AwaitedEngines(Engines):
         from sqlalchemy.ext.asyncio import create_async_engine
 
         async def act():
-            engine = create_async_engine(self.asynchronous_url, isolation_level="AUTOCOMMIT")
+            # SQLite's default keeps no connection, and so gives up each.
+            kind = self.sqlalchemy.pool.AsyncAdaptedQueuePool
+            given = {"isolation_level": "AUTOCOMMIT", "poolclass": kind, "pool_size": 1}
+            engine = create_async_engine(self.asynchronous_url, **given)
             pool = of_engine(engine)
             accounts = AsyncAccounts(pool, self.dialect, LOW)
             self.assertIs(await accounts.reset("ann", "one"), Reply.ENROLLED)
@@ -151,8 +148,12 @@ class AwaitedEngines(Engines):
             with self.assertRaises(KeyError):
                 async with pool() as conn:
                     raise KeyError
-            async with pool() as other:
-                self.assertIsNot(other, conn)
+            made = []
+            for _ in range(2):
+                async with pool() as other:
+                    made.append(other)
+            self.assertIsNot(made[0], conn)
+            self.assertIs(made[0], made[1])
             await engine.dispose()
 
         asyncio.run(act())
@@ -206,6 +207,18 @@ class EnginesOfPostgres(AwaitedEngines, engines.OnPostgres, support.Base):
         super().setUp()
         if self.sqlalchemy.__version__ < "2":
             self.skipTest("SQLAlchemy 1.4 has no psycopg 3")
+
+
+class Prepared(engines.OnPostgres, support.Base):
+    def test_a_services_own_statements(self):
+        """They stay prepared on a connection that it shares; ours never are."""
+        conn = self.another()
+        for _ in range(9):
+            self.kept(conn=conn).login("ann", "one")
+            conn.execute("SELECT 'a service'")
+        ((statement,),) = conn.execute("SELECT statement FROM pg_prepared_statements").fetchall()
+        self.assertEqual(statement, "SELECT 'a service'")
+        self.assertEqual(conn.prepare_threshold, 5)
 
 
 class Pooler(unittest.TestCase):

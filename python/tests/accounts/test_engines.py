@@ -5,6 +5,7 @@ import io
 
 import engines
 import of_engines
+import of_hooks
 from support import Base
 from rigzumal.accounts import cli
 
@@ -20,7 +21,7 @@ globals().update(
         (of_engines.LostAnswers, (*ENGINES, *TASKS)),
         (of_engines.Connections, ENGINES),
         (of_engines.Confirmed, ENGINES),
-        (of_engines.RowsOfOnesOwn, ENGINES),
+        (of_hooks.RowsOfOnesOwn, ENGINES),
         (of_engines.OnServers, SERVERS),
         (of_engines.AtOnce, SERVERS[:2]),
     )

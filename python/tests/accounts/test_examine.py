@@ -1,13 +1,18 @@
 """What `examine` says: each table, role and setting that won't do by itself."""
 
+import contextlib
+from unittest import mock
 
 import engines
 import support
-from support import LOW
-from rigzumal.accounts import Reply, StoreFault
+from support import CHECK_FAILED, LOW
+from rigzumal.accounts import PerThread, Reply, StoreFault
+from rigzumal.accounts.parts import Kind
 
 CASE, BLANKS = "differ in case", "differ by blanks at the end"
-ACCENTS, CUT = "differ by accents", "a record has up to 512 bytes"
+ACCENTS, CUT = "differ by accents", "record-type: record is {}: a record has up to 152 bytes"
+SHORTER = "record-length: record is {}: another program's record has up to 512 bytes"
+LATIN = "key-not-unicode: names outside of {} are no accounts"
 NOT_UNIQUE, PUT = "no unique index of its own", "no record can be put: "
 SHORT = "CHECK (length(record) < 60)"
 
@@ -49,14 +54,14 @@ class Said:
             ),
             (f"{name}, {record}, mail INT, PRIMARY KEY (name, mail)", NOT_UNIQUE),
             (f"{name}, {record}; CREATE UNIQUE INDEX i ON users (name)",),
-            (f"{name} PRIMARY KEY, {record} NOT NULL", "NOT NULL"),
+            (f"{name} PRIMARY KEY, {record} NOT NULL", "NOT NULL: no account can be without"),
             (f"{name} PRIMARY KEY, {record} {SHORT}", PUT + self.refused),
             (f"{name} PRIMARY KEY, {record} CHECK (record LIKE '$argon2%')",),
         )
 
 
 class OnSqlite(Said, engines.OnSqlite, support.Base):
-    refused = "IntegrityError SQLITE_CONSTRAINT_CHECK"
+    refused = f"IntegrityError {CHECK_FAILED}".rstrip()
 
     def test_tables(self):
         key, index = "name TEXT PRIMARY KEY, record TEXT", "CREATE UNIQUE INDEX i ON users"
@@ -96,14 +101,16 @@ class OnSqlite(Said, engines.OnSqlite, support.Base):
             ("name INTEGER PRIMARY KEY, record TEXT", "key-type", True),
             ("login TEXT PRIMARY KEY, record TEXT", "no-column", True),
             ("name TEXT PRIMARY KEY, record TEXT CHECK (record = 'x')", "no-update", True),
-            ("name TEXT PRIMARY KEY, record TEXT NOT NULL", "record-not-null", False),
+            ("name TEXT PRIMARY KEY, record TEXT NOT NULL", "record-not-null", None),
             ("name TEXT COLLATE NOCASE PRIMARY KEY, record TEXT", "names-folded", False),
             ("name TEXT COLLATE RTRIM PRIMARY KEY, record TEXT", "names-folded", True),
         ):
             self.execute("DROP TABLE users")
             self.execute(self.table_of.format(columns))
             (fault,) = self.accounts().examine()
-            self.assertEqual((fault.code, fault.is_error), (code, is_error), columns)
+            (of_remove,) = self.accounts().examine(Kind.REMOVE)
+            self.assertEqual(of_remove.is_error, is_error in (True, None))
+            self.assertEqual((fault.code, fault.is_error), (code, bool(is_error)), columns)
             self.assertEqual(fault.severity.value, "error" if is_error else "warning")
             self.assertEqual(str(fault), fault.text)
 
@@ -202,17 +209,44 @@ class OnServer(Said):
 
     def test_lengths(self):
         table = "name VARCHAR(150) PRIMARY KEY, record {}"
+        cut, shorter = (it.format(self.varchar + "({})") for it in (CUT, SHORTER))
         self.each_table(
-            (table.format("VARCHAR(60)"), CUT, PUT),
-            *((table.format(it), CUT) for it in ("VARCHAR(96)", "VARCHAR(128)", "VARCHAR(511)")),
+            (table.format("VARCHAR(60)"), cut.format(60), PUT),
+            *((table.format(f"VARCHAR({it})"), cut.format(it)) for it in (96, 128, 151)),
+            *((table.format(f"VARCHAR({it})"), shorter.format(it)) for it in (152, 255, 511)),
             *((table.format(it),) for it in ("VARCHAR(512)", "TEXT")),
         )
 
+    def test_a_role_and_no_row(self):
+        """An empty table tells nothing, and the server does."""
+        for grants, *words in (("SELECT", PUT), ("SELECT, INSERT", PUT), ("SELECT, UPDATE",)):
+            with self.subTest(grants=grants):
+                self.create()
+                self.assert_faults(words, self.accounts(connect=self.of_role(grants)))
+
+    def test_a_replica(self):
+        """It refuses, or it is away; and one that will do."""
+        for grants, *words in (("SELECT",), ("UPDATE", "replica-refuses: the replica is passed")):
+            replica = PerThread(self.of_role(grants))
+            self.addCleanup(replica.close)
+            self.assert_faults(words, self.accounts(replica=replica))
+        away = PerThread(mock.Mock(side_effect=ConnectionRefusedError("nobody there")))
+        said = "replica-away: the replica is passed over: ConnectionRefusedError"
+        self.assert_faults([f"{said}: nobody there"], self.accounts(replica=away))
+
 
 class OnPostgres(OnServer, engines.OnPostgres, support.Base):
-    refused = "CheckViolation 23514"
+    refused, varchar = "CheckViolation 23514", "character varying"
 
     def test_columns(self):
+        for sql in (
+            "CREATE SCHEMA IF NOT EXISTS other",
+            "DROP DOMAIN IF EXISTS short, bound, other.ci",
+            "CREATE DOMAIN short AS varchar(200)",
+            "CREATE DOMAIN bound AS text NOT NULL",
+            "CREATE DOMAIN other.ci AS citext CHECK (length(VALUE) < 513)",
+        ):
+            self.execute(sql)
         collation = "(provider = icu, locale = 'und-u-ks-level1-kc-true', deterministic = false)"
         self.execute(f"CREATE COLLATION IF NOT EXISTS ai {collation}")
         index, record = "CREATE UNIQUE INDEX ON users", "name text PRIMARY KEY, record"
@@ -227,7 +261,50 @@ class OnPostgres(OnServer, engines.OnPostgres, support.Base):
             (f"name text, record text; {index} (name) INCLUDE (record)",),
             (f"{record} char(300)", "character(300)", "than the one that was written"),
             (f"{record} bytea", "record is bytea, not text", "the record is no text"),
+            (f"{record} citext",),
+            ("name other.ci PRIMARY KEY, record other.ci", CASE),
+            (f"{record} short", SHORTER.format("character varying(200)")),
+            (f"{record} bound", "NOT NULL"),
+            ("name short PRIMARY KEY, record text",),
         )
+
+    def test_numeric_keys_and_heirs(self):
+        self.table("text", "numeric")
+        dialect = self.another_dialect(key_type=int)
+        self.assert_faults([], self.accounts(dialect=dialect))
+        self.execute(self.dialect.insert, 7)
+        self.assertIs(self.accounts(dialect=dialect).enrol(7, "one"), Reply.ENROLLED)
+        self.create()
+        self.execute("CREATE TABLE heirs () INHERITS (users)")
+        self.addCleanup(self.execute, "DROP TABLE heirs")
+        self.assert_faults(["key-not-unique: no index of users holds"])
+
+    def test_encodings(self):
+        """Names that a database lacks are no accounts, after a hash; texts aren't bytes."""
+        given = "TEMPLATE template0 LC_COLLATE 'C' LC_CTYPE 'C' ENCODING"
+        for encoding, *words in (
+            ("UTF8",),
+            ("LATIN1", LATIN.format("LATIN1")),
+            ("EUC_JP", LATIN.format("EUC_JP")),
+            ("SQL_ASCII", "encoding: client_encoding is SQL_ASCII: texts come as bytes"),
+        ):
+            name = f"en{encoding.lower()}"
+            self.execute(f"CREATE DATABASE {name} {given} '{encoding}'")
+            self.addCleanup(self.execute, f"DROP DATABASE {name} WITH (FORCE)")
+            for more in ({}, {"client_encoding": "UTF8"}):
+                connect = self.setting(dbname=name, **more)
+                with contextlib.closing(connect()) as conn, self.subTest(encoding=encoding):
+                    self.execute("DROP TABLE IF EXISTS users", conn=conn)
+                    self.execute(self.dialect.create(), conn=conn)
+                    accounts = self.accounts(connect=connect)
+                    is_ascii = encoding == "SQL_ASCII"
+                    unicode = [LATIN.format(encoding)] if is_ascii else words
+                    self.assert_faults(unicode if more else words, accounts)
+                    for text in ("an\U0001f600", "\u0436ora", "\u0e01"):
+                        with support.counted() as hashes:
+                            self.assertIs(accounts.login(text, "x"), Reply.NO_ACCOUNT)
+                        self.assertEqual(len(hashes), 1)
+                        self.assertIs(accounts.reset(text, "x"), Reply.NO_ACCOUNT)
 
     def test_tables(self):
         table, alter = "name text PRIMARY KEY, record text", "ALTER TABLE users"
@@ -264,29 +341,66 @@ class OnPostgres(OnServer, engines.OnPostgres, support.Base):
 
 class OnMariaDB(OnServer, engines.OnMariaDB, support.Base):
     table_of = "CREATE TABLE users ({}) CHARACTER SET utf8mb4 COLLATE utf8mb4_nopad_bin"
-    refused = "OperationalError 4025"
+    refused, varchar = "OperationalError 4025", "varchar"
 
     def test_columns(self):
         key = "name VARCHAR(90) CHARACTER SET {} COLLATE {} PRIMARY KEY, record TEXT"
         name, record = "name VARCHAR(90), record TEXT", "name VARCHAR(90) PRIMARY KEY, record"
+        latin1 = LATIN.format("latin1")
         self.each_table(
             (key.format("utf8mb4", "utf8mb4_bin"), BLANKS),
             (key.format("utf8mb4", "utf8mb4_general_ci"), CASE, BLANKS, ACCENTS),
             (key.format("utf8mb4", "utf8mb4_unicode_ci"), CASE, BLANKS, ACCENTS),
             (key.format("utf8mb4", "utf8mb4_unicode_nopad_ci"), CASE, ACCENTS),
             (key.format("utf8mb4", "utf8mb4_nopad_bin"),),
-            (key.format("latin1", "latin1_swedish_ci"), CASE, BLANKS, ACCENTS),
-            (key.format("latin1", "latin1_nopad_bin"),),
-            (key.format("ascii", "ascii_bin"), BLANKS),
-            (key.format("ascii", "ascii_nopad_bin"),),
+            (key.format("latin1", "latin1_swedish_ci"), latin1, CASE, BLANKS, ACCENTS),
+            (key.format("latin1", "latin1_nopad_bin"), latin1),
+            (key.format("ascii", "ascii_bin"), LATIN.format("ascii"), BLANKS),
+            (key.format("ascii", "ascii_nopad_bin"), LATIN.format("ascii")),
+            (key.format("utf8mb3", "utf8mb3_nopad_bin"), LATIN.format("utf8mb3")),
             (f"{name}, UNIQUE (name(5))", NOT_UNIQUE),
             (f"{name}, KEY (name)", NOT_UNIQUE),
-            (f"{record} TINYTEXT", CUT),
+            (f"{record} TINYTEXT", SHORTER.format("tinytext(255)")),
+            (f"{record} CHAR(255)", SHORTER.format("char(255)")),
             (f"{record} TEXT CHARACTER SET ucs2", "is in ucs2"),
-            (f"{record} VARBINARY(512)", "varbinary(512)", "in None", "bytes"),
+            (f"{record} VARBINARY(512)", "is varbinary, not text", "bytes"),
         )
         self.put(LOW.hash("one"))
         self.assertRaises(StoreFault, self.accounts().verify, "ann", "one")
+
+    def test_keys_that_are_padded(self):
+        """A BINARY(16) has the bytes of a UUID; of a wider one no row tells."""
+        for size, rows in ((16, 0), (20, 0), (20, 1)):
+            self.table("TEXT", f"BINARY({size})")
+            for _ in range(rows):
+                self.execute(self.dialect.insert, bytes(20))
+            dialect = self.another_dialect(key_type=bytes)
+            self.assert_faults([], self.accounts(dialect=dialect))
+        self.table("TEXT", "UUID")
+        self.assert_faults([])
+
+    def test_names_that_a_character_set_lacks(self):
+        """They are no accounts, after a hash; and a connection may lack them too."""
+        key = "VARCHAR(90) CHARACTER SET {} COLLATE {}"
+        for charset, connection in (
+            ("latin1", "utf8mb4"),
+            ("ascii", "utf8mb4"),
+            ("utf8mb3", "utf8mb4"),
+            ("utf8mb4", "latin1"),
+            ("utf8mb4", "utf8"),
+        ):
+            collation = f"{charset}_nopad_bin"
+            self.table("TEXT", key.format(charset, collation))
+            accounts = self.accounts(connect=self.setting(charset=connection))
+            lacking = charset if connection == "utf8mb4" else connection
+            with self.subTest(charset=charset, connection=connection):
+                self.assertIn(f"names outside of {lacking}", self.said(accounts))
+                for more in ({}, {"also": lambda conn, reply: None}):
+                    with support.counted() as hashes:
+                        reply = accounts.login("an\U0001f600", "x", **more)
+                    self.assertIs(reply, Reply.NO_ACCOUNT)
+                    self.assertEqual(len(hashes), 1)
+                self.assertIs(accounts.reset("an\U0001f600", "x"), Reply.NO_ACCOUNT)
 
     def test_blanks_are_of_a_name(self):
         """In the table that is made for accounts, 'ann ' is another name than 'ann'."""

@@ -8,7 +8,8 @@ import sqlite3
 import threading
 from unittest import mock
 
-from support import HIGH, LOW, Awaiting, Base, Scripted, after_hash, counted, sent
+from support import FOREIGN_KEY_FAILED, HIGH, LOW, Awaiting, Base, Scripted, after_hash, counted
+from support import sent
 from rigzumal import OutOfMemoryError, ScryptHasher
 from rigzumal.accounts import Accounts, AsyncAccounts, MariaDB, Reply, Sqlite, StoreFault
 from rigzumal.accounts import Unavailable, _connections
@@ -80,7 +81,7 @@ class Operations(Base):
         count; a key of more than one row."""
         table = self.accounts()._table
         for copy, count, stands, reply in (
-            (None, 0, None, Reply.CHANGED),
+            (None, 0, None, StoreFault),
             (None, 0, "other", Reply.CHANGED),
             ("copy", 0, None, Reply.CHANGED),
             ("copy", 0, "other", Reply.CHANGED),
@@ -89,7 +90,7 @@ class Operations(Base):
             ("copy", 2, "copy", StoreFault),
         ):
             ticket = Ticket(Request(Kind.RESET, "ann", "", "x"), copy)
-            session = Scripted(Result([], count), Result([(stands,)], 1))
+            session = Scripted(*[Result([], count), Result([(stands,)], 1)] * 2)
             job = table.compare(session, Worked(ticket, Reply.REPLACED, "new"))
             if reply is StoreFault:
                 self.assertRaises(StoreFault, run, job)
@@ -243,7 +244,7 @@ class Operations(Base):
         self.table("TEXT REFERENCES known (record) DEFERRABLE INITIALLY DEFERRED")
         self.put(LOW.hash("one"))
         accounts = self.accounts(connect=self.setting("PRAGMA foreign_keys = ON"), patience=60.0)
-        with sent() as found, self.assertRaisesRegex(StoreFault, "CONSTRAINT_FOREIGNKEY"):
+        with sent() as found, self.assertRaisesRegex(StoreFault, FOREIGN_KEY_FAILED):
             accounts.change("ann", "one", "two")
         self.assertEqual(found[-2:], ["COMMIT", "ROLLBACK"])
         self.assertTrue(self.is_right("one"))
@@ -327,12 +328,29 @@ class Awaited(Base):
             await awaited(conn, reply)
             raise KeyError("mine")
 
-        for also in (plain, awaited):
+        def future(conn, reply):
+            return asyncio.ensure_future(awaited(conn, reply))
+
+        for also in (plain, awaited, future):
             reply = asyncio.run(accounts.change("ann", "one", "one", also=also))
             self.assertIs(reply, Reply.REPLACED)
             self.assertIs(asyncio.run(accounts.login("ann", "one", also=also)), Reply.YES)
         self.assertRaises(KeyError, asyncio.run, accounts.change("ann", "one", "two", also=fails))
         self.assertTrue(self.is_right("one"))
         rows = [row for (row,) in self.conn.execute("SELECT reply FROM sessions")]
-        self.assertEqual(rows, ["replaced", "yes"] * 2)
-        self.assertEqual(told, [Reply.REPLACED, Reply.YES] * 2 + [Reply.REPLACED])
+        self.assertEqual(rows, ["replaced", "yes"] * 3)
+        self.assertEqual(told, [Reply.REPLACED, Reply.YES] * 3 + [Reply.REPLACED])
+
+    def test_a_hook_that_ends_the_transaction(self):
+        """It is told so, and no record was written."""
+
+        async def ends(conn, reply):
+            conn.of.execute("COMMIT")
+
+        async def writes(conn, reply):
+            yield conn
+
+        for also, fault in ((ends, "has ended"), (writes, "a generator")):
+            with self.assertRaisesRegex(TypeError, fault):
+                asyncio.run(self.awaiting().change("ann", "one", "two", also=also))
+        self.assertTrue(self.is_right("one"))

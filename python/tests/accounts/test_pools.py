@@ -2,15 +2,18 @@
 
 import asyncio
 import contextlib
+import functools
+import glob
 import itertools
 import os
 import sqlite3
+import threading
 
 import engines
 import of_engines
 from engines import Awaited
-from support import LOW, Awaiting, Base
-from rigzumal.accounts import Accounts, AsyncAccounts, PerThread, Reply, StoreFault
+from support import LOW, Awaiting, Base, module
+from rigzumal.accounts import Accounts, AsyncAccounts, PerThread, Reply, StoreFault, Unavailable
 from rigzumal.accounts.pools import PerUse
 
 BUSY = sqlite3.OperationalError("database is locked")
@@ -161,10 +164,12 @@ globals().update(
 
 
 class Cancellations(Base):
-    def cancelled(self, pool, waiting):
+    def cancelled(self, pool_of):
         """A change over a pool, which is cancelled as it waits there."""
 
         async def act():
+            waiting = asyncio.Event()
+            pool = functools.partial(pool_of, waiting)
             accounts = AsyncAccounts(pool, self.dialect, LOW, patience=0.5)
             task = asyncio.create_task(accounts.change("ann", "old", "new"))
             await asyncio.wait_for(waiting.wait(), 60)
@@ -177,41 +182,160 @@ class Cancellations(Base):
 
     def test_at_the_pools_way_back(self):
         """It comes through where the work is done, too."""
-        waiting = asyncio.Event()
 
         @contextlib.asynccontextmanager
-        async def pool():
+        async def pool(waiting):
             yield Awaiting(self.conn)
             if not waiting.is_set():
                 waiting.set()
                 await asyncio.Event().wait()
 
-        self.cancelled(pool, waiting)
+        self.cancelled(pool)
 
     def test_one_that_a_rollback_replaces(self):
         """The pool's rollback raises in its place: it is a cancellation all the same."""
-        waiting, uses = asyncio.Event(), []
+        uses = []
 
         class Waits(Awaiting):
             @contextlib.asynccontextmanager
             async def cursor(self):
                 if len(uses) == 2:
-                    waiting.set()
+                    uses[0].set()
                     await asyncio.Event().wait()
                 async with Awaiting.cursor(self) as cursor:
                     yield cursor
 
         @contextlib.asynccontextmanager
-        async def pool():
-            uses.append(1)
+        async def pool(waiting):
+            uses.append(waiting)
             try:
                 yield Waits(self.conn)
             except BaseException:
                 raise BUSY from None
 
-        self.cancelled(pool, waiting)
+        self.cancelled(pool)
         self.assertEqual(len(uses), 2)
         self.assertTrue(self.is_right("old"))
+
+
+class Openings(Base):
+    """PerUse: no connection outlives its task, whenever that is cancelled."""
+
+    def test_one_that_is_cancelled(self):
+        """While it is opened, used or closed, or not at all; in two loops."""
+        opened, closed, stop = [], [], {}
+
+        async def reach(place):
+            if place == stop["place"]:
+                stop["reached"].set()
+                await stop["goes_on"].wait()
+
+        class Connection:
+            async def close(self):
+                await reach("closing")
+                closed.append(self)
+
+        async def connect():
+            await reach("opening")
+            opened.append(Connection())
+            return opened[-1]
+
+        async def use(pool):
+            async with pool():
+                await reach("using")
+
+        async def act():
+            pool = PerUse(connect)
+            for place in ("opening", "using", "closing", None):
+                stop.update(place=place, reached=asyncio.Event(), goes_on=asyncio.Event())
+                task = asyncio.create_task(use(pool))
+                if place:
+                    await asyncio.wait_for(stop["reached"].wait(), 60)
+                    task.cancel()
+                    with self.assertRaises(asyncio.CancelledError):
+                        await task
+                    stop["goes_on"].set()
+                else:
+                    await task
+                for _ in range(10):
+                    await asyncio.sleep(0)
+                self.assertEqual((len(opened), opened), (len(closed), closed), place)
+
+        for _ in range(2):
+            asyncio.run(act())
+        self.assertEqual(len(closed), 8)
+
+    def test_few_are_opened_at_a_time(self):
+        """Each holds the loop up for its part, and what else is ready waits for all."""
+        opening, most = [], []
+
+        async def connect():
+            opening.append(1)
+            most.append(len(opening))
+            await asyncio.sleep(0)
+            opening.pop()
+            return Awaiting(self.connect())
+
+        async def act():
+            pool = PerUse(connect)
+            accounts = AsyncAccounts(pool, self.dialect, LOW)
+            logins = [accounts.login("ann", "one") for _ in range(30)]
+            return {*await asyncio.gather(*logins)}
+
+        self.assertEqual(asyncio.run(act()), {Reply.NO_ACCOUNT})
+        self.assertEqual((len(most), max(most)), (30, 4))
+
+    def test_aiosqlite(self):
+        """With timeouts at each moment, no thread and no file is left."""
+        aiosqlite = module("aiosqlite")
+        self.put(LOW.hash("one"))
+
+        def files():
+            links = glob.glob("/proc/self/fd/*")
+            return sum(os.path.realpath(it).startswith(self.server.path) for it in links)
+
+        def connect():
+            return aiosqlite.connect(self.server.path, isolation_level=None, timeout=20)
+
+        async def act():
+            accounts, done = AsyncAccounts(PerUse(connect), self.dialect, LOW), 0
+            for number in range(60):
+                with contextlib.suppress(asyncio.TimeoutError):
+                    doing = accounts.change("ann", "one", "one")
+                    await asyncio.wait_for(doing, number * 0.0002)
+                    done += 1
+            for _ in range(500):
+                await asyncio.sleep(0.01)
+                if (threads(), files()) == before:
+                    return
+            self.assertEqual((threads(), files()), before)
+
+        def threads():
+            return sum("asyncio" not in it.name for it in threading.enumerate())
+
+        self.conn.close()  # while another is open, SQLite keeps the files of closed ones
+        before = threads(), files()
+        asyncio.run(act())
+        self.conn = self.another()
+        self.assertTrue(self.is_right("one"))
+
+
+class Shut(Base):
+    def test_a_pool_that_is_closed(self):
+        """By its error's name: what psycopg_pool raises is a lost connection's kind."""
+        closed = type("PoolClosed", (sqlite3.OperationalError,), {})
+        opened = []
+
+        def connect():
+            opened.append(1)
+            raise closed("the pool 'pool-1' is already closed")
+
+        accounts = self.accounts(connect=connect, patience=60.0)
+        for name, count in (("verify", 1), ("login", 2)):
+            opened.clear()
+            with self.assertRaisesRegex(Unavailable, "the pool is closed: .* already closed"):
+                getattr(accounts, name)("ann", "one")
+            self.assertEqual(len(opened), count)
 
 
 class OpenTransactions(Base):

@@ -12,7 +12,7 @@ from unittest import mock
 import engines
 import servers
 from servers import psycopg
-from support import LOW, Base, sent
+from support import LOW, Base, Session, run, sent
 from rigzumal import InvalidRecordError
 from rigzumal.accounts import AsyncAccounts, OutcomeUnknown, Reply, StoreFault, Unavailable
 from rigzumal.accounts import torture
@@ -99,7 +99,7 @@ class OnPostgres(engines.OnPostgres, Base):
 
     def test_a_commit_that_answers_rollback(self):
         """Who swallows a statement's error has a transaction that has failed, whose COMMIT
-        raises nothing: it is said at once, nothing was done, and nothing is looked for."""
+        raises nothing: that is a fault at once, and nothing was done or is looked for."""
         self.put(LOW.hash("one"))
         accounts, calls = self.accounts(patience=60.0), []
 
@@ -108,9 +108,18 @@ class OnPostgres(engines.OnPostgres, Base):
             with contextlib.suppress(Exception):
                 conn.execute("SELECT 1 FROM nowhere")
 
-        with self.assertRaisesRegex(StoreFault, "ROLLBACK"):
-            accounts.change("ann", "one", "two", also=swallows)
-        self.assertEqual(calls, [Reply.REPLACED])
+        for act, reply in (
+            (lambda: accounts.change("ann", "one", "two", also=swallows), Reply.REPLACED),
+            (lambda: accounts.login("ann", "one", also=swallows), Reply.YES),
+        ):
+            calls.clear()
+            self.assertRaisesRegex(TypeError, "swallowed an error", act)
+            self.assertEqual(calls, [reply])
+        session = Session(self.another())
+        run(self.dialect.start(session))
+        swallows(session.conn, Reply.REPLACED)
+        with self.assertRaisesRegex(StoreFault, "ROLLBACK to COMMIT"):
+            run(self.dialect.commit(session))
         self.assertTrue(self.is_right("one"))
 
     def test_an_index_that_is_not_valid(self):

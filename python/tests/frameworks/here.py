@@ -12,3 +12,5 @@ TOP = PACKAGE.parent
 sys.path[:0] = [str(PACKAGE), str(HERE), str(TOP)]
 _NAMED = os.environ.get("PYTHONPATH")
 os.environ["PYTHONPATH"] = os.pathsep.join(filter(None, (str(PACKAGE), str(HERE), _NAMED)))
+
+import tests.helpers  # noqa: E402, F401: unittest as in Python 3.11

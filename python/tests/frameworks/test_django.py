@@ -4,7 +4,9 @@ import sys
 from unittest import mock
 
 import project  # noqa: F401: Django, set up
-from django.contrib.auth import authenticate, hashers
+from django.conf import settings
+from django.contrib.auth import authenticate, get_user, hashers
+from django.contrib.auth.backends import ModelBackend
 from django.contrib.auth.models import User
 from django.db import OperationalError, connections
 from django.test import RequestFactory, TestCase, TransactionTestCase, override_settings
@@ -159,6 +161,18 @@ class Costs(Cheap, TestCase):
             self.assertEqual(self.costs("ina", "secret"), (None, 1, 2))
         self.assertEqual(stands(self.ina), before)
 
+    def test_what_was_typed_is_hashed(self):
+        """So a long password takes as long for each name, and so does text without UTF-8."""
+        for password in ("x" * 5000, "wrong", "", "wrong\ud800"):
+            lengths = set()
+            for name in ("ann", "nobody", "ina"):
+                hashing = mock.patch.object(rigzumal, "argon2", side_effect=rigzumal.argon2)
+                with hashing as hashed:
+                    self.assertIsNone(authenticate(username=name, password=password))
+                lengths.add(tuple(len(it.args[0]) for it in hashed.call_args_list))
+            self.assertEqual(len(lengths), 1, lengths)
+            self.assertEqual(lengths.pop()[0], len(password))
+
     def test_a_broken_database_is_no_wrong_password(self):
         for name in ("ann", "nobody"):
             asked = []
@@ -192,6 +206,27 @@ class Costs(Cheap, TestCase):
         for given in ({"username": ann.mail}, {"mail": ann.mail}):
             self.assertEqual(authenticate(password="secret", **given), ann)
             self.assertIsNone(authenticate(password="guess", **given))
+
+
+class Sessions(Cheap, TestCase):
+    def test_those_of_djangos_backend(self):
+        """They go on while it is listed behind ours, and end when it isn't."""
+        ann = User.objects.create_user("ann", password="secret")
+        ours, theirs = (
+            settings.AUTHENTICATION_BACKENDS[0],
+            f"{ModelBackend.__module__}.ModelBackend",
+        )
+        for begun, listed, is_known in (
+            (theirs, [ours, theirs], True),
+            (theirs, [theirs, ours], True),
+            (theirs, [ours], False),
+            (ours, [theirs, ours], True),
+            (ours, [theirs], False),
+        ):
+            with self.subTest(begun=begun, listed=listed):
+                self.client.force_login(ann, backend=begun)
+                with override_settings(AUTHENTICATION_BACKENDS=listed):
+                    self.assertIs(get_user(self.client).is_authenticated, is_known)
 
 
 class Databases(Cheap, TestCase):

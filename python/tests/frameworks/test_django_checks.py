@@ -31,13 +31,17 @@ THEIRS, OURS = "django.contrib.auth.backends.", "rigzumal.django.backends.Compar
 # Backends, and what is said of them: of a stock User, and if it compares.
 BACKENDS = [
     ([OURS], [], []),
-    ([THEIRS + "ModelBackend"], ["W001", "W002"], []),
+    ([THEIRS + "ModelBackend"], ["W001", "W002"], ["W014"]),
     ([OURS, THEIRS + "ModelBackend"], ["W002"], []),
     ([OURS, f"{__name__}.EmailBackend"], ["W002"], []),
     ([OURS, THEIRS + "AllowAllUsersModelBackend"], ["W002"], []),
     ([OURS, THEIRS + "RemoteUserBackend"], [], []),
     ([THEIRS + "RemoteUserBackend"], ["W001"], []),
     ([OURS, "nowhere.Backend"], ["E012"], ["E012"]),
+    ([OURS, "."], ["E012"], ["E012"]),
+    ([OURS, f"{__name__}.urlpatterns"], ["E012"], ["E012"]),
+    ([], ["E012", "W001"], ["E012"]),
+    (OURS, ["E012", "W001"], ["E012"]),  # a tuple of one without its comma
 ]
 OUR_ARGON2, OUR_SCRYPT = (
     f"rigzumal.django.hashers.{it}PasswordHasher" for it in ("Argon2", "Scrypt")
@@ -54,6 +58,16 @@ HASHERS = [
     ([OUR_ARGON2, ARGON2, "meanwhile.Argon2"], []),
     ([OUR_SCRYPT, f"{__name__}.ScryptLike"], ["E013"]),
     (["meanwhile.Argon2", ARGON2], ["E013"]),
+    ([OUR_ARGON2, "nowhere.Hasher"], ["E015"]),
+    ([OUR_ARGON2, f"{__name__}.urlpatterns"], ["E015"]),
+    ([], ["E015"]),
+    (OUR_ARGON2, ["E015"]),
+]
+# Names of settings that nobody reads, and the check whose hint names them.
+MISSPELT = [
+    ("AUTHENTICATION_BACKEND", "W001", {"AUTHENTICATION_BACKENDS": [THEIRS + "ModelBackend"]}),
+    ("PASSWORD_HASHER", "W004", {"PASSWORD_HASHERS": [PBKDF2]}),
+    ("RIGZUMAL_USER_COMPARE", "W007", {}),
 ]
 # Levels of isolation in the options of a database, and whether they are of snapshots.
 POSTGRES = [
@@ -107,9 +121,10 @@ class Checks(unittest.TestCase):
                 self.assertEqual(self.ids(AUTHENTICATION_BACKENDS=listed), of_comparing, listed)
             with override_settings(AUTHENTICATION_BACKENDS=listed):
                 for it in self.found():
-                    self.assertIn(
-                        "a CompareAndSetBackend" if "W001" in it.id else listed[-1], it.msg
-                    )
+                    if "W001" in it.id:
+                        self.assertIn("a CompareAndSetBackend", it.msg)
+                    elif listed and not isinstance(listed, str):
+                        self.assertIn(listed[-1], it.msg)
 
     def test_hashers(self):
         for listed, said in HASHERS:
@@ -117,6 +132,20 @@ class Checks(unittest.TestCase):
             if said == ["E013"]:
                 with override_settings(PASSWORD_HASHERS=listed):
                     self.assertIn(listed[-1], self.found()[0].msg)
+
+    def test_a_database_whose_hashers_are_wrong(self):
+        """The look at the records says nothing more."""
+        with override_settings(PASSWORD_HASHERS=[OUR_ARGON2, "nowhere.Hasher"]):
+            self.assertEqual(checks.unlisted_hashers(databases=["default"]), [])
+
+    def test_a_misspelt_setting_is_named(self):
+        for name, number, more in MISSPELT:
+            with self.subTest(name=name), override_settings(**{name: []}, **more):
+                (hint,) = (it.hint for it in run_checks() if it.id == f"rigzumal.{number}")
+                self.assertIn(f" {name}:", hint)
+            with override_settings(**more):
+                (hint,) = (it.hint for it in run_checks() if it.id == f"rigzumal.{number}")
+                self.assertNotIn(f" {name}:", hint)
 
     def test_levels_of_isolation(self):
         sqlite = {"ENGINE": "django.db.backends.sqlite3"}

@@ -209,6 +209,18 @@ class Compared(Written):
         self.ann.save()
         self.assertTrue(self.right("new"))
 
+    def test_a_save_after_a_bulk_update_of_the_same_record(self):
+        """Nobody else changed anything: the row has the record that is saved."""
+        self.ann.set_password("new")
+        self.model.objects.bulk_update([self.ann], ["password"])
+        self.ann.email = "a@new.org"
+        self.ann.save()
+        self.assertTrue(self.right("new"))
+        self.assertEqual(self.again().email, "a@new.org")
+        self.reset("reset")
+        self.ann.set_password("newer")
+        self.lose(self.ann)
+
     def test_a_transaction_goes_on_after_a_lost_save(self):
         """As a view under ATOMIC_REQUESTS does, which shows its form again."""
         self.reset("reset")

@@ -91,6 +91,7 @@ class LowLevel(Same):
             hashed.replace(b"m=16", b"m=016"),
             hashed.replace(b"m=16", b"m=15"),
             hashed.replace(b"m=16", b"m=99999999999"),
+            hashed.replace(b"m=16", b"m=4294967312"),  # 2^32 + 16
             hashed.replace(b"t=1", b"t=0"),
             hashed.replace(b"p=2", b"p=0"),
             hashed[:-40] + b"!" + hashed[-39:],

@@ -66,15 +66,13 @@ class Verifying(unittest.TestCase):
         record = hasher.hash("password", salt=b"somesalt")
         tag = rigzumal.argon2("password", b"somesalt", secret=b"pepper", **costs)
         self.assertEqual(record.rsplit("$", 1)[1], base64_of(tag))
-        empty, other = SMALL.replace(secret=b""), SMALL.replace(secret=b"Pepper")
-        for one, password in itertools.product((hasher, SMALL, empty, other), ("password", "x")):
+        other = SMALL.replace(secret=b"Pepper")
+        for one, password in itertools.product((hasher, SMALL, other), ("password", "x")):
             is_right = one is hasher and password == "password"
             self.assertIs(verdict(one, record, password), is_right, (one, password))
-        self.assertTrue(empty.verify(ARGON2, "password"))
         self.assertFalse(SMALL.replace(salt_len=8).check_needs_rehash(record))
-        for one in (hasher, empty):
-            with self.assertRaises(rigzumal.InvalidRecordError):
-                one.verify(ScryptHasher(log2_n=4).hash("x"), "x")
+        with self.assertRaises(rigzumal.InvalidRecordError):
+            hasher.verify(ScryptHasher(log2_n=4).hash("x"), "x")
         self.assertNotIn("pepper", repr(hasher))
 
 

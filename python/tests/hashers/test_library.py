@@ -1,5 +1,7 @@
 """Tests of where the library is looked for, of what it keeps, and of argon2-cffi's own tests over it."""
 
+import importlib
+import inspect
 import os
 import pathlib
 import shutil
@@ -53,6 +55,20 @@ class Places(unittest.TestCase):
         self.assertEqual(loaded(""), {str(_library._path())})
         said = python("-c", "import rigzumal", RIGZUMAL_LIBRARY=f"{named}.not", status=1)
         self.assertIn("ImportError: librigzumal.so.1 can't be loaded", said)
+
+
+class Names(unittest.TestCase):
+    def test_what_a_package_exports_is_what_it_has(self):
+        for name in ("", ".accounts", ".accounts.dialects", ".argon2_cffi", ".server"):
+            package = importlib.import_module(f"rigzumal{name}")
+            public = {
+                it
+                for it, value in vars(package).items()
+                if not it.startswith("_") and not inspect.ismodule(value)
+            }
+            self.assertEqual({*package.__all__} | public - {"annotations"}, {*package.__all__})
+            for it in package.__all__:
+                self.assertTrue(hasattr(package, it), f"{name}.{it}")
 
 
 class Kept(unittest.TestCase):

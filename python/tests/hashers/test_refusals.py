@@ -153,8 +153,10 @@ class Refusals(unittest.TestCase):
             for name in (*names, "hash_len", "salt_len"):
                 for wrong in ("3", 3.0, None, True):
                     self.assertRaises(TypeError, kind, **{name: wrong})
-        for wrong in ("1", 1.0, True):
-            self.assertRaises(TypeError, tag, time_cost=wrong)
+        for wrong in ("2", 2.7, 2.0, True, None):
+            self.assertRaises(TypeError, PasswordHasher, type=wrong)
+            for name in ("time_cost", "type"):
+                self.assertRaises(TypeError, tag, **{name: wrong})
         self.assertRaises(ValueError, PasswordHasher, type=7)
         with self.assertRaises(ValueError) as raised:
             SMALL.hash("pass\ud800word")

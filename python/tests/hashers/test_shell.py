@@ -3,9 +3,11 @@
 import os
 import pathlib
 import pty
+import shlex
 import signal
 import subprocess
 import sys
+import tempfile
 import unittest
 
 from records import LEAST, SMALL
@@ -90,7 +92,7 @@ class Shell(unittest.TestCase):
 
     def test_an_empty_password_is_asked_for(self):
         refusal = "rigzumal: the password is empty; --empty allows it\n"
-        for given in (b"", b"\n"):
+        for given in (b"", b"\n", b"\r\n", b"\n\n"):
             self.assertEqual(run(f"hash {LEAST_WORDS}", given), (6, "", refusal))
             record = hashed(f"--empty {LEAST_WORDS}", given)
             self.assertTrue(SMALL.verify(record, given))
@@ -132,10 +134,17 @@ class Shell(unittest.TestCase):
             self.assertEqual((status, said in shown.splitlines()[-1]), (6, True), shown)
 
     def test_no_traceback(self):
-        """At Ctrl-C, at the end of a terminal's input, and where nothing can be written."""
-        for key, wanted in ((b"\x03", 130), (b"\x04", 6)):
-            status, shown = self.at_a_terminal(["hash"], key)
-            self.assertEqual((status, "Traceback" in shown), (wanted, False), shown)
+        """At Ctrl-C, at the end of a terminal's input, and where nothing can be read or written."""
+        with tempfile.TemporaryDirectory() as room:
+            accounts = ["accounts", "--database", f"sqlite:///{room}/a.db"]
+            self.assertEqual(run([*accounts, "init"])[0], 0)
+            for words in (["hash"], [*accounts, "check", "ann"]):
+                for key, wanted in ((b"\x03", 130), (b"\x04", 6)):
+                    status, shown = self.at_a_terminal(words, key)
+                    self.assertEqual((status, "Traceback" in shown), (wanted, False), shown)
+        command = f"{shlex.quote(sys.executable)} -m rigzumal hash <&-"
+        done = subprocess.run(["sh", "-c", command], stderr=subprocess.PIPE)
+        self.assertEqual((done.returncode, done.stderr.count(b"\n")), (2, 1), done.stderr)
         words = [sys.executable, "-m", "rigzumal", "hash", "--memory", "8", "--lanes", "1"]
         with open("/dev/full", "wb") as full:
             done = subprocess.run(words, input=b"x", stdout=full, stderr=subprocess.PIPE)
@@ -147,6 +156,8 @@ class Shell(unittest.TestCase):
         for words, said in (
             ("hash hunter2", "a password is never an argument"),
             ("accounts --database= list", "no database: --database URL"),
+            ("hash --log2-n 10", "rigzumal: --log2-n is of scrypt, and --scrypt is missing\n"),
+            ("hash --scrypt --lanes 4", "rigzumal: --lanes is of Argon2, and --scrypt is given\n"),
             ("hash --lanes 0", "rigzumal: 14 lanes: parallelism is to be 1 to 255, and not 0\n"),
             ("calibrate --lanes 0", "lanes"),
             ("calibrate --memory 4M --lanes 1", "--memory is below 19456 KiB; --below allows it\n"),

@@ -72,9 +72,9 @@ class Values(unittest.TestCase):
             {"hash_len": 31},
             {"salt_len": 15},
             {"type": Type.I},
-            {"secret": b""},
             {"secret": b"pepper"},
             {"secrets": [b"pepper"]},
+            {"secrets": [b"pepper", b""]},
             {"secrets": [b"pepper", b"salt"]},
             {"secrets": [b"salt", b"pepper"]},
             {"threads": 2},
@@ -123,6 +123,8 @@ class Rotation(unittest.TestCase):
             (self.BOTH, self.NEW.hash("y"), False),
             (self.BOTH, self.OLD.hash("y"), False),
             (self.BOTH, SMALL.hash("x"), False),
+            (SMALL.replace(secrets=[b"new", b""]), SMALL.hash("x"), True),
+            (SMALL.replace(secrets=[b"new", b""]), SMALL.hash("y"), False),
         ):
             self.assertIs(verdict(hasher, made, "x"), wanted, (hasher.secrets, made))
 
@@ -134,6 +136,15 @@ class Rotation(unittest.TestCase):
         for hasher in (self.NEW, self.OLD):
             with self.assertRaises(rigzumal.VerifyMismatchError):
                 self.BOTH.verify_and_rehash(hasher.hash("y"), "x")
+
+    def test_those_without_a_pepper_are_rehashed(self):
+        both = SMALL.replace(secrets=[b"new", b""])
+        for old in (SMALL, ScryptHasher(log2_n=4)):
+            made = both.verify_and_rehash(old.hash("x"), "x")
+            self.assertIs(self.NEW.verify(made, "x"), True)
+            self.assertFalse(verdict(both, old.hash("x"), "y"))
+        with self.assertRaises(rigzumal.InvalidRecordError):
+            self.BOTH.verify(ScryptHasher(log2_n=4).hash("x"), "x")
 
     def test_those_of_other_costs_are_rehashed(self):
         for hasher in (SMALL, self.NEW, ScryptHasher(log2_n=4)):
@@ -157,10 +168,23 @@ class Rotation(unittest.TestCase):
         again = self.BOTH.replace(secrets=[b"newer", b"new"])
         self.assertEqual((again.secret, again.secrets), (b"newer", (b"newer", b"new")))
         self.assertEqual(self.BOTH.replace(time_cost=1).secrets, (b"new", b"old"))
-        self.assertEqual(self.BOTH.replace(secrets=()).secret, None)
+        self.assertEqual(self.BOTH.replace(secrets=None).secret, None)
 
     def test_bad_secrets(self):
-        self.assertRaises(ValueError, PasswordHasher, secret=b"", secrets=[b"x"])
+        """An empty one is what an unset variable gives, and would be no pepper at all."""
+        for bad in (
+            {"secret": b""},
+            {"secret": bytearray()},
+            {"secrets": []},
+            {"secrets": ()},
+            {"secrets": iter(())},
+            {"secrets": [b""]},
+            {"secrets": [b"", b"old"]},
+            {"secret": b"", "secrets": [b"x"]},
+        ):
+            with self.subTest(bad=bad):
+                self.assertRaisesRegex(ValueError, "secret", PasswordHasher, **bad)
+                self.assertRaisesRegex(ValueError, "secret", SMALL.replace, **bad)
         self.assertRaises(ValueError, self.BOTH.replace, secret=b"other")
         for wrong in ([None], ["x"], 5):
             self.assertRaises(TypeError, PasswordHasher, secrets=wrong)

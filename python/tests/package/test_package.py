@@ -26,6 +26,13 @@ FILES = sorted(
     if it.is_file() and it.suffix != ".pyc"
 )
 INSTALLED = "lib/python3/dist-packages"
+OTHERS = {
+    "bin/rigzumal",
+    "share/man/man1/rigzumal.1",
+    "share/bash-completion/completions/rigzumal",
+    "share/zsh/site-functions/_rigzumal",
+    "share/fish/vendor_completions.d/rigzumal.fish",
+}
 SCRIPTS = {
     "postinst": "py3compile -p python3-rigzumal",
     "prerm": "py3clean -p python3-rigzumal",
@@ -40,6 +47,7 @@ def let_in(accounts: Accounts) -> bool:
     return True if accounts.login("ann", "x") else False
 """
 CLEAN = {"PYTHONPATH": "", "LD_LIBRARY_PATH": "", "RIGZUMAL_LIBRARY": ""}
+ARM64 = {"ARCH": "arm64"}
 OVER_LIBRARY = {**CLEAN, "LD_LIBRARY_PATH": str(LIBRARIES)}
 
 
@@ -84,11 +92,13 @@ class Package(unittest.TestCase):
         make("install", f"PREFIX={prefix}")
         make("install", f"DESTDIR={room}", "PREFIX=/opt/rigzumal")
         for folder in (prefix, room / "opt/rigzumal"):
-            self.assertEqual(files_below(folder), {f"{INSTALLED}/{it}" for it in FILES})
+            self.assertEqual(files_below(folder), {f"{INSTALLED}/{it}" for it in FILES} | OTHERS)
         env = {**OVER_LIBRARY, "PYTHONPATH": str(prefix / INSTALLED)}
         check_hashing(sys.executable, env, prefix)
         names = "import rigzumal.argon2_cffi as it; print(it)"
         self.assertIn(str(prefix), run(sys.executable, "-c", names, env=env, at=ROOM))
+        command = (prefix / "bin/rigzumal", "hash", "--memory", "8", "--lanes", "1")
+        self.assertIn("$argon2id$", run(*command, given="x", env=env, at=ROOM))
 
     def test_uninstalled(self):
         """`make uninstall` takes away what `make install` put there, and nothing of anyone else's."""
@@ -122,6 +132,24 @@ class Package(unittest.TestCase):
             run(*pip, what, env=CLEAN)
             check_hashing(room / "bin/python", CLEAN, room)
 
+    def test_wheel_for_arm64(self):
+        """The wheel hashes in Debian's Python for ARM64, which tests/arm64/root.sh of c unpacked."""
+        need("qemu-aarch64")
+        library, root = LIBRARIES / "arm64/librigzumal.so.1", LIBRARIES / "arm64/root/at"
+        for needed in (library, root):
+            if not needed.exists():
+                self.skipTest(f"{needed} is not there")
+        room = ROOM / "arm64"
+        room.mkdir()
+        wheel = room / run(sys.executable, PYTHON / "build_backend.py", room, env=ARM64).strip()
+        self.assertTrue(wheel.name.endswith("-py3-none-manylinux_2_34_aarch64.whl"), wheel.name)
+        self.assertEqual(check_record(wheel), {*FILES, "rigzumal/librigzumal.so.1"})
+        with zipfile.ZipFile(wheel) as archive:
+            archive.extractall(room)
+        emulated = ("qemu-aarch64", "-L", root, root / "usr/bin/python3", "-c", HASHES)
+        env = {**CLEAN, "PYTHONHOME": str(root / "usr"), "PYTHONPATH": str(room)}
+        self.assertTrue(run(*emulated, env=env, at=ROOM).startswith("True "))
+
     def test_editable(self):
         """`pip install -e` has the folder itself imported, and leaves nothing when it is taken away."""
         room = new_environment("editable")
@@ -142,7 +170,10 @@ class Package(unittest.TestCase):
         room = ROOM / "deb"
         run("dpkg-deb", "-R", deb, room)
         held = {it for it in files_below(room) if not it.startswith(("DEBIAN/", "usr/share/doc/"))}
-        self.assertEqual(held, {f"usr/lib/python3/dist-packages/{it}" for it in FILES})
+        ours = {f"usr/lib/python3/dist-packages/{it}" for it in FILES}
+        others = {it.replace("site-functions", "vendor-completions") for it in OTHERS}
+        others = {f"usr/{it}".replace("rigzumal.1", "rigzumal.1.gz") for it in others}
+        self.assertEqual(held, ours | others)
         for script, line in SCRIPTS.items():
             self.assertIn(line, (room / "DEBIAN" / script).read_text())
         self.assertIn(f"librigzumal1 (>= {VERSION})", run("dpkg-deb", "-f", deb, "Depends"))

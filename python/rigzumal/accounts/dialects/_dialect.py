@@ -5,7 +5,7 @@ from __future__ import annotations
 import enum
 import functools
 import re
-from collections.abc import Container, Iterable, Iterator, Sequence
+from collections.abc import Container, Iterable, Iterator, Mapping, Sequence
 from dataclasses import dataclass
 from typing import Any, ClassVar, Final, NamedTuple
 
@@ -13,7 +13,8 @@ from rigzumal.accounts._session import Result, Session
 from rigzumal.accounts.parts import Copy, Key, StoreFault
 
 LONGEST_RECORD: Final = 512  # bytes
-TOO_SHORT: Final = f"a record has up to {LONGEST_RECORD} bytes"
+LONGEST_WRITTEN: Final = 152  # bytes of a record of accounts, with the longest salt
+NOT_NULL: Final = "record-not-null"
 CRASH_LOSES: Final = "a crash loses acknowledged changes"
 POWER_CUT_LOSES: Final = "a power cut loses acknowledged changes"
 ANOTHER_RECORD: Final = "the row has another record than the one that was written"
@@ -93,6 +94,7 @@ class Mode(NamedTuple):
 
     is_autocommit: bool
     has_transaction: bool
+    has_failed: bool = False  # the transaction: an error was swallowed in it
 
 
 class Dialect:
@@ -109,13 +111,17 @@ class Dialect:
 
     Attributes:
         select: the statement that reads the record of a key.
-        share: the same, with a lock that keeps the record until the transaction ends.
+        locked: the same, with the UPDATE's lock on the row until the transaction ends. A
+            weaker one, which two logins hold, deadlocks if both then update the row.
         update: writes a record if the row has the copy; its values are record, key, copy.
         at_once: does a whole change and commits it, or undoes it; empty if the engine
             has no such statement.
         insert: adds the account of a key, without a record.
         every: reads all keys and records.
         returns: whether the UPDATE answers with the record that it wrote.
+        drivers: the modules whose errors are the driver's; if empty, each `Error` of the
+            DB-API is one.
+        execute_options: keywords of the driver's `execute`.
     """
 
     mark, quote = "%s", '"'
@@ -123,8 +129,11 @@ class Dialect:
     key_types: ClassVar[tuple[type, ...]] = (str, int, bytes)
     key_sql, bytes_sql = "VARCHAR(255)", "VARBINARY(255)"
     returns = False
-    # The comparison, and the clause that keeps a record until the transaction's end.
-    _same, _share = "", ""
+    drivers: ClassVar[tuple[str, ...]] = ()
+    execute_options: ClassVar[Mapping[str, Any]] = {}
+    # The comparison, the clause that locks a row until the transaction's end, and the one
+    # by which an INSERT leaves a row that exists.
+    _same, _lock, _unless_exists = "", "", " ON CONFLICT DO NOTHING"
 
     def __init__(self, table: str, key: str, record: str, key_type: type = str) -> None:
         if key_type not in self.key_types:
@@ -136,7 +145,7 @@ class Dialect:
         k, r, m = self.quoted(key), self.quoted(record), self.mark
         same = self._same.format(r=r, m=m)
         self.select = f"SELECT {r} FROM {t} WHERE {k} = {m}"
-        self.share = self.select + self._share
+        self.locked = self.select + self._lock
         self.update = f"UPDATE {t} SET {r} = {m} WHERE {k} = {m} AND {same}"
         if self.returns:
             self.update += f" RETURNING {r}"
@@ -146,6 +155,13 @@ class Dialect:
 
     def _at_once(self, t: str, k: str, r: str) -> str:
         return ""
+
+    def add(self, count: int) -> str:
+        """The statement that adds accounts with their records, but for those that exist."""
+        k, r, m = self.quoted(self.key_name), self.quoted(self.record_name), self.mark
+        rows = ", ".join([f"({m}, {m})"] * count)
+        unless = self._unless_exists.format(k=k)
+        return f"INSERT INTO {self.table} ({k}, {r}) VALUES {rows}{unless}"
 
     def quoted(self, name: str) -> str:
         """A name of a table or a column, as a statement has it."""
@@ -228,6 +244,16 @@ class Dialect:
         """What an error of the driver means where no COMMIT was sent."""
         raise NotImplementedError
 
+    def is_drivers(self, raised: BaseException) -> bool:
+        """Whether the driver raised it, where a caller's code has run too."""
+        if not self.drivers:
+            return is_of_driver(raised) and not isinstance(raised, OSError)
+        return type(raised).__module__.partition(".")[0] in self.drivers
+
+    def lacks_key(self, raised: BaseException) -> bool:
+        """Whether the column's character set lacks the key: no such account exists."""
+        return isinstance(raised, UnicodeEncodeError)
+
     def gave_up(self, raised: BaseException) -> bool:
         """Whether an answer to what commits says that the server undid it."""
         return self.verdict(raised) is Verdict.AGAIN
@@ -268,7 +294,7 @@ class Dialect:
         """What every engine's table has to be."""
         if not nullable:
             text = f"{self.record_name} is NOT NULL: no account can be without a record"
-            yield warning("record-not-null", text)
+            yield warning(NOT_NULL, f"{text}, so `remove` is refused")
         if not unique:
             text = f"{self.key_name} has no unique index of its own"
             yield error("key-not-unique", text)
@@ -288,6 +314,22 @@ class Dialect:
     def record_fault(self, said: str) -> Fault:
         """A column that holds no record as it is."""
         return error("record-type", f"{self.record_name} is {said}")
+
+    def length_faults(self, kind: str, length: int) -> Iterator[Fault]:
+        """A column that cuts records off: those that accounts write, or other programs."""
+        if length < LONGEST_WRITTEN:
+            yield self.record_fault(
+                f"{kind}: a record has up to {LONGEST_WRITTEN} bytes"
+            )
+        elif length < LONGEST_RECORD:
+            text = f"another program's record has up to {LONGEST_RECORD} bytes"
+            yield warning("record-length", f"{self.record_name} is {kind}: {text}")
+
+    def alphabet_faults(self, charset: str, unicode: Container[str]) -> Iterator[Fault]:
+        """A character set that lacks names."""
+        if self.key_type is str and charset not in unicode:
+            text = f"names outside of {charset} are no accounts"
+            yield warning("key-not-unicode", text)
 
     async def folded_names(self, session: Session) -> list[Fault]:
         """Names that are one account by the key's column, and differ in a limit of attempts.

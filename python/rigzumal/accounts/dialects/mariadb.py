@@ -10,8 +10,8 @@ from typing import Any, Final, Optional
 from rigzumal.accounts._session import Result, Session
 from rigzumal.accounts.parts import Copy, Key, StoreFault
 from rigzumal.accounts.dialects._dialect import ANOTHER_RECORD, CRASH_LOSES
-from rigzumal.accounts.dialects._dialect import LONGEST_RECORD, POWER_CUT_LOSES
-from rigzumal.accounts.dialects._dialect import TOO_SHORT, Dialect, Fault, Findings
+from rigzumal.accounts.dialects._dialect import POWER_CUT_LOSES
+from rigzumal.accounts.dialects._dialect import Dialect, Fault, Findings
 from rigzumal.accounts.dialects._dialect import Mode, Verdict, error, not_durable
 from rigzumal.accounts.dialects._dialect import other_driver, warning
 
@@ -34,6 +34,10 @@ _BROKEN: Final = (ConnectionError, TimeoutError, socket.timeout)
 # ROLLBACK; 1021, 1026, 1030: a full disk, an error of writing, an error of the engine.
 _UNKNOWN: Final = frozenset({1021, 1026, 1030, 1180, 1181, _TIME_IS_OVER})
 
+_UNICODE: Final = ("utf8mb4", "utf16", "utf16le", "utf32")
+# A text that can't be compared with the column: its characters aren't in the column's set.
+_LACKS: Final = (1267, 3988)
+
 
 class StatementTimeout(OSError):
     """max_statement_time is over, and nothing was done: as after a lock's."""
@@ -49,9 +53,12 @@ class MariaDB(Dialect):
 
     quote = "`"
     key_sql = "VARCHAR(255) CHARACTER SET utf8mb4 COLLATE utf8mb4_nopad_bin"
+    drivers = ("pymysql",)
     # A plain SELECT under REPEATABLE READ, the default, reads what stood when the
     # caller's transaction first read anything.
-    _share = " LOCK IN SHARE MODE"
+    _lock = " FOR UPDATE"
+    # INSERT IGNORE would take a record that is cut off.
+    _unless_exists = " ON DUPLICATE KEY UPDATE {k} = {k}"
     _same = "CAST({r} AS BINARY) <=> CAST({m} AS BINARY)"
 
     def __init__(self, table: str, key: str, record: str, key_type: type = str) -> None:
@@ -138,6 +145,9 @@ class MariaDB(Dialect):
             return Verdict.LOST
         return Verdict.REFUSED
 
+    def lacks_key(self, raised: BaseException) -> bool:
+        return super().lacks_key(raised) or _number(raised) in _LACKS
+
     def gave_up(self, raised: BaseException) -> bool:
         # What the server answers to a COMMIT it has rolled back, but for these.
         number = _number(raised)
@@ -158,26 +168,31 @@ class MariaDB(Dialect):
         unique = await session.execute(_UNIQUE, schema, t, self.key_name)
         *record, nullable = columns[self.record_name]
         faults = [*self.common_faults(nullable == "YES", bool(unique.rows))]
-        faults += self._type_faults(columns[self.key_name][0], *record)
+        key, _, charset, _ = columns[self.key_name]
+        faults += self._type_faults(key, *record)
         ((engine,),) = (await session.execute(_ENGINE, schema, t)).rows
         if engine != "InnoDB":
             text = f"{t} is of {engine}, which has no transactions"
             faults.append(error("no-transactions", text))
         rows = (await session.execute("SHOW SESSION VARIABLES")).rows
         seen = {name: value for name, value in rows}
+        for name in dict.fromkeys((charset, seen["character_set_client"])):
+            faults += self.alphabet_faults(name or "utf8mb4", _UNICODE)
         faults += [*of_server(seen), *await self.folded_names(session)]
         return Findings(faults, engine == "InnoDB", shown_early(seen))
 
     def _type_faults(
         self, key: str, kind: str, length: Optional[int], charset: Optional[str]
     ) -> Iterator[Fault]:
-        texts = ("varchar", "text", "mediumtext", "longtext")
-        if kind not in texts or (length or 0) < LONGEST_RECORD:
-            yield self.record_fault(f"{kind}({length}): {TOO_SHORT}")
-        if charset not in ("ascii", "latin1", "utf8mb3", "utf8mb4", "utf8"):
+        texts = ("char", "varchar", "tinytext", "text", "mediumtext", "longtext")
+        if kind not in texts:
+            yield self.record_fault(f"{kind}, not text")
+        else:
+            yield from self.length_faults(f"{kind}({length})", length or 0)
+        if charset and charset not in ("ascii", "latin1", "utf8mb3", "utf8mb4", "utf8"):
             yield self.record_fault(f"in {charset}, whose bytes aren't those of ASCII")
         kinds = {
-            str: ("char", "varchar", "text"),
+            str: ("char", "varchar", "text", "uuid"),
             int: ("tinyint", "smallint", "mediumint", "int", "bigint"),
             bytes: ("binary", "varbinary", "blob"),
         }

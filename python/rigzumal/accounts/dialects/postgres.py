@@ -7,7 +7,7 @@ from collections.abc import Iterator
 from typing import Any, Final
 
 from rigzumal.accounts._session import Result, Session
-from rigzumal.accounts.dialects._dialect import CRASH_LOSES, LONGEST_RECORD, TOO_SHORT
+from rigzumal.accounts.dialects._dialect import CRASH_LOSES
 from rigzumal.accounts.dialects._dialect import Dialect, Fault, Findings, Mode, Verdict
 from rigzumal.accounts.dialects._dialect import error, not_durable, other_driver
 from rigzumal.accounts.dialects._dialect import warning
@@ -21,6 +21,7 @@ _ELSEWHERE: Final = frozenset({"25006", "53300"})
 # transaction was idle for too long. Whatever was sent then may have been done.
 _LOST: Final = ("08", "57P0", "25P03")
 _UNKNOWN: Final = "40003"  # the server doesn't know whether what was sent was done
+_LACKS: Final = ("22P05", "22021")  # characters that the server's encoding doesn't have
 
 
 class Postgres(Dialect):
@@ -37,7 +38,11 @@ class Postgres(Dialect):
     key_sql = "TEXT"
     bytes_sql = "BYTEA"
     returns = True
-    _share = " FOR SHARE"
+    drivers = ("psycopg",)
+    # PgBouncer may give the next statement to a session that hasn't prepared it.
+    execute_options = {"prepare": False}
+    # Beside it others' rows may still refer to the account.
+    _lock = " FOR NO KEY UPDATE"
     _same = '{r}::text COLLATE "C" IS NOT DISTINCT FROM {m}::text'
 
     def mode(self, conn: Any) -> Mode:
@@ -45,12 +50,11 @@ class Postgres(Dialect):
         is_psycopgs = hasattr(getattr(conn, "info", None), "transaction_status")
         if not (is_psycopgs and hasattr(conn, "prepare_threshold")):
             raise other_driver(conn, "psycopg 3")
-        # PgBouncer may give the next statement to a session that hasn't prepared it.
-        conn.prepare_threshold = None
         status = conn.info.transaction_status
         if status == 4:  # UNKNOWN
             raise ConnectionError("the connection is closed")
-        return Mode(conn.autocommit, has_transaction=status != 0)  # 0: IDLE
+        # 0: IDLE; 3: INERROR
+        return Mode(conn.autocommit, status != 0, has_failed=status == 3)
 
     async def within(self, session: Session) -> None:
         await super().within(session)
@@ -76,7 +80,9 @@ class Postgres(Dialect):
         size = f"octet_length({r}) = octet_length(%s::text)"
         update = self.update.rpartition(" RETURNING ")[0]
         one = f"(SELECT count(*) FROM {t} WHERE {k} = %s) = 1"
-        return f"{update} AND {one} RETURNING 1 / ({same} AND {size})::int"
+        # Of a record that a trigger has made NULL neither is true or false.
+        is_put = f"COALESCE({same} AND {size}, false)"
+        return f"{update} AND {one} RETURNING 1 / {is_put}::int"
 
     async def put_at_once(
         self, session: Session, after: Copy, key: Key, copy: Copy
@@ -127,6 +133,9 @@ class Postgres(Dialect):
         is_broken = not state and names & {"OperationalError", "InterfaceError"}
         return Verdict.LOST if is_broken else Verdict.REFUSED
 
+    def lacks_key(self, raised: BaseException) -> bool:
+        return super().lacks_key(raised) or self.number(raised) in _LACKS
+
     def gave_up(self, raised: BaseException) -> bool:
         # What the server answers as an ERROR it has rolled back. After FATAL and PANIC
         # it answers no more, and a commit may be in its log.
@@ -141,6 +150,9 @@ class Postgres(Dialect):
 
     async def examine(self, session: Session) -> Findings:
         t = self.table.replace("%%", "%")
+        if session.conn.info.encoding == "ascii":
+            text = "client_encoding is SQL_ASCII: texts come as bytes"
+            return Findings([error("encoding", text)], is_usable=False)
         found = await session.execute(_COLUMNS, t)
         columns = {name: more for name, *more in found.rows}
         missing = self.missing(columns)
@@ -152,7 +164,12 @@ class Postgres(Dialect):
         faults += self._type_faults(columns[self.key_name][0], kind)
         triggers = await session.execute(_TRIGGERS, t)
         faults += self.after_triggers(triggers.rows)
-        ((is_table, secured, is_logged),) = (await session.execute(_TABLE, t)).rows
+        ((is_table, secured, is_logged, has_heirs),) = (
+            await session.execute(_TABLE, t)
+        ).rows
+        if has_heirs:
+            text = f"no index of {self.table_name} holds the keys of its child tables"
+            faults.append(error("key-not-unique", text))
         if not is_table:
             faults.append(error("not-a-table", f"{self.table_name} is no table"))
         if not is_logged:
@@ -165,27 +182,36 @@ class Postgres(Dialect):
             ((value,),) = (await session.execute(f"SHOW {name}")).rows
             if value not in good:
                 faults.append(not_durable(f"{name} is {value}: {CRASH_LOSES}"))
+        ((encoding,),) = (await session.execute("SHOW server_encoding")).rows
+        faults += self.alphabet_faults(encoding, ("UTF8",))
         faults += await self.folded_names(session)
         return Findings(faults, is_usable=is_table)
 
     def _type_faults(self, key: str, record: str) -> Iterator[Fault]:
+        # An extension's type has its schema before it, if that isn't on the search path.
+        key, record = (it.rpartition(".")[2] for it in (key, record))
         if record.startswith("character varying("):
-            if int(record[18:-1]) < LONGEST_RECORD:
-                yield self.record_fault(f"{record}: {TOO_SHORT}")
-        elif record not in ("text", "character varying"):
+            yield from self.length_faults(record, int(record[18:-1]))
+        elif record not in ("text", "character varying", "citext"):
             yield self.record_fault(f"{record}, not text")
         kinds = {
             str: ("text", "character", "citext", "name"),
-            int: ("bigint", "integer", "smallint"),
+            int: ("bigint", "integer", "smallint", "numeric"),
             bytes: ("bytea",),
             uuid.UUID: ("uuid",),
         }
         yield from self.key_faults(key, key.startswith(kinds[self.key_type]))
 
 
+# A column of a domain has the type under it, and that domain's NOT NULL.
 _COLUMNS: Final = (
-    "SELECT attname, format_type(atttypid, atttypmod), attnotnull FROM pg_attribute"
+    "WITH RECURSIVE found AS (SELECT attname, atttypid AS kind, atttypmod AS size,"
+    " attnotnull AS bound FROM pg_attribute"
     " WHERE attrelid = to_regclass(%s) AND attnum > 0 AND NOT attisdropped"
+    " UNION ALL SELECT attname, typbasetype, greatest(size, typtypmod),"
+    " bound OR typnotnull FROM found JOIN pg_type ON oid = kind WHERE typtype = 'd')"
+    " SELECT attname, format_type(kind, size), bound FROM found"
+    " JOIN pg_type ON oid = kind WHERE typtype <> 'd'"
 )
 # An AFTER trigger for each row: bit 0 is ROW, 1 BEFORE, 6 INSTEAD OF.
 _TRIGGERS: Final = (
@@ -194,8 +220,9 @@ _TRIGGERS: Final = (
 )
 _TABLE: Final = (
     "SELECT relkind IN ('r', 'p') AS is_table, relrowsecurity,"
-    " relpersistence = 'p' AS is_logged FROM pg_class"
-    " WHERE oid = to_regclass(%s)"
+    " relpersistence = 'p' AS is_logged, relkind = 'r' AND EXISTS"
+    " (SELECT 1 FROM pg_inherits WHERE inhparent = c.oid) AS has_heirs"
+    " FROM pg_class AS c WHERE oid = to_regclass(%s)"
 )
 _UNIQUE: Final = (
     "SELECT 1 FROM pg_index i JOIN pg_attribute a ON a.attrelid = i.indrelid"

@@ -17,6 +17,8 @@ class Sqlite(Dialect):
     """SQLite by sqlite3. The connections need a busy timeout of some seconds."""
 
     mark = "?"
+    quote = "`"  # what stands in double quotes is a text if no column has the name
+    drivers = ("sqlite3", "aiosqlite")
     # Not deferred: a transaction that has read and then writes is refused at once, with
     # no waiting, if another has written since.
     begin = "BEGIN IMMEDIATE"

@@ -15,6 +15,7 @@ from typing import TYPE_CHECKING, Any, Optional, Union
 
 from rigzumal._hashers import PasswordHasher
 from rigzumal.accounts._accounts import Accounts, AsyncAccounts
+from rigzumal.accounts._connections import LOGGER
 from rigzumal.accounts._operations import Operations
 from rigzumal.accounts._session import Hook, Session, run
 from rigzumal.accounts.parts import AccountsError, Answer, Kind, OutcomeUnknown, Reply
@@ -92,6 +93,7 @@ class Worker:
     def __init__(self, torture: Torture, number: int, risk: float) -> None:
         self.torture = torture
         assert torture.folder is not None
+        LOGGER.disabled = True  # its warnings are what a torture is made of
         name = f"{number}-{os.getpid()}"
         self.log = Log(torture.folder / f"log-{name}", name, risk)
         self.database = Database(torture.url, number)

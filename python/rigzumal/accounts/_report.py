@@ -1,0 +1,77 @@
+"""How many accounts have which records, for the command."""
+
+from __future__ import annotations
+
+import enum
+from collections import Counter
+from collections.abc import Callable, Iterable, Iterator
+from typing import Any, NamedTuple, Optional
+
+from rigzumal._library import InvalidRecordError
+from rigzumal._parts import Parts, parts, scheme_of_another
+
+
+class State(enum.Enum):
+    """What a login makes of a record."""
+
+    CURRENT = "current"
+    REHASH = "rehash"
+    """A right password replaces it by a record of the hasher's costs."""
+    FOREIGN = "foreign"
+    """It is of another scheme: the hook of the service judges it."""
+    UNREADABLE = "unreadable"
+    """It is of no known scheme: unless a hook judges it, nobody can log in."""
+    ABSENT = "absent"
+    """The account has no record."""
+
+
+class Group(NamedTuple):
+    """Records that are alike."""
+
+    state: State
+    scheme: str
+    costs: str
+
+
+def group_of(record: Optional[str], is_old: Callable[[Parts], bool]) -> Group:
+    """The group of a record."""
+    if record is None:
+        return Group(State.ABSENT, "", "")
+    try:
+        found = parts(record)
+    except InvalidRecordError:
+        scheme = scheme_of_another(record)
+        return Group(State.FOREIGN if scheme else State.UNREADABLE, scheme, "")
+    state = State.REHASH if is_old(found) else State.CURRENT
+    return Group(state, found.scheme, numbers_of(found))
+
+
+def numbers_of(found: Parts) -> str:
+    """As "v=19 m=65536,t=3,p=4"."""
+    names = ("ln", "r", "p") if found.scheme == "scrypt" else ("m", "t", "p")
+    values = (found.memory, found.passes, found.lanes)
+    numbers = ",".join(f"{name}={value}" for name, value in zip(names, values))
+    return f"v={found.version} {numbers}" if found.version else numbers
+
+
+def report(
+    rows: Iterable[tuple[Any, Optional[str]]], is_old: Callable[[Parts], bool]
+) -> list[tuple[Group, int]]:
+    """Each group with its count: by state, the most frequent first."""
+    counts = Counter(group_of(record, is_old) for _, record in rows)
+    order = list(State)
+    return sorted(
+        counts.items(), key=lambda it: (order.index(it[0].state), -it[1], it[0][1:])
+    )
+
+
+def as_prometheus(counts: Iterable[tuple[Group, int]]) -> Iterator[str]:
+    """The lines of Prometheus' text format."""
+    name = "rigzumal_accounts"
+    yield f"# HELP {name} Accounts by the state, the scheme and the costs of their records."
+    yield f"# TYPE {name} gauge"
+    for group, count in counts:
+        labels = (
+            f'state="{group.state.value}",scheme="{group.scheme}",costs="{group.costs}"'
+        )
+        yield f"{name}{{{labels}}} {count}"

@@ -1,0 +1,46 @@
+"""Tests of RFC 8265's form of a password."""
+
+import unicodedata
+import unittest
+
+import records  # noqa: F401: finds the package
+from rigzumal import opaque_string
+
+
+class Opaque(unittest.TestCase):
+    def test_examples_of_the_rfc(self):
+        """Its table 2, and the texts that it refuses."""
+        for text, wanted in (
+            ("correct horse battery staple", "correct horse battery staple"),
+            ("Correct Horse Battery Staple", "Correct Horse Battery Staple"),
+            ("\u03c0\u00df\u00e5", "\u03c0\u00df\u00e5"),
+            ("Jack of \u2666s", "Jack of \u2666s"),
+            ("foo\u1680bar", "foo bar"),
+        ):
+            self.assertEqual(opaque_string(text), wanted)
+        for text in ("", "my cat is a \u0009by"):
+            self.assertRaises(ValueError, opaque_string, text)
+
+    def test_each_keyboard_makes_the_same(self):
+        for text in ("caf\u00e9", "\u1e9b\u0323", "\uac00", "na\u00efve \u212b"):
+            made = {opaque_string(unicodedata.normalize(it, text)) for it in ("NFC", "NFD")}
+            self.assertEqual(len(made), 1)
+            self.assertEqual(opaque_string(*made), *made)  # once and for all
+
+    def test_what_nobody_types(self):
+        """And no text is in what is raised."""
+        for odd in (
+            *("\0", "\n", "\r", "\x7f", "\x85", "\u00ad", "\u202e", "\u2028", "\ufeff"),
+            *("\ue000", "\ufdd0", "\U0010ffff", "\ud800", "\u0378", "\u115f", "\u3164"),
+            *("\u034f", "\u17b4", "\u180e", "\u0640", "\U000e0041", "\U000e0100", "\ufe00"),
+        ):
+            with self.subTest(odd=ascii(odd)), self.assertRaises(ValueError) as raised:
+                opaque_string(f"hunter{odd}2")
+            self.assertNotIn("hunter", str(raised.exception))
+
+    def test_what_people_type(self):
+        for text in (
+            *("\u2764\ufe0f", "\U0001f469\u200d\U0001f680", "\u0646\u0627\u0645\u0647\u200c"),
+            *("\uff21\uff22", "\u0928\u094d\u200d", "\u5bc6\u7801", "\ud55c\uae00", "a\u0301b"),
+        ):
+            self.assertTrue(opaque_string(text))
