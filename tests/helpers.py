@@ -1,8 +1,11 @@
 """What all tests share: how a program is run and how it ended, what a test needs of the machine,
 and shims that stand before the C library.
 
-RIGZUMAL_TIMES=N makes N times as many kills and random operations as the gate does.
+RIGZUMAL_TIMES=N makes N times as many kills and random operations as the gate does. It runs on
+Python 3.9, as the package does.
 """
+
+from __future__ import annotations
 
 import atexit
 import contextlib
@@ -28,7 +31,7 @@ import unittest
 from collections import deque
 from collections.abc import Callable, Iterable, Iterator
 from concurrent.futures import ThreadPoolExecutor
-from typing import Any, NamedTuple, TypeVar
+from typing import Any, NamedTuple, Optional, TypeVar
 
 TOP = pathlib.Path(__file__).resolve().parent.parent
 TIMES = int(os.environ.get("RIGZUMAL_TIMES", "1"))
@@ -37,6 +40,16 @@ LONGEST = 120
 LIMIT = float(os.environ.get("TEST_LIMIT", "1800"))
 
 Found = TypeVar("Found")
+
+if sys.version_info < (3, 11):
+
+    def enter_context(case: unittest.TestCase, context: Any) -> Any:
+        """unittest's own of Python 3.11."""
+        entered = context.__enter__()
+        case.addCleanup(context.__exit__, None, None, None)
+        return entered
+
+    unittest.TestCase.enterContext = enter_context
 
 
 class Case(unittest.TestCase):
@@ -74,7 +87,7 @@ class Peer(socketserver.ThreadingUnixStreamServer):
             self.lines.append(line)
             self.reply(line, request)
 
-    def __enter__(self) -> "Peer":
+    def __enter__(self) -> Peer:
         threading.Thread(target=self.serve_forever, args=(0.01,), daemon=True).start()
         return self
 
@@ -151,6 +164,16 @@ def files_below(folder: pathlib.Path) -> set[str]:
     return {str(it.relative_to(folder)) for it in folder.rglob("*") if not it.is_dir()}
 
 
+def manual(name: str) -> str:
+    """The text of a manual page without its fonts, and with its hyphens as they are typed."""
+    return re.sub(r"\\f[A-Z]", "", (TOP / "man" / name).read_text().replace("\\-", "-"))
+
+
+def options_in(text: str) -> set[str]:
+    """The options that a text names, in any of its lines."""
+    return set(re.findall(r"(?<![\w-])--[a-z][a-z-]*", text))
+
+
 def need(*programs: str) -> None:
     """Skips a test where one of these programs isn't installed."""
     for name in programs:
@@ -182,7 +205,7 @@ def small_files(size: int) -> dict[str, Any]:
 
 
 # How a command ended that was stopped at its call of a number, or nothing if it made fewer.
-Stop = Callable[..., Ended | None]
+Stop = Callable[..., Optional[Ended]]
 
 
 def in_turn(attempt: Callable[[int], Found | None]) -> Iterator[Found]:

@@ -4,12 +4,23 @@ process gives its shell."""
 import base64
 import os
 import pathlib
+import re
 import tempfile
 import unittest
 from typing import Any
 
 from tests import helpers
-from tests.helpers import TOP, Ended, counts, ended, in_turn, instructions, program
+from tests.helpers import (
+    TOP,
+    Ended,
+    counts,
+    ended,
+    in_turn,
+    instructions,
+    manual,
+    options_in,
+    program,
+)
 
 SETTING = "$argon2id$v=19$m=256,t=2,p=1$c29tZXNhbHQ"
 # Of `password`, by the reference program of Argon2.
@@ -60,6 +71,16 @@ class RunsTest(unittest.TestCase):
                 done = credbook(*words.split(), given=SCRIPT)
                 self.assertEqual(done[:2], (1, ""))
                 self.assertNotEqual(done.faults, "")
+
+    def test_manual(self) -> None:
+        """credbook(1) has each command and each option of the help, and no other."""
+        commands = ("run", "hash", "check")
+        helped = "".join(credbook(*it, "--help").faults for it in ([], *([it] for it in commands)))
+        page = manual("credbook.1")
+        self.assertEqual(options_in(helped) - {"--help", "--version"}, options_in(page))
+        listed = helped.split("Commands:\n")[1].split("\n\n")[0]
+        shown = re.findall(r"^  ([a-z]+)", listed, re.M)
+        self.assertEqual({*shown} - {"help"}, {*re.findall(r"^\.B ([a-z]+)$", page, re.M)})
 
     def test_streams(self) -> None:
         """Streams that can't be read or written."""

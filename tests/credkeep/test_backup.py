@@ -209,12 +209,13 @@ class RestoreTest(CopyTest):
         the restored book."""
         copy = self.begun({"bob": ""}, "copy.db")
         restore = self.book.command("restore", str(copy.path), wait=30)
-        with self.book.start("serve") as service, Service(restore) as waits:
+        with self.book.start("serve") as service:
             self.assertEqual(service.ask("account late"), "ok")
-            time.sleep(0.3)
-            self.assertIsNone(waits.process.poll())
-            self.assertEqual(service.end(), DONE)
-            self.assertEqual(waits.end(), counted(1, 0))
+            with Service(restore) as waits:
+                time.sleep(0.3)
+                self.assertIsNone(waits.process.poll())
+                self.assertEqual(service.end(), DONE)
+                self.assertEqual(waits.end(), counted(1, 0))
         for _ in range(5):
             lists = [Service(self.book.command("list", wait=30)) for _ in range(4)]
             self.assertEqual(self.book("restore", str(copy.path), wait=30).status, 0)

@@ -13,13 +13,19 @@ from tests.credkeep.books import BookTest
 from tests.helpers import need
 
 
+def is_listening(path: pathlib.Path) -> bool:
+    """Whether a socket at a path takes connections: it has its name before it does."""
+    sockets = [it.split() for it in pathlib.Path("/proc/net/unix").read_text().splitlines()]
+    return any(it[-1] == str(path) and it[3] == "00010000" for it in sockets)
+
+
 @contextlib.contextmanager
 def listening(command: list[str], path: pathlib.Path) -> Iterator[None]:
     """Another program that listens at a path and starts credkeep for each connection."""
     with subprocess.Popen(command, start_new_session=True, stderr=subprocess.DEVNULL) as listener:
         try:
             until = time.monotonic() + 20
-            while not path.exists():
+            while not is_listening(path):
                 assert listener.poll() is None and time.monotonic() < until, "it doesn't listen"
                 time.sleep(0.02)
             yield

@@ -4,7 +4,7 @@ import os
 import re
 
 from tests.credkeep.books import CHEAP, SALT, BookTest, fails
-from tests.helpers import ended, program
+from tests.helpers import ended, manual, options_in, program
 
 # Words of the command line that are refused.
 WORDS = [
@@ -140,6 +140,15 @@ class WordsTest(BookTest):
                 done = self.book(*words, word)
                 self.assertFails(done, 1)
                 self.assertNotIn("Secret", done.faults, words)
+
+    def test_manual(self) -> None:
+        """credkeep(1) has each command and each option of the help, and no other."""
+        page = manual("credkeep.1")
+        commands = self.commands()
+        helped = "".join(self.book(*it, "--help").written for it in ([], *([it] for it in commands)))
+        self.assertEqual(options_in(helped) - {"--help", "--version"}, options_in(page))
+        headed = re.findall(r'^\.TP\n\.[A-Z]+ "?([a-z]+)', page, re.M)
+        self.assertLessEqual(set(commands), set(headed))
 
     def test_refused_words(self) -> None:
         """They are refused before the file is opened."""

@@ -14,6 +14,7 @@ it only appends to, a line for each change. In the environment BOOK_FAULTS has w
     mute=WORD       lines with this operation are never answered
     endless         before each answer to a verify it writes a line of 4 MiB
     answers=TEXT    each verify is answered by TEXT
+    refuses=WORD    lines with this operation are answered by `bad 4 memory`
     loses=N         each Nth change is answered, and not kept
     opens=S         it takes so many seconds until it answers
 
@@ -198,7 +199,8 @@ def work(book: Book, output: threading.Lock, line: str) -> None:
     if FAULTS.get("mute") == words[0]:
         return
     with output:
-        said = book.answer(words)
+        is_refused = FAULTS.get("refuses") == words[0]
+        said = "bad 4 memory" if is_refused else book.answer(words)
         said = FAULTS.get("answers", said) if words[0] == "verify" else said
         write(words[0], tag, said)
 

@@ -76,7 +76,7 @@ def private(room: pathlib.Path, *paths: str) -> None:
 def prepared(room: pathlib.Path) -> None:
     """A machine with the module, the group, two users and the sockets' folder."""
     shell(f"mkdir {room}/pts && mount --bind /dev/pts {room}/pts")
-    private(room, "/etc", "/var", "/dev", "/home", str(SECURITY))
+    private(room, "/etc", "/var", "/dev", "/home", "/usr/share/pam-configs", str(SECURITY))
     shell(f"mkdir -p /dev/pts && mount --bind {room}/pts /dev/pts")
     shell("mkdir -p /var/lib/rigzumal && mount -t tmpfs none /var/lib/rigzumal")
     shell("mount -t tmpfs none /run && ip link set lo up")

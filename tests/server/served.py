@@ -249,7 +249,9 @@ class Service:
         with Client(self.path("admin")) as admin:
             words = admin.ask("stats").split()
         same(words[0], "stats")
-        return {name: float(value) for name, value in (word.split("=") for word in words[1:])}
+        counts = dict(word.split("=") for word in words[1:])
+        counts.pop("book")
+        return {name: float(value) for name, value in counts.items()}
 
     def enrol(self, **passwords: str) -> None:
         for name, password in passwords.items():

@@ -1,14 +1,16 @@
 """Tests of bin/credkeep-ask: when it asks at the terminal, what it shows there, and what credkeep gets of it.
 
-They need a POSIX shell and stty. A script stands in for credkeep: it notes the words and the input that it is given.
+A script stands in for credkeep: it notes the words and the input that it is given. The server has the tests' own book.
 """
 
+import re
+import shlex
 import signal
 import subprocess
 from collections.abc import Sequence
 
-from served import Case, TOP, need
-from tests.helpers import Shown, at_a_terminal
+from served import TOP, Case
+from tests.helpers import Peer, Shown, at_a_terminal, ended
 
 ASK = TOP / "bin/credkeep-ask"
 SIGNALS = (signal.SIGHUP, signal.SIGINT, signal.SIGQUIT, signal.SIGTERM)
@@ -41,18 +43,15 @@ Typed = Sequence["bytes | int"]  # a line at each prompt, or a signal
 
 class CredkeepAsk(Case):
     def setUp(self) -> None:
-        """A folder with the stand-in, and with no program but stty: a password would be in the words of another one."""
+        """A folder with the stand-in, and with no other program: a password would be in its words."""
         super().setUp()
-        need("stty")
         self.folder = self.room()
         (self.folder / "credkeep").write_text(STAND_IN)
         (self.folder / "credkeep").chmod(0o755)
-        (self.folder / "bin").mkdir()
-        (self.folder / "bin/stty").symlink_to("/usr/bin/stty")
 
     def environment(self, account: Account) -> dict[str, str]:
         named = {"ROOM": self.folder, "CREDKEEP": f"{self.folder}/credkeep"}
-        named |= {"PATH": f"{self.folder}/bin", "SHOWN": account[0], "STATUS": account[1]}
+        named |= {"PATH": str(self.folder), "SHOWN": account[0], "STATUS": account[1]}
         return {name: str(it) for name, it in named.items()}
 
     def asked(self, words: str, typed: Typed, account: Account = RECORD) -> Shown:
@@ -93,15 +92,21 @@ class CredkeepAsk(Case):
             ("add", NO_RECORD, TWO, "new\n"),
             ("add", NO_ACCOUNT, TWO, "new\n"),
         ):
-            ended = self.asked(f"users.db|{operation}|ada", typed, account)
+            shown = self.asked(f"users.db|{operation}|ada", typed, account)
             echoes = [*[False] * len(typed), True]
-            self.assertEqual((ended.status, ended.echoes), (7, echoes), operation)
+            self.assertEqual((shown.status, shown.echoes), (7, echoes), operation)
             prompts = b"Password: |\r\n" * (typed[0] in ONE)
             prompts += b"New password: |\r\nThe same again: |\r\n" * (typed[-1] in TWO)
-            self.assertEqual(ended.text, prompts + b"it was asked\r\n")
+            self.assertEqual(shown.text, prompts + b"it was asked\r\n")
             self.assertEqual(self.noted("words"), f"{SHOW}\nusers.db|{operation}|ada|\n")
             self.assertEqual(self.noted("given"), given, operation)
             self.assertNotRegex(self.noted("environment"), "old|new")
+
+    def test_a_credkeep_that_is_killed(self) -> None:
+        """The status is the signal's, as a shell has it."""
+        text = (self.folder / "credkeep").read_text().replace("exit 7", "kill -KILL $$")
+        (self.folder / "credkeep").write_text(text)
+        self.assertEqual(self.asked("users.db|check|ada", ONE).status, 128 + signal.SIGKILL)
 
     def test_not_asked(self) -> None:
         """Where no password would help, credkeep's answer is told at once."""
@@ -116,9 +121,9 @@ class CredkeepAsk(Case):
             ("add", ("", 5), 5, ""),
             ("reset", ("", 1), 1, ""),
         ):
-            ended = self.asked(f"users.db|{operation}|ada", [], account)
-            self.assertEqual(ended.text.strip(), said.encode(), f"{operation} {account}")
-            self.nothing_was_given(ended, status)
+            shown = self.asked(f"users.db|{operation}|ada", [], account)
+            self.assertEqual(shown.text.strip(), said.encode(), f"{operation} {account}")
+            self.nothing_was_given(shown, status)
 
     def test_words(self) -> None:
         """Its words come as they are to credkeep, which is first asked for the account with the same wait."""
@@ -134,14 +139,15 @@ class CredkeepAsk(Case):
 
     def test_other_words(self) -> None:
         """What reads no password is credkeep's alone, and so is a call for help or without a name."""
-        for words in ("a.db|list", "a.db|check|--help", "a.db|-h|add|ada", "a.db|show|ada"):
+        for words in (
+            *("a.db|list", "a.db|check|--help", "a.db|-h|add|ada", "a.db|show|ada"),
+            *("a.db|check", "a.db|add", "a.db", ""),
+        ):
             status, _, faults = self.without_a_terminal(words, b"as it is")
             self.assertEqual(self.noted("words"), f"{words}|\n")
             shows = "show" in words
             self.assertEqual((status, faults), (0 if shows else 7, b""), words)
             self.assertEqual(self.noted("given"), "" if shows else "as it is", words)
-        self.assertEqual(self.asked("a.db|check", ONE).status, 7)
-        self.assertEqual(self.noted("words"), "a.db|check|\n")
 
     def test_any_bytes(self) -> None:
         """A password is what was typed, whatever the shell makes of such letters elsewhere."""
@@ -158,8 +164,8 @@ class CredkeepAsk(Case):
             "pass\u00e9",
         ]
         for line in lines:
-            ended = self.asked("a.db|change|ada", [f"{line}\n".encode()] * 3)
-            self.assertEqual(ended.status, 7, repr(line))
+            shown = self.asked("a.db|change|ada", [f"{line}\n".encode()] * 3)
+            self.assertEqual(shown.status, 7, repr(line))
             self.assertEqual(self.noted("given"), f"{line}\n" * 2)
 
     def test_nothing_is_given(self) -> None:
@@ -168,8 +174,8 @@ class CredkeepAsk(Case):
         end, first = b"\x04", [*ONE, b"new\n"]
         differing = ([*first, it] for it in (b"new2\n", b"ne\n", b"New\n", b"\n", b"new \n"))
         rows = [(typed, 6, "credkeep-ask: the two new passwords differ") for typed in differing]
-        ended: list[Typed] = [[end], [b"ab" + end * 2], [*ONE, end], [*first, end]]
-        rows += [(typed, 6, "credkeep-ask: no password") for typed in ended]
+        halves: list[Typed] = [[end], [b"ab" + end * 2], [*ONE, end], [*first, end]]
+        rows += [(typed, 6, "credkeep-ask: no password") for typed in halves]
         rows += [([*it, number], 128 + number, "") for number in SIGNALS for it in ([], ONE)]
         for typed, status, said in rows:
             shown = self.asked("users.db|change|ada", typed)
@@ -178,6 +184,158 @@ class CredkeepAsk(Case):
 
     def test_no_terminal(self) -> None:
         """Without a terminal there is nobody to ask: what stands at its input is no password."""
-        ended = self.without_a_terminal("users.db|check|ada", b"old\n")
-        self.assertEqual(ended, (2, b"", b"credkeep-ask: there is no terminal to ask at\n"))
+        said = self.without_a_terminal("users.db|check|ada", b"old\n")
+        self.assertEqual(said, (2, b"", b"credkeep-ask: there is no terminal to ask at\n"))
         self.assertEqual((self.noted("words"), self.noted("given")), (f"{SHOW}\n", ""))
+
+
+# What is typed at the terminal, and what comes: an answer, with its status.
+ASKED = """
+add ada | secret secret | enrolled 0
+add ada | | exists 4
+check ada | secret | yes 0
+check ada | guess | no 4
+check zoe | | noaccount 4
+reset ada | fresh fresh | replaced 0
+reset zoe | | noaccount 4
+check ada | fresh | yes 0
+check ada | secret | no 4
+show zoe | | noaccount 4
+show ada | | $fast$c=1 0
+rename ada bob | | renamed 0
+rename zoe cid | | noaccount 4
+add cid | word word | enrolled 0
+rename bob cid | | exists 4
+list | | bob cid 0
+disable bob | | disabled 0
+disable bob | | absent 4
+show bob | | absent 4
+check bob | | absent 4
+reset bob | secret secret | enrolled 0
+lock bob | | locked 0
+lock zoe | | noaccount 4
+check bob | | absent 4
+locks | | bob:locked 0
+unlock bob | | unlocked 0
+unlock bob | | none 4
+expire bob | | expired 0
+check bob | secret | expired 0
+locks | | bob:expired 0
+forgive bob | | none 4
+last cid | | none 4
+waits | | 0
+delete cid | | deleted 0
+delete cid | | noaccount 4
+add cid | a b | the two new passwords differ 6
+list | | bob 0
+"""
+# Words that aren't meant, before anything is asked.
+MISTAKES = {
+    "": "such a command isn't known",
+    "add": "such a command isn't known",
+    "add ada bob": "such a command isn't known",
+    "frob ada": "such a command isn't known",
+    "add 'a b'": "a name has no spaces",
+    "add ''": "a name has no spaces",
+    "add 'a\nb delete'": "a name has no spaces",
+    "list": "/run/rigzumal/users/admin.sock: No such file or directory",
+    "users list": "/run/rigzumal/users/admin.sock: No such file or directory",
+    "users": "such a command isn't known",
+    "/nonexistent list": "No such file or directory",
+    "nosuchbook list": "/run/rigzumal/nosuchbook/admin.sock: No such file or directory",
+}
+
+
+class AskServer(Case):
+    """Over the tests' own book, whose server is a real one."""
+
+    def asked(self, words: Sequence[str], typed: Typed = ()) -> tuple[str, int]:
+        shown = at_a_terminal([str(ASK), "--server", *words], typed)
+        self.assertTrue(shown.echoes[-1], "it echoes again")
+        self.assertFalse(any(shown.echoes[:-1]), "it echoes what is typed")
+        answer = re.sub(rb"[A-Z][a-z ]*: \|\r\n", b"", shown.text).decode()
+        return " ".join(answer.split()), shown.status
+
+    def test_answers(self) -> None:
+        """Each command, with the passwords that it asks for, and what it prints."""
+        service = self.serving()
+        for row in ASKED.strip().splitlines():
+            words, typed, answer = (it.strip() for it in row.split("|"))
+            lines = [f"{it}\n".encode() for it in typed.split()]
+            said, status = self.asked([str(service.path("admin")), *words.split()], lines)
+            self.assertEqual(
+                f"{said} {status}".strip(), answer.replace("the", "credkeep-ask: the", 1), row
+            )
+        said, status = self.asked([str(service.path("admin")), "stats"])
+        self.assertRegex(said, r"^yes=3 no=2 .*changes=\d+ .*book=\S+$")
+        said, status = self.asked([str(service.path("login")), "list"])
+        self.assertEqual((status, "doesn't allow list" in said), (1, True))
+
+    def test_record(self) -> None:
+        """A record that is shown can be put back, also as a line of a book's export."""
+        service = self.serving()
+        service.enrol(ada="secret")
+        admin = str(service.path("admin"))
+        record, _ = self.asked([admin, "show", "--record", "ada"])
+        self.assertEqual(record, service.client("admin").ask("show ada"))
+        for text in (record, f"ada:{record}"):
+            service.talk("admin disable ada -> disabled")
+            words = [str(ASK), "--server", admin, "load", "ada"]
+            self.assertEqual(ended(words, f"{text}\n"), (0, "ok\n", ""))
+            service.talk("login verify ada {secret} -> yes")
+        for text in ("", "\n", "secret\n", "bob:$x\n"):
+            status, written, faults = ended(words, text)
+            self.assertEqual((status, written), (6, ""))
+            self.assertEqual(faults, "credkeep-ask: standard input has no record\n")
+
+    def test_many_names(self) -> None:
+        """A list has all names once, whatever its parts are."""
+        service, names = self.serving(), sorted(f"n{it}" for it in range(2300))
+        admin = service.client("admin")
+        admin.send("".join(f"a account {it}\n" for it in names))
+        admin.lines(len(names))
+        self.assertEqual(self.asked([str(service.path("admin")), "list"]), (" ".join(names), 0))
+
+    def test_mistakes(self) -> None:
+        """Words that aren't meant, and a server that isn't reached, before a password is asked for."""
+        for words, said in MISTAKES.items():
+            shown, status = self.asked(shlex.split(words))
+            self.assertIn(said, shown, words)
+            self.assertEqual(status, 5 if "No such file" in said else 1, words)
+
+    def test_refused_passwords(self) -> None:
+        """An empty password, or one of over 256 bytes, changes nothing."""
+        service = self.serving()
+        admin = str(service.path("admin"))
+        for typed, said in ((b"\n", "is empty"), (b"x" * 257 + b"\n", "has over 256 bytes")):
+            shown, status = self.asked([admin, "add", "ada"], [typed] * 2)
+            self.assertEqual((status, said in shown), (6, True), shown)
+        self.assertEqual(self.asked([admin, "list"]), ("", 0))
+        for given, ended_by, said in (
+            ({"faults": "refuses=enrol"}, 3, "refused: memory (4;"),
+            ({"options": ("--least-length", "8")}, 6, "the password is too short"),
+        ):
+            service = self.serving(*given.pop("options", ()), **given)
+            admin = str(service.path("admin"))
+            shown, status = self.asked([admin, "add", "ada"], [b"secret\n"] * 2)
+            self.assertEqual((status, said in shown), (ended_by, True), shown)
+            self.assertEqual(self.asked([admin, "list"]), ("", 0))
+
+    def test_a_closed_pipe(self) -> None:
+        """Names that read as refusals are names, and an answer that can't be written says so."""
+        service = self.serving()
+        service.talk("admin account no -> ok")
+        words = [str(ASK), "--server", str(service.path("admin")), "list"]
+        self.assertEqual(ended(words), (0, "no\n", ""))
+        with open("/dev/full", "w") as full:
+            done = ended(words, stdout=full)
+        self.assertEqual(done, (2, "", "credkeep-ask: the answer couldn't be written\n"))
+
+    def test_a_server_that_ends(self) -> None:
+        """A lost answer is an error that says what is to be done."""
+        path = self.room() / "odd"
+        for said in (b"", b"1 del", b"2 deleted\n", b"* unavailable\n", b"1 unavailable\n"):
+            with Peer(path, lambda _, it: it.sendall(said)):
+                shown, status = self.asked([str(path), "delete", "ada"])
+            self.assertEqual((status, "may be made or not" in shown), (5, True), said)
+            path.unlink()

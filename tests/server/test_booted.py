@@ -11,7 +11,7 @@ import shutil
 import subprocess
 import unittest
 
-from machine import shell
+from machine import commands_on_page, shell
 from served import CHEAP, TOP, Case, need, need_root, real_book, same
 
 CGROUPS = pathlib.Path("/sys/fs/cgroup")
@@ -19,7 +19,7 @@ MIRROR = "http://deb.debian.org/debian"
 INCLUDED = "python3,libpam-runtime,pamtester,adduser,systemd,systemd-sysv,dbus"
 
 # What runs inside, as docs/SERVERS.md tells it, and then with kills and restarts; then PAM, and the packages' end.
-INSIDE = """import os, pathlib, signal, socket, subprocess, sys, time
+INSIDE = """import contextlib, os, pathlib, pty, signal, socket, subprocess, sys, time
 
 UNIT = "credkeep-server@users.service"
 SOCKETS = ["credkeep-server@users.socket", "credkeep-server-admin@users.socket"]
@@ -39,6 +39,19 @@ def ask(name, *lines):
         for line in lines:
             it.sendall(b"1 " + line.encode() + b"\\n")
             print(name, line.split()[0], it.recv(200).decode().strip(), flush=True)
+
+
+def typed(path, *answers):
+    pid, terminal = pty.fork()
+    if pid == 0:
+        os.execvp("sh", ["sh", path])
+    said, rest = b"", [*answers]
+    with contextlib.suppress(OSError):
+        while more := os.read(terminal, 1000):
+            said += more
+            if rest and said.endswith(b": "):
+                os.write(terminal, rest.pop(0).encode() + b"\\n")
+    print("typed", os.waitstatus_to_exitcode(os.waitpid(pid, 0)[1]), said.split()[-1].decode(), flush=True)
 
 
 def shown(name):
@@ -74,7 +87,7 @@ run("runuser", "-u", "rigzumal", "--", "credkeep", "/var/lib/rigzumal/users.db",
 run("systemctl", "enable", "--now", *SOCKETS, UNIT)
 print("active", shown("ActiveState"))
 print(run("stat", "-c", "%n %a %U %G", "/run/rigzumal/users/login.sock", "/run/rigzumal/users/admin.sock"))
-ask("admin", "account ada", "enrol ada c2VjcmV0")
+typed("/add.sh", "secret", "secret")
 ask("login", "verify ada c2VjcmV0", "verify ada Z3Vlc3M", "enrol ada c2VjcmV0", "change ada c2VjcmV0 ZnJlc2g")
 run("systemctl", "restart", UNIT)
 ask("login", "verify ada ZnJlc2g")
@@ -84,6 +97,25 @@ ask("login", "verify ada ZnJlc2g")
 main = shown("MainPID")
 killed(main)
 ask("login", "verify ada ZnJlc2g")
+for _ in range(6):  # more often than systemd's own limit, within its ten seconds
+    main = shown("MainPID")
+    killed(book())
+ask("login", "verify ada ZnJlc2g")
+default = pathlib.Path("/etc/default/credkeep-server-users")
+options = default.read_text()
+default.write_text("CREDKEEP_SERVER_OPTIONS=--nonsense\\n")
+run("systemctl", "restart", UNIT)
+time.sleep(8)
+default.write_text(options)
+ask("login", "verify ada ZnJlc2g")
+run("runuser", "-u", "rigzumal", "--", "credkeep", "/var/lib/rigzumal/users.db", "backup", "/var/lib/rigzumal/copy.db")
+ask("admin", "reset ada c2VjcmV0")
+logins = subprocess.Popen(["/usr/bin/python3", "/logins.py"])
+run("sh", "/restore.sh")
+logins.kill()
+logins.wait()
+ask("login", "verify ada ZnJlc2g")
+os.unlink("/var/lib/rigzumal/copy.db")
 status = pathlib.Path(f"/proc/{shown('MainPID')}/status").read_text()
 print(*sorted(line.replace("\\t", " ") for line in status.splitlines() if line.startswith(("NoNewPrivs", "Seccomp:", "CapBnd"))), sep="\\n")
 run("systemctl", "stop", UNIT)
@@ -98,15 +130,29 @@ pam("authenticate acct_mgmt", "fresh")
 pam("authenticate", "guess")
 pam("chauthtok", "fresh", "fresh word 1", "fresh word 1")
 pam("authenticate", "fresh word 1")
+run("credkeep-server", "--metrics", "/run/rigzumal/users/admin.sock")
 run("systemctl", "stop", *SOCKETS, UNIT)
 print("ended", shown("Result"))
 print(run("runuser", "-u", "rigzumal", "--", "credkeep", "/var/lib/rigzumal/users.db", "verify"))
 print(run("journalctl", "--no-pager", "-o", "cat", "-u", UNIT))
 run("dpkg", "--purge", "libpam-rigzumal", "rigzumal-tools")
 chosen()
-found = run("find", "/", "-xdev", "-name", "*rigzumal*", "-not", "-path", "/proc/*", "-not", "-path", "/var/lib/dpkg/*")
+named = "( -name *rigzumal* -o -name *credkeep-server* ) -not -path /proc/* -not -path /var/lib/dpkg/*"
+found = run("find", "/etc", "/lib", "/usr", "/var", *named.split())
 print("left", *sorted(found.split()), *sorted(os.listdir("/var/lib/rigzumal")))
 print("done")
+"""
+
+# Who logs in all the time, as far as there is a server.
+LOGINS = """import contextlib, socket, time
+
+while True:
+    with contextlib.suppress(OSError), socket.socket(socket.AF_UNIX) as it:
+        it.settimeout(1)
+        it.connect("/run/rigzumal/users/login.sock")
+        it.sendall(b"1 known ada\\n")
+        it.recv(100)
+    time.sleep(0.01)
 """
 
 # What it says, each line or its beginning in this order.
@@ -117,8 +163,7 @@ systemctl enable 0
 active active
 /run/rigzumal/users/login.sock 660 root rigzumal
 /run/rigzumal/users/admin.sock 600 rigzumal rigzumal
-admin account 1 ok
-admin enrol 1 enrolled
+typed 0 enrolled
 login verify 1 yes
 login verify 1 no
 login enrol 1 denied
@@ -128,6 +173,15 @@ login verify 1 yes
 restarts 1
 login verify 1 yes
 restarts 2
+login verify 1 yes
+restarts 3
+restarts 8
+login verify 1 yes
+systemctl restart 1
+login verify 1 yes
+runuser -u 0
+admin reset 1 replaced
+sh /restore.sh 0
 login verify 1 yes
 CapBnd: 0000000000000000
 NoNewPrivs: 1
@@ -143,13 +197,14 @@ pamtester: account management done
 pamtester both 1
 Current password: New password: Retype new password: pamtester: authentication token altered
 Password: pamtester: successfully authenticated
+credkeep-server --metrics 0
 ended success
 1 account, 0 changes in the log
 credkeep-server: denied at login to uid 0: enrol
 credkeep-server: end: status 137, stats yes=1 no=0
 dpkg --purge 0
 chosen 0 0 0
-left /var/lib/rigzumal users.db
+left /etc/default/credkeep-server-users /var/lib/rigzumal users.db
 done"""
 
 
@@ -218,6 +273,12 @@ class Booted(Case):
         options = f"CREDKEEP_SERVER_OPTIONS=--setting {CHEAP}\n"
         (room / "etc/default/credkeep-server-users").write_text(options)
         (room / "inside.py").write_text(INSIDE)
+        (room / "logins.py").write_text(LOGINS)
+        (line,) = commands_on_page("credkeep-ask --server add")
+        (room / "add.sh").write_text(f"{line}\n")
+        lines = [*commands_on_page("systemctl stop"), *commands_on_page("systemctl start")]
+        lines[1:1] = [it for it in commands_on_page("runuser") if " restore " in it]
+        (room / "restore.sh").write_text("set -e\n" + "\n".join(lines) + "\n")
         wanted = room / "etc/systemd/system/multi-user.target.wants"
         wanted.mkdir(exist_ok=True)
         (wanted.parent / "inside.service").write_text(UNIT)

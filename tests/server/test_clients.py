@@ -17,6 +17,7 @@ import time
 import unittest
 from collections.abc import Callable, Coroutine, Iterator
 from typing import Any
+from unittest import mock
 
 from served import TOP, Case, need
 from tests.helpers import Peer
@@ -99,6 +100,14 @@ class Clients(Case):
             (R.REPLACED, "reset", "ada", b"\xff" * 256),
             (R.YES, "verify", "ada", b"\xff" * 256),
             (R.YES, "known", "ada"),
+            (R.LOCKED, "lock", "ada"),
+            (R.NO, "verify", "ada", b"\xff" * 256),
+            (R.UNLOCKED, "unlock", "ada"),
+            (R.NONE, "unlock", "ada"),
+            (R.EXPIRED, "expire", "ada"),
+            (R.EXPIRED, "verify", "ada", b"\xff" * 256),
+            (R.EXPIRED, "known", "ada"),
+            (R.NO_ACCOUNT, "expire", "zoe"),
             (R.RENAMED, "rename", "ada", "bob"),
             (["bob"], "names"),
             (R.OK, "account", "cid"),
@@ -226,6 +235,22 @@ class Clients(Case):
         later.start()
         self.assertIs(self.server.Client(path).verify("ada", "x"), self.server.Reply.YES)
         later.join()
+
+    def test_pauses_of_a_full_backlog(self) -> None:
+        """They are short: the server lets the next one in within milliseconds."""
+        full = mock.Mock(connect=mock.Mock(side_effect=[BlockingIOError] * 5 + [None]))
+        with mock.patch("time.sleep") as slept:
+            self.server.Client("s")._connect(full, time.monotonic() + 60)
+        pauses = [it.args[0] for it in slept.call_args_list]
+        self.assertEqual(len(pauses), 5)
+        self.assertTrue(all(0 < it <= 0.05 for it in pauses), pauses)
+
+    def test_unavailable_says_where_and_why(self) -> None:
+        path = str(self.room() / "none")
+        for call in self.calls(path):
+            with self.assertRaises(self.server.Unavailable) as raised:
+                call("verify", "ada", "hunter2")
+            self.assertEqual(str(raised.exception), f"{path}: No such file or directory")
 
     def test_closed_amid_a_call(self) -> None:
         """Who waits is told of the connection's end by its own client."""

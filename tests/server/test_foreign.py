@@ -1,24 +1,55 @@
 """Tests of bin/credkeep-server: users of an htpasswd file, who move into the book."""
 
+import base64
+import errno
+import hashlib
 import json
 import os
+import pathlib
+import random
+import re
+import subprocess
+import threading
 from typing import Any
-from unittest import mock
 
-from served import CHEAP, SECRET, WRONG, Case, Service, chosen_book, need, need_root
-from daemon import foreign
-from tests.helpers import need_module, run
+from served import CHEAP, SECRET, WRONG, Case, Service, chosen_book, field_of, need, until
+from daemon import schemes
+from tests.helpers import run
 
-OPTIONS = {"bcrypt": "-B", "apr1": "-m", "sha1": "-s"}
+SALT = bytes(range(8))
+# Who makes a record of each scheme that nginx takes.
+MAKERS = {
+    "apr1": "htpasswd -nim u",
+    "openssl": "openssl passwd -apr1 -stdin",
+    "sha1": "htpasswd -nis u",
+    "bcrypt": "htpasswd -niB u",
+    **{
+        it: f"mkpasswd -s -m {it}"
+        for it in "bcrypt-a yescrypt gost-yescrypt scrypt sha512crypt sha256crypt md5crypt".split()
+    },
+}
+
+
+def made_by(command: str, password: str) -> str:
+    """A record, as another program makes it."""
+    return run(*command.split(), given=f"{password}\n").strip().rpartition(":")[2]
+
+
+def salted_sha1(password: bytes) -> str:
+    """As slappasswd makes it."""
+    return "{SSHA}" + base64.b64encode(hashlib.sha1(password + SALT).digest() + SALT).decode()
+
+
+def sha1(password: str) -> str:
+    return "{SHA}" + base64.b64encode(hashlib.sha1(password.encode()).digest()).decode()
 
 
 class Foreign(Case):
     def setUp(self) -> None:
         super().setUp()
         need("htpasswd")
-        need_module("passlib")
         self.folder = self.room()
-        self.file = self.folder / "htpasswd"
+        self.file, self.moved = self.folder / "htpasswd", self.folder / "htpasswd.moved"
         self.file.write_text("# of the old site\n")
         self.file.chmod(0o640)
 
@@ -28,15 +59,38 @@ class Foreign(Case):
     def over(self, *options: str, **fields: Any) -> Service:
         return self.serving("--foreign", str(self.file), *options, **fields)
 
-    def users(self) -> list[str]:
-        return [it.split(":")[0] for it in self.file.read_text().splitlines() if ":" in it]
+    def gone(self) -> list[str]:
+        """Who counts no more in the file, by the disk."""
+        return sorted(it.split(" ")[0] for it in self.moved.read_text().splitlines())
+
+    def test_schemes(self) -> None:
+        """Right and wrong passwords under each scheme's records, as other programs make them."""
+        need("openssl", "mkpasswd")
+        for password in ("", "secret", "y" * 16, "pä", "k" * 72, "m" * 127):
+            records = {it: made_by(command, password) for it, command in MAKERS.items()}
+            records["salted sha1"] = salted_sha1(password.encode())
+            for name, record in records.items():
+                with self.subTest(name, password=password):
+                    if name == "openssl" and not password:
+                        continue  # it asks for one
+                    typed, is_cut = password.encode(), len(password) > 72 and "bcrypt" in name
+                    said = [
+                        schemes.is_right(record.encode(), it)
+                        for it in (typed, typed + b"x", typed[:-1] or b"y", typed + b"\0")
+                    ]
+                    self.assertEqual(said, [not is_cut, False, False, False], record)
 
     def test_moved_by_a_right_password(self) -> None:
-        """Each of htpasswd's schemes: wrong, then right; from then on the book has the name and the file hasn't."""
-        for name, option in OPTIONS.items():
+        """Wrong, then right; from then on the book decides, also of a new server; the file stays as it was."""
+        for name, option in {"bcrypt": "-B", "apr1": "-m", "sha1": "-s"}.items():
             self.add(name, option)
-        service = self.over("--setting", CHEAP, program=chosen_book())
-        for name in OPTIONS:
+        need("mkpasswd")
+        yescrypt, salted = made_by(MAKERS["yescrypt"], "secret"), salted_sha1(b"secret")
+        self.file.write_text(f"{self.file.read_text()}yescrypt:{yescrypt}\nssha:{salted}\n")
+        names, before = ("bcrypt", "apr1", "sha1", "yescrypt", "ssha"), self.file.read_bytes()
+        given: Any = {"program": chosen_book(), "folder": self.room()}
+        service = self.over("--setting", CHEAP, **given)
+        for name in names:
             service.talk(
                 f"""
                 login known {name} -> yes
@@ -48,11 +102,15 @@ class Foreign(Case):
                 login verify {name} {{secret}} -> no
                 """
             )
-            self.assertNotIn(name, self.users())
-        self.assertEqual(self.file.read_text(), "# of the old site\n")
-        self.assertEqual(self.file.stat().st_mode & 0o777, 0o640)
-        service.client("admin").talk("list - 9 -> names apr1 bcrypt sha1")
-        self.assertEqual(sorted(it.name for it in self.folder.iterdir()), ["htpasswd"])
+        self.assertEqual(self.gone(), sorted(names))
+        self.assertEqual(self.moved.stat().st_mode & 0o777, 0o600)
+        service.talk("admin delete ssha -> deleted\nlogin verify ssha {secret} -> noaccount")
+        service.stop()
+        service = self.over("--setting", CHEAP, **given)
+        service.talk("login verify ssha {secret} -> noaccount\nlogin verify sha1 {secret} -> no")
+        service.talk("admin list - 9 -> names apr1 bcrypt sha1 yescrypt")
+        self.assertEqual(self.file.read_bytes(), before)
+        self.assertEqual({it.name for it in self.folder.iterdir()}, {"htpasswd", "htpasswd.moved"})
 
     def test_moved_by_a_change(self) -> None:
         """A change with the right old password moves the user too, whatever its length."""
@@ -63,7 +121,7 @@ class Foreign(Case):
         service.talk(
             "login change ada {secret} {fresh} -> replaced\nlogin verify ada {fresh} -> yes"
         )
-        self.assertEqual(self.users(), [])
+        self.assertEqual(self.gone(), ["ada", "bob"])
 
     def test_moved_halfway(self) -> None:
         """A name that the book has without a record, as after a kill amid the move, is judged by the file."""
@@ -78,7 +136,121 @@ class Foreign(Case):
         shown = service.client("admin").ask("disable ada show")
         self.assertTrue(shown.startswith("ada:$fast$"), shown)
         service.talk("login verify ada {secret} -> absent\nlogin known ada -> absent")
-        self.assertEqual(self.users(), [])
+
+    def test_ended_before_they_move(self) -> None:
+        """disable, delete and reset of a user whom the file alone has; the second and third of a name that the book has too."""
+        for name in ("ada", "bob", "cid", "dan", "eve"):
+            self.add(name, "-s")
+        folder = self.room()
+        first = self.serving(folder=folder)
+        first.enrol(dan="mine", eve="mine")
+        first.stop()
+        service = self.over(folder=folder)
+        service.talk(
+            """
+            admin disable ada -> disabled
+            login known ada -> absent
+            login verify ada {secret} -> absent
+            admin delete bob -> deleted
+            login verify bob {secret} -> noaccount
+            admin account bob -> ok
+            admin reset cid {fresh} -> enrolled
+            login verify cid {secret} -> no
+            login verify cid {fresh} -> yes
+            admin rename dan don -> renamed
+            login verify dan {secret} -> noaccount
+            admin remove eve bWluZQ -> removed
+            login verify eve {secret} -> absent
+            """
+        )
+        self.assertEqual(self.gone(), ["ada", "bob", "cid", "dan", "eve"])
+
+    def test_a_file_that_comes_back(self) -> None:
+        """Who was disabled, removed, renamed or deleted while the file was away doesn't get in by it later."""
+        names = ("ada", "bob", "cid", "dan")
+        for name in names:
+            self.add(name, "-s")
+        folder = self.room()
+        first = self.serving(folder=folder)
+        first.enrol(**dict.fromkeys(names, "mine"))
+        first.stop()
+        service = self.over(folder=folder)
+        self.file.rename(self.folder / "away")
+        service.talk("admin disable ada -> disabled\nadmin remove bob bWluZQ -> removed")
+        service.talk("admin rename cid eve -> renamed\nadmin delete dan -> deleted")
+        service.talk("admin delete zoe -> noaccount\nadmin disable zoe -> noaccount")
+        (self.folder / "away").rename(self.file)
+        for name, said in zip(names, ("absent", "absent", "noaccount", "noaccount")):
+            service.talk(f"login verify {name} {{secret}} -> {said}")
+
+    def test_removed_by_htpasswd(self) -> None:
+        """A name that leaves the file is unknown at once; those who move meanwhile aren't lost."""
+        names = [f"u{it}" for it in range(400)]
+        record = sha1("secret")
+        self.file.write_text("".join(f"{it}:{record}\n" for it in names))
+        service, left = self.over("--tries", "0"), set(names)
+        moved, is_over = set[str](), threading.Event()
+
+        def move() -> None:
+            client = service.client()
+            for name in names[:300]:
+                if client.ask(f"verify {name} {SECRET}") == "yes":
+                    moved.add(name)
+                if is_over.is_set():
+                    break
+
+        mover = threading.Thread(target=move)
+        mover.start()
+        for name in names[-5:]:
+            run("htpasswd", "-D", self.file, name)
+            left.discard(name)
+            service.client().talk(f"verify {name} {{secret}} -> noaccount")
+        is_over.set()
+        mover.join()
+        self.assertTrue(moved)
+        self.assertEqual({it.split(":")[0] for it in self.file.read_text().splitlines()}, left)
+        kept = service.client()
+        for name in random.sample(sorted(left), 40):
+            kept.talk(f"verify {name} {{secret}} -> yes")
+
+    def test_disabled_amid_a_login(self) -> None:
+        """A right login that is being judged by the file as its user is disabled doesn't bring the user back."""
+        self.file.write_text(f"ada:{made_by('htpasswd -niBC 10 u', 'secret')}\n")
+        service = self.over("--tries", "0")
+        login, admin = service.both()
+        login.send(f"a verify ada {SECRET}\n")
+        until(lambda: any(it.startswith("verify ada") for it in service.asked()), "the login")
+        admin.talk("disable ada -> disabled")
+        self.assertEqual(login.line(), b"a absent")
+        login.talk("verify ada {secret} -> absent\nknown ada -> absent")
+
+    def test_a_book_that_refuses(self) -> None:
+        """Whoever the book can't take stays in the file: a password of over 256 bytes, or want of memory."""
+        self.add("ada", "-s")
+        service = self.over(faults="refuses=enrol")
+        service.talk("login verify ada {secret} -> bad 4 memory\nlogin known ada -> yes")
+        self.assertEqual(self.gone(), [])
+
+    def test_who_cant_move(self) -> None:
+        """The log names at the start who can't move, and why; never a record."""
+        lines = "fay:rl0uE2bX6fF1g cid:hunter2 dan:!$6$x Ada:{SHA}x gus:{PLAIN}hunter2 eve:{SHA}x"
+        self.file.write_text(lines.replace(" ", "\n"))
+        log, why = self.over().log(), "plain text, or another scheme"
+        said = f"fay (DES), cid ({why}), dan (locked), Ada (no name of a book), gus ({why})\n"
+        self.assertIn(f"credkeep-server: {self.file}: 5 of 6 users can't move: {said}", log)
+        self.assertNotIn("hunter2", log)
+
+    def test_a_torn_line(self) -> None:
+        """A name that a power cut tore in .moved, or whose line follows it, isn't taken for another's."""
+        for name in ("ad", "ada", "bob"):
+            self.add(name, "-s")
+        self.moved.write_text("bob 2026-11-28T05:00:00Z\nada 2026-11-28T05:0")
+        service = self.over()
+        service.talk("login verify bob {secret} -> noaccount\nlogin verify ada {secret} -> yes")
+        lines = self.moved.read_text().splitlines()
+        self.assertEqual(lines[1], "ada 2026-11-28T05:0")
+        self.assertRegex(lines[2], r"ada 20\d\d-\d\d-\d\dT\d\d:\d\d:\d\dZ")
+        service.talk("login known ad -> yes")
 
     def test_what_stays(self) -> None:
         """What nobody may have logged in by isn't moved: no record, plain text, DES, of another user, of nobody."""
@@ -100,7 +272,6 @@ class Foreign(Case):
             """
             admin account ada -> bad 1 exists
             admin enrol ada {fresh} -> noaccount
-            admin reset ada {fresh} -> noaccount
             admin show ada -> bad 5 noaccount
             admin account cid -> ok
             admin rename cid ada -> exists
@@ -111,7 +282,6 @@ class Foreign(Case):
         self.add("ada", "-s", "old")
         service.talk("login verify ada b2xk -> no\nadmin delete ada -> deleted")
         service.talk("login verify ada b2xk -> noaccount\nlogin verify bob b2xk -> yes")
-        self.assertEqual(self.users(), [])
 
     def test_tries(self) -> None:
         """Wrong passwords at a user of the file count."""
@@ -120,14 +290,13 @@ class Foreign(Case):
         client.talk("verify ada {wrong} -> no\n" * 2 + "verify ada {secret} -> later")
 
     def test_two_lines_of_a_name(self) -> None:
-        """The first one decides, as for nginx and Apache; both go."""
+        """The first one decides, as for nginx and Apache."""
         self.add("ada", "-s")
         first = self.file.read_text()
         self.add("ada", "-s", "old")
         self.file.write_text(first + self.file.read_text().splitlines()[-1] + "\n")
         client = self.over().client()
         client.talk("verify ada b2xk -> no\nverify ada {secret} -> yes")
-        self.assertEqual(self.users(), [])
 
     def test_mail_names(self) -> None:
         """With --mail-names the file has addresses, as they are typed there."""
@@ -135,7 +304,7 @@ class Foreign(Case):
         service = self.over("--mail-names")
         service.talk("login verify Ada@example.ORG {secret} -> yes")
         service.talk("login verify ada@example.org {secret} -> noaccount")
-        self.assertEqual(self.users(), [])
+        self.assertRegex(self.gone()[0], "^e[.][a-z2-7]{30}$")
 
     def test_audited(self) -> None:
         """The move is two changes of the client's in the audit log; no record and no password is in it."""
@@ -149,32 +318,41 @@ class Foreign(Case):
         self.assertEqual(said[:3], [*ought, ("login", "verify", "ada", "yes")])
         self.assertNotRegex(path.read_text(), f"{SECRET}|secret|SHA")
 
-    def test_a_file_that_cant_be_written(self) -> None:
-        """The user is let in, and the book decides from then on; the log says so once, without the name."""
+    def test_no_room(self) -> None:
+        """While .moved can't be written users log in, and nobody is said to be disabled; the log says so once."""
+        need("prlimit")
         self.add("ada", "-s")
-        (self.folder / "htpasswd.new").mkdir()
-        service = self.over()
+        self.moved.write_text("bob 2026-11-28T05:00:00Z\n" * 80)
+        service = self.over(before=("prlimit", "--fsize=2010"))
         service.talk("login verify ada {secret} -> yes\n" * 2)
         service.talk(
             "login change ada {secret} {fresh} -> replaced\nlogin verify ada {secret} -> no"
         )
-        service.talk("admin disable ada -> unavailable")  # by the file ada would still get in
-        self.assertEqual(self.users(), ["ada"])
-        self.assertEqual(service.log().count(f"{self.file}: Is a directory"), 1)
-        self.assertNotIn("ada", service.log())
+        service.talk("admin disable ada -> unavailable\nlogin verify ada {fresh} -> yes")
+        service.talk("admin remove ada {fresh} -> unavailable\nlogin verify ada {fresh} -> yes")
+        self.assertEqual(service.log().count(f"{self.moved}: File too large"), 1)
 
-    def test_the_owner_stays(self) -> None:
-        """The new file is its owner's; under the unit, which forbids fchown, the server's own."""
+    def test_links_and_pipes(self) -> None:
+        """.moved is a regular file; behind a link nothing is written."""
         self.add("ada", "-s")
-        with mock.patch.object(os, "fchown", side_effect=PermissionError):
-            foreign.Foreign(str(self.file), bytes).remove(b"ada")
-        self.assertEqual(self.users(), [])
-        need_root()
-        self.add("ada", "-s")
-        os.chown(self.file, 4711, 33)
-        foreign.Foreign(str(self.file), bytes).remove(b"ada")
-        self.assertEqual(self.users(), [])
-        self.assertEqual((self.file.stat().st_uid, self.file.stat().st_gid), (4711, 33))
+        self.moved.symlink_to(self.folder / "elsewhere")
+        for said in (os.strerror(errno.ELOOP), "it isn't a regular file", "Is a directory"):
+            late = self.over(waits=False)
+            self.assertEqual(late.process.wait(timeout=20), 1)
+            self.assertEqual(late.log(), f"credkeep-server: {self.moved}: {said}\n")
+            if self.moved.is_symlink():
+                self.moved.unlink()
+                os.mkfifo(self.moved)
+            elif not self.moved.is_dir():
+                self.moved.unlink()
+                self.moved.mkdir()
+        self.assertFalse((self.folder / "elsewhere").exists())
+        self.moved.rmdir()
+        self.file.unlink()
+        os.mkfifo(self.file)
+        late = self.over(waits=False)
+        self.assertEqual(late.process.wait(timeout=20), 1)
+        self.assertEqual(late.log(), f"credkeep-server: {self.file}: it isn't a regular file\n")
 
     def test_a_file_that_goes(self) -> None:
         """Without it the book decides alone; it has to be there at the start."""

@@ -6,7 +6,7 @@ import socket
 import stat
 import subprocess
 
-from served import SECRET, WRONG, Case, Client, Given, as_user, need, need_root
+from served import SECRET, WRONG, Case, Client, Given, as_user, field_of, need, need_root
 
 
 def mode_of(path: pathlib.Path) -> int:
@@ -149,3 +149,28 @@ class Asking(Case):
             service = self.serving(faults=f"answers={answer}")
             service.enrol(ada="secret")
             service.client().talk("verify ada {secret} -> unavailable")
+
+    def test_least_length(self) -> None:
+        """A new password of too few characters of UTF-8 is refused by name, and the old one stays; logins are as before."""
+        folder = self.room()
+        first = self.serving(folder=folder)
+        first.enrol(ada="pw")
+        first.stop()
+        service = self.serving("--least-length", "4", folder=folder)
+        service.talk("admin account bob -> ok\nlogin verify ada cHc -> yes")
+        for password, is_short in (
+            *((b"", True), (b"abc", True), (b"abcd", False), ("pä€".encode(), True)),
+            *(("pä€x".encode(), False), (b"\xff\xfe\xfd", True), (b"\xff" * 4, False)),
+        ):
+            field = field_of(password)
+            with self.subTest(password):
+                said = "short" if is_short else "replaced"
+                service.talk(f"admin reset ada {SECRET} -> replaced")
+                service.talk(f"login change ada {SECRET} {field} -> {said}")
+                service.talk(f"admin reset ada {field} -> {said}")
+                service.talk(f"login verify ada {SECRET if is_short else field} -> yes")
+                said = "short" if is_short else "enrolled"
+                service.talk(f"admin enrol bob {field} -> {said}")
+                service.client("admin").ask("disable bob")
+        service.talk("admin reset ada ! -> bad 13 password\nadmin reset ada - -> short")
+        service.talk("login change ada {secret} -> bad 11 line")

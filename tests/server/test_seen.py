@@ -5,17 +5,28 @@ import json
 import os
 import pathlib
 import re
+import signal
+import socket
 import subprocess
+import urllib.request
 from unittest import mock
 
+from machine import is_open
 from served import SECRET, TOP, WRONG, Case, Client, Service, field_of, need, ran, until
 from daemon import tally
 from daemon.options import OPERATIONS, Options
+from tests.helpers import Peer
 
 
 def noted(path: pathlib.Path) -> list[dict[str, object]]:
     """What an audit log has."""
     return [json.loads(line) for line in path.read_text().splitlines()]
+
+
+def free_port() -> int:
+    with socket.socket() as it:
+        it.bind(("127.0.0.1", 0))
+        return int(it.getsockname()[1])
 
 
 class Seen(Case):
@@ -43,6 +54,7 @@ class Seen(Case):
         grown = {name: after[name] - before[name] for name in after if name != "waited"}
         ought = {"yes": 3, "no": 2, "later": 1, "noaccount": 1, "changes": 1, "denied": 2}
         ought |= {"absent": 0, "refused": 0, "clients": 0, "waits": 1, "upgraded": 0}
+        ought["memory"] = 0
         self.assertEqual(grown, ought)
         self.assertEqual((before["changes"], before["clients"]), (2, 3))
 
@@ -57,26 +69,63 @@ class Seen(Case):
         self.assertTrue(2.9 < waited < 20, f"{waited} s")
 
     def test_metrics(self) -> None:
-        """--metrics prints the counts as Prometheus reads them."""
-        service = self.serving()
+        """--metrics prints the counts as Prometheus reads them, with the book's name at each."""
+        room = self.room()
+        service = self.serving(file=room / 'my "users.db')
         service.enrol(ada="secret")
         service.client().talk("verify ada {wrong} -> no")
         status, text, faults = ran("--metrics", str(service.path("admin")))
         self.assertEqual((status, faults), (0, ""))
         samples = [line for line in text.splitlines() if not line.startswith("#")]
-        self.assertIn('credkeep_tries_total{answer="no"} 1', samples)
-        self.assertIn("credkeep_changes_total 2", samples)
-        form = r"credkeep_[a-z_]+(\{answer=\"[a-z]+\"\})? \d+(\.\d+)?"
+        book = f'book="tmp-{room.name}-my__users"'
+        self.assertIn(f'credkeep_tries_total{{{book},answer="no"}} 1', samples)
+        self.assertIn(f"credkeep_changes_total{{{book}}} 2", samples)
+        form = rf"credkeep_[a-z_]+\{{{book}(,answer=\"[a-z]+\")?\}} \d+(\.\d+)?"
         self.assertEqual([it for it in samples if not re.fullmatch(form, it)], [])
         typed = re.findall(r"^# TYPE (\S+) (counter|gauge)$", text, re.M)
         names = dict.fromkeys(re.split("[ {]", it)[0] for it in samples)
         kinds = ["counter" if it.endswith("_total") else "gauge" for it in names]
         self.assertEqual(typed, list(zip(names, kinds)))
         self.assertEqual(len(samples), len(service.stats()), "each count is a sample")
-        for path in (str(service.path()), "/nonexistent"):
-            status, text, faults = ran("--metrics", path)
-            self.assertEqual((status, text), (1, ""))
-            self.assertTrue(faults.startswith(f"credkeep-server: {path}: "), faults)
+
+    def test_metrics_of_no_server(self) -> None:
+        """Whatever answers at the socket: a login socket, nobody, words that are no counts."""
+        odd = self.room() / "odd"
+        said = [b"1 stats\n", b"1 stats yes\n", b"1 stats yes=1 yes=\xff\n", b"\n", b""]
+        with Peer(odd, lambda _, it: it.sendall(said.pop())):
+            for path in (str(self.serving().path()), "/nonexistent", *[str(odd)] * len(said)):
+                status, text, faults = ran("--metrics", path)
+                self.assertEqual((status, text), (1, ""))
+                self.assertRegex(faults, rf"^credkeep-server: {path}: .*\n$")
+
+    def test_metrics_of_two_books(self) -> None:
+        """Debian's exporter keeps the counts of both."""
+        need("prometheus-node-exporter")
+        room, port = self.room(), free_port()
+        for name, count in (("users", 1), ("mail", 2)):
+            service = self.serving(file=self.room() / f"{name}.db")
+            service.talk("".join(f"admin account n{it} -> ok\n" for it in range(count)))
+            text = ran("--metrics", str(service.path("admin")))[1]
+            (room / f"{name}.prom").write_text(text)
+        words = f"prometheus-node-exporter --web.listen-address=127.0.0.1:{port}"
+        words += " --collector.disable-defaults --collector.textfile"
+        words += f" --collector.textfile.directory={room}"
+        exporter = subprocess.Popen(words.split(), stderr=subprocess.DEVNULL)
+        self.addCleanup(exporter.wait)
+        self.addCleanup(exporter.terminate)
+        until(lambda: is_open(port), "the exporter")
+        with urllib.request.urlopen(f"http://127.0.0.1:{port}/metrics", timeout=20) as answer:
+            text = answer.read().decode()
+        found = re.findall(r'^credkeep_changes_total{book="tmp-\S+-(\w+)"} (\d+)$', text, re.M)
+        self.assertEqual(sorted(found), [("mail", "2"), ("users", "1")])
+        self.assertIn("node_textfile_scrape_error 0", text)
+
+    def test_want_of_memory(self) -> None:
+        """Lines that find no memory are counted, and logged once an hour."""
+        service = self.serving(faults="refuses=verify")
+        service.client().talk("verify ada {secret} -> bad 4 memory\n" * 3)
+        self.assertEqual(service.stats()["memory"], 3)
+        self.assertEqual(service.log().count("no memory for a hash"), 1)
 
     def test_waits(self) -> None:
         """Who has to wait is listed and logged, and can be forgiven; a wait's begin and end are a line each."""
@@ -187,12 +236,13 @@ class Logs(Case):
         service.process.kill()
 
     def test_types(self) -> None:
-        """mypy --strict takes its modules by the oldest Python that they may be run by."""
+        """mypy --strict takes its modules, and credkeep-ask, by the oldest Python that they may be run by."""
         need("mypy")
-        words = f"mypy --strict --python-version=3.9 --cache-dir={self.room()} daemon".split()
+        words = f"mypy --strict --python-version=3.9 --cache-dir={self.room()}".split()
         at = TOP / "python/rigzumal/server"
-        done = subprocess.run(words, cwd=at, capture_output=True, text=True)
-        self.assertEqual(done.returncode, 0, done.stdout)
+        for checked in ("daemon", str(TOP / "bin/credkeep-ask")):
+            done = subprocess.run([*words, checked], cwd=at, capture_output=True, text=True)
+            self.assertEqual(done.returncode, 0, done.stdout)
 
 
 # Lines, and whether the audit log has them, with the names and answers that it has.
@@ -203,7 +253,9 @@ login change ada {wrong} {secret} -> wrong | ada wrong
 login change ada {secret} {wrong} -> replaced | ada replaced
 login verify ada {secret} -> no |
 login verify ada {wrong} -> yes | ada yes
-login change hunter2 {secret} {wrong} -> noaccount | None noaccount
+login change hunter2 {secret} {wrong} -> noaccount |
+login change hunter2 {secret} {wrong} {wrong} -> bad 1 shape |
+admin account ada -> bad 1 exists |
 login known ada -> yes |
 admin list - 5 -> names ada |
 login delete ada -> denied |
@@ -235,9 +287,57 @@ class Audited(Case):
         said = [f"{it['door']} {it['operation']} {it['name']} {it['answer']}" for it in lines]
         ought = [" ".join([*row[0].split()[:2], row[1]]) for row in rows if row[1:]]
         self.assertEqual(said, ought)
-        self.assertEqual(lines[11]["new_name"], "bob")
+        self.assertEqual(lines[10]["new_name"], "bob")
         for secret in (SECRET, WRONG, "secret", "guess", "$fast$", "hunter2"):
             self.assertNotIn(secret, path.read_text())
+
+    def test_tries(self) -> None:
+        """With --audit-tries it has wrong passwords too, without the names that the book lacks."""
+        path = self.room() / "audit"
+        service = self.serving("--audit", str(path), "--audit-tries", "--tries", "2", clocked=True)
+        service.enrol(ada="secret")
+        service.talk(
+            """
+            login verify ada {wrong} -> no
+            login verify hunter2 {wrong} -> noaccount
+            login change hunter2 {wrong} {wrong} -> noaccount
+            login change ada {wrong} {wrong} -> wrong
+            login verify ada {wrong} -> later
+            """
+        )
+        said = [(it["operation"], it["name"], it["answer"]) for it in noted(path)[2:]]
+        unknown = [("verify", None, "noaccount"), ("change", None, "noaccount")]
+        ought = [("verify", "ada", "no"), *unknown, ("change", "ada", "wrong")]
+        self.assertEqual(said, ought)
+
+    def test_a_change_whose_answer_is_lost(self) -> None:
+        """The line of a change that may be kept or not has the name."""
+        path = self.room() / "audit"
+        service = self.serving("--audit", str(path), faults="mute=delete")
+        admin = service.client("admin")
+        admin.talk("account ada -> ok")
+        admin.send("a delete ada\n")
+        until(lambda: "delete ada" in service.asked(), "the line")
+        os.kill(service.book_pid(), signal.SIGKILL)
+        self.assertEqual(admin.line(), b"a unavailable")
+        self.assertEqual([it["name"] for it in noted(path)], ["ada", "ada"])
+
+    def test_a_torn_line(self) -> None:
+        """A half line, as after a power cut, stands by itself, and the next ones are whole."""
+        path = self.room() / "audit"
+        path.write_text('{"time": "2026-11-28T05:00:00Z", "door')
+        self.serving("--audit", str(path)).client("admin").talk("account ada -> ok")
+        torn, line, end = path.read_text().split("\n")
+        self.assertEqual((torn[-4:], json.loads(line)["name"], end), ("door", "ada", ""))
+
+    def test_a_pipe(self) -> None:
+        """A pipe is refused, whether it has a reader or not."""
+        path = self.room() / "audit"
+        os.mkfifo(path)
+        said = f"credkeep-server: {path}: it isn't a regular file\n"
+        for reader in (None, os.open(path, os.O_RDONLY | os.O_NONBLOCK)):
+            late = self.serving("--audit", str(path), waits=False)
+            self.assertEqual((late.process.wait(timeout=20), late.log()), (1, said), reader)
 
     def test_written_before_it_is_answered(self) -> None:
         """When a change is answered its line is in the file; a file that was renamed is begun anew."""

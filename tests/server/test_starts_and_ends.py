@@ -48,6 +48,16 @@ class Starting(Case):
         own = re.compile("credkeep-server: .*")
         self.assertEqual([it for it in service.log().splitlines() if not own.match(it)], [])
 
+    def test_a_systemd_that_isnt_there(self) -> None:
+        """What its environment can't mean is passed over, and a socket that nobody reads is named in the log."""
+        for usec in ("x", "0", "-1", "", "9" * 400):
+            given = {"NOTIFY_SOCKET": f"{self.room()}/none", "WATCHDOG_USEC": usec}
+            service = self.serving(environment=given)
+            service.client().talk("known ada -> noaccount")
+            service.stop()
+            self.assertEqual(service.log().count("NOTIFY_SOCKET: No such file or directory\n"), 1)
+            self.assertNotIn("Traceback", service.log())
+
 
 class Endings(Case):
     def test_ends_in_order(self) -> None:
@@ -100,8 +110,8 @@ class Endings(Case):
             ours, theirs = socket.socketpair()
             with theirs:
                 theirs.sendall(b"a known ada\n")
-                loop = asyncio.get_running_loop()
-                await loop.connect_accepted_socket(lambda: doors.Client(service, door), ours)
+                ours.setblocking(False)
+                door.let_in(door.client(service, ours))
                 theirs.settimeout(10)
                 said = await asyncio.to_thread(theirs.recv, 100)
                 with self.assertRaises(ConnectionError):  # its line was never read
@@ -110,6 +120,34 @@ class Endings(Case):
                 return said
 
         self.assertEqual(asyncio.run(said()), b"* unavailable\n")
+
+    def test_unread_answers(self) -> None:
+        """Whoever leaves answers unread delays the end by a moment, and the book ends by itself."""
+        for lines in ("a known ada\n" * 1000, "a list\n" * 300, "\n" * 900):
+            service = self.serving()
+            client, begun = service.client(), time.monotonic()
+            client.socket.setblocking(False)
+            with contextlib.suppress(BlockingIOError):
+                for _ in range(100):
+                    client.send(lines)
+            service.stop()
+            self.assertLess(time.monotonic() - begun, 15, f"{lines:.20}")
+            self.assertNotIn("killed", service.log())
+
+    def test_a_book_that_goes_on(self) -> None:
+        """Lines without an answer are dropped after 18 s. A book that still goes on is killed, 2 s later."""
+        for is_stopped in (False, True):
+            service = self.serving("--at-once", "2", faults="mute=verify")
+            service.client().send("a verify ada -\n" * 20)
+            until(lambda: len(service.asked()) == 2, "the book's lines")
+            if is_stopped:
+                os.kill(service.book_pid(), signal.SIGSTOP)
+            begun = time.monotonic()
+            service.stop()
+            self.assertTrue(17 < time.monotonic() - begun < 35, "18 to 20 s")
+            self.assertIn("20 lines had no answer after 18 s", service.log())
+            killed = "the book is killed: it goes on after 20 s"
+            self.assertEqual(killed in service.log(), is_stopped)
 
     def test_listening_fails(self) -> None:
         """What can't be listened at ends it with a cause, and the book in order."""

@@ -1,9 +1,10 @@
 """Tests of bin/credkeep-server: failed tries."""
 
+import os
 import time
 from unittest import mock
 
-from served import SECRET, WRONG, Case, as_user, need_root
+from served import SECRET, WRONG, Case, Client, as_user, need_root
 from daemon import limits
 from daemon.limits import Limiter
 from daemon.log import log
@@ -70,16 +71,59 @@ class Tries(Case):
         admin.talk("verify ada {secret} -> yes")
 
     def test_guesses_at_once(self) -> None:
-        """Guesses that are sent together are stopped too, but for those that the book has already."""
-        service = self.serving("--tries", "3", "--at-once", "4", faults="slow=0.05", clocked=True)
+        """Of guesses that are sent together as many are judged as may fail, and one after each wait."""
+        for operation in "verify", "change", "login":
+            service = self.serving("--at-once", "20", clocked=True)
+            service.enrol(ada="secret")
+            for _ in range(100):  # changes are quick, so many are at the book at once
+                service.client().talk("verify zoe {secret} -> noaccount")
+            clients = [service.client("admin") for _ in range(4)]
+            for now, ought in ((0, 10), (1, 1), (3, 1)):
+                service.set_clock(now)
+                asked = len(service.asked())
+                for client in clients:
+                    more = f" {WRONG}" if operation == "change" else ""
+                    client.send(f"a {operation} ada {WRONG}{more}\n" * 32)
+                said = [line for client in clients for line in client.lines(32)]
+                self.assertEqual(said.count(b"a later"), 128 - ought, operation)
+                self.assertEqual(len(service.asked()) - asked, ought, "at the book")
+
+    def test_right_passwords_at_once(self) -> None:
+        """However many are sent together, none of them is too early."""
+        service = self.serving("--tries", "3", "--at-once", "20", faults="slow=0.01", clocked=True)
         service.enrol(ada="secret")
-        enrolled = len(service.asked())
-        clients = [service.client() for _ in range(10)]
-        for client in clients:
-            client.send(f"a verify ada {WRONG}\n" * 20)
-        said = {line for client in clients for line in client.lines(20)}
-        self.assertEqual(said, {b"a no", b"a later"})
-        self.assertIn(len(service.asked()) - enrolled, range(3, 3 + 4 + 1))
+        client = service.client()
+        client.talk("verify ada {wrong} -> no\n" * 2)
+        client.send(f"a verify ada {SECRET}\n" * 100)
+        self.assertEqual(client.lines(100), [b"a yes"] * 100)
+
+    def test_guesses_of_a_uid_at_once(self) -> None:
+        """So too of a person's guesses at many names."""
+        need_root()
+        path = self.room() / "s"
+        socket = f"--socket a {path} 0666 - verify --uid-tries 4 --at-once 20".split()
+        service = self.serving(*socket, faults="slow=0.05", clocked=True)
+        os.seteuid(4711)
+        try:
+            client = Client(path)
+        finally:
+            os.seteuid(0)
+        with client:
+            client.send("".join(f"a verify n{at} -\n" for at in range(20)))
+            said = client.lines(20)
+        self.assertEqual((said.count(b"a noaccount"), said.count(b"a later")), (4, 16))
+
+    def test_too_early_takes_a_hash(self) -> None:
+        """A try that is too early is answered after the time of a hash, as one at an unknown name is."""
+        service = self.serving("--tries", "2", faults="slow=0.3", clocked=True)
+        service.enrol(ada="secret")
+        client, seconds = service.client(), {}
+        for name, ought in (*[("ada", "no")] * 2, ("zoe", "noaccount"), ("ada", "later")):
+            begun = time.monotonic()
+            client.talk(f"verify {name} {{wrong}} -> {ought}")
+            seconds[ought] = time.monotonic() - begun
+        self.assertGreater(seconds["later"], 0.29)
+        self.assertEqual(len(service.asked()), 5)
 
     def test_later_by_uid(self) -> None:
         """A person's failed tries at many names count together; those of a service don't."""
@@ -97,7 +141,8 @@ class Tries(Case):
             service.set_clock(now)
             self.assertEqual(as_user(4711, 4712, path, guesses[0], right), "noaccount later")
         self.assertEqual(as_user(4712, 4712, path, right), "yes")
-        admin.talk("waits -> waits uid-4711:6:4\nforgive uid-4711 -> forgiven\nwaits -> waits")
+        admin.talk("account uid-4711 -> ok\nforgive uid-4711 -> none\nwaits -> waits uid=4711:6:4")
+        admin.talk("forgive uid=4711 -> forgiven\nwaits -> waits")
         self.assertEqual(as_user(4711, 4712, path, right), "yes")
         people = {999: "yes", 1000: "later", 60000: "later", 60001: "yes", 65534: "yes"}
         for uid, last in people.items():

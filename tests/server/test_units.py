@@ -8,7 +8,6 @@ from typing import Any
 
 from machine import shell
 from served import PYTHON, TOP, Case, Client, chosen_book, is_listening, need, until
-from tests.helpers import need_module
 
 NOT_NEEDED = {"fchown"}  # of a new log, to the book's owner, whose it is
 
@@ -54,7 +53,6 @@ class Units(Case):
     def test_system_calls(self) -> None:
         """What the server and the book call of the system is within what the unit allows, or isn't needed: it is refused here too."""
         need("strace", "systemd-analyze", "systemd-socket-activate")
-        need_module("passlib")
         room = self.room()
         (room / "old").write_text("bob:{SHA}5en6G6MezRroT3XKqkdPOmY/BfQ=\n")
         words = f"strace -f -qq -e inject={','.join(NOT_NEEDED)}:error=EPERM -o {room}/trace"
@@ -69,7 +67,7 @@ class Units(Case):
             login.talk("change ada {secret} {fresh} -> replaced")
         shell(f"pkill -TERM -P {service.process.pid}")
         service.process.wait(timeout=60)
-        self.assertEqual((room / "old").read_text(), "", service.log())
+        self.assertIn("bob ", (room / "old.moved").read_text(), service.log())
         lines = (room / "trace").read_text().splitlines()
         begun = next(at for at, line in enumerate(lines) if "execve(" in line and PYTHON in line)
         ours = "\n".join(lines[begun:])

@@ -48,6 +48,11 @@ class Reply(enum.Enum):
     DISABLED = "disabled"
     DELETED = "deleted"
     RENAMED = "renamed"
+    EXPIRED = "expired"
+    SHORT = "short"
+    LOCKED = "locked"
+    UNLOCKED = "unlocked"
+    NONE = "none"
 
     # Hidden from mypy, whose `truthy-bool` then names each place where it is missing.
     if not TYPE_CHECKING:
@@ -195,13 +200,16 @@ class Calls(Generic[Replied, Listed]):
     def verify(self, name: str, password: Secret) -> Replied:
         """YES or NO; ABSENT if the account has no record; NO_ACCOUNT.
 
-        A name or a password that no book can have, such as a name with a space, is NO.
+        EXPIRED is a right password that must be changed, by `change`, before a login. A name or a password that no book can have, such as a name with a space, is NO.
         """
         no = Reply.NO
         return self._reply(Question("verify", (name,), (password,), no, no))
 
     def change(self, name: str, password: Secret, new_password: Secret) -> Replied:
         """REPLACED, or WRONG for the old password; ABSENT; NO_ACCOUNT.
+
+        SHORT is a new password of fewer characters than the server demands; so it is of
+        `enrol` and `reset`.
 
         Raises:
             ValueError: the new password has over 256 bytes, or is text with no UTF-8.
@@ -210,7 +218,10 @@ class Calls(Generic[Replied, Listed]):
         return self._reply(Question("change", (name,), both, *replies))
 
     def known(self, name: str) -> Replied:
-        """YES if the account has a record; ABSENT if it has none; NO_ACCOUNT."""
+        """YES if the account has a record; ABSENT, EXPIRED, NO_ACCOUNT.
+
+        ABSENT is also a locked account, and EXPIRED one whose password must be changed.
+        """
         return self._reply(Question("known", (name,), no_name=Reply.NO_ACCOUNT))
 
     def account(self, name: str) -> Replied:
@@ -236,6 +247,18 @@ class Calls(Generic[Replied, Listed]):
     def rename(self, name: str, new_name: str) -> Replied:
         """RENAMED, or EXISTS if the new name exists; NO_ACCOUNT."""
         return self._reply(Question("rename", (name, new_name)))
+
+    def lock(self, name: str) -> Replied:
+        """LOCKED: each password is wrong until `unlock`; NO_ACCOUNT."""
+        return self._reply(Question("lock", (name,)))
+
+    def unlock(self, name: str) -> Replied:
+        """UNLOCKED: the record counts again; NONE if the name wasn't locked."""
+        return self._reply(Question("unlock", (name,)))
+
+    def expire(self, name: str) -> Replied:
+        """EXPIRED: the password must be changed before the next login; NO_ACCOUNT."""
+        return self._reply(Question("expire", (name,)))
 
     def names(self, first: str = "-", count: int = 100) -> Listed:
         """Up to `count` names (1 to 1000), in order, from `first` on."""

@@ -13,12 +13,12 @@ import sys
 
 from .log import Problem, begin_logging, log
 from .options import Options, parse
-from .service import Service
+from .server import Server
 from .tally import metrics
 
 
 async def run(options: Options) -> int:
-    return await Service(options).run()
+    return await Server(options).run()
 
 
 def main() -> int:

@@ -1,4 +1,4 @@
-"""The sockets, and the clients at each."""
+"""The sockets, and who is let in at each."""
 
 from __future__ import annotations
 
@@ -7,23 +7,20 @@ import fcntl
 import grp
 import os
 import pathlib
-import re
-import select
 import socket
-import struct
 import time
+from collections import Counter
 from dataclasses import dataclass, field
-from functools import partial
-from typing import TYPE_CHECKING, Optional, cast
+from typing import TYPE_CHECKING, Hashable, Optional
 
-from .log import Problem, problems_at
+from .clients import Client, Connection
+from .log import Problem, log_seldom, problems_at
 
 if TYPE_CHECKING:
     from .service import Service
 
-LONGEST = 960  # bytes of a line
-IN_FLIGHT, CLIENTS = 32, 1024  # a client's lines at once, a door's clients
-BUFFER = 4096  # bytes
+CLIENTS, FEW = 1024, 64  # a door's, and how many wait to be let in
+ACCEPTING = 0.001  # seconds in a pass of the loop
 
 
 @dataclass(eq=False)
@@ -36,7 +33,10 @@ class Door:
     group: str
     operations: frozenset[bytes]
     handed: Optional[socket.socket] = None  # by systemd
-    clients: set[Client] = field(default_factory=set)
+    clients: set[Connection] = field(default_factory=set)
+    counts: Counter[Hashable] = field(default_factory=Counter)  # clients of each user
+    listening: Optional[socket.socket] = None
+    no_room, family = b"* unavailable\n", socket.AF_UNIX
 
     def prepare(self) -> None:
         """Finds systemd's socket, or else takes the lock of its own."""
@@ -47,7 +47,7 @@ class Door:
         if self.name not in names:
             raise Problem(f"systemd handed over no socket with the name {self.name}")
         it = self.handed = socket.socket(fileno=3 + names.index(self.name))
-        if it.type != socket.SOCK_STREAM or it.family != socket.AF_UNIX:
+        if it.type != socket.SOCK_STREAM or it.family != self.family:
             what = f"the socket {self.name} that systemd handed over"
             raise Problem(f"{what} is no stream")
 
@@ -85,103 +85,66 @@ class Door:
             os.chmod(self.path, self.mode)
         return made
 
-    async def open(self, service: Service) -> asyncio.AbstractServer:
+    def open(self, service: Service) -> None:
         """Lets clients in. At the server's end the path stays: it may be systemd's."""
-        sock, loop = self.handed or self.bound(), asyncio.get_running_loop()
-        made = partial(Client, service, self)
-        return await loop.create_server(made, sock=sock, backlog=CLIENTS)
+        self.listening = self.handed or self.bound()
+        self.listening.setblocking(False)
+        with problems_at(self.path):
+            self.listening.listen(CLIENTS)
+        self.watch(service)
 
+    def watch(self, service: Service) -> None:
+        if it := self.listening:
+            asyncio.get_running_loop().add_reader(it, self.accept, it, service)
 
-class Client(asyncio.BufferedProtocol):
-    """A connection, which hands over its lines, and no more of them than it reads answers."""
+    def close(self) -> None:
+        """Lets nobody in any more."""
+        if it := self.listening:
+            asyncio.get_running_loop().remove_reader(it)
+            it.close()
+            self.listening = None
 
-    def __init__(self, service: Service, door: Door) -> None:
-        self.service, self.door = service, door
-        self.buffer, self.came = memoryview(bytearray(BUFFER)), bytearray()
-        self.running, self.active = 0, time.monotonic()
-        self.is_cutting = self.is_held = self.is_ending = self.is_gone = False
+    def accept(self, listening: socket.socket, service: Service) -> None:
+        """Lets in those who came, for so long in a pass of the loop: others have steps too."""
+        end, let_in, gone = time.monotonic() + ACCEPTING, 0, 0
+        try:
+            while time.monotonic() < end:
+                sock, _ = listening.accept()
+                sock.setblocking(False)
+                client = self.client(service, sock)
+                self.let_in(client)
+                let_in += 1
+                gone += client.is_gone
+            # Where most have gone, one who comes isn't to wait behind a thousand of these.
+            listening.listen(FEW if gone > let_in / 2 else CLIENTS)
+        except (BlockingIOError, InterruptedError, ConnectionAbortedError):
+            listening.listen(CLIENTS)
+        except OSError:  # no descriptor is free
+            loop = asyncio.get_running_loop()
+            loop.remove_reader(listening)
+            loop.call_later(0.1, self.watch, service)
 
-    def connection_made(self, transport: asyncio.BaseTransport) -> None:
-        self.transport = cast(asyncio.Transport, transport)
-        it = transport.get_extra_info("socket")
-        peer = it.getsockopt(socket.SOL_SOCKET, socket.SO_PEERCRED, 12)
-        self.pid, self.uid, _ = struct.unpack("3i", peer)
-        self.user = (self.door.name, self.uid)  # whose turn it is
-        if self.service.lets_in(self):
-            self.door.clients.add(self)
-        else:
-            self.write(b"*", b"unavailable")
-            self.end()
+    def client(self, service: Service, sock: socket.socket) -> Connection:
+        return Client(service, self, sock)
 
-    def connection_lost(self, fault: Optional[Exception]) -> None:
-        self.is_gone = True
-        self.door.clients.discard(self)
-        self.end()
+    def let_in(self, client: Connection) -> None:
+        """A user has at most half of the places that others leave."""
+        own, is_ending = self.counts[client.user], client.service.is_ending
+        has_room = own + len(self.clients) + 2 <= CLIENTS and not is_ending
+        self.clients.add(client)
+        self.counts[client.user] += 1
+        if has_room:
+            client.read()  # it may have gone already
+            return client.go_on()
+        client.send(self.no_room)
+        client.close()
+        if not is_ending:
+            text = "no more connections at %s for %s, which has %d"
+            log_seldom(client.user, text, *client.user, own)
+            client.service.tally.counts["refused"] += 1
 
-    def get_buffer(self, hint: int) -> memoryview:
-        return self.buffer
-
-    def buffer_updated(self, size: int) -> None:
-        if not self.is_ending:
-            self.came += self.buffer[:size]
-            self.take_lines()
-
-    def eof_received(self) -> bool:
-        """It sends no more, and still gets its answers, unless it has closed its end."""
-        self.is_ending = True
-        self.take_lines()
-        poll = select.poll()
-        poll.register(self.transport.get_extra_info("socket"), 0)
-        return not any(events & select.POLLHUP for _, events in poll.poll(0))
-
-    def pause_writing(self) -> None:
-        self.is_held = True
-
-    def resume_writing(self) -> None:
-        self.is_held, self.active = False, time.monotonic()
-        self.take_lines()
-
-    def take_lines(self) -> None:
-        """Hands over the lines that came; a long one is answered, and its rest passed over."""
-        while self.running < IN_FLIGHT and not self.is_held:
-            size = self.came.find(b"\n")
-            if size < 0 and len(self.came) <= LONGEST:
-                break
-            line = bytes(self.came[: size if size >= 0 else None])
-            del self.came[: len(line) + 1]
-            if len(line) > LONGEST and not self.is_cutting:
-                tag = re.match(rb"[a-z0-9]{1,20}(?= )", line)
-                self.write(tag[0] if tag else b"*", b"bad 16 long")
-            elif not self.is_cutting:
-                self.active = time.monotonic()
-                self.service.take(self, line)
-            self.is_cutting = size < 0
-        if self.is_ending and not self.running and b"\n" not in self.came:
-            self.transport.close()
-        elif self.running >= IN_FLIGHT or self.is_held:
-            self.transport.pause_reading()
-        elif not self.is_ending:
-            self.transport.resume_reading()
-
-    def write(self, tag: bytes, said: bytes) -> None:
-        if not self.is_gone:
-            self.transport.write(b"%b %b\n" % (tag, said))
-
-    def answer(self, tag: bytes, said: bytes) -> None:
-        """Answers a line that was running."""
-        self.running -= 1
-        self.active = time.monotonic()
-        self.write(tag, said)
-        self.take_lines()
-
-    def end(self) -> None:
-        """Takes no more lines, and closes once those that run are answered."""
-        self.is_ending = True
-        self.came.clear()
-        self.take_lines()
-
-    def end_if_idle(self, since: float) -> None:
-        if self.active < since and (self.is_held or self.transport.is_closing()):
-            self.transport.abort()  # it doesn't read
-        elif self.active < since and not self.running:
-            self.end()
+    def forget(self, client: Connection) -> None:
+        self.clients.discard(client)
+        self.counts[client.user] -= 1
+        if not self.counts[client.user]:
+            del self.counts[client.user]

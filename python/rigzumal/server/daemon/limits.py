@@ -2,10 +2,12 @@
 
 from __future__ import annotations
 
+import asyncio
 import time
-from collections import OrderedDict
+from collections import Counter, OrderedDict
 from collections.abc import Iterator
 from dataclasses import dataclass
+from typing import Optional
 
 from .log import log
 
@@ -24,19 +26,38 @@ class Tries:
 class Limiter:
     """Failed tries at each of many names, or of each of many users.
 
-    From `most` on, each doubles the wait for the next. What is remembered is bounded: then
-    what is forgotten anyway goes first, then those who needn't wait, the oldest first.
+    From `most` on, each doubles the wait for the next. No more run at once than may fail
+    until then. What is remembered is bounded: then what is forgotten anyway goes first,
+    then those who needn't wait, the oldest first.
     """
 
     def __init__(self, most: int) -> None:
         self.most = most
         # Fewer than most, and those that have to wait, both by their last failed try.
         self.few, self.many = OrderedDict[str, Tries](), OrderedDict[str, Tries]()
+        # Tries that run, and those that wait for the end of one.
+        self.running, self.ends = Counter[str](), dict[str, asyncio.Event]()
 
     def is_early(self, key: str) -> bool:
         """Whether the next try has to wait."""
-        found = self.many.get(key)
-        return found is not None and time.monotonic() < found.until
+        return self.rest(key) > 0
+
+    def wait(self, key: str) -> Optional[asyncio.Event]:
+        """What another try has to wait for, the end of one that runs, or nothing."""
+        if self.most == 0 or not self.running[key]:
+            return None
+        found = self.many.get(key) or self.few.get(key)
+        if self.running[key] < self.most - (found.count if found else 0):
+            return None
+        return self.ends.setdefault(key, asyncio.Event())
+
+    def end(self, key: str) -> None:
+        """Ends a try that ran."""
+        self.running[key] -= 1
+        if not self.running[key]:
+            del self.running[key]
+        if event := self.ends.pop(key, None):
+            event.set()
 
     def fail(self, key: str) -> None:
         if self.most == 0:
@@ -82,9 +103,13 @@ class Limiter:
             if found.count:
                 self.few[key] = Tries(found.count, time.monotonic())
 
+    def rest(self, key: str) -> float:
+        """For how many seconds more the next try has to wait."""
+        found = self.many.get(key)
+        return max(0.0, found.until - time.monotonic()) if found else 0.0
+
     def waits(self) -> Iterator[tuple[str, int, float]]:
         """Who has to wait: with how many failed tries, and for how many seconds more."""
-        now = time.monotonic()
         for key, tries in self.many.items():
-            if tries.until > now:
-                yield key, tries.count, tries.until - now
+            if rest := self.rest(key):
+                yield key, tries.count, rest

@@ -3,6 +3,7 @@
 from __future__ import annotations
 
 import argparse
+import importlib
 import os
 import pathlib
 import re
@@ -33,14 +34,15 @@ KINDS = {
     "verify login": Operation(hashes=True, tries=True),
     "change upgrade remove": Operation(hashes=True, tries=True, changes=True),
     "enrol reset": Operation(hashes=True, changes=True),
-    "account load disable delete": Operation(changes=True),
+    "account load disable delete lock unlock expire": Operation(changes=True),
     "rename": Operation(changes=True, names=2),
     "known show": Operation(),
     "list": Operation(names=0),
     # These are answered by the server, and not by the book.
-    "stats waits": Operation(names=0),
+    "stats waits locks": Operation(names=0),
     "forgive last": Operation(),
 }
+WEB = frozenset([b"verify"])  # what --http takes
 OPERATIONS = {word.encode(): it for key, it in KINDS.items() for word in key.split()}
 
 
@@ -82,15 +84,20 @@ class Options:
     file: str = ""
     doors: list[Door] = field(default_factory=list)
     socket: list[list[str]] = field(default_factory=list)
+    http: str = option(
+        "answer nginx's auth_request at a socket, or at 127.0.0.1:PORT", "ADDRESS"
+    )
     tries: int = option("failed tries until a name has to wait; 0: no limit", "N", 10)
     uid_tries: int = option("the same for a person's uid at any names", "N", 0)
     idle: int = option("until a client that asks nothing is closed", "SECONDS", 600)
     audit: str = option("append a JSON line to this file for each change", "LOG")
+    audit_tries: bool = flag("have it say which tries failed too")
     metrics: str = option("print what the server of an admin socket counts", "SOCKET")
     foreign: str = option("an old file, whose users move into the book", "HTPASSWD")
     upgrade: str = option(
         "new costs, by which a right verify upgrades", "COSTS", kind=costs
     )
+    least_length: int = option("characters of a new password at least", "N", 0)
     setting: str = option("for credkeep: the costs of new records", "TEXT")
     at_once: int = option(
         "lines of a user hashed at once; 0: processors", "N", 0, number(MOST_AT_ONCE)
@@ -109,6 +116,10 @@ class Options:
         """How many lines the book hashes at once: one more, which is for another user."""
         return 1 + min(self.at_once or len(os.sched_getaffinity(0)), MOST_AT_ONCE)
 
+    def book_name(self) -> str:
+        """The book's name, as metrics have it: that of its sockets' folder."""
+        return re.sub("[^A-Za-z0-9_.-]", "_", folder_of(self.file).name)
+
     def book_words(self) -> list[str]:
         """The book's command."""
         given = {
@@ -121,6 +132,21 @@ class Options:
         words = [self.credkeep, "--wait", self.wait, self.file, "serve", "--tagged"]
         words += [word for pair in given.items() if pair[1] for word in pair]
         return [str(word) for word in words]
+
+
+def kibibytes(size: str) -> int:
+    """A size as credkeep has it, such as 512M; very large if credkeep will refuse it."""
+    found = re.fullmatch("([0-9]{1,12})([KMG]?)", size)
+    units = {"": 1, "K": 1, "M": 1 << 10, "G": 1 << 20}
+    return int(found[1]) * units[found[2]] if found else 1 << 60
+
+
+def hash_memory(setting: str) -> int:
+    """KiB that a hash of these costs, or of credkeep's own, needs."""
+    costs = {key: int(value) for key, value in re.findall(r"(\w+)=(\d{1,9})", setting)}
+    if setting.startswith("$scrypt$"):  # credkeep has one of its tables at a time
+        return ((costs.get("r", 0) << min(costs.get("ln", 0), 40)) + 7) // 8
+    return costs.get("m", 65536 if not setting else 0)
 
 
 class Parser(argparse.ArgumentParser):
@@ -168,6 +194,19 @@ def door(name: str, path: str, mode: str, group: str, operations: str) -> Door:
     return Door(name, os.path.abspath(path), int(mode, 8), group, allowed)
 
 
+def web_door(address: str, login: Door) -> Door:
+    """The door of --http, whose mode and group are those of the login socket."""
+    web = importlib.import_module(".web", __package__)
+    path = os.path.abspath(address)
+    made: Door = web.WebDoor("http", path, login.mode, login.group, WEB)
+    if found := re.fullmatch(r"127\.0\.0\.1:([0-9]{1,5})", address):
+        made = web.LoopbackDoor("http", address, 0, "-", WEB, port=int(found[1]))
+    elif "/" not in address:
+        text = f"--http takes the path of a socket or 127.0.0.1:PORT, not {address!r}"
+        raise Problem(text)
+    return made
+
+
 def parse(words: Sequence[str]) -> Options:
     """The options of a command line.
 
@@ -179,12 +218,18 @@ def parse(words: Sequence[str]) -> Options:
         return options
     if not options.file:
         raise Problem("FILE is missing; --help shows all options")
+    needed = hash_memory(options.upgrade or options.setting)
+    if options.memory and kibibytes(options.memory) < needed:
+        text = "is less than a hash of a new record needs"
+        raise Problem(f"--memory {options.memory} {text}: {needed}K")
     folder = folder_of(options.file)
     given = options.socket or [
         ["login", f"{folder}/login.sock", "0660", "rigzumal", "verify,change,known"],
         ["admin", f"{folder}/admin.sock", "0600", "-", "all"],
     ]
     options.doors = [door(*it) for it in given]
+    if options.http:
+        options.doors.append(web_door(options.http, options.doors[0]))
     for what in ([it.name for it in options.doors], [it.path for it in options.doors]):
         for word in what:
             if what.count(word) > 1:

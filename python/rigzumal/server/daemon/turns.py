@@ -36,6 +36,10 @@ class Turns(Generic[Line]):
         self.running[user] -= 1
         self.start_next()
 
+    def drop(self) -> None:
+        """Forgets the lines that wait."""
+        self.users.clear()
+
     def start_next(self) -> None:
         while self.free and self.users:
             user = min(self.users, key=self.running.__getitem__)

@@ -1,0 +1,143 @@
+"""HTTP for nginx's auth_request and its like: Basic comes in, and a status goes out."""
+
+from __future__ import annotations
+
+import base64
+import importlib
+import re
+import socket
+import time
+from collections.abc import Sequence
+from dataclasses import dataclass
+from typing import Any, Optional
+
+from .clients import Connection
+from .doors import Door
+from .log import Problem, problems_at
+from .service import Service
+
+try:
+    h11 = importlib.import_module("h11")
+except ImportError:
+    raise Problem("--http needs h11: python3-h11") from None
+
+MOST_HEAD = 8192  # bytes of a request
+# A right password that must be changed is `expired`.
+STATUSES = {b"yes": 200, b"expired": 403, b"denied": 403, b"later": 429}
+STATUSES.update(dict.fromkeys((b"no", b"absent", b"noaccount"), 401))
+# Of a name or a password that no book has, or a line that is too long.
+NOBODY = (b"bad 3 ", b"bad 13 ", b"bad 16 ")
+HEADERS = {
+    401: [("WWW-Authenticate", 'Basic realm="book", charset="UTF-8"')],
+    405: [("Allow", "GET, HEAD")],
+}
+BASIC = re.compile(rb"basic +([A-Za-z0-9+/]+={0,2})", re.I)
+NAME = re.compile(rb"[!-~\x80-\xff]+")
+
+
+def credentials(headers: Sequence[tuple[bytes, bytes]]) -> Optional[bytes]:
+    """Name and password of a request's one Authorization, as fields of a line: RFC 7617."""
+    given = [value for name, value in headers if name == b"authorization"]
+    found = BASIC.fullmatch(given[0]) if len(given) == 1 else None
+    try:
+        text = base64.b64decode(found[1] if found else b"", validate=True)
+    except ValueError:
+        return None
+    name, colon, password = text.partition(b":")
+    if not colon or not NAME.fullmatch(name):
+        return None
+    return name + b" " + (base64.b64encode(password).rstrip(b"=") or b"-")
+
+
+class WebClient(Connection):
+    """One that sends requests. It gets the answer to each before the next is read."""
+
+    def __init__(self, service: Service, door: Door, sock: socket.socket) -> None:
+        super().__init__(service, door, sock)
+        self.http: Any = h11.Connection(h11.SERVER, max_incomplete_event_size=MOST_HEAD)
+        self.name, self.has_more = b"", False
+
+    def has_request(self) -> bool:
+        return bool(self.came) or self.has_more
+
+    def take(self) -> None:
+        if self.came:
+            self.http.receive_data(bytes(self.came))
+            self.came.clear()
+        try:
+            request = self.http.next_event()
+            self.has_more = isinstance(request, h11.Request)
+            if not self.has_more:
+                return
+            has_body = not isinstance(self.http.next_event(), h11.EndOfMessage)
+        except h11.RemoteProtocolError as fault:
+            return self.reply(fault.error_status_hint)
+        self.active = time.monotonic()
+        fields = credentials(request.headers)
+        if has_body:
+            self.reply(413)
+        elif request.method not in (b"GET", b"HEAD"):
+            self.reply(405)
+        elif fields is None:
+            self.reply(401)
+        else:
+            self.name = fields.split(b" ")[0]
+            self.service.take(self, b"1 verify " + fields)
+
+    def refuse(self, tag: bytes, said: bytes) -> None:
+        self.reply(503 if said == b"unavailable" else STATUSES.get(said, 401))
+        self.pause()
+
+    def answer(self, tag: bytes, said: bytes) -> None:
+        self.running -= 1
+        self.active = time.monotonic()
+        status = 401 if said.startswith(NOBODY) else STATUSES.get(said, 503)
+        self.reply(status)
+
+    def reply(self, status: int) -> None:
+        """Sends a status, and goes on with the next request if there may be one."""
+        if self.is_gone:
+            return
+        headers = [("Content-Length", "0"), *HEADERS.get(status, ())]
+        if status == 429:
+            name = self.service.in_book(self.name).decode(errors="replace")
+            seconds = self.service.tally.seconds_to_wait(name, self.uid)
+            headers.append(("Retry-After", str(seconds)))
+        head = h11.Response(status_code=status, headers=headers)
+        self.write(self.http.send(head) + self.http.send(h11.EndOfMessage()))
+        if self.http.our_state is self.http.their_state is h11.DONE:
+            self.http.start_next_cycle()
+            self.go_on()
+        else:
+            self.end()
+
+    def end(self) -> None:
+        self.has_more = False
+        super().end()
+
+
+class WebDoor(Door):
+    """A Unix socket whose clients send HTTP."""
+
+    no_room = b"HTTP/1.1 503 Service Unavailable\r\nContent-Length: 0\r\nConnection: close\r\n\r\n"
+
+    def client(self, service: Service, sock: socket.socket) -> Connection:
+        return WebClient(service, self, sock)
+
+
+@dataclass(eq=False)
+class LoopbackDoor(WebDoor):
+    """The same at a port of 127.0.0.1, which each user of the machine may reach."""
+
+    port: int = 0
+    family = socket.AF_INET
+
+    def lock(self) -> None:
+        """The port itself is its server's alone."""
+
+    def bound(self) -> socket.socket:
+        made = socket.socket()
+        made.setsockopt(socket.SOL_SOCKET, socket.SO_REUSEADDR, 1)
+        with problems_at(self.path):
+            made.bind(("127.0.0.1", self.port))
+        return made

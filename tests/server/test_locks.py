@@ -1,0 +1,167 @@
+"""Tests of bin/credkeep-server: names that are locked, and passwords that must be changed."""
+
+import os
+import time
+
+from served import SECRET, WRONG, Case, Service, need, until
+from test_seen import noted
+
+LOCKED = """
+admin lock ada -> locked
+login known ada -> absent
+login verify ada {secret} -> no
+login verify ada {wrong} -> no
+login change ada {secret} {fresh} -> wrong
+login change ada {wrong} {fresh} -> wrong
+admin login ada {secret} -> no
+admin upgrade ada {secret} -> wrong
+admin remove ada {secret} -> wrong
+admin locks -> locks ada:locked
+admin unlock ada -> unlocked
+admin unlock ada -> none
+login known ada -> yes
+login verify ada {secret} -> yes
+admin locks -> locks
+admin lock zoe -> noaccount
+admin expire zoe -> noaccount
+admin lock Ada@ -> bad 3 name
+login lock ada -> denied
+login locks -> denied
+"""
+EXPIRED = """
+admin expire ada -> expired
+login known ada -> expired
+login verify ada {secret} -> expired
+login verify ada {wrong} -> no
+admin login ada {secret} -> expired
+login change ada {wrong} {fresh} -> wrong
+login change ada {secret} {fresh} -> replaced
+login known ada -> yes
+login verify ada {fresh} -> yes
+admin expire ada -> expired
+admin lock ada -> locked
+admin locks -> locks ada:locked ada:expired
+login verify ada {fresh} -> no
+login known ada -> absent
+login change ada {fresh} {secret} -> wrong
+admin reset ada {secret} -> replaced
+admin locks -> locks ada:locked
+admin unlock ada -> unlocked
+login verify ada {secret} -> yes
+"""
+
+
+class Locks(Case):
+    def over(self, *options: str, **fields: object) -> Service:
+        service = self.serving("--tries", "0", *options, **fields)
+        service.enrol(ada="secret", bob="other")
+        return service
+
+    def test_locked(self) -> None:
+        """Each try at a locked name is answered as a wrong one, and its record stays."""
+        service = self.over()
+        record = service.client("admin").ask("show ada")
+        service.talk(LOCKED)
+        self.assertEqual(service.client("admin").ask("show ada"), record)
+        changes = ("change ada", "login", "upgrade", "remove")
+        tried = [it for it in service.asked() if it.startswith(changes)]
+        self.assertEqual(tried, [], "the book is asked for no change")
+
+    def test_as_many_hashes(self) -> None:
+        """A right password at a locked name costs a hash, as a wrong one does, and counts as a failed try."""
+        service = self.serving("--tries", "3", clocked=True, faults="slow=0.2")
+        service.enrol(ada="secret")
+        service.talk("admin lock ada -> locked")
+        login, seconds = service.client(), list[float]()
+        for line in (f"verify ada {SECRET}", f"change ada {SECRET} {WRONG}", f"verify ada {WRONG}"):
+            began = time.monotonic()
+            login.ask(line)
+            seconds.append(time.monotonic() - began)
+        self.assertGreaterEqual(min(seconds), 0.2)
+        login.talk("verify ada {secret} -> later")
+
+    def test_expired(self) -> None:
+        """A right password that must be changed is answered by `expired`, until it is."""
+        self.over().talk(EXPIRED)
+
+    def test_kept(self) -> None:
+        """A server that is killed and started again knows all; the file is its owner's."""
+        folder = self.room()
+        service = self.over(folder=folder)
+        self.assertFalse((folder / "users.db-locks").exists(), "it is made once it is needed")
+        service.talk(
+            "admin lock ada -> locked\nadmin lock bob -> locked\nadmin unlock bob -> unlocked"
+        )
+        service.talk("admin expire bob -> expired")
+        service.process.kill()
+        service.process.wait()
+        with open(folder / "users.db-locks", "a") as file:
+            file.write("bob lock 2026-11-2")  # that a power cut tore
+        self.assertEqual((folder / "users.db-locks").stat().st_mode & 0o777, 0o600)
+        service = self.serving("--tries", "0", folder=folder)
+        service.talk("admin locks -> locks ada:locked bob:expired\nadmin lock bob -> locked")
+        service.stop()
+        service = self.serving("--tries", "0", folder=folder)
+        service.talk("admin locks -> locks ada:locked bob:locked bob:expired")
+
+    def test_renamed_and_deleted(self) -> None:
+        """A mark goes with its name; a new account of an old name has none."""
+        service = self.over()
+        service.talk(
+            """
+            admin lock ada -> locked
+            admin rename ada bob -> exists
+            admin locks -> locks ada:locked
+            admin rename ada cid -> renamed
+            admin locks -> locks cid:locked
+            login verify cid {secret} -> no
+            admin account ada -> ok
+            login known ada -> absent
+            admin enrol ada {fresh} -> enrolled
+            login verify ada {fresh} -> yes
+            admin rename cid Cid -> bad 3 name
+            admin expire cid -> expired
+            admin delete cid -> deleted
+            admin locks -> locks
+            admin account cid -> ok
+            admin enrol cid {fresh} -> enrolled
+            login verify cid {fresh} -> yes
+            """
+        )
+
+    def test_of_an_old_file(self) -> None:
+        """A user whom an old htpasswd file has can be locked too."""
+        folder = self.room()
+        (folder / "old").write_text("eve:{SHA}5en6G6MezRroT3XKqkdPOmY/BfQ=\n")
+        self.over("--foreign", f"{folder}/old", folder=folder).talk(
+            """
+            admin lock eve -> locked
+            login verify eve {secret} -> no
+            login change eve {secret} {fresh} -> wrong
+            login known eve -> absent
+            admin unlock eve -> unlocked
+            login verify eve {secret} -> yes
+            """
+        )
+
+    def test_no_room(self) -> None:
+        """Nobody is said to be locked whose line isn't on the disk."""
+        need("prlimit")
+        folder = self.room()
+        (folder / "users.db-locks").write_text("zoe lock 2026-11-28T05:00:00Z\n" * 100)
+        service = self.over(folder=folder, before=("prlimit", "--fsize=3010"))
+        service.talk("admin lock ada -> unavailable\nlogin verify ada {secret} -> yes")
+        self.assertIn("users.db-locks: File too large", service.log())
+
+    def test_seen(self) -> None:
+        """The audit log has who locked whom, and logins with a password that must be changed; changes count."""
+        path = self.room() / "audit"
+        service = self.over("--audit", str(path))
+        service.talk("admin lock ada -> locked\nadmin unlock ada -> unlocked")
+        service.talk("admin expire ada -> expired\nlogin verify ada {secret} -> expired")
+        until(lambda: len(noted(path)) == 8, "the login's line, which comes behind its answer")
+        said = [(it["operation"], it["name"], it["answer"], it["uid"]) for it in noted(path)[4:]]
+        marks = [("lock", "locked"), ("unlock", "unlocked"), ("expire", "expired")]
+        ought = [(operation, "ada", answer, os.getuid()) for operation, answer in marks]
+        self.assertEqual(said, [*ought, ("verify", "ada", "expired", os.getuid())])
+        self.assertEqual((service.stats()["changes"], service.stats()["yes"]), (7, 1))

@@ -1,0 +1,233 @@
+"""Tests of bin/credkeep-server: what one user asks for, or leaves, keeps no other one waiting."""
+
+import asyncio
+import builtins
+import contextlib
+import io
+import os
+import pathlib
+import socket
+import subprocess
+import time
+from typing import Any
+from unittest import mock
+
+from served import PYTHON, Case, Client, need_root
+from daemon import shares
+from daemon.doors import FEW, Door
+from daemon.options import Options
+from daemon.service import Service
+from daemon.shares import Rota, share
+
+# What a client may send that costs the book nothing, and the end of each answer.
+IDLE_LINES = {
+    "empty": (b"\n", b"* bad 11 line"),
+    "denied": (b"1 list\n", b"1 denied"),
+    "unknown": (b"1 frob\n", b"1 denied"),
+    "long": (b"1 " + b"x" * 1000 + b"\n", b"1 bad 16 long"),
+}
+# Joins a control group, and takes so many connections.
+JOINED = """import os, pathlib, socket, sys, time
+pathlib.Path(sys.argv[1], "cgroup.procs").write_text(str(os.getpid()))
+clients = [socket.socket(socket.AF_UNIX) for _ in range(int(sys.argv[3]))]
+for it in clients:
+    it.settimeout(20)
+    it.connect(sys.argv[2])
+clients[-1].send(b"a known ada\\n")
+print(clients[-1].recv(99).decode(), flush=True)
+time.sleep(200)
+"""
+
+
+class Floods(Case):
+    def test_lines_that_need_no_book(self) -> None:
+        """Beside a hundred connections that send such lines without end, another's is answered soon."""
+        service = self.serving()
+        for kind, (line, answer) in IDLE_LINES.items():
+            with self.subTest(kind), contextlib.ExitStack() as stack:
+                clients = [stack.enter_context(Client(service.path())) for _ in range(100)]
+                for client in clients:
+                    client.socket.setblocking(False)
+                    with contextlib.suppress(BlockingIOError):
+                        client.socket.sendall(line * 3000)
+                with Client(service.path()) as other:
+                    for _ in range(20):
+                        other.talk("known ada -> noaccount")
+                self.assertLess(self.answers(clients, answer), 100 * 200, "each had its turn")
+
+    def answers(self, clients: list[Client], answer: bytes) -> int:
+        """How many answers came, each of which is this one."""
+        count = 0
+        for client in clients:
+            with contextlib.suppress(BlockingIOError):
+                while came := client.socket.recv(1 << 20):
+                    lines = came.splitlines()
+                    self.assertEqual(set(lines[1:-1]), {answer} if lines[1:-1] else set())
+                    count += len(lines)
+        return count
+
+    def test_all_of_a_users_lines(self) -> None:
+        """A thousand a second that cost the book nothing are answered, on however many connections."""
+        service = self.serving()
+        for count in (1, 10, 100):
+            clients = [service.client() for _ in range(count)]
+            begun, each = time.monotonic(), 400 // count
+            for client in clients:
+                client.send(b"\n" * each)
+            for client in clients:
+                self.assertEqual(client.lines(each), [b"* bad 11 line"] * each)
+                client.close()
+            self.assertGreater(time.monotonic() - begun, 0.25, f"{count} connections")
+
+    def test_connections_that_have_gone(self) -> None:
+        """Each is closed as it is let in. While most have gone, few wait to be let in."""
+
+        async def waiting(count: int, is_flooded: bool) -> int:
+            """So many come, and are let in; how many more can wait then."""
+            service = Service(Options())
+            door = Door("a", str(self.room() / "s"), 0o600, "-", frozenset())
+            door.open(service)
+            self.assertIsNotNone(door.listening)
+            clients = [socket.socket(socket.AF_UNIX) for _ in range(count)]
+            for client in clients:
+                client.connect(door.path)
+                if is_flooded:
+                    client.close()
+            came: list[object] = []
+            with mock.patch.object(time, "monotonic", lambda: float(len(came))):
+                with mock.patch("daemon.doors.ACCEPTING", count):
+                    with mock.patch.object(door, "client", self.noted(door, came)):
+                        door.accept(door.listening, service)
+            self.assertEqual(len(door.clients), 0 if is_flooded else count)
+            more = [socket.socket(socket.AF_UNIX) for _ in range(2 * FEW)]
+            for client in more:
+                client.setblocking(False)
+            waits = sum(client.connect_ex(door.path) == 0 for client in more)
+            door.close()
+            for client in (*clients, *more):
+                client.close()
+            for it in [*door.clients]:
+                it.close()
+            return waits
+
+        self.assertEqual(asyncio.run(waiting(200, is_flooded=True)), FEW + 1)
+        self.assertEqual(asyncio.run(waiting(200, is_flooded=False)), 2 * FEW)
+
+    def noted(self, door: Door, came: list[object]) -> Any:
+        """How a door makes its clients, which are noted too."""
+        made = door.client
+
+        def client(*words: Any) -> Any:
+            came.append(words)
+            return made(*words)
+
+        return client
+
+    def test_services_of_root(self) -> None:
+        """Each service that asks as root has connections of its own."""
+        need_root()
+        groups = [pathlib.Path("/sys/fs/cgroup"), pathlib.Path("/sys/fs/cgroup/unified")]
+        top = next((it for it in groups if (it / "cgroup.procs").exists()), None)
+        if top is None or not os.access(top / "cgroup.procs", os.W_OK):
+            self.skipTest("no control groups may be made here")
+        service = self.serving()
+        said = {}
+        for name, count in (("sshd", 400), ("imap", 300), ("mail", 100)):
+            folder = top / f"rigzumal-test-{name}-{os.getpid()}"
+            folder.mkdir()
+            self.addCleanup(folder.rmdir)
+            words = [PYTHON, "-c", JOINED, str(folder), str(service.path()), str(count)]
+            client = subprocess.Popen(words, stdout=subprocess.PIPE, text=True)
+            self.addCleanup(client.wait)
+            self.addCleanup(client.kill)
+            assert client.stdout
+            self.addCleanup(client.stdout.close)
+            said[name] = client.stdout.readline()
+        self.assertEqual(said, dict.fromkeys(said, "a noaccount\n"))
+
+
+class Shares(Case):
+    def test_shares(self) -> None:
+        """A uid's, and of root's processes the service's, or the user's who logged in."""
+        sshd, person = "/system.slice/ssh.service", "/user.slice/user-1000.slice"
+        for text, ought in {
+            f"0::{sshd}\n": f"uid 0 in {sshd}",
+            f"0::{sshd}/inner/deep\n": f"uid 0 in {sshd}",
+            f"0::{person}/session-3.scope\n": f"uid 0 in {person}",
+            f"0::{person}/user@1000.service/app.slice/x.service\n": f"uid 0 in {person}",
+            f"9:pids:/a/b\n1:name=systemd:{sshd}\n0::/\n": f"uid 0 in {sshd}",
+            "0::/init.scope\n": "uid 0 in /init.scope",
+            "5:memory:/a/b\n0::/\n": "uid 0",
+            "": "uid 0",
+        }.items():
+            shares.group_of.cache_clear()
+            with mock.patch.object(builtins, "open", lambda *_, **__: io.BytesIO(text.encode())):
+                self.assertEqual(share(0, 1), ought, text)
+                self.assertEqual(share(33, 1), "uid 33")
+        self.assertEqual(share(0, 2**22 + 1), "uid 0")  # which is no process
+
+
+class Step:
+    """A connection that notes its steps, of which each takes so long."""
+
+    is_due = False
+
+    def __init__(self, test: "Rotas", user: str, name: str, steps: int) -> None:
+        self.test, self.user, self.name, self.steps = test, user, name, steps
+
+    def step(self) -> None:
+        self.test.said += self.name
+        self.test.clock += 0.1
+        self.steps -= 1
+        if self.steps:
+            self.test.rota.add(self)  # type: ignore[arg-type]
+
+
+class Rotas(Case):
+    """A rota by itself; each connection is a letter."""
+
+    def setUp(self) -> None:
+        super().setUp()
+        self.said, self.clock, self.rota = "", 0.0, Rota()
+        self.enterContext(mock.patch.object(time, "monotonic", lambda: self.clock))
+
+    def passes(self, slice_: float, *connections: tuple[str, str, int]) -> list[str]:
+        """The steps of each pass of the loop."""
+        found = []
+
+        async def run() -> None:
+            for connection in connections:
+                self.rota.add(Step(self, *connection))  # type: ignore[arg-type]
+            while self.rota.users:
+                await asyncio.sleep(0)
+                found.append(self.said)
+                self.said = ""
+
+        with mock.patch.object(shares, "SLICE", slice_):
+            asyncio.run(run())
+        return found
+
+    def test_turns(self) -> None:
+        """Users take turns, then the connections of each."""
+        given = (("one", "a", 3), ("one", "b", 2), ("one", "c", 1), ("two", "x", 2))
+        self.assertEqual("".join(self.passes(99, *given)), "axbxcaba")
+
+    def test_slices(self) -> None:
+        """A pass of the loop has a slice of steps, and one at least."""
+        given = (("one", "a", 5), ("two", "x", 2))
+        self.assertEqual(self.passes(0.25, *given), ["axa", "xaa", "a"])
+        self.assertEqual(self.passes(0.05, *given), list("axaxaaa"))
+
+    def test_at_once(self) -> None:
+        """A step may be at once while none waits, and for as long as the slice of this pass lasts."""
+
+        async def run() -> None:
+            self.assertTrue(self.rota.is_free())
+            self.clock += 1
+            self.assertFalse(self.rota.is_free())
+            await asyncio.sleep(0)
+            self.assertTrue(self.rota.is_free())
+            self.rota.add(Step(self, "one", "a", 1))  # type: ignore[arg-type]
+            self.assertFalse(self.rota.is_free())
+
+        asyncio.run(run())
