@@ -4,11 +4,13 @@ file into it as people/tests.py, and the page's calls beside it."""
 import pathlib
 from types import SimpleNamespace
 
+from django.conf import settings
 from django.contrib import admin
 from django.contrib.auth import authenticate, hashers
 from django.core import checks
-from django.test import TestCase
+from django.test import TestCase, override_settings
 from django.urls import resolve, reverse
+from people.hashers import Argon2OverMD5, wrap
 from people.models import User
 from rigzumal.django import passwords
 
@@ -33,6 +35,47 @@ class SamplesTest(TestCase):
         view = resolve(reverse("password_change")).func.view_class
         for theirs in (view, type(admin.site._registry[User])):
             self.assertTrue(theirs.__module__.startswith("rigzumal.django."), theirs)
+
+    def test_a_guess_at_a_record_of_old_costs(self):
+        """It stays, and the right password alone replaces it."""
+        old = hashers.make_password("first", hasher="pbkdf2_sha256")
+        for login in (
+            lambda password: authenticate(username="ann", password=password),
+            lambda password: User.objects.get().check_password(password),
+            lambda password: passwords.check_password(User.objects.get(), password),
+        ):
+            User.objects.update(password=old)
+            self.assertFalse(login("another"))
+            self.assertEqual(User.objects.get().password, old)
+            self.assertTrue(login("first"))
+            self.assertTrue(User.objects.get().password.startswith("argon2$"))
+            self.assertStored("first")
+
+    def test_own_costs(self):
+        """A record of ours is rehashed at the next login."""
+        own = ["people.hashers.Argon2", "rigzumal.django.hashers.ScryptPasswordHasher"]
+        with override_settings(PASSWORD_HASHERS=own):
+            self.assertIsNotNone(authenticate(username="ann", password="first"))
+        self.assertIn("$m=19456,t=2,p=1$", User.objects.get().password)
+
+    def test_wrapped_records(self):
+        """They let in by the right password alone, which rehashes."""
+        md5 = hashers.MD5PasswordHasher
+        listed = [f"{md5.__module__}.{md5.__qualname__}", "people.hashers.Argon2OverMD5"]
+        for salt in (md5().salt(), "abcde"):
+            with override_settings(PASSWORD_HASHERS=[*settings.PASSWORD_HASHERS, *listed]):
+                old = md5().encode("first", salt)
+                User.objects.update(password=old)
+                wrap()
+                wrapped = User.objects.get().password
+                self.assertTrue(wrapped.startswith(f"{Argon2OverMD5.algorithm}$argon2id$"))
+                self.assertNotIn(old.rpartition("$")[2], wrapped)
+                for guess in ("another", old, old.rpartition("$")[2]):
+                    self.assertIsNone(authenticate(username="ann", password=guess))
+                self.assertEqual(User.objects.get().password, wrapped)
+                self.assertIsNotNone(authenticate(username="ann", password="first"))
+            self.assertTrue(User.objects.get().password.startswith("argon2$argon2id$"))
+            self.assertStored("first")
 
     def test_views(self):
         """The page's calls in a view: each line by itself."""

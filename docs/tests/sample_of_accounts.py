@@ -1,4 +1,4 @@
-"""README.md's login over a table in PostgreSQL, of the file that is named."""
+"""A page's login over a table in PostgreSQL, of the file that is named."""
 
 import pathlib
 import sys
@@ -10,8 +10,9 @@ from rigzumal.accounts import Accounts, PerThread, Postgres, Reply
 
 def table_in(server, record):
     with server.connect() as conn:
-        conn.execute("CREATE TABLE users (email VARCHAR(150) PRIMARY KEY, record VARCHAR(512))")
-        conn.execute("INSERT INTO users VALUES ('ada@example.org', %s)", (record,))
+        columns = "id INTEGER PRIMARY KEY, email VARCHAR(150) UNIQUE NOT NULL, record VARCHAR(512)"
+        conn.execute(f"CREATE TABLE users ({columns})")
+        conn.execute("INSERT INTO users VALUES (7, 'ada@example.org', %s)", (record,))
 
 
 def main():
@@ -27,11 +28,9 @@ def main():
     names = {it.__name__: it for it in (Accounts, PerThread, Postgres, PasswordHasher, Reply)}
     code = pathlib.Path(sys.argv[1]).read_text().replace("...", "told.append(password)")
     told = []
+    names.update(psycopg=psycopg, dsn=server.url, conninfo=server.url, user_id=7, told=told)
     for password in ("another", "a secret", "a secret"):
-        exec(
-            code,
-            {**names, "psycopg": psycopg, "dsn": server.url, "password": password, "told": told},
-        )
+        exec(code, {**names, "password": password})
     assert told == ["a secret", "a secret"], told
     with server.connect() as conn:
         ((record,),) = conn.execute("SELECT record FROM users").fetchall()

@@ -33,16 +33,13 @@ FROM_FILE = re.compile(r"^<!-- from \S+ -->\n```.*?^```$", re.MULTILINE | re.DOT
 # with that file by tools/pages.py.
 TESTED = {
     "README.md": (
-        ("python", "test_sample_of_hashing"),
+        ("python", "test_samples_of_hashing"),
         ("c", "test_sample_of_c"),
         ("python", "test_sample_of_accounts"),
     ),
     "docs/DJANGO.md": (
         ("python", "test_django_page"),
-        ("python", "test_samples_of_django"),
-        ("python", "test_samples_of_django"),
-        ("python", "test_samples_of_django"),
-        ("python", "test_samples_of_django"),
+        *(("python", "test_samples_of_django"),) * 7,
         ("python", "test_django_page"),
     ),
     "docs/SERVERS.md": (("python", "tests/server/test_clients.py"),),
@@ -50,7 +47,7 @@ TESTED = {
         ("python", "tests/credkeep/test_tagged.py"),
         ("python", "test_sample_of_a_co_process"),
     ),
-    "python/README.md": (("python", "tests/packages/test_install.py"),),
+    "python/README.md": (("python", "test_samples_of_hashing"),),
     "rust/README.md": (("rust", "test_sample_of_rust"),),
 }
 
@@ -65,8 +62,13 @@ def sample_for(page, test):
     return [code for (_, code), (_, named) in zip(samples(page), TESTED[page]) if named == test]
 
 
-# Of docs/DJANGO.md's pieces: what a model and URLs import, and settings of a project with a model of
+# Of docs/DJANGO.md's pieces: what hashers, a model and URLs import, and settings of a project with a model of
 # its own, as where argon2-cffi isn't installed.
+HASHER_IMPORTS = """from django.contrib.auth.hashers import MD5PasswordHasher
+from people.models import User
+from rigzumal.django.hashers import Argon2PasswordHasher
+
+"""
 MODEL_IMPORTS = """from django.contrib.auth.models import AbstractUser
 from rigzumal.django.users import CompareAndSetMixin
 
@@ -85,18 +87,36 @@ AUTH_USER_MODEL = "people.User"
 del RIGZUMAL_USER_COMPARES
 """
 
-# A function round the sample of C, whose dots are what the caller does then.
-FUNCTION = """#include "rigzumal.h"
+# Costs of a record, and what is typed at a login: the four cases of a sample that logs in.
+OLD_COSTS, RIGHT, GUESS = "$argon2id$v=19$m=64,t=1,p=1", "correct horse", "a guess"
+# printf 'correct horse' | argon2 somesalt -id -t 1 -k 64 -p 1 -l 32 -e
+OLD_RECORD = f"{OLD_COSTS}$c29tZXNhbHQ$3j0+S6gGV20Zdm+eoztdkLUvOKbucBG7gA8asDqV4P8"
+LOGINS = [(is_old, typed) for is_old in (False, True) for typed in (RIGHT, GUESS)]
+
+# A program round a sample of C, whose dots stand for what it is told. It writes what the sample
+# does: its words are the costs of the record, and what is typed at the login.
+PROGRAM = """#include "rigzumal.h"
+#include <stdio.h>
 #include <string.h>
 
-static int is_stored(const char *password, size_t size) {
+static void let_in(void) { puts("let in"); }
+static void store_a_new_record(void) { puts("stored"); }
+
+int main(int count, char **words) {
+    const char *costs = words[1], *typed = words[2], *password = "correct horse";
+    size_t size = strlen(password), password_size = size;
+    (void)count, (void)size, (void)password_size, (void)store_a_new_record;
 %s
     return 0;
 }
+"""
+TYPED = "password = typed; size = password_size = strlen(typed);"
 
-int main(void) {
-    return is_stored("a secret", strlen("a secret")) ? 0 : 1;
-}
+# What the sample of the crate's head leaves to its caller.
+RUST_CALLER = """
+fn word(place: usize) -> String { std::env::args().nth(place).unwrap() }
+fn store(record: &Record) { println!("{record}"); }
+fn stored() -> String { word(1) }
 """
 
 
@@ -119,41 +139,98 @@ class PagesTest(unittest.TestCase):
             if not hasattr(self, test):
                 self.assertIn(pathlib.Path(page).name, (REPOSITORY / test).read_text(), test)
 
-    def test_sample_of_hashing(self):
-        """The page's Python, whose record has the costs of a new one."""
-        (code,) = sample_for("README.md", "test_sample_of_hashing")
-        wrong = code.replace('verify(record, "correct horse")', 'verify(record, "another")')
-        for text, said in ((code, ""), (wrong, "another password\n")):
-            kept = f'{text}\nassert hasher.verify(record, "correct horse")\n'
-            self.assertEqual(run(sys.executable, "-c", kept, env=OVER_PACKAGE), said)
+    def test_samples_of_hashing(self):
+        """On both pages a right password alone replaces a record, and an old record alone."""
+        made, word = 'record = hasher.hash("correct horse")', 'rehash(record, "correct horse")'
+        old = made.replace("hasher", "hasher.replace(time_cost=1, memory_cost=64)")
+        for page in ("README.md", "python/README.md"):
+            (code,) = sample_for(page, "test_samples_of_hashing")
+            self.assertEqual((code.count(made), code.count(word)), (1, 1))
+            for record, typed, said, is_old in (
+                (made, word, "", False),
+                (old, word, "", False),
+                (made, 'rehash(record, "a guess")', "another password\n", False),
+                (old, 'rehash(record, "a guess")', "another password\n", True),
+            ):
+                with self.subTest(page=page, record=record, typed=typed):
+                    text = f"""{code.replace(made, record).replace(word, typed)}
+hasher.verify(record, "correct horse")
+assert hasher.check_needs_rehash(record) is {is_old}
+"""
+                    self.assertEqual(run(sys.executable, "-c", text, env=OVER_PACKAGE), said)
 
-    def test_sample_of_c(self):
-        """The page's C, built with the flags of `make install`, makes a record and checks it."""
-        (code,) = sample_for("README.md", "test_sample_of_c")
+    def check_c(self, code, rehashes):
+        """A sample of C lets in by the right password alone, and rehashes old records alone then."""
+        self.assertEqual(code.count("RIGZUMAL_ARGON2_COSTS"), 1 + rehashes)
+        code = code.replace("RIGZUMAL_ARGON2_COSTS", "costs", 1)
         source, program = self.room / "sample.c", self.room / "sample"
-        source.write_text(code if "main(" in code else FUNCTION % code.replace("...", "return 1;"))
+        source.write_text(PROGRAM % code)
         words = ["-std=c11", "-Wall", "-Wextra", "-Wpedantic", "-Werror", f"-I{C / 'include'}"]
         compiler = os.environ.get("CC", "cc")
         run(compiler, *words, source, f"-L{LIBRARIES}", "-lrigzumal", "-o", program)
-        run(program, env={"LD_LIBRARY_PATH": str(LIBRARIES)})
+        for is_old, typed in LOGINS:
+            with self.subTest(is_old=is_old, typed=typed):
+                costs = OLD_COSTS if is_old else "$argon2id$v=19$m=65536,t=3,p=4"
+                said = run(program, costs, typed, env={"LD_LIBRARY_PATH": str(LIBRARIES)})
+                stored = "stored\n" if rehashes and is_old else ""
+                self.assertEqual(said, f"{stored}let in\n" if typed == RIGHT else "")
 
-    def test_sample_of_rust(self):
-        """The page's Rust runs as a program over the crate."""
+    def test_sample_of_c(self):
+        """The page's C, built with the flags of `make install`."""
+        (code,) = sample_for("README.md", "test_sample_of_c")
+        made, checked = code.rsplit("\n", 2)[0], code.splitlines()[-1]
+        checked = checked.replace("...", "let_in();")
+        self.check_c(f"{made}\n{TYPED}\n{checked}", rehashes=False)
+
+    def test_sample_of_the_header(self):
+        """The C at the head of rigzumal.h."""
+        head = (C / "include/rigzumal.h").read_text().partition("*/")[0]
+        code = "\n".join(re.findall(r"^ \*     (.*)$", head, re.M))
+        self.assertEqual(code.count("..."), 1)
+        self.check_c(code.replace("...", TYPED), rehashes=True)
+
+    def built_rust(self, name, code):
+        """A program over the crate, as one of its examples."""
         need("cargo")
-        (code,) = sample_for("rust/README.md", "test_sample_of_rust")
         crate = self.room / "crate"
         shutil.copytree(REPOSITORY / "rust", crate, ignore=shutil.ignore_patterns("target"))
         (crate / "examples").mkdir(exist_ok=True)
+        (crate / f"examples/{name}.rs").write_text(code)
+        env = {"CARGO_TARGET_DIR": str(self.room / "cargo"), "RIGZUMAL_LIB_DIR": str(LIBRARIES)}
+        words = ("build", "-q", "--offline", "--locked", "--example", name)
+        run("cargo", *words, env=env, at=crate)
+        return self.room / "cargo/debug/examples" / name
+
+    def test_sample_of_rust(self):
+        """The page's Rust runs as a program."""
+        (code,) = sample_for("rust/README.md", "test_sample_of_rust")
         used, rest = code.split("\n\n", 1)
         main = f"{used}\n\nfn main() -> Result<(), Error> {{\n{rest}\n    Ok(())\n}}\n"
-        (crate / "examples/page.rs").write_text(main)
-        env = {"CARGO_TARGET_DIR": str(self.room / "cargo"), "RIGZUMAL_LIB_DIR": str(LIBRARIES)}
-        run("cargo", "run", "-q", "--offline", "--locked", "--example", "page", env=env, at=crate)
+        run(self.built_rust("page", main), env={"LD_LIBRARY_PATH": str(LIBRARIES)})
 
-    def test_sample_of_accounts(self):
-        """The page's login over a table in PostgreSQL."""
+    def test_sample_of_the_crate(self):
+        """The login at the head of the crate stores a record by the right password alone."""
+        head = (REPOSITORY / "rust/src/lib.rs").read_text().split("//! ```\n")[1]
+        code = "\n".join(it[4:] for it in head.splitlines() if not it.startswith("//! #"))
+        used, rest = code.split("\n\n", 1)
+        asked = 'match verify(b"correct horse"'
+        self.assertEqual(rest.count(asked), 1)
+        rest = rest.replace(asked, "match verify(word(2).as_bytes()")
+        main = f"{used}\n{RUST_CALLER}\nfn main() -> Result<(), Error> {{\n{rest}\nOk(())\n}}\n"
+        program = self.built_rust("head", main)
+        env = {"LD_LIBRARY_PATH": str(LIBRARIES)}
+        new, *_ = run(program, OLD_RECORD, RIGHT, env=env).splitlines()
+        for is_old, typed in LOGINS:
+            with self.subTest(is_old=is_old, typed=typed):
+                _, *said = run(program, OLD_RECORD if is_old else new, typed, env=env).splitlines()
+                if typed == GUESS:
+                    self.assertEqual(said, ["it is another password"])
+                else:
+                    self.assertEqual(len(said), is_old)
+
+    def check_accounts(self, code):
+        """A login over a table in PostgreSQL."""
         need_module("psycopg")
-        (code,) = sample_for("README.md", "test_sample_of_accounts")
         page = self.room / "accounts.py"
         page.write_text(code)
         path = os.pathsep.join(map(str, (PYTHON, PYTHON / "tests/accounts")))
@@ -161,15 +238,25 @@ class PagesTest(unittest.TestCase):
         if said.startswith("not there: "):
             self.skipTest(said.strip())
 
-    def check_django(self, settings):
-        """A new project with these settings behind its own passes Django's checks, and its tests."""
+    def test_sample_of_accounts(self):
+        (code,) = sample_for("README.md", "test_sample_of_accounts")
+        self.check_accounts(code)
+
+    def test_docstring_of_accounts(self):
+        head = (PYTHON / "rigzumal/accounts/__init__.py").read_text().split('"""')[1]
+        self.check_accounts("\n".join(re.findall(r"^    (.*)$", head, re.M)))
+
+    def check_django(self, settings, warned="no issues (0 silenced)"):
+        """A project with these settings behind its own has nothing amiss but what is named, and its
+        tests pass."""
         with open(self.room / "service/settings.py", "a") as file:
             file.write(settings)
         env = {**OVER_PACKAGE, "DJANGO_SETTINGS_MODULE": "service.settings"}
         manage = functools.partial(run, sys.executable, "manage.py", at=self.room, env=env)
         manage("migrate", "--run-syncdb", "-v", "0")
         said = manage("check", "--database", "default").strip()
-        self.assertEqual(said, "System check identified no issues (0 silenced).")
+        self.assertIn(f"System check identified {warned}", said)
+        self.assertLessEqual(said.count("(rigzumal."), 1)
         self.assertRegex(manage("test"), r"Ran [1-9]\d* tests? in")
 
     def begin_django(self):
@@ -180,13 +267,14 @@ class PagesTest(unittest.TestCase):
         return [code for _, code in samples("docs/DJANGO.md")]
 
     def test_samples_of_django(self):
-        """docs/DJANGO.md's model, URLs and views, where the model compares by itself."""
-        settings, model, urls, views, changed, _ = self.begin_django()
+        """docs/DJANGO.md's model, URLs, views and hashers, where the model compares by itself."""
+        settings, model, urls, views, costs, _, wrap, changed, _ = self.begin_django()
         route, registered = urls.strip().split("\n")
         (self.room / "people").mkdir()
         for name, code in (
             ("people/__init__.py", ""),
             ("people/models.py", MODEL_IMPORTS + model),
+            ("people/hashers.py", f"{HASHER_IMPORTS}{costs}\n\n{wrap}"),
             ("people/tests.py", (HERE / "django_samples.py").read_text()),
             ("service/urls.py", f"{URL_IMPORTS}urlpatterns = [\n{route}\n]\n{registered}\n"),
             ("views", views),
@@ -206,10 +294,25 @@ class PagesTest(unittest.TestCase):
         self.assertEqual(run(sys.executable, "-c", code, env=env, at=self.room), "ok\nnone\n")
 
     def test_django_page(self):
-        """docs/DJANGO.md's settings and tests, in a new project: nothing is amiss."""
-        settings, *_, tests = self.begin_django()
+        """docs/DJANGO.md's settings and tests, in new projects: nothing is amiss with either form of
+        the admin's app, without the admin, and with a tuple of apps; then with a cheap hasher."""
+        settings, _, _, _, _, cheap, *_, tests = self.begin_django()
         (self.room / "tests.py").write_text(tests)
-        self.check_django(settings)
+        own, urls = ((self.room / "service" / it) for it in ("settings.py", "urls.py"))
+        begun, begun_urls = own.read_text(), urls.read_text()
+        admin = "'django.contrib.admin'"
+        no_admin = f"INSTALLED_APPS.remove({admin})\nTEMPLATES[0]['OPTIONS'] = {{}}\n"
+        for before, has_admin in (
+            ("", True),
+            (f"INSTALLED_APPS[0] = {admin[:-1]}.apps.AdminConfig'\n", True),
+            (no_admin, False),
+            ("INSTALLED_APPS = tuple(INSTALLED_APPS)\n", True),
+        ):
+            with self.subTest(before=before):
+                own.write_text(begun)
+                urls.write_text(begun_urls if has_admin else "urlpatterns = []\n")
+                self.check_django(before + settings)
+        self.check_django(cheap, "some issues:\n\nWARNINGS:\n?: (rigzumal.W004)")
 
     def php(self, name, test):
         """Runs a test over the code of docs/PHP.md that begins with this name."""
