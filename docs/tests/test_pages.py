@@ -4,9 +4,10 @@ compiled or run.
     /usr/bin/python3 docs/tests/test_pages.py [-k NAME ..]
 
 They need `make -C c`. A test is skipped where this machine lacks what it needs. Debian's packages
-for all of it: cargo, python3-django, python3-psycopg, postgresql, php-cli, php-sqlite3,
-php-laravel-framework, php-symfony-security-http, php-symfony-password-hasher, apache2-utils,
-dovecot-core, python3-passlib, python3-argon2, python3-bcrypt; and credkeep, if it is built.
+for all of it: cargo, python3-django, python3-psycopg, python3-sqlalchemy, postgresql, php-cli,
+php-sqlite3, php-laravel-framework, php-symfony-security-http, php-symfony-password-hasher,
+apache2-utils, dovecot-core, python3-passlib, python3-argon2, python3-bcrypt; and credkeep, if it
+is built.
 """
 
 import functools
@@ -42,6 +43,7 @@ TESTED = {
         *(("python", "test_samples_of_django"),) * 7,
         ("python", "test_django_page"),
     ),
+    "docs/SCALE.md": (("python", "test_sample_of_a_transaction"),),
     "docs/SERVERS.md": (("python", "tests/server/test_clients.py"),),
     "docs/SERVING.md": (
         ("python", "tests/credkeep/test_tagged.py"),
@@ -245,6 +247,14 @@ assert hasher.check_needs_rehash(record) is {is_old}
     def test_docstring_of_accounts(self):
         head = (PYTHON / "rigzumal/accounts/__init__.py").read_text().split('"""')[1]
         self.check_accounts("\n".join(re.findall(r"^    (.*)$", head, re.M)))
+
+    def test_sample_of_a_transaction(self):
+        """A change commits with rows of the caller's in the transaction of an ORM, or not at all."""
+        need_module("sqlalchemy")
+        (code,) = sample_for("docs/SCALE.md", "test_sample_of_a_transaction")
+        page = self.room / "transaction.py"
+        page.write_text(code)
+        run(sys.executable, HERE / "sample_of_a_transaction.py", page, env=OVER_PACKAGE, at=self.room)
 
     def check_django(self, settings, warned="no issues (0 silenced)"):
         """A project with these settings behind its own has nothing amiss but what is named, and its
