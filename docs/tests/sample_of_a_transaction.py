@@ -1,5 +1,5 @@
-"""A page's change within the transaction of an ORM's session, of the file that is named: on SQLite, where
-SQLAlchemy's own transactions begin by BEGIN IMMEDIATE as its pages show."""
+"""A page's change within the transaction of an ORM's session, of the file that is named: on SQLite,
+where SQLAlchemy's own transactions begin by BEGIN IMMEDIATE as its pages show."""
 
 import pathlib
 import sys

@@ -41,7 +41,6 @@ TESTED = {
     "docs/DJANGO.md": (
         ("python", "test_django_page"),
         *(("python", "test_samples_of_django"),) * 7,
-        ("python", "test_django_page"),
     ),
     "docs/SCALE.md": (("python", "test_sample_of_a_transaction"),),
     "docs/SERVERS.md": (("python", "tests/server/test_clients.py"),),
@@ -252,9 +251,9 @@ assert hasher.check_needs_rehash(record) is {is_old}
         """A change commits with rows of the caller's in the transaction of an ORM, or not at all."""
         need_module("sqlalchemy")
         (code,) = sample_for("docs/SCALE.md", "test_sample_of_a_transaction")
-        page = self.room / "transaction.py"
+        page, program = self.room / "transaction.py", HERE / "sample_of_a_transaction.py"
         page.write_text(code)
-        run(sys.executable, HERE / "sample_of_a_transaction.py", page, env=OVER_PACKAGE, at=self.room)
+        run(sys.executable, program, page, env=OVER_PACKAGE, at=self.room)
 
     def check_django(self, settings, warned="no issues (0 silenced)"):
         """A project with these settings behind its own has nothing amiss but what is named, and its
@@ -278,7 +277,7 @@ assert hasher.check_needs_rehash(record) is {is_old}
 
     def test_samples_of_django(self):
         """docs/DJANGO.md's model, URLs, views and hashers, where the model compares by itself."""
-        settings, model, urls, views, costs, _, wrap, changed, _ = self.begin_django()
+        settings, model, urls, views, costs, _, wrap, changed = self.begin_django()
         route, registered = urls.strip().split("\n")
         (self.room / "people").mkdir()
         for name, code in (
@@ -304,10 +303,11 @@ assert hasher.check_needs_rehash(record) is {is_old}
         self.assertEqual(run(sys.executable, "-c", code, env=env, at=self.room), "ok\nnone\n")
 
     def test_django_page(self):
-        """docs/DJANGO.md's settings and tests, in new projects: nothing is amiss with either form of
-        the admin's app, without the admin, and with a tuple of apps; then with a cheap hasher."""
-        settings, _, _, _, _, cheap, *_, tests = self.begin_django()
-        (self.room / "tests.py").write_text(tests)
+        """docs/DJANGO.md's settings and the tests to copy, in new projects: nothing is amiss with
+        either form of the admin's app, without the admin, and with a tuple of apps; then with a
+        cheap hasher."""
+        settings, _, _, _, _, cheap, *_ = self.begin_django()
+        shutil.copy(HERE / "django_page.py", self.room / "tests.py")
         own, urls = ((self.room / "service" / it) for it in ("settings.py", "urls.py"))
         begun, begun_urls = own.read_text(), urls.read_text()
         admin = "'django.contrib.admin'"
