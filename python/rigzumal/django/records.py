@@ -79,7 +79,7 @@ class Copy:
         self.records = self.records[-1:]
 
     def is_in_doubt(self, database: str) -> bool:
-        """Whether a rollback may have undone the write: no callback waits for its commit."""
+        """Whether a rollback may have undone the write, since no on_commit callback waits."""
         waiting = [entry[1] for entry in connections[database].run_on_commit]
         return len(self.records) > 1 and self.settle not in waiting
 

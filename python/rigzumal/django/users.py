@@ -29,7 +29,7 @@ class CompareAndSetMixin(models.Model):
     - `check_password` compares before it rehashes.
     - `save` writes the password only if it was set since the user was read, and then
       only over the record that was read; otherwise it raises RecordChanged and writes
-      no field. So a form of other fields doesn't bring an old password back.
+      no field. So saving other fields never restores an old password.
 
     All else is Model's. Put your own methods that judge or set passwords in front of the
     mixin, and let them call `super()`. These don't compare: `update`, `bulk_create`,
