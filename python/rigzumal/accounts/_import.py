@@ -85,12 +85,12 @@ class Import:
         if line.startswith("\ufeff"):
             raise Refusal("it begins with a byte order mark")
         if not name.strip():
-            raise Refusal('it is no "NAME RECORD", with a space between')
+            raise Refusal('it is no "NAME RECORD": a space is between, and no colon')
         if name != name.strip():
             raise Refusal("the name begins or ends with a blank")
         key = key_of(name)
         if not self.dialect.can_stand(key):
-            raise Refusal("no column holds this name")
+            raise Refusal("the column can't hold this name")
         try:
             _library.check_text(record)
         except InvalidRecordError as fault:

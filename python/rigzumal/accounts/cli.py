@@ -134,7 +134,7 @@ class _Command:
         """A name that an account may get."""
         key = self.key(name)
         if not self.dialect.can_stand(key):
-            raise Refusal("no column holds this name", Status.WORDS)
+            raise Refusal("the column can't hold this name", Status.WORDS)
         return key
 
     def add(self) -> int:

@@ -396,7 +396,7 @@ class Commands(Base):
             (f"\u00a0ann {RECORD}", "the name begins or ends with a blank"),
             (f"\ufeffann {RECORD}", "it begins with a byte order mark"),
             (f"\udcff {RECORD}", "it is not in UTF-8"),
-            (f"be\0n {RECORD}", "no column holds this name"),
+            (f"be\0n {RECORD}", "the column can't hold this name"),
             ("ann $2b$12$R9h/cIPz0gi.URNNX3kh2O", "the record's scheme is 2b, and "),
             ("ann pbkdf2_sha256$260000$abc$def", "the record's scheme is pbkdf2_sha256"),
             ("ann argon2$argon2id$v=19$m=8,t=1$c$d", "the record's scheme is argon2, and "),

@@ -33,7 +33,7 @@ class Verdict(enum.Enum):
     AGAIN = "the server undid the transaction and wants it to be tried again"
     ELSEWHERE = "the server undid it and accepts none for now; try another, or later"
     LOST = "this connection is broken; another may work"
-    REFUSED = "the server refuses it, and would again"
+    REFUSED = "the server rejects the statement, and would reject it again"
 
 
 def is_of_driver(raised: BaseException) -> bool:
@@ -46,7 +46,7 @@ def is_of_driver(raised: BaseException) -> bool:
 def other_driver(conn: Any, wanted: str) -> StoreFault:
     """The fault of a connection of another driver."""
     found = type(conn).__module__.partition(".")[0]
-    more = ": of its engine, of_engine makes a pool" if found == "sqlalchemy" else ""
+    more = ": hand in of_engine(engine)" if found == "sqlalchemy" else ""
     return StoreFault(f"the driver is {found}, and {wanted} is wanted{more}")
 
 
