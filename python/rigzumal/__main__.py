@@ -125,7 +125,7 @@ def _calibrate(given: argparse.Namespace) -> None:
         lower = "" if given.below else "; --below allows lower ones"
         say(f"the least costs take {found.milliseconds:.0f} ms here{lower}")
     if busy:
-        say(f"{busy}: it does more when it is idle")
+        say(f"{busy}: an idle machine would allow higher costs")
     print(found.hasher.costs)
 
 
