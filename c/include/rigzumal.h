@@ -102,7 +102,7 @@ enum rigzumal_fault {
     /* Of a text, or of its parts: the first from the left. */
     RIGZUMAL_SHAPE = 1,    /* it does not begin with '$', or a field is missing or too many */
     RIGZUMAL_SCHEME = 2,   /* the scheme is none of argon2d, argon2i, argon2id and scrypt */
-    RIGZUMAL_VERSION = 3,  /* the version is not one that can be read: 19, in a record 16 too */
+    RIGZUMAL_VERSION = 3,  /* no version that can be read: settings have 19, records 19 or 16 */
     RIGZUMAL_PARAMS = 4,   /* the numbers are not written in the form of the scheme */
     RIGZUMAL_RANGE = 5,    /* a number is outside its range */
     RIGZUMAL_SALT = 6,     /* the salt is not base64, or its size is outside its range */
