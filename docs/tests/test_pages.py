@@ -324,12 +324,16 @@ assert hasher.check_needs_rehash(record) is {is_old}
                 self.check_django(before + settings)
         self.check_django(cheap, "some issues:\n\nWARNINGS:\n?: (rigzumal.W004)")
 
-    def php(self, name, test):
-        """Runs a test over the code of docs/PHP.md that begins with this name."""
+    def php(self, code, test):
+        """Runs a test over a file in PHP."""
+        run("php", HERE / test, code, env={"LD_LIBRARY_PATH": str(LIBRARIES)})
+
+    def php_of_page(self, name):
+        """The code of docs/PHP.md that begins with this name, as a file."""
         blocks = re.findall(r"^```php\n(.*?)```", (HERE.parent / "PHP.md").read_text(), re.S | re.M)
         code = self.room / name
         code.write_text(next(it for it in blocks if it.startswith(f"<?php // {name}")))
-        run("php", HERE / test, code, env={"LD_LIBRARY_PATH": str(LIBRARIES)})
+        return code
 
     def need_php(self, page=None):
         need("php")
@@ -341,17 +345,18 @@ assert hasher.check_needs_rehash(record) is {is_old}
     def test_php(self):
         """docs/PHP.md's plain code, on SQLite."""
         self.need_php()
-        self.php("accounts.php", "php_accounts.php")
+        self.php(self.php_of_page("accounts.php"), "php_accounts.php")
 
     def test_laravel(self):
-        """docs/PHP.md's provider for Laravel, on SQLite."""
+        """The provider for Laravel, on SQLite."""
         self.need_php("Illuminate/autoload.php")
-        self.php("CompareAndSetUserProvider.php", "php_laravel.php")
+        code = REPOSITORY / "examples/php/CompareAndSetUserProvider.php"
+        self.php(code, "php_laravel.php")
 
     def test_symfony(self):
         """docs/PHP.md's upgrader for Symfony, on SQLite."""
         self.need_php("Symfony/Component/Security/Http/autoload.php")
-        self.php("CompareAndSetUpgrader.php", "php_symfony.php")
+        self.php(self.php_of_page("CompareAndSetUpgrader.php"), "php_symfony.php")
 
     def test_migrating(self):
         """The commands of docs/MIGRATING.md write what stands there."""
