@@ -44,10 +44,10 @@ class Refusal(Exception):
 
 
 class Words(argparse.ArgumentParser):
-    """Words of a command, a fault of which has the status of refused words."""
+    """A parser whose errors end with the status of refused words."""
 
     def error(self, message: str) -> NoReturn:
-        """Ends the program, and repeats no word too many: it may be a password."""
+        """Ends the program, and hides a word too many, which may be a password."""
         front, _, words = message.partition("unrecognized arguments: ")
         if words and not front:
             message = "a word too many; a password is never an argument: pipe or type it"
@@ -96,7 +96,7 @@ def add_costs(words: argparse.ArgumentParser) -> None:
 
 
 def hasher_of(given: argparse.Namespace) -> Union[PasswordHasher, ScryptHasher]:
-    """The hasher of these costs; a Refusal if one is the other scheme's."""
+    """The hasher of these costs; raises Refusal for a cost of the other scheme."""
     asked = {name: it for name, it in vars(given).items() if it is not None}
     of, others = _OF_ARGON2, _OF_SCRYPT
     hint = "of scrypt, and --scrypt is missing"
@@ -128,12 +128,12 @@ def read_password(prompt: str = "Password", *, is_new: bool = False) -> bytes:
 
 
 def is_empty(password: bytes) -> bool:
-    """Whether a password is nothing but a line's end: a variable was unset, perhaps."""
+    """Whether a password is only a line's end, as an unset variable gives."""
     return not password.strip(b"\r\n")
 
 
 def hint(password: bytes, is_right: Callable[[bytes], bool]) -> Optional[str]:
-    """Advice about a wrong password that another end makes right; None if none does."""
+    """Advice if another end of its line would make the password right, or None."""
     newlines = "`printf %s` writes none, and `echo` one"
     bare = password[:-1] if password.endswith(b"\n") else password
     if bare != password:

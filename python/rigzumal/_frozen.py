@@ -18,7 +18,7 @@ class Frozen:
         vars(self).update(values)
 
     def _shown(self) -> dict[str, object]:
-        """What stands in the repr."""
+        """The attributes that the repr shows."""
         return vars(self)
 
     def replace(self: Self, **changes: Any) -> Self:

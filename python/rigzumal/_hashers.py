@@ -101,7 +101,7 @@ class _Hasher(Frozen):
         return True
 
     def _verified(self, hash: Secret, password: Secret) -> int:
-        """Which of the secrets the record is of, counted from 0."""
+        """The place of the secret that the record was made with, from 0."""
         for place, secret in enumerate(self._secrets()):
             # Without a secret records of scrypt are verified too, and with one they aren't.
             fault = _library.check(hash, password, secret or None, self._threads())

@@ -75,7 +75,7 @@ class NoRandomError(RigzumalError):
 
 
 def raise_fault(number: int, text: Secret = b"") -> None:
-    """Raises the exception of a fault's number, of this record; 0 is no fault."""
+    """Raises the exception for a fault's number and this record; 0 is no fault."""
     if number == OK:
         return
     if number == MISMATCH:

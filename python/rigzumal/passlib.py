@@ -31,7 +31,7 @@ _TYPES = {"id": rigzumal.Type.ID, "i": rigzumal.Type.I, "d": rigzumal.Type.D}
 
 
 class _OneBackend:
-    """passlib's calls for handlers with a choice of backends: there is one."""
+    """passlib's calls for handlers with backends, of which this has one."""
 
     backends = (_BACKEND,)
 

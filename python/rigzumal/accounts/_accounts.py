@@ -85,7 +85,7 @@ class Accounts(Operations[Pool]):
     _kind = Runtime
 
     def _done(self, doing: Coroutine[Any, Any, T]) -> T:
-        """What an operation answers; AsyncAccounts leaves it to be awaited."""
+        """The operation's answer; AsyncAccounts returns the coroutine instead."""
         return run(doing)
 
     def enrol(self, key: Key, password: Secret, *, also: Hook = None) -> Reply:

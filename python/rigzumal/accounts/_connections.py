@@ -1,4 +1,4 @@
-"""Connections that break, servers that fail, and how long is waited for others."""
+"""Connections that break, servers that fail, and how long an operation waits."""
 
 from __future__ import annotations
 
@@ -16,7 +16,7 @@ from rigzumal.accounts.dialects._dialect import Fault, Verdict, error as fault_o
 from rigzumal.accounts.dialects._dialect import is_of_driver, warning
 
 LOGGER: Final = logging.getLogger("rigzumal.accounts")
-"""Warns of what an operation overcomes, or may not: with no name, record or password."""
+"""Warns of retries and unknown outcomes, without a name, record or password."""
 
 _AT_ONCE: Final = 0.5  # seconds in which a pool's dead connections are worked through
 _LONGEST: Final = 400  # letters of a reason
@@ -28,7 +28,7 @@ _DSN_PASSWORD: Final = re.compile(
 
 @dataclass
 class Connections:
-    """Where jobs are done: pools of the primary, and perhaps of a replica that lags."""
+    """The pools in which jobs run: of the primary, and perhaps of a replica that lags."""
 
     runtime: Runtime
     primary: Any
@@ -38,7 +38,7 @@ class Connections:
     _is_passed_over: bool = field(default=False, init=False)
 
     async def at_replica(self, job: Job[Any]) -> Any:
-        """Does a job once at the replica; Undone if none exists, or it fails or refuses."""
+        """Runs a job once at the replica; Undone without one, or if it fails or refuses."""
         if self.replica is None:
             return Undone(None)
         try:
@@ -54,7 +54,7 @@ class Connections:
         return done
 
     async def replica_faults(self, job: Job[Any]) -> list[Fault]:
-        """What is wrong with the replica, if one exists."""
+        """The faults of the replica, if one exists."""
         done = None if self.replica is None else await self.at_replica(job)
         if not isinstance(done, Undone):
             return []
@@ -71,7 +71,7 @@ class Connections:
         return self.table.name(cause)
 
     async def patiently(self, job: Job[Any], patience: Optional[float] = None) -> Any:
-        """Does a job at the primary until it was done, and waits longer by turns.
+        """Runs a job at the primary until it is done, with pauses that grow.
 
         Done again is what did nothing: a lost connection, a transaction that the server
         undid. Nothing is hashed again.
@@ -95,7 +95,7 @@ class Connections:
             await self.runtime.pause(waits.next(is_dead))
 
     async def _once(self, pool: Any, job: Job[Any]) -> Any:
-        """Does a job; Undone if it did nothing, and may be done another time."""
+        """Runs a job; Undone if it made no change and may be tried again."""
         try:
             return await self.runtime.use(pool, job)
         except Lost as lost:

@@ -180,13 +180,13 @@ class Import:
 
 
 def shown(name: object) -> str:
-    """A name as it may stand on a terminal: who chose it may have meant to write there."""
+    """A name that is safe on a terminal, whatever characters its owner chose."""
     text = str(name)
     return text if text.isprintable() else ascii(text)
 
 
 def costs_of(record: Optional[str]) -> Optional[str]:
-    """As "$argon2id$v=19$m=65536,t=3,p=4"; None of no record and of another scheme's."""
+    """Costs such as "$argon2id$v=19$m=65536,t=3,p=4"; None without a record of ours."""
     try:
         found = parts(record or "")
     except InvalidRecordError:

@@ -1,4 +1,4 @@
-"""What a whole operation does at the copy of a record; no database is in here."""
+"""The effect of a whole operation at the copy of a record, without a database."""
 
 from __future__ import annotations
 
@@ -87,7 +87,7 @@ class Judge:
         return None
 
     def work(self, ticket: Ticket, right: Optional[bool] = None) -> Worked:
-        """What the whole operation does at the ticket's copy.
+        """The effect of the whole operation at the ticket's copy.
 
         `right` is what the hook has answered to the ticket's question. Whoever has no
         record costs one hash too, as does an account that doesn't exist.
@@ -131,7 +131,7 @@ class Judge:
         return self._stepped(request, copy)
 
     def _stepped(self, request: Request, copy: Optional[str]) -> tuple[Reply, Copy]:
-        """What the step answers under the first secret, and the record after it."""
+        """The step's answer under the first secret, and the record after it."""
         kind, password, secret = request.kind, request.password, self._secret
         if kind is Kind.UPGRADE and copy is not None and not self._is_upgraded(copy):
             reply, _ = step(Kind.VERIFY, copy, password, b"", "", secret)
@@ -161,7 +161,7 @@ class Judge:
     def _spend(
         self, record: str, password: Secret, secrets: Iterable[Optional[bytes]]
     ) -> None:
-        """As many hashes as a wrong password costs."""
+        """Makes as many hashes as a wrong password costs."""
         for secret in secrets:
             is_right(record, password, secret)
 
@@ -210,7 +210,7 @@ class Judge:
 
 
 def verdict_of(answer: object) -> Optional[bool]:
-    """A hook's answer, if it is one: a pair, a word or a number would be a yes."""
+    """A hook's answer; raises TypeError for a pair, a word or a number."""
     if answer is None or isinstance(answer, bool):
         return answer
     kind = type(answer).__name__

@@ -37,7 +37,7 @@ AS_A_VERIFY: Final = {
 
 
 class Operations(Generic[AnyPool]):
-    """What accounts do, over any runtime: Accounts and AsyncAccounts say it to callers."""
+    """The operations over any runtime; Accounts and AsyncAccounts document them."""
 
     _kind: ClassVar[type[Runtime]]
     _runtime: Runtime
@@ -145,7 +145,7 @@ class Operations(Generic[AnyPool]):
     async def _first_copy(
         self, request: Request, patience: Optional[float] = None
     ) -> tuple[Copy, bool]:
-        """A copy to work at, and whether it is what stood at the primary."""
+        """A copy to work at, and whether it was read at the primary."""
         self._dialect.check_key(request.key)
         has_replica = self._connections.replica is not None
         if has_replica and self._dialect.can_stand(request.key):
@@ -156,7 +156,7 @@ class Operations(Generic[AnyPool]):
         return await self._look(request.key, patience), True
 
     async def _look(self, key: Key, patience: Optional[float] = None) -> Copy:
-        """What stands at the primary."""
+        """The record at the primary."""
         if not self._dialect.can_stand(key):
             return NO_ROW
         copy: Copy = await self._connections.patiently(self._looking(key), patience)
@@ -190,7 +190,7 @@ class Operations(Generic[AnyPool]):
         return answer
 
     async def _settled(self, worked: Worked, also: Hook) -> Answer:
-        """Finds out whether a change stands whose COMMIT had no answer.
+        """Finds out whether a change took place whose COMMIT had no answer.
 
         A record is put once, since its salt is fresh. So if the new one stands, it was
         put. It may not have come to the disk or to the standby, so it is put over

@@ -1,4 +1,4 @@
-"""What accounts make of a password before it is hashed, and which new ones they refuse."""
+"""How accounts prepare a password for its hash, and which new ones they refuse."""
 
 from __future__ import annotations
 

@@ -25,7 +25,7 @@ Hook = Optional[Callable[[Any, Reply], Any]]
 
 
 class HookFailed(Exception):
-    """A caller's hook has raised `error`, and nothing was done; the caller is to have it."""
+    """A caller's hook raised `error`, which the caller gets; no change was made."""
 
     def __init__(self, error: Exception) -> None:
         super().__init__()
@@ -39,7 +39,7 @@ def at_once(name: str, answer: Any) -> Any:
     if isinstance(answer, Awaitable):
         raise TypeError(f"`{name}` has answered a coroutine: use AsyncAccounts")
     if isinstance(answer, (Generator, AsyncGenerator)):
-        raise TypeError(f"`{name}` has answered a generator, which nobody runs")
+        raise TypeError(f"`{name}` returned a generator, which nobody runs")
     return answer
 
 
@@ -52,7 +52,7 @@ class Result(NamedTuple):
 
 
 class Session:
-    """A connection of the DB-API (PEP 249), and how a statement is done on it.
+    """A connection of the DB-API (PEP 249), and how a statement runs on it.
 
     `options` are keywords of the driver's `execute`.
     """
@@ -61,7 +61,7 @@ class Session:
         self.conn, self._options = conn, options
 
     async def execute(self, sql: str, *values: object) -> Result:
-        """Does a statement to its end: a cursor that isn't keeps SQLite's snapshot."""
+        """Runs a statement to its end: an open cursor would keep SQLite's snapshot."""
         cursor = self.conn.cursor()
         try:
             # Without values no driver looks for marks in it.
@@ -72,7 +72,7 @@ class Session:
             cursor.close()
 
     async def wait(self, answer: Any) -> None:
-        """Waits for a caller's `also`, which has answered this."""
+        """Awaits what a caller's `also` returned."""
         at_once("also", answer)
 
 
@@ -132,7 +132,7 @@ class Ending(Generic[T]):
 
 
 def run(coroutine: Coroutine[Any, Any, T]) -> T:
-    """What a coroutine over a blocking driver answers."""
+    """The result of a coroutine over a blocking driver."""
     try:
         coroutine.send(None)
     except StopIteration as end:
@@ -183,11 +183,11 @@ class Runtime:
         time.sleep(seconds)
 
     async def call(self, work: Callable[..., T], *given: Any) -> T:
-        """Does work that needs a processor for a while."""
+        """Runs work that keeps a processor busy for a while."""
         return work(*given)
 
     async def ask(self, name: str, hook: Callable[..., Any], *given: Any) -> Any:
-        """What a caller's hook answers, which may hash too."""
+        """The answer of a caller's hook, which may hash too."""
         return at_once(name, hook(*given))
 
 

@@ -1,4 +1,4 @@
-"""What the operations do on one connection.
+"""The operations' work on one connection.
 
 A change is one statement that commits, where the engine has such a one and what stands
 afterwards tells enough. Otherwise it is a transaction: the comparison, a look at what
@@ -27,7 +27,7 @@ WROTE: Final = "`also` has changed the account's own record"
 
 
 class Lost(Exception):
-    """The connection is of no use any more, and nothing was done; its cause says why."""
+    """The connection is broken, and no change was made; its cause says why."""
 
 
 class Broken(Exception):
@@ -36,7 +36,7 @@ class Broken(Exception):
 
 @dataclass(frozen=True)
 class Undone:
-    """Nothing was done, and it may be tried again."""
+    """No change was made, and the job may be tried again."""
 
     cause: Optional[BaseException]
     reason: str = ""  # why there is no connection, in words that have no row
@@ -51,12 +51,12 @@ class Table:
     before_commit: Callable[[Worked], None]  # is called before each one of a change
 
     def writes(self, worked: Worked) -> bool:
-        """Whether it is committed by an UPDATE, if only of the copy by itself."""
+        """Whether the operation writes, if only the copy over itself."""
         is_there = worked.ticket.copy is not NO_ROW
         return worked.reply.makes_change or (self.confirm and is_there)
 
     async def look(self, session: Session, key: Key) -> Copy:
-        """The record that stands."""
+        """The present record."""
         self.dialect.fresh(session.conn)
         try:
             await self.dialect.prepare(session)
@@ -169,7 +169,7 @@ class Table:
         return answer
 
     def _is_open(self, session: Session) -> bool:
-        """Whether a transaction is open, and goes on, on a connection that may be closed."""
+        """Whether a healthy transaction is open on a connection, which may be closed."""
         try:
             mode = self.dialect.mode(session.conn)
         except Exception:
@@ -246,7 +246,7 @@ class Table:
         return fault
 
     async def _row(self, session: Session) -> Optional[Key]:
-        """The key of a new row, or of any; None if no new one is taken, and none stands."""
+        """The key of a new row, or of any; None if the table has none and refuses one."""
         dialect = self.dialect
         key = unused_key(dialect.key_type)
         try:
@@ -282,7 +282,7 @@ class Table:
         raise Lost() from error
 
     async def _undone(self, session: Session, error: Exception) -> Undone:
-        """Rolls back after an error: it is to be tried again, or raises."""
+        """Rolls back after an error, which means another try or is raised."""
         verdict = self.dialect.verdict(error) if is_of_driver(error) else None
         is_kept = verdict is not Verdict.LOST
         if is_kept:
@@ -295,7 +295,7 @@ class Table:
         self._raise(error)
 
     def _raise(self, error: Exception) -> NoReturn:
-        """Raises what an error means.
+        """Raises the exception that an error means.
 
         With its number alone, and outside of its handler: a driver's text may have the
         row that was refused, with the record.
@@ -314,7 +314,7 @@ class Table:
 
 
 def judged(worked: Worked, now: Copy) -> Answer:
-    """What is answered if nothing is put, at what stands."""
+    """The answer without a change, at the record that was found."""
     if now == worked.ticket.copy:
         return Answer(worked.reply, now, now)
     return Answer(Reply.NO_ACCOUNT if now is NO_ROW else Reply.CHANGED, now, now)

@@ -34,7 +34,7 @@ def _options() -> Words:
 
 
 def parser(description: str, texts: Mapping[str, str]) -> argparse.ArgumentParser:
-    """The words of the command, with each of its commands and its text."""
+    """The parser of the command, with a text for each of its commands."""
     words = Words(
         prog="python3 -m rigzumal accounts",
         description=description,
@@ -87,7 +87,7 @@ def accounts_hasher(given: argparse.Namespace) -> Union[PasswordHasher, ScryptHa
 
 
 def password_of(*, is_new: bool = False) -> bytes:
-    """The password of standard input without one newline at its end, or what is typed."""
+    """The password that is typed, or standard input without one newline at its end."""
     return _checked(read_password(is_new=is_new).removesuffix(b"\n"))
 
 

@@ -208,7 +208,7 @@ class _Command:
         return Status.DONE if is_good else Status.NO
 
     def say(self, reply: Reply, *good: Reply) -> int:
-        """Writes a reply; its status is a no unless it is a good one."""
+        """Writes a reply, with the status of a no unless it is one of the good ones."""
         words = {Reply.NO_ACCOUNT: "no account", Reply.ABSENT: "no record"}
         self.write(words.get(reply, reply.value), reply=reply.value)
         return Status.DONE if reply in good else Status.NO

@@ -106,7 +106,7 @@ class Database:
 
 
 def _mysql_options(query: str) -> dict[str, str]:
-    """What stands behind the question mark; ValueError for an option that isn't known."""
+    """The options behind the question mark; ValueError for an unknown one."""
     options = dict(parse_qsl(query, keep_blank_values=True))
     for name in options.keys() - {*_OPTIONS}:
         raise ValueError(f"{name} is none of {', '.join(_OPTIONS)}")
@@ -114,7 +114,7 @@ def _mysql_options(query: str) -> dict[str, str]:
 
 
 def _place(text: str) -> tuple[str, int]:
-    """A host with its port; ValueError for another text."""
+    """A host with its port; raises ValueError for any other text."""
     found = _HOST.fullmatch(text)
     if found is None:
         raise ValueError("a host of MySQL is name:port or [address]:port")

@@ -35,13 +35,13 @@ _MAKERS = "PerThread(connect), of_engine(engine) or ConnectionPool(..).connectio
 
 
 def check_pool(pool: object) -> None:
-    """Raises TypeError at a connection or an engine where a pool is wanted."""
+    """Raises TypeError for a connection or an engine in place of a pool."""
     if not callable(pool) or hasattr(type(pool), "cursor"):
         raise TypeError(f"a pool is wanted, not a {type(pool).__name__}: {_MAKERS}")
 
 
 def lent(pool: Any, enter: str) -> Any:
-    """What a pool lends a connection by; raises TypeError if `enter` is none of its methods.
+    """The context manager of a pool's connection; raises TypeError if it lacks `enter`.
 
     A connection of psycopg or sqlite3 is a context manager too, which doesn't close it.
     """
@@ -221,7 +221,7 @@ def of_engine(engine: Any) -> Any:
 
 @contextmanager
 def _drivers_error() -> Iterator[None]:
-    """Raises the driver's own error within SQLAlchemy's, by which one knows what it means."""
+    """Raises the driver's own error within SQLAlchemy's, whose meaning is known."""
     try:
         yield
     except Exception as error:

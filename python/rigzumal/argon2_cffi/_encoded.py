@@ -30,7 +30,7 @@ class Type(Enum):
 
 
 class Numbers(NamedTuple):
-    """What a hash says before its salt."""
+    """The part of a hash before its salt."""
 
     type: Type
     version: int
@@ -44,7 +44,7 @@ def _base64(data: bytes) -> bytes:
 
 
 def _data(letters: bytes) -> Optional[bytes]:
-    """The bytes of base64 without padding; None for letters that nobody writes for any bytes."""
+    """The bytes of base64 without padding; None for letters that encode no bytes."""
     if len(letters) % 4 == 1:
         return None
     data = a2b_base64(letters + b"=" * (-len(letters) % 4))
@@ -67,7 +67,7 @@ class Encoded(NamedTuple):
 
     @classmethod
     def read(cls, text: bytes) -> Optional[Encoded]:
-        """What an encoded hash says, or None if it is none; its costs may be out of range."""
+        """The parts of an encoded hash, or None; its costs may be out of range."""
         found = _FORM.fullmatch(text)
         if found is None:
             return None

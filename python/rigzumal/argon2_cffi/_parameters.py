@@ -19,7 +19,7 @@ _SCHEME = 2
 
 @dataclass
 class Parameters:
-    """What an Argon2 hash was made with.
+    """The parameters that an Argon2 hash was made with.
 
     Attributes:
         type: the kind.

@@ -124,7 +124,7 @@ class PasswordHasher:
         Raises:
             VerifyMismatchError: it is one of another password.
             VerificationError: it can't be verified for another reason.
-            InvalidHashError: it begins with no name of Argon2's kinds, or no string of C is so.
+            InvalidHashError: it begins with none of Argon2's kinds, or isn't a string of C.
         """
         try:
             encoded = _bytes_of(hash, "ascii")

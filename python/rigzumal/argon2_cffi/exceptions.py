@@ -21,7 +21,7 @@ class _Said:
 
 
 class Argon2Error(_Said, rigzumal.RigzumalError):
-    """What hashing and verifying raise."""
+    """The base of the exceptions of hashing and verifying."""
 
 
 class VerificationError(Argon2Error):

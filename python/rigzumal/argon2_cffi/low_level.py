@@ -95,7 +95,7 @@ def _message_of(fault: RigzumalError) -> str:
 def _first_fault(
     salt: bytes, time_cost: int, memory_cost: int, parallelism: int, hash_len: int
 ) -> Optional[int]:
-    """What is too small of these, in libargon2's order."""
+    """The first of these that is too small, in libargon2's order."""
     for is_fault, number in (
         (hash_len < 4, -2),
         (len(salt) < 8, -6),

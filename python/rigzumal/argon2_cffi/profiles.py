@@ -10,12 +10,12 @@ RFC_9106_LOW_MEMORY = Parameters(Type.ID, 19, 16, 32, 3, 65536, 4)
 """RFC 9106's second recommendation: 64 MiB."""
 
 PRE_21_2 = Parameters(Type.ID, 19, 16, 16, 2, 102400, 8)
-"""What argon2-cffi took before its version 21.2."""
+"""The defaults of argon2-cffi before version 21.2."""
 
 CHEAPEST = Parameters(Type.ID, 19, 8, 4, 1, 8, 1)
 """For tests alone."""
 
 
 def get_default_parameters() -> Parameters:
-    """What PasswordHasher takes if it is told nothing."""
+    """The defaults of PasswordHasher."""
     return RFC_9106_LOW_MEMORY

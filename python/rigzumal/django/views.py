@@ -13,7 +13,7 @@ from rigzumal.django import forms
 
 
 class _ShowsWhyNot:
-    """What `form_valid` raises becomes an error of the form."""
+    """Shows what `form_valid` raises as an error of the form."""
 
     def form_valid(self, form: Any) -> Any:
         """Writes the password, or shows why not."""

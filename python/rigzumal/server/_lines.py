@@ -64,7 +64,7 @@ class Reply(enum.Enum):
 
 
 class ServerError(Exception):
-    """The base of a question's own exceptions."""
+    """The base of the clients' own exceptions."""
 
 
 class Unavailable(ServerError):

@@ -212,7 +212,7 @@ class Dialect:
             raise StoreFault(NO_TRANSACTION)
 
     async def prepare(self, session: Session) -> None:
-        """What has to be asked of a session before it is used."""
+        """Asks a session for what an operation relies on, before its first use."""
 
     # ---- statements
 
@@ -231,21 +231,21 @@ class Dialect:
         raise NotImplementedError
 
     async def commit(self, session: Session) -> None:
-        """Commits, and raises unless what was done surely stands."""
+        """Commits, and raises unless the change surely stays."""
         await session.execute(self.commit_sql)
 
     async def undo(self, session: Session) -> None:
-        """Rolls back what is open."""
+        """Rolls back an open transaction."""
         await session.execute("ROLLBACK")
 
     # ---- errors
 
     def verdict(self, raised: BaseException) -> Verdict:
-        """What an error of the driver means where no COMMIT was sent."""
+        """The meaning of a driver's error before COMMIT was sent."""
         raise NotImplementedError
 
     def is_drivers(self, raised: BaseException) -> bool:
-        """Whether the driver raised it, where a caller's code has run too."""
+        """Whether the driver raised the error, and not the caller's code."""
         if not self.drivers:
             return is_of_driver(raised) and not isinstance(raised, OSError)
         return type(raised).__module__.partition(".")[0] in self.drivers
@@ -255,11 +255,11 @@ class Dialect:
         return isinstance(raised, UnicodeEncodeError)
 
     def gave_up(self, raised: BaseException) -> bool:
-        """Whether an answer to what commits says that the server undid it."""
+        """Whether the answer to a COMMIT says that the server undid the change."""
         return self.verdict(raised) is Verdict.AGAIN
 
     def refuses_at_once(self, raised: BaseException) -> bool:
-        """Whether the statement was undone, and a transaction does better or says why."""
+        """Whether the statement was undone, and a transaction may succeed or say why."""
         return False
 
     def number(self, raised: BaseException) -> str:
@@ -277,13 +277,13 @@ class Dialect:
         return self.alone(f"CREATE TABLE {self.table} ({columns})")
 
     async def examine(self, session: Session) -> Findings:
-        """What the catalogue and the settings show to be wrong."""
+        """The faults that the catalogue and the settings show."""
         raise NotImplementedError
 
     # ---- faults that a table of any engine may have
 
     def missing(self, found: Container[str]) -> list[Fault]:
-        """Columns that aren't there."""
+        """The columns that the table lacks."""
         return [
             error("no-column", f"no column {self.table_name}.{name}")
             for name in (self.key_name, self.record_name)
@@ -291,7 +291,7 @@ class Dialect:
         ]
 
     def common_faults(self, nullable: bool, unique: bool) -> Iterator[Fault]:
-        """What every engine's table has to be."""
+        """The faults that a table of any engine may have."""
         if not nullable:
             text = f"{self.record_name} is NOT NULL: no account can be without a record"
             yield warning(NOT_NULL, f"{text}, so `remove` is refused")
@@ -306,17 +306,17 @@ class Dialect:
             yield warning("after-trigger", text)
 
     def key_faults(self, kind: str, fits: bool) -> Iterator[Fault]:
-        """A column that compares keys otherwise than they are."""
+        """A column that holds keys of another type."""
         if not fits:
             wanted = self.key_type.__name__
             yield error("key-type", f"{self.key_name} is {kind}, and keys are {wanted}")
 
     def record_fault(self, said: str) -> Fault:
-        """A column that holds no record as it is."""
+        """A column that can't hold a record unchanged."""
         return error("record-type", f"{self.record_name} is {said}")
 
     def length_faults(self, kind: str, length: int) -> Iterator[Fault]:
-        """A column that cuts records off: those that accounts write, or other programs."""
+        """A column that is too short for records of accounts, or of other programs."""
         if length < LONGEST_WRITTEN:
             yield self.record_fault(
                 f"{kind}: a record has up to {LONGEST_WRITTEN} bytes"

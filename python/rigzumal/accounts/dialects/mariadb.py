@@ -40,7 +40,7 @@ _LACKS: Final = (1267, 3988)
 
 
 class StatementTimeout(OSError):
-    """max_statement_time is over, and nothing was done: as after a lock's."""
+    """max_statement_time is over, and the statement was undone, as after a lock's."""
 
 
 class MariaDB(Dialect):
@@ -217,7 +217,7 @@ def shown_early(seen: dict[str, str]) -> tuple[Fault, ...]:
 
 
 def of_server(seen: dict[str, str]) -> Iterator[Fault]:
-    """What is wrong with a session of MariaDB."""
+    """The faults of a session of MariaDB."""
     if "STRICT_" not in seen["sql_mode"]:
         yield warning(
             "not-strict", "sql_mode isn't strict: what is too long is cut off"

@@ -117,7 +117,7 @@ _PRAGMAS: Final = ("synchronous", "busy_timeout", "journal_mode", "read_uncommit
 
 
 def of_connection(seen: dict[str, Any]) -> Iterator[Fault]:
-    """What is wrong with a connection of SQLite, by its pragmas."""
+    """The faults of a connection of SQLite, by its pragmas."""
     if seen["synchronous"] < 2:
         yield not_durable(f"synchronous is below FULL: {POWER_CUT_LOSES}")
     if seen["busy_timeout"] < 1000:
