@@ -50,7 +50,7 @@ class Import:
         if spaced:
             name = shown(records[spaced[0]][0])
             say(
-                f"line {spaced[0] + 1}: {name!r} has a space; names with one: {len(spaced)}"
+                f"line {spaced[0] + 1}: {name!r} has a space; names with a space: {len(spaced)}"
             )
         begun, words = time.monotonic(), list[str]()
         while len(words) < len(records):

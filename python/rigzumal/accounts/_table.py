@@ -323,7 +323,7 @@ def judged(worked: Worked, now: Copy) -> Answer:
 def _record(rows: list[tuple[Any, ...]]) -> Copy:
     """The record in the one row that was found, if one was."""
     if len(rows) > 1:
-        raise StoreFault("the key is of more than one row")
+        raise StoreFault("more than one row has the key")
     if not rows:
         return NO_ROW
     (record,) = rows[0]

@@ -424,7 +424,7 @@ class Commands(Base):
         file = self.file(f"ann {RECORD}", f"ben lee {RECORD}", f"cid x {RECORD}")
         said, error = self.streams("import", file)
         self.assertEqual(said, "3 added, 0 there already\n")
-        self.assertEqual(error, "rigzumal: line 2: 'ben lee' has a space; names with one: 2\n")
+        self.assertEqual(error, "rigzumal: line 2: 'ben lee' has a space; names with a space: 2\n")
 
     def test_records_of_other_schemes_are_taken_if_asked_for(self):
         self.run_command("init")
