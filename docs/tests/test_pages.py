@@ -328,13 +328,6 @@ assert hasher.check_needs_rehash(record) is {is_old}
         """Runs a test over a file in PHP."""
         run("php", HERE / test, code, env={"LD_LIBRARY_PATH": str(LIBRARIES)})
 
-    def php_of_page(self, name):
-        """The code of docs/PHP.md that begins with this name, as a file."""
-        blocks = re.findall(r"^```php\n(.*?)```", (HERE.parent / "PHP.md").read_text(), re.S | re.M)
-        code = self.room / name
-        code.write_text(next(it for it in blocks if it.startswith(f"<?php // {name}")))
-        return code
-
     def need_php(self, page=None):
         need("php")
         if "pdo_sqlite" not in run("php", "-m"):
@@ -343,9 +336,9 @@ assert hasher.check_needs_rehash(record) is {is_old}
             self.skipTest(f"PHP's {page} isn't installed")
 
     def test_php(self):
-        """docs/PHP.md's plain code, on SQLite."""
+        """The plain code, on SQLite."""
         self.need_php()
-        self.php(self.php_of_page("accounts.php"), "php_accounts.php")
+        self.php(REPOSITORY / "examples/php/accounts.php", "php_accounts.php")
 
     def test_laravel(self):
         """The provider for Laravel, on SQLite."""
@@ -356,7 +349,10 @@ assert hasher.check_needs_rehash(record) is {is_old}
     def test_symfony(self):
         """docs/PHP.md's upgrader for Symfony, on SQLite."""
         self.need_php("Symfony/Component/Security/Http/autoload.php")
-        self.php(self.php_of_page("CompareAndSetUpgrader.php"), "php_symfony.php")
+        (code,) = re.findall(r"^```php\n(<.*?)```", (HERE.parent / "PHP.md").read_text(), re.S | re.M)
+        page = self.room / "CompareAndSetUpgrader.php"
+        page.write_text(code)
+        self.php(page, "php_symfony.php")
 
     def test_migrating(self):
         """The commands of docs/MIGRATING.md write what stands there."""
