@@ -31,7 +31,7 @@ MOST = {
     "words in README.md": 650,
     "bytes in README.md": 5000,
     "lines of over 100 columns in src/ and specs/": 28,
-    "lines that tools/english.txt finds": 222,
+    "lines that tools/english.txt finds": 170,
 }
 FOLDERS = "crates|c|python|rust|tests|docs|tools|bench|interop|examples|man|bin|units|packaging|completions|proofs|specs|src"
 # What pages name where it is installed.
