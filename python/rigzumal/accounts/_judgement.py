@@ -18,12 +18,11 @@ from rigzumal.accounts.parts import bytes_of_password
 Hasher = Union[PasswordHasher, ScryptHasher]
 
 Foreign = Callable[[str, bytes], Union[Optional[bool], Awaitable[Optional[bool]]]]
-"""Judges a text that is no record of ours: whether it is one of the password.
+"""Judges a text that is no record of ours: True if it is one of the password, or False.
 
-It answers True or False. None says that no password is right and that nothing was hashed,
-as of a login that was shut: then a hash of ours is made, so that it takes as long. Any
-other answer is a TypeError. AsyncAccounts awaits a coroutine function, and calls a
-function in its executor.
+None says that no password is right and that the hook hashed nothing, as for a locked
+login: a hash of ours then makes the answer need as long. Any other answer is a TypeError.
+AsyncAccounts awaits a coroutine function, and calls a function in its executor.
 """
 
 _TAG_SIZE: Final = 32

@@ -100,7 +100,7 @@ class Options:
     least_length: int = option("characters of a new password at least", "N", 0)
     setting: str = option("for credkeep: the costs of new records", "TEXT")
     at_once: int = option(
-        "lines of a user hashed at once; 0: processors", "N", 0, number(MOST_AT_ONCE)
+        "lines of one user hashed at once; 0: one a processor", "N", 0, number(MOST_AT_ONCE)
     )
     memory: str = option("for credkeep: memory for hashes, as 512M", "SIZE")
     most_memory: str = option("for credkeep: the bound of a record's memory", "SIZE")
