@@ -183,11 +183,11 @@ class Runtime:
         time.sleep(seconds)
 
     async def call(self, work: Callable[..., T], *given: Any) -> T:
-        """Runs work that keeps a processor busy for a while."""
+        """Does work that needs a processor for a while."""
         return work(*given)
 
     async def ask(self, name: str, hook: Callable[..., Any], *given: Any) -> Any:
-        """The answer of a caller's hook, which may hash too."""
+        """What a caller's hook answers, which may hash too."""
         return at_once(name, hook(*given))
 
 

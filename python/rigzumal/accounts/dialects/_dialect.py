@@ -312,7 +312,7 @@ class Dialect:
             yield error("key-type", f"{self.key_name} is {kind}, and keys are {wanted}")
 
     def record_fault(self, said: str) -> Fault:
-        """A column that can't hold a record unchanged."""
+        """A column that holds no record as it is."""
         return error("record-type", f"{self.record_name} is {said}")
 
     def length_faults(self, kind: str, length: int) -> Iterator[Fault]:
