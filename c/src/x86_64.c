@@ -9,65 +9,38 @@
 
 extern const struct build build_v1, build_v2, build_v3, build_v4;
 
-/* The features are asked for one by one, as compilers know the levels' names only since gcc 12 and
- * clang 16. A level that lacks one feature is not taken: what compilers make of a build may use any
- * of them. */
-#define BIT(n) (1u << (n))
-
-/* Of leaf 1, ecx. */
-enum {
-    SSE3 = BIT(0),
-    SSSE3 = BIT(9),
-    FMA = BIT(12),
-    CMPXCHG16B = BIT(13),
-    SSE4_1 = BIT(19),
-    SSE4_2 = BIT(20),
-    MOVBE = BIT(22),
-    POPCNT = BIT(23),
-    OSXSAVE = BIT(27),
-    AVX = BIT(28),
-    F16C = BIT(29)
-};
-
-/* Of leaf 7, ebx. */
-#define AVX512VL BIT(31)
-enum {
-    BMI1 = BIT(3),
-    AVX2 = BIT(5),
-    BMI2 = BIT(8),
-    AVX512F = BIT(16),
-    AVX512DQ = BIT(17),
-    AVX512CD = BIT(28),
-    AVX512BW = BIT(30)
-};
-
-/* Of leaf 0x80000001, ecx. */
-enum { LAHF = BIT(0), LZCNT = BIT(5) };
-
 /* Of XCR0: the states of SSE and AVX, and those of AVX-512 with them. */
 enum { WIDE_STATES = 0x6, WIDEST_STATES = 0xe6 };
 
 struct features {
-    uint32_t basic, extended, added; /* of the three leaves */
+    uint32_t basic, extended, added; /* of leaf 1, ecx; of leaf 7, ebx; of leaf 0x80000001, ecx */
     uint32_t kept;                   /* of XCR0: the registers that the system keeps */
 };
 
-/* The levels that a processor may have, each with the features that the one before lacks. */
+/* The levels that a processor may have, each with the features that the one before lacks. They are
+ * asked for one by one, as compilers know the levels' names only since gcc 12 and clang 16. A level
+ * that lacks one is not taken: what compilers make of a build may use any of them. */
 static const struct level {
     struct features added;
     const struct build *build;
 } levels[] = {
     {{0, 0, 0, 0}, &build_v1},
-    {{SSE3 | SSSE3 | CMPXCHG16B | SSE4_1 | SSE4_2 | POPCNT, 0, LAHF, 0}, &build_v2},
-    {{FMA | MOVBE | OSXSAVE | AVX | F16C, BMI1 | AVX2 | BMI2, LZCNT, WIDE_STATES}, &build_v3},
-    {{0, AVX512F | AVX512DQ | AVX512CD | AVX512BW | AVX512VL, 0, WIDEST_STATES}, &build_v4},
+    {{bit_SSE3 | bit_SSSE3 | bit_CMPXCHG16B | bit_SSE4_1 | bit_SSE4_2 | bit_POPCNT, 0, bit_LAHF_LM,
+      0},
+     &build_v2},
+    {{bit_FMA | bit_MOVBE | bit_OSXSAVE | bit_AVX | bit_F16C, bit_BMI | bit_AVX2 | bit_BMI2,
+      bit_LZCNT, WIDE_STATES},
+     &build_v3},
+    {{0, bit_AVX512F | bit_AVX512DQ | bit_AVX512CD | bit_AVX512BW | bit_AVX512VL, 0, WIDEST_STATES},
+     &build_v4},
 };
 
 /* With AVX512VL instructions on the upper registers may be narrow: wide ones slow some processors
  * down for a while. */
-static const struct features of_avx = {OSXSAVE, 0, 0, WIDE_STATES};
-static const struct features of_avx512 = {OSXSAVE, AVX512F, 0, WIDEST_STATES};
-static const struct features of_narrow_forms = {OSXSAVE, AVX512F | AVX512VL, 0, WIDEST_STATES};
+static const struct features of_avx = {bit_OSXSAVE, 0, 0, WIDE_STATES};
+static const struct features of_avx512 = {bit_OSXSAVE, bit_AVX512F, 0, WIDEST_STATES};
+static const struct features of_narrow_forms = {bit_OSXSAVE, bit_AVX512F | bit_AVX512VL, 0,
+                                                WIDEST_STATES};
 
 /* A test has a system that keeps fewer registers. */
 #ifndef READ_KEPT_REGISTERS
@@ -89,7 +62,7 @@ static struct features of_processor(void) {
         found.extended = b;
     if (__get_cpuid(0x80000001, &a, &b, &c, &d))
         found.added = c;
-    if (found.basic & OSXSAVE)
+    if (found.basic & bit_OSXSAVE)
         found.kept = kept_registers();
     return found;
 }

@@ -39,29 +39,26 @@ static inline struct vectors vectors_here(void) {
     return (struct vectors){VECTORS / 2, __builtin_cpu_supports("avx") ? 32 : 16};
 }
 
+/* Fills or stores each that there is. */
+#define EACH(done)                                                                                 \
+    if (here.count == VECTORS) {                                                                   \
+        THIRTY_TWO(done##_WIDEST)                                                                  \
+        EIGHT(done##_MASK)                                                                         \
+    } else if (here.size == 32) {                                                                  \
+        SIXTEEN(done##_WIDE)                                                                       \
+    } else {                                                                                       \
+        SIXTEEN(done)                                                                              \
+    }
+
 /* No call stands between these and what they look at: they are expanded where they are used. */
 #define HERE static inline __attribute__((always_inline))
 
 HERE void fill_registers(struct vectors here, const unsigned char mark[VECTOR_SIZE]) {
-    if (here.count == VECTORS) {
-        THIRTY_TWO(FILL_WIDEST)
-        EIGHT(FILL_MASK)
-    } else if (here.size == 32) {
-        SIXTEEN(FILL_WIDE)
-    } else {
-        SIXTEEN(FILL)
-    }
+    EACH(FILL);
 }
 
 HERE void store_registers(struct vectors here, struct stored *to) {
-    if (here.count == VECTORS) {
-        THIRTY_TWO(STORE_WIDEST)
-        EIGHT(STORE_MASK)
-    } else if (here.size == 32) {
-        SIXTEEN(STORE_WIDE)
-    } else {
-        SIXTEEN(STORE)
-    }
+    EACH(STORE);
 }
 
 #endif

@@ -1,15 +1,23 @@
-/* In place of the compiler's: of each leaf the test says which features there are. */
-#ifndef CPUID_H
-#define CPUID_H
+/* The compiler's, but that the test says of each leaf which features there are. */
+#ifndef LACKING_CPUID_H
+#define LACKING_CPUID_H
+#pragma GCC system_header
+
+#define __get_cpuid real_cpuid
+#define __get_cpuid_count real_cpuid_count
+#include_next <cpuid.h>
+#undef __get_cpuid
+#undef __get_cpuid_count
 
 unsigned features_of(unsigned leaf, unsigned found);
 
 static inline int __get_cpuid_count(unsigned leaf, unsigned subleaf, unsigned *a, unsigned *b,
                                     unsigned *c, unsigned *d) {
-    __asm__("cpuid" : "=a"(*a), "=b"(*b), "=c"(*c), "=d"(*d) : "a"(leaf), "c"(subleaf));
+    *b = *c = 0;
+    int answer = real_cpuid_count(leaf, subleaf, a, b, c, d);
     *b = features_of(leaf, *b);
     *c = features_of(leaf, *c);
-    return 1;
+    return answer;
 }
 
 static inline int __get_cpuid(unsigned leaf, unsigned *a, unsigned *b, unsigned *c, unsigned *d) {
