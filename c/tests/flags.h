@@ -25,9 +25,14 @@ static inline bool has_flag(const void *address, const char *flag) {
     return has;
 }
 
+/* Whether the system is told what madvise asks for: by qemu-user it isn't. */
+#ifndef HAS_ADVICE
+#define HAS_ADVICE true
+#endif
+
 /* In no core dump, and zero in a child. */
 static inline bool is_hidden(const void *address) {
-    return has_flag(address, " dd") && has_flag(address, " wf");
+    return !HAS_ADVICE || (has_flag(address, " dd") && has_flag(address, " wf"));
 }
 
 #endif

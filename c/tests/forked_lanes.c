@@ -3,11 +3,9 @@
  * stacks are unmapped. src/lanes.c and src/heap.c are over a stand-in for a segment's export that
  * leaves marks in both, on helpers alone, and waits for the fork. */
 #define _GNU_SOURCE
-#include "check.h"
 #include "flags.h"
 #include "lanes.h"
-#include "marks.h"
-#include "segments.h"
+#include "stand_ins.h"
 
 #include <pthread.h>
 #include <stdatomic.h>
@@ -36,13 +34,13 @@ static void check_stack(void) {
     CHECK(!has_flag((unsigned char *)start - 1, " rd"));
 }
 
-static uint8_t segment(const struct given_segment *it) {
+static uint8_t work_segment(const struct given_segment *it) {
     if (!pthread_equal(pthread_self(), caller)) {
         char here; /* in no core dump, as long as it is there */
         CHECK(is_hidden(&here));
         check_stack();
         leave_marks();
-        it->own->words[5] = MARK;
+        it->own->words[5] = *mark;
         marked++;
     }
     while (!is_forked)
@@ -55,7 +53,7 @@ static uint8_t segment(const struct given_segment *it) {
 enum { LARGEST_PAGE = 64 * 1024 };
 
 WRAP(int, mprotect, void *start, size_t size, int rights) {
-    CHECK(size % LARGEST_PAGE == 0);
+    CHECK(size % LARGEST_PAGE == 0 || mark == NULL);
     return __real_mprotect(start, size, rights);
 }
 
@@ -65,19 +63,10 @@ WRAP(int, madvise, void *start, size_t size, int advice) {
     return __real_madvise(start, size, advice);
 }
 
-STAND_IN(segment)
-
 static uint8_t segment_len(const struct tag_numbers *numbers, uint32_t *segment_size) {
     (void)numbers;
     *segment_size = SEGMENT;
     return 0;
-}
-
-static const struct build build = {.cred_argon2_segment = stand_in,
-                                   .cred_argon2_segment_len = segment_len};
-
-WRAP(const struct build *, processor_build, void) {
-    return &build;
 }
 
 static uint8_t begin(const void *inputs, struct argon2_block *first, size_t count) {
@@ -95,6 +84,10 @@ static void *call(void *unused) {
     caller = pthread_self();
     CHECK_NUMBER(work_lanes(&task, LANES), 0);
     return unused;
+}
+
+static int marks_left(void) {
+    return found_in_process("forked_lanes", mark);
 }
 
 /* A thread that forks: its child has the thread's stack as it is. */
@@ -138,6 +131,7 @@ static unsigned long mapped(void) {
 
 int main(void) {
     unsigned long before = 0;
+    make_mark();
     for (int turn = 0; turn < TURNS; turn++) {
         pthread_t thread;
         marked = is_forked = 0;

@@ -31,8 +31,8 @@ OURS = {"LD_LIBRARY_PATH": str(OUT)}
 ALL_WARNINGS = "-Wall -Wextra -Wpedantic -Werror"
 WARNINGS = ["-std=c11", "-g", "-pthread", "-Iinclude", "-Isrc", "-Itests", f"-Itests/{ARCH}"]
 WARNINGS += os.environ.get("TEST_WARNINGS", ALL_WARNINGS).split()
-# qemu-user keeps the last two signals, and takes its time.
-WARNINGS += [] if IS_NATIVE else ["-DLAST_SIGNAL=62", "-DSETS=40"]
+# qemu-user takes its time, and tells the system nothing of what madvise asks for.
+WARNINGS += [] if IS_NATIVE else ["-DSETS=40", "-DHAS_ADVICE=false"]
 # No sanitizer is for another processor or C library.
 SANITIZED = ["-O1", "-fsanitize=address,undefined", "-fno-sanitize-recover=all"] * IS_HOST
 RACES = ["-O1", "-fsanitize=thread"] * IS_HOST

@@ -1,19 +1,18 @@
-/* The memory by itself: blocks of all sizes taken, changed in size and given back in any order keep
- * what was written in them and nobody else's, and afterwards no more than the kept areas is mapped.
- * What can't be had is refused, and harms nothing. */
+/* The memory by itself. Blocks of all sizes taken, changed in size and given back in any order keep
+ * what was written in them and nobody else's; areas are mapped, advised, kept between calls and
+ * given back. What can't be had is refused, and harms nothing. */
 #define _GNU_SOURCE
+#include "flags.h"
 #include "watched_memory.h"
 
 #include <pthread.h>
-#include <stdint.h>
-
-enum { BLOCKS = 24, STEPS = 1200 };
+#include <unistd.h>
 
 static struct block {
     unsigned char *start;
     size_t size;
     int byte;
-} blocks[BLOCKS];
+} blocks[24];
 
 static size_t drawn_size(void) {
     static const size_t sizes[] = {0, 1, 100, 64 * KIB, MIB, 5 * MIB + 24, AREA, 18 * MIB};
@@ -23,7 +22,7 @@ static size_t drawn_size(void) {
 
 /* Looks at the ends of a block alone where it is large. */
 static void check_block(const struct block *block) {
-    size_t end = block->size < 4096 ? block->size : 4096;
+    size_t end = block->size < PAGE ? block->size : PAGE;
     CHECK(is_all(block->start, block->byte, end));
     CHECK(is_all(block->start + block->size - end, block->byte, end));
 }
@@ -34,55 +33,36 @@ static void fill_block(struct block *block, struct tried tried, size_t size) {
     memset(block->start, block->byte, size);
 }
 
+/* A block whose size changes: its first bytes go along. */
 static void change(struct block *block) {
     size_t size = drawn_size();
     if (block->start == NULL) {
         fill_block(block, rattle_alloc(size, 8), size);
-    } else if (rand() % 3 == 0) {
-        check_block(block);
-        struct tried tried = rattle_realloc(block->start, block->size, size, 8);
-        CHECK(tried.ok);
-        struct block kept = {tried.start, size < block->size ? size : block->size, block->byte};
-        check_block(&kept);
-        fill_block(block, tried, size);
-    } else {
-        check_block(block);
+        return;
+    }
+    check_block(block);
+    if (rand() % 3 > 0) {
         rattle_dealloc(block->start);
         block->start = NULL;
+        return;
     }
+    struct tried tried = rattle_realloc(block->start, block->size, size, 8);
+    CHECK(tried.ok);
+    struct block kept = {tried.start, size < block->size ? size : block->size, block->byte};
+    check_block(&kept);
+    fill_block(block, tried, size);
 }
 
 static void test_random_blocks(void) {
     srand(1);
-    for (int step = 0; step < STEPS; step++)
-        change(&blocks[rand() % BLOCKS]);
-    for (int i = 0; i < BLOCKS; i++)
+    for (int step = 0; step < 1200; step++)
+        change(&blocks[rand() % (int)COUNT(blocks)]);
+    for (size_t i = 0; i < COUNT(blocks); i++)
         if (blocks[i].start != NULL) {
             check_block(&blocks[i]);
             rattle_dealloc(blocks[i].start);
         }
     CHECK(mapped <= KEPT && mapped >= KEPT / 2);
-}
-
-/* A block whose size changes: its first bytes go along, and the old block is cleared. */
-static void test_changed_sizes(void) {
-    static const size_t sizes[] = {1, 24, 1000, 64 * KIB, 3 * MIB, 17 * MIB};
-    enum { SIZES = COUNT(sizes) };
-    for (int from = 0; from < SIZES; from++)
-        for (int to = 0; to < SIZES; to++) {
-            unsigned char *old = take_block(sizes[from]);
-            memset(old, 0x77, sizes[from]);
-            int freed_before = freed;
-            struct tried moved = rattle_realloc(old, sizes[from], sizes[to], 8);
-            CHECK(moved.ok);
-            if (sizes[from] < 64 * KIB) /* it was the C library's: __wrap_free has looked at it */
-                CHECK(freed == freed_before + 1);
-            else /* a kept area, or the one that is in use */
-                CHECK(is_all(old, 0, sizes[from]) || moved.start == old);
-            size_t kept = sizes[from] < sizes[to] ? sizes[from] : sizes[to];
-            CHECK(is_all(moved.start, 0x77, kept));
-            rattle_dealloc(moved.start);
-        }
 }
 
 /* What was given back last is taken again first, while another block stands below it, whatever its
@@ -101,21 +81,19 @@ static void test_used_again(void) {
 
 /* Memory for those who clear it themselves is zero wherever it is from. */
 static void test_zeros(void) {
-    static const size_t sizes[] = {1024,     48 * KIB, 64 * KIB, 5 * MIB,
-                                   16 * MIB, 16 * MIB, 1024,     40 * MIB};
-    enum { SIZES = COUNT(sizes) };
-    unsigned char *taken[SIZES];
-    for (int i = 0; i < SIZES; i++) {
+    static const size_t sizes[] = {1024, 48 * KIB, 64 * KIB, 5 * MIB, AREA, AREA, 1024, 40 * MIB};
+    unsigned char *taken[COUNT(sizes)];
+    for (size_t i = 0; i < COUNT(sizes); i++) {
         taken[i] = take_zeros(sizes[i]);
         CHECK(taken[i] != NULL && (uintptr_t)taken[i] % 64 == 0);
         CHECK(is_all(taken[i], 0, sizes[i]));
-        memset(taken[i], i + 1, sizes[i]);
+        memset(taken[i], (int)i + 1, sizes[i]);
     }
     most_mapped = mapped;
     CHECK(take_zeros(17 * MIB) == NULL && take_zeros(AREA) == NULL);
     most_mapped = SIZE_MAX;
-    for (int i = 0; i < SIZES; i++) {
-        CHECK(is_all(taken[i], i + 1, sizes[i]));
+    for (size_t i = 0; i < COUNT(sizes); i++) {
+        CHECK(is_all(taken[i], (int)i + 1, sizes[i]));
         memset(taken[i], 0, sizes[i]);
         give_zeros(taken[i]);
     }
@@ -145,8 +123,18 @@ static void test_many_blocks(void) {
     }
 }
 
-/* A block that can't have another size stays as it is. */
-static void test_refused_growth(void) {
+/* A block that can't have another size stays as it is. None is promised that begins at more than 64
+ * bytes. What is refused leaves a thread nothing. */
+static void *be_refused(void *unused) {
+    static const struct {
+        size_t size, align;
+    } refused[] = {{100, 8}, {SIZE_MAX - 100, 8}, {PTRDIFF_MAX, 8}, {100, 128}};
+    for (size_t i = 0; i < COUNT(refused); i++) {
+        is_refusing = i == 0;
+        struct tried tried = rattle_alloc(refused[i].size, refused[i].align);
+        CHECK(!tried.ok && tried.start != NULL);
+        is_refusing = false;
+    }
     unsigned char *block = take_block(100);
     memset(block, 7, 100);
     is_refusing = true;
@@ -154,33 +142,206 @@ static void test_refused_growth(void) {
     is_refusing = false;
     CHECK(is_all(block, 7, 100));
     rattle_dealloc(block);
+    return unused;
 }
 
-static void *refused(void *unused) {
-    (void)unused;
-    is_refusing = true;
-    struct tried tried = rattle_alloc(100, 8);
-    CHECK(!tried.ok && tried.start != NULL);
-    tried = rattle_alloc(SIZE_MAX - 100, 8);
-    CHECK(!tried.ok && tried.start != NULL);
-    tried = rattle_alloc((size_t)PTRDIFF_MAX, 8);
-    CHECK(!tried.ok && tried.start != NULL);
-    is_refusing = false;
-    tried = rattle_alloc(100, 128); /* no block is promised to begin there */
-    CHECK(!tried.ok && tried.start != NULL);
-    return NULL;
+static void test_refusals(void) {
+    pthread_t thread;
+    CHECK(pthread_create(&thread, NULL, be_refused, NULL) == 0);
+    CHECK(pthread_join(thread, NULL) == 0);
+}
+
+static bool is_advised(int advice, const unsigned char *start, size_t size) {
+    const struct advised *it = &advised[advice];
+    return it->times == 1 && it->start <= start && start + size <= it->start + it->size;
+}
+
+static bool reads_zeros_in_child(unsigned char *start, size_t size) {
+    pid_t child = fork();
+    if (child == 0) {
+        bool is_zero = is_all(start, 0, size);
+        memset(start, 0x99, size);
+        _exit(!is_zero);
+    }
+    return status_of(child) == 0;
+}
+
+/* The whole of a new mapping is to have huge pages, once, and the rest is unmapped. It is the
+ * process's own, in no core dump, and reads as zero in a forked child, which changes nothing of it.
+ * The system may have the pages of what is kept. */
+static void test_mappings(void) {
+    static const size_t sizes[] = {64 * KIB, 5 * MIB, AREA, 40 * MIB, KEPT, 70 * MIB};
+    for (size_t i = 0; i < COUNT(sizes); i++) {
+        unmap_kept_areas();
+        CHECK(mapped == 0);
+        memset(advised, 0, sizeof advised);
+        unsigned char *start = take_block(sizes[i]), *last = start + sizes[i] - 1;
+        size_t whole = sizes[i] <= AREA ? AREA : sizes[i], rest = whole < KEPT ? whole : KEPT;
+        CHECK(mapped == whole && (uintptr_t)start % HUGE_PAGE == 0);
+        CHECK(is_advised(MADV_HUGEPAGE, start, whole));
+        CHECK(is_advised(MADV_DONTDUMP, start, whole));
+        CHECK(is_advised(MADV_WIPEONFORK, start, whole));
+        CHECK(is_hidden(start) && is_hidden(last));
+        CHECK(!has_flag(start, " sh") && !has_flag(last, " sh"));
+        memset(start, 0x66, sizes[i]);
+        CHECK(reads_zeros_in_child(start, sizes[i]) && is_all(start, 0x66, sizes[i]));
+        CHECK(advised[MADV_FREE].times == 0);
+        rattle_dealloc(start);
+        CHECK(is_advised(MADV_FREE, start, rest) && mapped == rest);
+    }
+}
+
+/* Takes so many blocks of a size, writes to them and gives them back: so many are kept then. */
+static void keep_blocks(int count, size_t size, int kept) {
+    unsigned char *taken[160];
+    unmap_kept_areas();
+    for (int i = 0; i < count; i++) {
+        taken[i] = take_block(size);
+        memset(taken[i], i + 1, PAGE);
+    }
+    CHECK(unmap_kept_areas() == 0 && mapped == (size_t)count * size);
+    for (int i = 0; i < count; i++) {
+        CHECK(is_all(taken[i], i + 1, PAGE));
+        rattle_dealloc(taken[i]);
+    }
+    CHECK(mapped == (size_t)kept * size);
+}
+
+/* Takes so many of the kept blocks, with no mapping: the others are given back, each once. */
+static void take_kept_blocks(int count, size_t size, int kept) {
+    unsigned char *taken[160];
+    most_mapped = mapped;
+    for (int i = 0; i < count; i++) {
+        taken[i] = take_zeros(size);
+        CHECK(taken[i] != NULL && is_all(taken[i], 0, PAGE));
+    }
+    most_mapped = SIZE_MAX;
+    CHECK(unmap_kept_areas() == (size_t)(kept - count) * size && mapped == (size_t)count * size);
+    for (int i = 0; i < count; i++)
+        give_zeros(taken[i]);
+    CHECK(unmap_kept_areas() == (size_t)count * size && mapped == 0);
+}
+
+/* Blocks that areas are cut for, and larger ones, are kept up to a bound: of 2 GiB that many
+ * callers use at one time too, but no more than there are places for. */
+static void test_kept_areas(void) {
+    static const struct {
+        int blocks, kept;
+        size_t size, bound;
+    } rows[] = {{0, 0, AREA, KEPT},
+                {1, 1, AREA, KEPT},
+                {3, 3, AREA, KEPT},
+                {4, 4, AREA, KEPT},
+                {6, 4, AREA, KEPT},
+                {2, 2, 2 * AREA, KEPT},
+                {1, 1, 40 * MIB, KEPT},
+                {1, 1, KEPT, KEPT},
+                {128, 128, AREA, (size_t)128 * AREA},
+                {130, 128, AREA, (size_t)140 * AREA}};
+    for (size_t i = 0; i < COUNT(rows); i++) {
+        int kept = rows[i].kept, least = kept > 4 ? kept : 0; /* of many all are taken */
+        keep_at_most(rows[i].bound);
+        for (int taken = kept; taken >= least; taken--) {
+            keep_blocks(rows[i].blocks, rows[i].size, kept);
+            take_kept_blocks(taken, rows[i].size, kept);
+        }
+    }
+    keep_at_most(KEPT);
+}
+
+/* The smallest area that is large enough is taken. What is given back last is kept, in the place of
+ * the smallest where there is no room for all. */
+static void test_replaced_areas(void) {
+    unsigned char *first[3], *last = take_block(30 * MIB);
+    for (int i = 0; i < 3; i++)
+        first[i] = take_block((size_t)(20 - 2 * i) * MIB);
+    for (int i = 0; i < 3; i++)
+        rattle_dealloc(first[i]);
+    CHECK(mapped == 84 * MIB);
+    CHECK(take_block(AREA) == first[2] && take_block(17 * MIB) == first[1]);
+    rattle_dealloc(first[2]);
+    rattle_dealloc(first[1]);
+    rattle_dealloc(last);
+    CHECK(mapped == 50 * MIB);
+    CHECK(take_block(30 * MIB) == last && take_block(20 * MIB) == first[0]);
+    rattle_dealloc(last);
+    rattle_dealloc(first[0]);
+    CHECK(unmap_kept_areas() == 50 * MIB && mapped == 0);
+}
+
+/* The pages that are kept of a larger block are the first of the next one: cleared, and with one
+ * mapping for all. Where they can't be moved the block is a new one. */
+static void test_grown_areas(void) {
+    for (int turn = 0; turn < 4; turn++) {
+        moved = 0;
+        is_refusing_moves = turn == 3;
+        unsigned char *start = take_zeros(100 * MIB);
+        CHECK(moved == (turn == 1 || turn == 2 ? KEPT : 0));
+        CHECK(is_all(start, 0, 100 * MIB) && (uintptr_t)start % HUGE_PAGE == 0);
+        CHECK(is_hidden(start) && is_hidden(start + 99 * MIB));
+        memset(start, 1, 100 * MIB);
+        rattle_dealloc(start);
+        CHECK(mapped == (turn == 3 ? 2 * KEPT : KEPT)); /* those that were not moved are left */
+    }
+    is_refusing_moves = false;
+    mapped -= KEPT;
+}
+
+/* A program may keep more, less, or nothing. What is kept is given back as it says so. */
+static void test_bounds(void) {
+    static const struct {
+        size_t bound, kept;
+    } bounds[] = {{0, 0},
+                  {HUGE_PAGE - 1, 0},
+                  {HUGE_PAGE, HUGE_PAGE},
+                  {20 * MIB + 5, 20 * MIB},
+                  {SIZE_MAX, 100 * MIB}};
+    keep_blocks(4, AREA, 4);
+    CHECK(keep_at_most(0) == KEPT && mapped == 0);
+    for (size_t i = 0; i < COUNT(bounds); i++) {
+        keep_at_most(bounds[i].bound);
+        unsigned char *block = take_block(100 * MIB);
+        memset(block, 1, 100 * MIB);
+        rattle_dealloc(block);
+        CHECK(mapped == bounds[i].kept);
+        CHECK(keep_at_most(0) == bounds[i].bound / HUGE_PAGE * HUGE_PAGE && mapped == 0);
+    }
+    keep_at_most(KEPT);
+}
+
+/* Where no area can be mapped large blocks have as little as they need, with the same flags, and
+ * what is kept is given up for one that would else be refused. */
+static void test_little_room(void) {
+    most_mapped = 3 * HUGE_PAGE;
+    unsigned char *first = take_zeros(64 * KIB), *second = take_zeros(HUGE_PAGE);
+    CHECK(first != NULL && second != NULL && mapped == 2 * HUGE_PAGE);
+    CHECK(is_hidden(second));
+    CHECK(take_zeros(HUGE_PAGE) == NULL); /* its start is to be aligned */
+    give_zeros(first);
+    give_zeros(second);
+    most_mapped = SIZE_MAX;
+    keep_blocks(2, AREA, 2);
+    most_mapped = 24 * MIB;
+    unsigned char *larger = take_zeros(20 * MIB);
+    CHECK(larger != NULL && mapped == 20 * MIB);
+    give_zeros(larger);
+    most_mapped = SIZE_MAX;
 }
 
 int main(void) {
     test_random_blocks();
-    test_changed_sizes();
     test_used_again();
     test_zeros();
     test_many_blocks();
-    test_refused_growth();
+    if (HAS_ADVICE)
+        test_mappings();
+    test_kept_areas();
+    test_replaced_areas();
+    test_grown_areas();
+    test_bounds();
+    test_little_room();
     CHECK(mapped <= KEPT && held == 0);
-    pthread_t thread;
-    CHECK(pthread_create(&thread, NULL, refused, NULL) == 0);
-    CHECK(pthread_join(thread, NULL) == 0);
+    test_refusals();
+    CHECK(held == 0);
     return 0;
 }

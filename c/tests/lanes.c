@@ -1,15 +1,8 @@
 /* src/lanes.c over stand-ins for the exports and for the heap, with threads refused at random,
  * answers that aren't 0, and memory of the caller's. */
 #define _GNU_SOURCE
+#include "stand_ins.h"
 #include "watched_lanes.h"
-
-/* Gives the turn memory of its caller, for all slices. */
-static void give_memory(void) {
-    now.callers = calloc(SLICES * now.slice, sizeof(struct argon2_block));
-    CHECK(now.callers != NULL);
-    for (size_t i = 0; i < SLICES; i++)
-        now.taken[i] = now.callers + i * now.slice;
-}
 
 static void set_numbers(uint32_t lanes, uint32_t passes, size_t segment) {
     now.numbers = (struct tag_numbers){2, 0x13, 8 * lanes, passes, lanes, 32};
@@ -17,28 +10,33 @@ static void set_numbers(uint32_t lanes, uint32_t passes, size_t segment) {
     now.slice = segment * lanes;
 }
 
-static void begin_turn(void) {
+/* Begins a turn of random numbers, at times with memory of its caller, for all slices. */
+static void begin_turn(bool has_memory) {
     memset((void *)&now, 0, sizeof now);
     set_numbers(1 + random_below(9), 1 + random_below(3), 2 + random_below(6));
     now.caller = pthread_self();
     now.refused_slice = -1;
     now.bad_segment = now.last_segment = UINT64_MAX;
     refusals = random_below(3) == 0 ? random_below(5) : 0;
+    if (has_memory) {
+        now.callers = calloc(SLICES * now.slice, sizeof(struct argon2_block));
+        CHECK(now.callers != NULL);
+        for (size_t i = 0; i < SLICES; i++)
+            now.slices[i] = now.callers + i * now.slice;
+    }
 }
 
 /* What a turn answers, if everything that it is to do is done. */
 static void try_threads(uint32_t threads, int wanted) {
-    sigset_t after;
     int state, before = random_below(2) == 0 ? PTHREAD_CANCEL_ENABLE : PTHREAD_CANCEL_DISABLE;
     size_t size = 0;
     struct task task = {now.numbers, begin, end, &now, now.callers};
     CHECK_NUMBER(size_of_slices(&now.numbers, &size), wanted == RIGZUMAL_NO_KIND ? wanted : 0);
     CHECK(size == (wanted == RIGZUMAL_NO_KIND ? 0 : SLICES * now.slice * sizeof *now.callers));
-    pthread_sigmask(SIG_SETMASK, NULL, &now.signals);
+    now.signals = blocked_signals();
     pthread_setcancelstate(before, &state);
     CHECK_NUMBER(work_lanes(&task, threads), wanted);
-    pthread_sigmask(SIG_SETMASK, NULL, &after);
-    CHECK(are_same_signals(&now.signals, &after));
+    CHECK(blocked_signals() == now.signals);
     pthread_setcancelstate(PTHREAD_CANCEL_ENABLE, &state);
     CHECK(state == before);
     CHECK(now.alive == 0 && now.joins == now.starts && now.starts < (int)threads);
@@ -57,9 +55,7 @@ static void try_turn(int wanted) {
 
 static void test_order(int turns) {
     for (int turn = 0; turn < turns; turn++) {
-        begin_turn();
-        if (random_below(4) == 0)
-            give_memory();
+        begin_turn(random_below(4) == 0);
         try_turn(RIGZUMAL_OK);
         CHECK(now.begins == 1 && now.ends == 1);
         CHECK((uint64_t)now.segments_over ==
@@ -71,7 +67,7 @@ static void test_order(int turns) {
 static void test_large_numbers(void) {
     static const struct { uint32_t lanes, passes; } large[] = {{MOST_LANES, 1}, {2, MANY_PASSES}};
     for (size_t i = 0; i < COUNT(large); i++) {
-        begin_turn();
+        begin_turn(false);
         refusals = 0;
         set_numbers(large[i].lanes, large[i].passes, 2);
         try_threads(now.numbers.lanes, RIGZUMAL_OK);
@@ -84,11 +80,11 @@ static void test_large_numbers(void) {
 static void test_many_segments(void) {
     pid_t child = fork();
     if (child == 0) {
-        begin_turn();
+        begin_turn(false);
         set_numbers(4, 1u << 28, 2);
         now.last_segment = 100;
+        now.signals = blocked_signals();
         struct task task = {now.numbers, begin, end, &now, NULL};
-        pthread_sigmask(SIG_SETMASK, NULL, &now.signals);
         work_lanes(&task, 1);
         _exit(1);
     }
@@ -119,32 +115,28 @@ static void test_small_stacks(void) {
     pthread_attr_destroy(&attributes);
 }
 
+/* After a segment's fault no later one is worked. After any the memory is given back, cleared. */
 static void test_faults(int turns) {
     for (int turn = 0; turn < turns; turn++) {
-        begin_turn();
-        if (turn % 2 == 0)
-            give_memory();
-        uint32_t segments = SLICES * now.numbers.passes * now.numbers.lanes;
+        begin_turn(turn % 2 == 0);
+        uint32_t lanes = now.numbers.lanes, segments = SLICES * now.numbers.passes * lanes;
         now.bad_segment = random_below(segments);
         try_turn(PLACE);
-        uint64_t next = now.bad_segment - now.bad_segment % now.numbers.lanes + now.numbers.lanes;
-        for (; next < segments; next++)
+        for (uint64_t next = now.bad_segment / lanes * lanes + lanes; next < segments; next++)
             CHECK(now.begun[next] == 0);
         CHECK(now.ends == 0);
-        begin_turn();
+        begin_turn(false);
         now.end_answer = RIGZUMAL_MEMORY;
         try_turn(RIGZUMAL_MEMORY);
-        begin_turn();
-        if (turn % 2 == 1)
-            give_memory();
+        begin_turn(turn % 2 == 1);
         now.begin_answer = RIGZUMAL_INPUT_SIZE;
         try_turn(RIGZUMAL_INPUT_SIZE);
         CHECK(now.begun[0] == 0 && now.ends == 0);
-        begin_turn();
+        begin_turn(false);
         now.refused_slice = (int)random_below(SLICES);
         try_turn(RIGZUMAL_MEMORY);
         CHECK(now.begins == 0);
-        begin_turn();
+        begin_turn(false);
         now.numbers.kind = 3;
         try_turn(RIGZUMAL_NO_KIND);
         CHECK(now.takes == 0);
@@ -175,10 +167,21 @@ static void test_useful_threads(void) {
     processors = 16;
 }
 
+/* Which signals there are says the system: the C library keeps some, and qemu-user. */
+static void find_all_signals(void) {
+    sigset_t all, before;
+    sigfillset(&all);
+    CHECK(pthread_sigmask(SIG_SETMASK, &all, &before) == 0);
+    all_signals = blocked_signals();
+    CHECK(pthread_sigmask(SIG_SETMASK, &before, NULL) == 0 && blocked_signals() != all_signals);
+}
+
 /* Words: how many turns, and whether marks are looked for, which no sanitizer allows. */
 int main(int given, char **words) {
     CHECK(given >= 2);
     int turns = atoi(words[1]);
+    find_all_signals();
+    make_mark();
     test_useful_threads();
     test_order(turns);
     test_large_numbers();
@@ -187,6 +190,6 @@ int main(int given, char **words) {
     test_small_stacks();
     test_faults(turns / 5);
     if (given > 2)
-        CHECK_NUMBER(marks_left(), 0);
+        CHECK_NUMBER(found_in_process("lanes", mark), 0);
     return 0;
 }

@@ -15,15 +15,12 @@ FAST = ["-O2"]
 LANES = ["src/lanes.c", *WITHOUT_BUILDS]
 ALL = LIBARGON2 + SOURCES
 
-# qemu-user takes too long over hundreds of threads, and tells the system nothing of what madvise asks
-# for, by which a child and a core dump get less.
+# qemu-user takes too long over hundreds of threads.
 LARGE_NUMBERS = ("large numbers",) * IS_NATIVE
-OF_MADVISE = ("mappings", "forked_lanes")
 
 # A program, its flags, what is linked to it, and its words.
 PROGRAMS = (
     ("heap", SANITIZED, ["src/heap.c"]),
-    ("mappings", SANITIZED, ["src/heap.c"]),
     ("areas", ["-O1"], []),
     ("refused", [*SANITIZED, *JOBS], ALL),
     ("lanes", FAST, LANES, "150", "marks"),
@@ -83,7 +80,7 @@ class Programs(unittest.TestCase):
     def test_programs(self):
         for name, flags, linked, *words in PROGRAMS:
             with self.subTest(name, flags=flags):
-                if name in OF_MADVISE and not IS_NATIVE:
+                if name == "forked_lanes" and not IS_NATIVE:
                     self.skipTest("it looks at what madvise asked for")
                 run(built(name, flags, linked), *words)
 

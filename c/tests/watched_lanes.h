@@ -5,16 +5,15 @@
 
 #include "lanes.h"
 
-#include "check.h"
 #include "heap.h"
-#include "marks.h"
-#include "segments.h"
+#include "stand_ins.h"
 
 #include <errno.h>
 #include <pthread.h>
 #include <sched.h>
 #include <signal.h>
 #include <stdatomic.h>
+#include <stdbool.h>
 #include <unistd.h>
 
 enum {
@@ -32,20 +31,20 @@ static struct watched {
     struct tag_numbers numbers;
     size_t segment, slice; /* in blocks */
     pthread_t caller;
-    struct argon2_block *taken[SLICES];
+    struct argon2_block *slices[SLICES];
     struct argon2_block *callers; /* the caller's memory, or null */
-    sigset_t signals;             /* what the caller's thread blocks */
+    uint64_t signals;             /* what the caller's thread blocks */
     int begin_answer, end_answer, refused_slice;
     uint64_t bad_segment, last_segment;
     _Atomic(int) takes, gives, begins, ends, starts, joins, alive;
     _Atomic(int) begun[MOST_SEGMENTS];
     _Atomic(int) segments_over, has_fault, child_looks;
-    struct argon2_block *_Atomic bases[SLICES];
 } now;
 
 static uint32_t refusals;   /* of four threads */
 static int processors = 16; /* that a thread may run on; of 0 the system says nothing */
 static long online = 5;
+static uint64_t all_signals; /* those that a program can block */
 
 /* What the stand-ins count orders nothing, so that the sanitizer of threads sees what is ordered by
  * src/lanes.c alone. */
@@ -75,29 +74,17 @@ static int is_caller(void) {
     return pthread_equal(pthread_self(), now.caller);
 }
 
-/* Every signal that a program may block; the C library keeps two of its own, and qemu-user the
- * last two. */
-#ifndef LAST_SIGNAL
-#define LAST_SIGNAL SIGRTMAX
-#endif
-
-static bool is_signal(int number) {
-    return number != SIGKILL && number != SIGSTOP && number <= LAST_SIGNAL &&
-           (number < 32 || number >= SIGRTMIN);
-}
-
-static bool are_same_signals(const sigset_t *one, const sigset_t *other) {
-    for (int number = 1; number <= SIGRTMAX; number++)
-        if (is_signal(number) && sigismember(one, number) != sigismember(other, number))
-            return false;
-    return true;
+/* The signals that this thread blocks, a bit for each. */
+static uint64_t blocked_signals(void) {
+    sigset_t blocked;
+    uint64_t bits;
+    CHECK(pthread_sigmask(SIG_SETMASK, NULL, &blocked) == 0);
+    memcpy(&bits, &blocked, sizeof bits);
+    return bits;
 }
 
 static void check_all_are_blocked(void) {
-    sigset_t blocked;
-    pthread_sigmask(SIG_SETMASK, NULL, &blocked);
-    for (int number = 1; number <= SIGRTMAX; number++)
-        CHECK(!is_signal(number) || sigismember(&blocked, number));
+    CHECK(blocked_signals() == all_signals);
 }
 
 /* Whether each block of a row has this stamp. */
@@ -120,15 +107,13 @@ static uint64_t stamp_of(int64_t g) {
 
 void *take_zeros(size_t size) {
     CHECK(is_caller() && seen(&now.begins) == 0 && now.callers == NULL);
-    CHECK(size == now.slice * sizeof(struct argon2_block));
-    int number = now.takes;
-    CHECK(number < SLICES);
-    if (number == now.refused_slice)
+    CHECK(size == now.slice * sizeof(struct argon2_block) && now.takes < SLICES);
+    if (now.takes == now.refused_slice)
         return NULL;
-    now.takes++;
-    now.taken[number] = calloc(1, size);
-    CHECK(now.taken[number] != NULL);
-    return now.taken[number];
+    void *taken = calloc(1, size);
+    CHECK(taken != NULL);
+    now.slices[now.takes++] = taken;
+    return taken;
 }
 
 /* It is asked while nobody can fork any more before the wait. */
@@ -150,31 +135,18 @@ void give_zeros(void *start) {
 static uint8_t begin(const void *inputs, struct argon2_block *first, size_t blocks) {
     CHECK(inputs == &now && is_caller() && count(&now.begins) == 0 && now.starts == 0);
     CHECK(now.takes == (now.callers == NULL ? SLICES : 0));
-    CHECK(first == now.taken[0] && blocks == now.slice);
+    CHECK(first == now.slices[0] && blocks == now.slice);
     CHECK(are_stamped(first, blocks, 0));
     if (now.begin_answer == 0)
         stamp(first, blocks, stamp_of(-SLICES));
-    now.bases[0] = first;
     return (uint8_t)now.begin_answer;
 }
 
-/* A slice has the same blocks at each call, and no other slice has them. */
-static void check_base(uint32_t slice, const struct argon2_block *blocks) {
-    struct argon2_block *known = NULL, *found = (struct argon2_block *)(uintptr_t)blocks;
-    if (!atomic_compare_exchange_strong_explicit(&now.bases[slice], &known, found,
-                                                 memory_order_relaxed, memory_order_relaxed))
-        CHECK(known == found);
-    for (uint32_t other = 0; other < SLICES; other++)
-        CHECK(other == slice ||
-              atomic_load_explicit(&now.bases[other], memory_order_relaxed) != found);
-    CHECK(found == now.taken[0] || found == now.taken[1] || found == now.taken[2] ||
-          found == now.taken[3]);
-}
-
-static void check_earlier(int64_t g, const struct given_segment *it) {
-    CHECK(are_stamped(it->oldest, now.slice, stamp_of(g - 3)));
-    CHECK(are_stamped(it->middle, now.slice, stamp_of(g - 2)));
-    CHECK(are_stamped(it->newest, now.slice, stamp_of(g - 1)));
+/* The slices before number g have its own stamps, and its own blocks those of the pass before. */
+static void check_stamps(int64_t g, const struct given_segment *it) {
+    for (int i = 0; i < SLICES - 1; i++)
+        CHECK(are_stamped(it->earlier[i].blocks, now.slice, stamp_of(g - SLICES + 1 + i)));
+    CHECK(are_stamped(it->own, now.segment, stamp_of(g - SLICES)));
 }
 
 /* The caller's thread is as it was, but that it can't be cancelled. */
@@ -185,34 +157,29 @@ static void look_at_thread(void) {
     }
     int state;
     pthread_setcancelstate(PTHREAD_CANCEL_DISABLE, &state);
-    CHECK(state == PTHREAD_CANCEL_DISABLE);
-    sigset_t blocked;
-    pthread_sigmask(SIG_SETMASK, NULL, &blocked);
-    CHECK(are_same_signals(&blocked, &now.signals));
+    CHECK(state == PTHREAD_CANCEL_DISABLE && blocked_signals() == now.signals);
 }
 
-static uint8_t segment(const struct given_segment *it) {
+static uint8_t work_segment(const struct given_segment *it) {
     const struct segment_index *index = it->index;
     CHECK(memcmp(it->numbers, &now.numbers, sizeof now.numbers) == 0);
-    CHECK(index->pass < now.numbers.passes && index->slice < SLICES &&
-          index->lane < now.numbers.lanes);
-    CHECK(it->oldest_count == now.slice && it->middle_count == now.slice);
-    CHECK(it->newest_count == now.slice && it->own_count == now.segment);
+    CHECK(index->pass < now.numbers.passes && index->slice < SLICES);
+    CHECK(index->lane < now.numbers.lanes);
+    CHECK(it->own == now.slices[index->slice] + index->lane * now.segment);
+    CHECK(it->own_count == now.segment);
+    for (uint32_t i = 0; i < SLICES - 1; i++) {
+        CHECK(it->earlier[i].blocks == now.slices[(index->slice + 1 + i) % SLICES]);
+        CHECK(it->earlier[i].count == now.slice);
+    }
     int64_t g = (int64_t)SLICES * index->pass + index->slice;
     uint64_t number = (uint64_t)g * now.numbers.lanes + index->lane;
     CHECK(count(&now.begun[number]) == 0);
     CHECK(seen(&now.begins) == 1 && seen(&now.ends) == 0);
     CHECK(seen(&now.segments_over) >= g * (int64_t)now.numbers.lanes);
-    check_base(index->slice, it->own - index->lane * now.segment);
-    check_base((index->slice + 1) % SLICES, it->oldest);
-    check_base((index->slice + 2) % SLICES, it->middle);
-    check_base((index->slice + 3) % SLICES, it->newest);
-    check_earlier(g, it);
-    CHECK(are_stamped(it->own, it->own_count, stamp_of(g - SLICES)));
+    check_stamps(g, it);
     look_at_thread();
     rest();
-    CHECK(are_stamped(it->own, it->own_count, stamp_of(g - SLICES)));
-    check_earlier(g, it);
+    check_stamps(g, it);
     if (number == now.last_segment)
         _exit(0);
     if (number == now.bad_segment) {
@@ -225,8 +192,6 @@ static uint8_t segment(const struct given_segment *it) {
     return 0;
 }
 
-STAND_IN(segment)
-
 static uint8_t segment_len(const struct tag_numbers *numbers, uint32_t *segment_size) {
     if (numbers->kind > 2)
         return RIGZUMAL_NO_KIND;
@@ -234,21 +199,15 @@ static uint8_t segment_len(const struct tag_numbers *numbers, uint32_t *segment_
     return 0;
 }
 
-static const struct build build = {.cred_argon2_segment = stand_in,
-                                   .cred_argon2_segment_len = segment_len};
-
-WRAP(const struct build *, processor_build, void) {
-    return &build;
-}
-
 static uint8_t end(const void *inputs, const struct argon2_block *last, size_t blocks) {
     uint64_t all = (uint64_t)SLICES * now.numbers.passes * now.numbers.lanes;
     CHECK(inputs == &now && is_caller() && count(&now.ends) == 0 && !seen(&now.has_fault));
-    CHECK(seen(&now.segments_over) == (int64_t)all && blocks == now.slice && last == now.bases[3]);
-    uint64_t wanted = stamp_of((int64_t)SLICES * now.numbers.passes - 1);
-    CHECK(are_stamped(last, blocks, wanted));
-    rest();
-    CHECK(are_stamped(last, blocks, wanted));
+    CHECK(seen(&now.segments_over) == (int64_t)all);
+    CHECK(last == now.slices[SLICES - 1] && blocks == now.slice);
+    for (int turn = 0; turn < 2; turn++) {
+        CHECK(are_stamped(last, blocks, stamp_of((int64_t)SLICES * now.numbers.passes - 1)));
+        rest();
+    }
     return (uint8_t)now.end_answer;
 }
 

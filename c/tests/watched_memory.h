@@ -9,13 +9,12 @@
 #include <stdint.h>
 #include <sys/mman.h>
 
-enum { KIB = 1024, MIB = 1024 * KIB };
-enum { HUGE_PAGE = 2 * MIB, AREA = 16 * MIB, KEPT = 4 * AREA };
+enum { PAGE = 4096, KIB = 1024, MIB = 1024 * KIB };
+enum { HUGE_PAGE = 2 * MIB, AREA = 16 * MIB, KEPT = 4 * AREA, MOST_PIECES = 256 };
 
 static size_t mapped;                 /* how many bytes are */
 static size_t most_mapped = SIZE_MAX; /* more is refused */
 static size_t moved;                  /* by mremap, of all calls */
-static int held, freed;               /* blocks of the C library */
 
 /* What is refused: blocks of the C library, the table of blocks, moves. */
 static bool is_refusing, is_refusing_tables, is_refusing_moves;
@@ -27,7 +26,8 @@ static struct advised {
     int times;
 } advised[128];
 
-enum { MOST_PIECES = 256, PAGE = 4096 };
+/* Blocks of the C library that are held. */
+static int held;
 static struct piece {
     void *start;
     size_t size;
@@ -48,7 +48,6 @@ WRAP(void, free, void *start) {
         if (pieces[i].start == start) {
             CHECK(is_all(start, 0, pieces[i].size));
             pieces[i] = pieces[--held];
-            freed++;
             break;
         }
     __real_free(start);
@@ -60,7 +59,7 @@ WRAP(void *, realloc, void *start, size_t size) {
 
 WRAP(int, munmap, void *start, size_t size) {
     mapped -= size;
-    CHECK(is_all(start, 0, size < 4096 ? size : 4096));
+    CHECK(is_all(start, 0, size < PAGE ? size : PAGE));
     return __real_munmap(start, size);
 }
 
@@ -77,7 +76,7 @@ WRAP(void *, mmap, void *at, size_t size, int protection, int flags, int file, o
 }
 
 WRAP(void *, mremap, void *old, size_t size, size_t new_size, int flags, void *to) {
-    CHECK(new_size == size && is_all(old, 0, 4096));
+    CHECK(new_size == size && is_all(old, 0, PAGE));
     if (is_refusing_moves)
         return MAP_FAILED;
     mapped -= size; /* they take the place of as many */
