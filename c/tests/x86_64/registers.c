@@ -17,39 +17,25 @@ unsigned features_of(unsigned leaf, unsigned found) {
 
 enum { AVX_STATE = 0x4, AVX512_STATE = 0xe0, GENERAL = 9 };
 
-/* Calls a function with the mark in each general register that it need not preserve, and stores
- * what they hold afterwards. */
-void call_marked(void (*call)(void), uint64_t mark, uint64_t found[GENERAL]);
-__asm__(
-    ".text\n"
-    "call_marked:\n\t"
-    "push %rbx\n\t"
-    "push %r12\n\t"
-    "sub $8, %rsp\n\t"
-    "mov %rdi, %r12\n\t"
-    "mov %rdx, %rbx\n\t"
-    "mov %rsi, %rax\n\t"
-    "mov %rsi, %rcx\n\t"
-    "mov %rsi, %rdx\n\t"
-    "mov %rsi, %rdi\n\t"
-    "mov %rsi, %r8\n\t"
-    "mov %rsi, %r9\n\t"
-    "mov %rsi, %r10\n\t"
-    "mov %rsi, %r11\n\t"
-    "call *%r12\n\t"
-    "mov %rax, 0(%rbx)\n\t"
-    "mov %rcx, 8(%rbx)\n\t"
-    "mov %rdx, 16(%rbx)\n\t"
-    "mov %rsi, 24(%rbx)\n\t"
-    "mov %rdi, 32(%rbx)\n\t"
-    "mov %r8, 40(%rbx)\n\t"
-    "mov %r9, 48(%rbx)\n\t"
-    "mov %r10, 56(%rbx)\n\t"
-    "mov %r11, 64(%rbx)\n\t"
-    "add $8, %rsp\n\t"
-    "pop %r12\n\t"
-    "pop %rbx\n\t"
-    "ret");
+#define EACH_GENERAL(of)                                                                           \
+    of(0, rax) of(8, rcx) of(16, rdx) of(24, rsi) of(32, rdi) of(40, r8) of(48, r9) of(56, r10)    \
+        of(64, r11)
+#define FILL_GENERAL(at, name) "mov %%r12, %%" #name "\n\t"
+#define STORE_GENERAL(at, name) "mov %%" #name ", " #at "(%%rbx)\n\t"
+
+/* clear_traces is called with the mark in each general register that it need not preserve, below
+ * what this function may have on the stack. */
+static void call_marked(uint64_t mark, uint64_t found[GENERAL]) {
+    register uint64_t held __asm__("r12") = mark;
+    register uint64_t *to __asm__("rbx") = found;
+    register void (*call)(void) __asm__("r13") = clear_traces;
+    __asm__ volatile(
+        "mov %%rsp, %%r14\n\tsub $128, %%rsp\n\tand $-16, %%rsp\n\t" EACH_GENERAL(
+            FILL_GENERAL) "call *%%r13\n\t" EACH_GENERAL(STORE_GENERAL) "mov %%r14, %%rsp"
+        :
+        : "r"(held), "r"(to), "r"(call)
+        : "rax", "rcx", "rdx", "rsi", "rdi", "r8", "r9", "r10", "r11", "r14", "cc", "memory");
+}
 
 int main(void) {
     struct vectors here = vectors_here(), cleared = here;
@@ -71,7 +57,7 @@ int main(void) {
     for (int i = 0; here.count == VECTORS && i < MASKS; i++)
         CHECK(found.masks[i] == (cleared.count == VECTORS ? 0 : 0x5a5a));
     uint64_t general[GENERAL];
-    call_marked(clear_traces, UINT64_C(0x5a5a5a5a5a5a5a5a), general);
+    call_marked(UINT64_C(0x5a5a5a5a5a5a5a5a), general);
     CHECK(is_all(general, 0, sizeof general));
     printf("%d vectors of %zu bytes\n", here.count, here.size);
     return 0;
