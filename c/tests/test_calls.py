@@ -75,7 +75,7 @@ class Calls(unittest.TestCase):
 
     def test_toolchain_without_clang(self):
         """Where the toolchain has no clang for the newest build, its maker says so and fails."""
-        words = (sys.executable, "build_v4.py", ROOM / "v4.a")
+        words = (sys.executable, "../tools/build_v4.py", ROOM / "v4.a")
         said = run(*words, env={"RT": "false"}, status=1)
         self.assertIn("The library is built without x86-64-v4", said)
         self.assertFalse((ROOM / "v4.a").exists())

@@ -134,7 +134,7 @@ class Package(unittest.TestCase):
         need_host()
         room = ROOM / "copied"
         shutil.copytree(TOP, room / "c", ignore=shutil.ignore_patterns("*.o", "deb"))
-        for name in ("crates", "crates.txt", "VERSION"):
+        for name in ("crates", "crates.txt", "tools", "VERSION"):
             (room / name).symlink_to(TOP.parent / name)
         out = room / "c" / OUT.relative_to(TOP)
         for at, name in enumerate(("proved.sum", "v1.a", "v2.a", "v3.a", "v4.a")):

@@ -1,7 +1,7 @@
 #!/usr/bin/env python3
 """Compiles the proved code of the crate cred_c for x86-64-v4 into a static library.
 
-    python3 build_v4.py LIBRARY.a            (the variable RT names another rt)
+    python3 tools/build_v4.py LIBRARY.a            (the variable RT names another rt)
 
 rt takes this level with Rattle's own compiler alone, whose code is slower. So rattle is called as rt
 lib calls it for x86-64-v3, but with a folder of links to the toolchain whose clang is this script:
@@ -15,9 +15,6 @@ import re
 import subprocess
 import sys
 import tempfile
-
-HERE = pathlib.Path(__file__).resolve().parent
-sys.path.insert(0, str(HERE.parent / "tools"))
 
 from tree import CRATES, all_below, below
 
