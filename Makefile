@@ -8,7 +8,6 @@
 #                                   on every x86-64 processor
 #     make wheel                    the package for Python with the library in it, in python/out
 #     make bench                    the library beside libargon2, libsodium and OpenSSL
-#     make interop                  other programs' strings, both ways
 #     make install PREFIX=/usr/local [DESTDIR=..]
 #     make uninstall PREFIX=/usr/local [DESTDIR=..]
 #
@@ -39,7 +38,7 @@ CPU ?=
 HAS_PAM := $(wildcard /usr/include/security/pam_modules.h)
 PAM_WORDS = DESTDIR='$(DESTDIR)' PAMDIR='$(PAMDIR)' MANDIR='$(MAN)'
 
-.PHONY: build programs library test wrong-bodies deb wheel bench interop install install-programs uninstall
+.PHONY: build programs library test wrong-bodies deb wheel bench install install-programs uninstall
 .DELETE_ON_ERROR:
 # Each of these works on crates side by side, and no two may work on the same ones.
 .NOTPARALLEL:
@@ -73,9 +72,6 @@ wheel: library
 
 bench: library
 	$(PYTHON) bench/c/run.py
-
-interop: programs
-	$(PYTHON) interop/run.py
 
 install: build install-programs
 	$(MAKE) -C python install PREFIX='$(PREFIX)' DESTDIR='$(DESTDIR)' PYTHON='$(PYTHON)'

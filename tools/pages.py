@@ -22,7 +22,7 @@ PAGES = [
     *sorted(TOP.glob("*.md")),
     *sorted(TOP.glob("docs/*.md")),
     *sorted(CRATES.glob("*/README.md")),
-    *(TOP / it for it in ("interop/README.md", "bench/RESULTS.md", "examples/login_page/README.md")),
+    *(TOP / it for it in ("bench/RESULTS.md", "examples/login_page/README.md")),
 ]
 
 # The folders of proofs by hand: each makes values of one struct with ghost data, and its page says what is trusted of that.
@@ -33,7 +33,7 @@ MOST = {
     "lines of over 100 columns in src/ and specs/": 28,
     "lines that tools/english.txt finds": 170,
 }
-FOLDERS = "crates|c|python|rust|tests|docs|tools|bench|interop|examples|man|bin|units|packaging|completions|proofs|specs|src"
+FOLDERS = "crates|c|python|rust|tests|docs|tools|bench|examples|man|bin|units|packaging|completions|proofs|specs|src"
 # What pages name where it is installed.
 INSTALLED = {"bin/credkeep"}
 # A variable by which a test speaks to its own programs.

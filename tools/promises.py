@@ -13,7 +13,7 @@ import sys
 from tree import CRATES, TOP, has_test, listed, report, source
 
 PAGE = TOP / "docs/PROMISES.md"
-FILES = re.compile(r"(?<![\w/.-])((?:crates|tools|tests|c|docs|interop|bench)/[\w/.-]*\.(?:txt|rt|antt|py|c|md|h))")
+FILES = re.compile(r"(?<![\w/.-])((?:crates|tools|tests|c|docs|bench)/[\w/.-]*\.(?:txt|rt|antt|py|c|md|h))")
 
 
 def contract_of(text):

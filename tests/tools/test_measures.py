@@ -1,22 +1,18 @@
-"""What the figures and the table of other programs rest on: bench/turns.py, bench/c/libraries.py and interop/run.py."""
+"""What the figures rest on: bench/turns.py and bench/c/libraries.py."""
 
 import importlib.util
 import pathlib
-import sys
 import unittest
 from unittest import mock
-
-from tests.helpers import need_module
 
 TOP = pathlib.Path(__file__).resolve().parents[2]
 
 
-def module(path, *folders):
-    """A script's module, which imports others from these folders."""
+def module(path):
+    """A script's module."""
     spec = importlib.util.spec_from_file_location(path.replace("/", "_").removesuffix(".py"), TOP / path)
     made = importlib.util.module_from_spec(spec)
-    with mock.patch.object(sys, "path", [*(str(TOP / it) for it in folders), *sys.path]):
-        spec.loader.exec_module(made)
+    spec.loader.exec_module(made)
     return made
 
 
@@ -57,31 +53,6 @@ class Libraries(unittest.TestCase):
                 found.sodium_init.assert_called_once_with()
             found.sodium_init.return_value = -1
             self.assertRaises(SystemExit, self.libraries.libsodium)
-
-
-class Interop(unittest.TestCase):
-    def test_an_answer_that_is_not_expected_is_a_mismatch(self):
-        need_module("passlib", "argon2")
-        run = module("interop/run.py", "interop", "bench")
-        credbook = run.Credbook("credbook")
-        credbook.compare("right", run.YES, run.Answer(0, "yes\n"))
-        self.assertEqual(credbook.mismatches, [])
-        for at, answer in enumerate((run.NO, run.Answer(0, "yes"), run.Answer(1, "yes\n"), run.fault_answer("1 shape"))):
-            credbook.compare("wrong", run.YES, answer)
-            self.assertEqual(len(credbook.mismatches), at + 1)
-
-    def test_a_mismatch_fails(self):
-        need_module("passlib", "argon2")
-        run = module("interop/run.py", "interop", "bench")
-
-        def one_table(credbook):
-            credbook.compare("what", run.YES, answered)
-
-        names = ("taken", "written", "settings_refused", "others")
-        with mock.patch.multiple(run, **{it: one_table for it in names}), mock.patch.object(sys, "argv", ["run", __file__]):
-            for answered, status in ((run.YES, 0), (run.NO, 1)):
-                with mock.patch("builtins.print"):
-                    self.assertEqual(run.main(), status)
 
 
 if __name__ == "__main__":

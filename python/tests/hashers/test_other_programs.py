@@ -1,0 +1,330 @@
+"""Strings of other programs, both ways: what they write is read here, and what is written here they
+read and write alike. Nothing is tried of a program that isn't installed."""
+
+import base64
+import ctypes
+import ctypes.util
+import hashlib
+import itertools
+import re
+import subprocess
+import unittest
+
+from records import SMALL, python, verdict
+
+import rigzumal
+from rigzumal import PasswordHasher, ScryptHasher, Type
+from tests.helpers import need, need_module, run
+
+# Passwords in turn. The argon2 program takes 1 to 127 bytes.
+PASSWORDS = [b"password", b"x", "pässwörd 密码".encode(), b" two  spaces ", bytes(range(127))]
+LONGER = [b"", bytes(range(256)), b"\0", b"\xff" * 65, b"correct horse battery staple"]
+MIB = 1 << 20
+
+# Memory in KiB, passes, lanes, bytes of salt and of tag: the ends of what is read, 1000 KiB, of which
+# some aren't used, and more lanes and passes.
+ARGON2 = [(8, 1, 1, 8, 32), (256, 2, 1, 16, 4), (1000, 3, 3, 47, 24), (4096, 2, 4, 48, 64)]
+ARGON2_WIDE = [(2040, 1, 255, 16, 32), (8, 1000, 1, 16, 32), (65536, 3, 4, 16, 32)]
+# What these programs write and nobody reads here.
+ARGON2_REFUSED = {
+    (2048, 1, 256, 16, 32): "range",
+    (64, 1, 1, 49, 32): "salt",
+    (64, 1, 1, 16, 65): "tag",
+    (2048, 1, 256, 49, 65): "range",
+    (64, 1, 1, 49, 65): "salt",
+    (64, 1, 1, 330, 32): "salt",  # a text of 512 bytes
+    (128, 1, 1, 330, 32): "toolong",  # and of 513
+}
+# ln, r, p, bytes of salt and of tag.
+SCRYPT = [(1, 1, 1, 1, 32), (4, 8, 1, 16, 4), (10, 8, 16, 48, 64), (14, 8, 1, 16, 32)]
+SCRYPT += [(15, 1, 1, 47, 32), (16, 2, 3, 16, 24), (1, 255, 255, 16, 32)]
+SCRYPT_REFUSED = {
+    (1, 256, 1, 16, 32): "range",
+    (1, 1, 256, 0, 65): "range",
+    (4, 8, 1, 0, 65): "salt",
+    (4, 8, 1, 49, 32): "salt",
+    (4, 8, 1, 16, 3): "tag",
+    (4, 8, 1, 16, 65): "tag",
+}
+# A piece of a string, what stands in its place, and the fault: strings that no program makes, or none
+# without 2 GiB.
+ARGON2_EDITS = (
+    ("m=64", "m=15", "range"),
+    ("m=64", "m=2097153", "range"),
+    ("t=1", "t=0", "range"),
+    ("t=1", "t=4294967296", "range"),
+    ("p=2", "p=0", "range"),
+    ("v=19", "v=18", "version"),
+    ("m=64", "m=064", "params"),
+    ("m=64,t=1", "t=1,m=64", "params"),
+    (",p=2", "", "params"),
+    ("p=2", "p=2,keyid=Zm9v", "params"),
+    (r"\$[^$]+(\$[^$]+)\Z", r"$c29tZXNhbA\1", "salt"),  # of 7 bytes
+    (r"dA\$", "dA==$", "salt"),
+    (r"dA\$", "dB$", "salt"),  # a bit behind the last byte
+    (r"\$[^$]+\Z", "$YmFk", "tag"),  # of 3 bytes
+    (r"\$[^$]+\Z", "", "shape"),
+    (r"\Z", "$", "shape"),
+    (r"\Z", "\r", "tag"),
+    ("argon2id", "argon2", "scheme"),
+)
+SCRYPT_EDITS = (
+    ("ln=4", "ln=0", "range"),
+    ("ln=4", "ln=25", "range"),
+    ("ln=4,r=8", "ln=16,r=1", "range"),
+    ("ln=4,r=8", "ln=21,r=9", "range"),
+    ("r=8", "r=0", "range"),
+    ("p=1", "p=0", "range"),
+    ("ln=4", "n=16", "params"),
+)
+# Handlers of passlib's for other schemes.
+OTHER_SCHEMES = (
+    ("bcrypt", {"rounds": 4}, "scheme"),
+    ("pbkdf2_sha256", {"rounds": 1}, "scheme"),
+    ("sha512_crypt", {"rounds": 1000}, "scheme"),
+    ("scrypt", {"rounds": 4, "ident": "$7$"}, "scheme"),
+    ("django_argon2", {"rounds": 1, "memory_cost": 64, "parallelism": 1}, "shape"),
+    ("django_pbkdf2_sha256", {"rounds": 1}, "shape"),
+    ("ldap_salted_sha1", {}, "shape"),
+)
+DJANGO = """
+from django.conf import settings
+from django.contrib.auth import hashers
+settings.configure(PASSWORD_HASHERS=["django.contrib.auth.hashers.Argon2PasswordHasher"])
+"""
+
+
+def other(password):
+    """Another one. It isn't longer: to scrypt `x` and `x` with a zero byte are the same."""
+    return password[:-1] + bytes([password[-1] ^ 1]) if password else b"x"
+
+
+def unpadded(data):
+    return base64.b64encode(data).decode().rstrip("=")
+
+
+def salt_of(size):
+    """Its text has `+` and `/` too."""
+    return bytes(255 - at % 256 for at in range(size))
+
+
+def by_program(kind, version, numbers, password):
+    m, t, p, salt, tag = numbers
+    line = (
+        f"argon2 {'somesalt' * 64:.{salt}} -{kind} -v {version:x} -e -k {m} -t {t} -p {p} -l {tag}"
+    )
+    done = subprocess.run(line.split(), input=password, stdout=subprocess.PIPE, check=True)
+    return done.stdout.decode().strip()
+
+
+def argon2_by_passlib(kind, version, numbers, password):
+    """A string of version 0x10 is made only after another one's settings, and without `v=`."""
+    from passlib.hash import argon2
+
+    m, t, p, salt, tag = numbers
+    if version == 0x10:
+        numbers = f"m={m},t={t},p={p}${unpadded(salt_of(salt))}${unpadded(bytes(tag))}"
+        return argon2.genhash(password, f"$argon2{kind}${numbers}")
+    costs = {"memory_cost": m, "time_cost": t, "parallelism": p}
+    handler = argon2.using(type=kind, salt=salt_of(salt), **costs)
+    handler.checksum_size = tag
+    return handler.hash(password)
+
+
+def scrypt_by_passlib(numbers, password):
+    from passlib.hash import scrypt
+
+    ln, r, p, salt, tag = numbers
+    handler = scrypt.using(rounds=ln, block_size=r, parallelism=p, salt=salt_of(salt))
+    handler.checksum_size = tag
+    return handler.hash(password)
+
+
+class Judged(unittest.TestCase):
+    def check_read(self, text, password):
+        with self.subTest(text=text, password=password):
+            found = [verdict(SMALL, text, it) for it in (password, other(password))]
+            self.assertEqual(found, [True, False])
+
+    def check_refused(self, text, word):
+        with self.subTest(text=text):
+            with self.assertRaises(rigzumal.InvalidRecordError) as raised:
+                SMALL.verify(text, "password")
+            self.assertEqual(raised.exception.word, word)
+
+    def check_judged(self, says, text, password):
+        """The other program takes a string that was written here for what it is."""
+        with self.subTest(text=text, password=password):
+            self.assertEqual([says(text, it) for it in (password, other(password))], [True, False])
+
+    def check_argon2(self, make, passwords):
+        """What a program makes of each kind and version, within the ranges and outside them."""
+        passwords = itertools.cycle(passwords)
+        rows = [*itertools.product(("d", "i", "id"), (0x13, 0x10), ARGON2)]
+        for kind, version, numbers in (*rows, *(("id", 0x13, it) for it in ARGON2_WIDE)):
+            password = next(passwords)
+            self.check_read(make(kind, version, numbers, password), password)
+        for at, (numbers, word) in enumerate(ARGON2_REFUSED.items()):
+            for kind, version in (("id", 0x13), ("i", 0x10))[: 1 if at > 2 else 2]:
+                self.check_refused(make(kind, version, numbers, b"password"), word)
+
+    def check_edited(self, text, edits):
+        self.check_read(text, b"password")
+        for piece, new, word in edits:
+            changed, times = re.subn(piece, new, text)
+            self.assertEqual(times, 1, piece)
+            self.check_refused(changed, word)
+
+
+class OfTheProgram(Judged):
+    def test_read(self):
+        need("argon2")
+        self.check_argon2(by_program, PASSWORDS)
+        self.check_read(run("argon2", "somesalt", "-e", given="password").strip(), b"password")
+        text = by_program("id", 0x13, (64, 1, 2, 16, 32), b"password")
+        self.check_edited(text, ARGON2_EDITS)
+
+
+class OfPasslib(Judged):
+    def setUp(self):
+        need_module("argon2", "passlib")
+
+    def test_read(self):
+        self.check_argon2(argon2_by_passlib, PASSWORDS + LONGER)
+        for numbers, password in itertools.product(SCRYPT, (b"", b"password", bytes(256))):
+            self.check_read(scrypt_by_passlib(numbers, password), password)
+        for numbers, word in SCRYPT_REFUSED.items():
+            self.check_refused(scrypt_by_passlib(numbers, b"password"), word)
+        self.check_edited(scrypt_by_passlib((4, 8, 1, 16, 32), b"password"), SCRYPT_EDITS)
+
+    def test_defaults(self):
+        import argon2
+        import passlib.hash
+
+        for made in (argon2.PasswordHasher(), passlib.hash.argon2, passlib.hash.scrypt):
+            self.check_read(made.hash("password"), b"password")
+
+    def test_other_schemes(self):
+        import passlib.hash
+
+        for name, given, word in OTHER_SCHEMES:
+            text = getattr(passlib.hash, name).using(**given).hash("password")
+            self.check_refused(text, word)
+        numbers = {"memory_cost": 64, "rounds": 1, "parallelism": 1, "salt": b"somesalt"}
+        with_data = passlib.hash.argon2(type="id", data=b"data", checksum=bytes(32), **numbers)
+        self.check_refused(with_data.to_string(), "params")
+
+    def test_written(self):
+        """Records are passlib's, letter by letter. It, argon2-cffi and OpenSSL judge them."""
+        import argon2
+        import passlib.hash
+
+        def cffi_says(text, password):
+            try:
+                return argon2.low_level.verify_secret(text.encode(), password, argon2.Type[name])
+            except argon2.exceptions.VerifyMismatchError:
+                return False
+
+        def openssl_says(text, password):
+            costs = {"n": 1 << ln, "r": r, "p": p, "maxmem": 1 << 30, "dklen": tag}
+            key = hashlib.scrypt(password, salt=salt_of(salt), **costs)
+            return unpadded(key) == text.rpartition("$")[2]
+
+        passwords = itertools.cycle(PASSWORDS + LONGER)
+        for (m, t, p, salt, tag), kind in itertools.product((*ARGON2, ARGON2_WIDE[0]), Type):
+            password, name = next(passwords), kind.name
+            hasher = PasswordHasher(t, m, p, tag, salt, type=kind)
+            made = hasher.hash(password, salt=salt_of(salt))
+            numbers = (m, t, p, salt, tag)
+            self.assertEqual(made, argon2_by_passlib(name.lower(), 0x13, numbers, password))
+            self.check_judged(cffi_says, made, password)
+            says = passlib.hash.argon2
+            self.check_judged(lambda text, it, says=says: says.verify(it, text), made, password)
+        for ln, r, p, salt, tag in SCRYPT:
+            password = next(passwords)
+            hasher = ScryptHasher(ln, r, p, hash_len=tag, salt_len=salt)
+            made = hasher.hash(password, salt=salt_of(salt))
+            self.assertEqual(made, scrypt_by_passlib((ln, r, p, salt, tag), password))
+            self.check_judged(openssl_says, made, password)
+            says = passlib.hash.scrypt
+            self.check_judged(lambda text, it, says=says: says.verify(it, text), made, password)
+
+
+class Further(Judged):
+    """Programs that write strings of a password, some with a prefix of their own before the `$`."""
+
+    def check_both_ways(self, texts, says, prefix=""):
+        for text in texts:
+            if prefix:
+                self.check_refused(text, "shape")
+            bare = text[text.index("$") :]
+            self.check_read(bare, b"correct horse")
+            self.check_refused(bare + "\r", "tag")
+            scheme, _, memory, passes, lanes, salt_size, tag_size = rigzumal.parts(bare)
+            kind = Type[scheme.removeprefix("argon2").upper()]
+            hasher = PasswordHasher(passes, memory, lanes, tag_size, salt_size, type=kind)
+            self.check_judged(says, hasher.hash(b"correct horse"), b"correct horse")
+
+    def test_libsodium(self):
+        name = ctypes.util.find_library("sodium")
+        if name is None:
+            self.skipTest("libsodium isn't installed")
+        sodium = ctypes.CDLL(name)
+        self.assertGreaterEqual(sodium.sodium_init(), 0)
+        wide, size = ctypes.c_ulonglong, ctypes.c_size_t
+
+        def made(kind, passes, memory):
+            text = ctypes.create_string_buffer(128)
+            given = (b"correct horse", wide(13), wide(passes), size(memory), kind)
+            self.assertEqual(sodium.crypto_pwhash_str_alg(text, *given), 0)
+            return text.value.decode()
+
+        def says(text, password):
+            text = ctypes.create_string_buffer(text.encode(), 128)
+            return sodium.crypto_pwhash_str_verify(text, password, wide(len(password))) == 0
+
+        # of argon2i it makes three passes at least
+        self.check_both_ways([made(1, 3, 8 * MIB), made(2, 1, 8 * MIB), made(2, 2, 64 * MIB)], says)
+
+    def test_php(self):
+        need("php")
+
+        def made(kind, options):
+            code = f"echo password_hash('correct horse', {kind}, {options});"
+            return run("php", "-r", code)
+
+        def says(text, password):
+            code = "echo password_verify($argv[1], $argv[2]) ? 'yes' : 'no';"
+            return run("php", "-r", code, "--", password.decode(), text) == "yes"
+
+        if "argon2id" not in run("php", "-r", "echo implode(' ', password_algos());"):
+            self.skipTest("this PHP has no Argon2")
+        small = "['memory_cost' => 1024, 'time_cost' => 2, 'threads' => 1]"
+        kinds = ("PASSWORD_ARGON2I", "PASSWORD_ARGON2ID")
+        self.check_both_ways(
+            [made("PASSWORD_ARGON2ID", "[]"), *(made(it, small) for it in kinds)], says
+        )
+
+    def test_dovecot(self):
+        need("doveadm")
+
+        def made(scheme):
+            return run("doveadm", "-O", "pw", "-s", scheme, "-p", "correct horse").strip()
+
+        def says(text, password):
+            scheme = text.split("$")[1].upper()
+            words = ("doveadm", "-O", "pw", "-t", f"{{{scheme}}}{text}", "-p", password)
+            return subprocess.run(words, capture_output=True).returncode == 0
+
+        self.check_both_ways([made("ARGON2I"), made("ARGON2ID")], says, "{ARGON2ID}")
+
+    def test_django(self):
+        need_module("django", "argon2")
+
+        def django(call):
+            return python("-c", f"{DJANGO}print(hashers.{call})").strip()
+
+        def says(text, password):
+            return django(f"check_password({password.decode()!r}, {'argon2' + text!r})") == "True"
+
+        self.check_both_ways([django("make_password('correct horse')")], says, "argon2")
