@@ -2,11 +2,11 @@
 
 import pathlib
 import re
-import sys
+import shutil
 import unittest
 
-from harness import ALL_WARNINGS, BUILDS, JOBS, LIBARGON2, ORIGINAL, OUT, ROOM, SANITIZED, SOURCES
-from harness import TOP, WITHOUT_BUILDS, built, need, need_host, run, sources_for
+from harness import ALL_WARNINGS, BUILDS, IS_NATIVE, JOBS, LIBARGON2, ORIGINAL, OUT, ROOM, SANITIZED
+from harness import SOURCES, TOP, WITHOUT_BUILDS, built, need, need_host, run, sources_for
 
 
 # The build that processors are to run, as qemu calls them.
@@ -17,6 +17,8 @@ PROCESSORS = {
 }
 LEVEL_2 = "sse3 ssse3 sse4.1 sse4.2 cx16 popcnt lahf-lm".split()
 LEVEL_3 = "avx avx2 bmi1 bmi2 f16c fma abm movbe xsave".split()
+# What the code of a level has, and that of no older one.
+INSTRUCTIONS = {"v1": "%xmm", "v2": "pshufb", "v3": "%ymm", "v4": "%[xyz]mm(1[6-9]|2|3)"}
 # Bits of leaf 7 and of XCR0: qemu has no such processor.
 LEVEL_4 = {"avx512f": 16, "avx512dq": 17, "avx512cd": 28, "avx512bw": 30, "avx512vl": 31}
 STATES = {"sse": 1, "avx": 2, "k0 to k7": 5, "zmm0 to zmm15": 6, "zmm16 to zmm31": 7}
@@ -73,12 +75,19 @@ class Calls(unittest.TestCase):
             self.assertEqual(said, "v2\n" if bit < 5 else "v3\n", name)
         self.assertEqual(run(processor(lacking, "-DLEFT_OUT", kept=every)), "v3\n")
 
-    def test_toolchain_without_clang(self):
-        """Where the toolchain has no clang for the newest build, its maker says so and fails."""
-        words = (sys.executable, "../tools/build_v4.py", ROOM / "v4.a")
-        said = run(*words, env={"RT": "false"}, status=1)
-        self.assertIn("The library is built without x86-64-v4", said)
-        self.assertFalse((ROOM / "v4.a").exists())
+    def test_instructions_of_builds(self):
+        """Each build has instructions of its level, where no older one has any. The newest is left
+        out only if the toolchain has no clang for it."""
+        if not IS_NATIVE:
+            self.skipTest("there is one build")
+        code = {build: run("objdump", "-d", OUT / f"{build}.o") for build in BUILDS}
+        kit = pathlib.Path(run("rt", "doc").strip()).parent if shutil.which("rt") else TOP
+        if not (kit / "toolchain/bin/clang").exists() and "xmm" not in code["v4"]:
+            code.pop("v4")
+        for at, build in enumerate(code):
+            with self.subTest(build):
+                has = [re.search(INSTRUCTIONS[build], code[it]) is not None for it in code]
+                self.assertEqual(has, [it >= at for it in range(len(code))])
 
     def test_this_processor(self):
         """The build that is chosen here is of the highest level that the loader sees."""

@@ -23,8 +23,9 @@ static void call_marked(struct vectors here) {
     register uint64_t *to __asm__("x20") = general;
     register void (*call)(void) __asm__("x21") = clear_traces;
     if (here.has_masks)
-        __asm__ volatile(".arch_extension sve\n\t" EIGHT(FILL_LONG) NEXT_EIGHT(
-            FILL_LONG) UPPER_SIXTEEN(FILL_LONG) EIGHT(FILL_MASK) NEXT_EIGHT(FILL_MASK)::"r"(mark));
+        __asm__ volatile(".arch_extension sve\n\t" EIGHT(FILL_LONG) NEXT_EIGHT(FILL_LONG)
+                             UPPER_SIXTEEN(FILL_LONG) EIGHT(FILL_MASK)
+                                 NEXT_EIGHT(FILL_MASK) "setffr" ::"r"(mark));
     else
         __asm__ volatile(EIGHT(FILL) NEXT_EIGHT(FILL) UPPER_SIXTEEN(FILL)::"r"(mark));
     __asm__ volatile(EIGHT(FILL_GENERAL) FILL_GENERAL(8) FILL_GENERAL(10) FILL_GENERAL(11)

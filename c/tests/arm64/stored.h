@@ -8,11 +8,11 @@
 #include <stddef.h>
 #include <sys/auxv.h>
 
-enum { VECTORS = 32, VECTOR_SIZE = 256, MASKS = 16, MASK_SIZE = VECTOR_SIZE / 8 };
+enum { VECTORS = 32, VECTOR_SIZE = 256, MASKS = 17, MASK_SIZE = VECTOR_SIZE / 8 };
 
 struct stored {
     unsigned char vectors[VECTORS * VECTOR_SIZE]; /* one behind another, each of its size here */
-    unsigned char masks[MASKS * MASK_SIZE];
+    unsigned char masks[MASKS * MASK_SIZE];       /* p0 to p15 and FFR */
 };
 
 /* How many bytes each has. */
@@ -38,8 +38,10 @@ static inline __attribute__((always_inline)) void store_registers(struct vectors
     if (here.has_masks)
         __asm__ volatile(".arch_extension sve\n\t" EIGHT(STORE_LONG) NEXT_EIGHT(STORE_LONG)
                              UPPER_SIXTEEN(STORE_LONG) EIGHT(STORE_MASK)
-                                 NEXT_EIGHT(STORE_MASK)::"r"(to->vectors),
-                         "r"(to->masks)
+                                 NEXT_EIGHT(STORE_MASK) "rdffr p0.b\n\t"
+                                                        "str p0, [%1, #16, mul vl]"
+                         :
+                         : "r"(to->vectors), "r"(to->masks)
                          : "memory");
     else
         __asm__ volatile(EIGHT(STORE) NEXT_EIGHT(STORE) UPPER_SIXTEEN(STORE)::"r"(to->vectors)
