@@ -123,26 +123,6 @@ static void test_cancellation(void) {
     }
 }
 
-/* Forks of one thread, in the midst of another's calls: those go on, and nothing is in a child that
- * keeps it from its end. */
-static void test_forks(void) {
-    pthread_t thread;
-    CHECK(pthread_create(&thread, NULL, call_for_ever, NULL) == 0);
-    for (int turn = 0; turn < FORKS; turn++) {
-        int before = calls;
-        usleep((useconds_t)turn * 130);
-        pid_t child = fork();
-        if (child == 0)
-            _exit(0);
-        CHECK_NUMBER(status_of(child), 0);
-        while (calls == before)
-            usleep(100);
-    }
-    CHECK(pthread_cancel(thread) == 0);
-    CHECK(pthread_join(thread, NULL) == 0);
-    check_threads();
-}
-
 static pid_t forked;
 
 static void fork_in_handler(int number) {
@@ -201,7 +181,6 @@ int main(void) {
     threads_before = threads_now();
     test_signals();
     test_cancellation();
-    test_forks();
     test_forks_in_calls();
     test_no_threads();
     return 0;
