@@ -1,11 +1,9 @@
 """The PAM module in a driver of its own, and a peer that answers it."""
 
-import atexit
 import base64
 import enum
 import os
 import pathlib
-import shutil
 import signal
 import socket
 import subprocess
@@ -21,8 +19,7 @@ TOP = HERE.parent
 sys.path.insert(0, str(TOP.parent.parent))
 from tests import helpers  # noqa: E402
 
-ROOM = pathlib.Path(tempfile.mkdtemp(prefix="rigzumal-pam-"))
-atexit.register(shutil.rmtree, ROOM, ignore_errors=True)
+ROOM = helpers.common_folder()
 SOURCES = ["pam_rigzumal.c", "../src/base64.c"]
 WARNINGS = os.environ.get("TEST_WARNINGS", "-Wall -Wextra -Wpedantic -Werror").split()
 SANITIZED = "-O1 -fsanitize=address,undefined -fno-sanitize-recover=all".split()
@@ -58,12 +55,8 @@ class Case(helpers.Case):
 def compiled(name: str, flags: Sequence[str], *sources: str) -> pathlib.Path:
     out = ROOM / name
     if not out.exists():
-        command = [os.environ.get("CC", "cc"), "-std=c11", "-g", "-I../src", *WARNINGS, *flags]
-        done = subprocess.run(
-            [*command, *sources, "-o", out, "-lpam"], cwd=TOP, capture_output=True, text=True
-        )
-        if done.returncode:
-            raise AssertionError(f"error: {done.stderr}")
+        words = [os.environ.get("CC", "cc"), "-std=c11", "-g", "-I../src", *WARNINGS, *flags]
+        helpers.run(*words, *sources, "-o", out, "-lpam", at=TOP)
     return out
 
 

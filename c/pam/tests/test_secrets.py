@@ -1,17 +1,17 @@
 """Tests of the PAM module: what it leaves in memory and in the log, threads, and how it is built."""
 
 import base64
+import functools
 import os
 import re
 import shutil
 import socket
-import subprocess
 import time
-import unittest
 
 from driven import PLAIN, ROOM, SOURCES, TOP, VALGRIND, Case, Pam, Question
-from driven import answers, asked, compiled, line_of, peer, said_at, sends
+from driven import answers, asked, compiled, helpers, line_of, peer, said_at, sends
 
+run = functools.partial(helpers.run, at=TOP)
 PASSWORD = b"correct horse battery staple!"
 ENCODED = base64.b64encode(PASSWORD).rstrip(b"=")
 
@@ -91,8 +91,7 @@ class Secrets(Case):
 
     def test_under_valgrind(self) -> None:
         """A login, a wrong one, an account and a change, with all memory watched."""
-        if shutil.which("valgrind") is None:
-            raise unittest.SkipTest("valgrind is not there")
+        helpers.need("valgrind")
         watched = {"build": VALGRIND, "options": "timeout=60 debug"}
         given = [b"secret", b"secret", b"fresh", b"fresh"]
         with peer(answers(change=b"1 replaced\n")) as it:
@@ -103,12 +102,6 @@ class Secrets(Case):
         said, _ = said_at(b"1 no\nxyz", Question(**watched))
         self.assertEqual(said.codes, [Pam.AUTHINFO_UNAVAIL])
 
-    def ran(self, *command: object) -> str:
-        """What a command writes, if it ends well."""
-        done = subprocess.run([*map(str, command)], cwd=TOP, capture_output=True, text=True)
-        self.assertEqual(done.returncode, 0, done.stderr)
-        return done.stdout
-
     def test_builds(self) -> None:
         """Both compilers take it without a warning; four symbols are seen; the layout is
         clang-format's."""
@@ -116,16 +109,14 @@ class Secrets(Case):
         every += " -Wstrict-prototypes -Werror -fPIC -shared -I../src -o /dev/null"
         for compiler in ("gcc", "clang"):
             if shutil.which(compiler):
-                self.ran(compiler, *every.split(), *SOURCES, "-lpam")
-        self.ran("make", "-s")
-        seen = self.ran("nm", "-D", "--defined-only", "out/pam_rigzumal.so").split()[2::3]
+                run(compiler, *every.split(), *SOURCES, "-lpam")
+        run("make", "-s")
+        seen = run("nm", "-D", "--defined-only", "out/pam_rigzumal.so").split()[2::3]
         ought = ["pam_sm_acct_mgmt", "pam_sm_authenticate", "pam_sm_chauthtok", "pam_sm_setcred"]
         self.assertEqual(sorted(seen), ought)
-        sections = self.ran("size", "-A", compiled("module.o", ["-O2", "-fPIC", "-c"], SOURCES[0]))
+        sections = run("size", "-A", compiled("module.o", ["-O2", "-fPIC", "-c"], SOURCES[0]))
         static_state = re.findall(r"^\.(?:data|bss|tbss|tdata)\s+[1-9].*", sections, re.M)
         self.assertEqual(static_state, [])
         if shutil.which("clang-format"):
             files = ("pam_rigzumal.c", "tests/driver.c")
-            self.ran(
-                "clang-format", "--style=file:../.clang-format", "--dry-run", "-Werror", *files
-            )
+            run("clang-format", "--style=file:../.clang-format", "--dry-run", "-Werror", *files)
