@@ -41,7 +41,7 @@ SET_BY_TESTS = {"FRAMEWORKS_ROOM"}
 # The files that say the version, and how.
 VERSIONED = {
     "c/include/rigzumal.h": r'RIGZUMAL_LIBRARY_VERSION "(.*)"',
-    "c/man/rigzumal.3": r'^\.TH .* "rigzumal (\S+)"',
+    "man/rigzumal.3": r'^\.TH .* "rigzumal (\S+)"',
     "rust/Cargo.toml": r'^version = "(.*)"',
     "CHANGELOG.md": r"^## (\d+\.\d+\.\d+)",
     "python/rigzumal/server/daemon/options.py": r'^VERSION = "(.*)"',
@@ -142,7 +142,7 @@ def places(page):
 
 def variables():
     """Each variable that a user or tester may set, on a page or in a manual."""
-    said = "\n".join(source(it) for it in [*PAGES, *TOP.glob("*/README.md"), *TOP.glob("man/*"), *TOP.glob("c/man/*")])
+    said = "\n".join(source(it) for it in [*PAGES, *TOP.glob("*/README.md"), *TOP.glob("man/*")])
     files = subprocess.run(["git", "ls-files", "*.py", "*.c", "*.rs"], cwd=TOP, capture_output=True, text=True, check=True).stdout.split()
     form = r'(?:environ(?:\.get\(|\[)|getenv\()"((?:RIGZUMAL|TORTURE|FRAMEWORKS|SERVER|TEST|CREDKEEP|CREDBOOK)\w*)"'
     for name in sorted({name for it in files for name in re.findall(form, source(TOP / it))}):

@@ -2,7 +2,7 @@
  * stands here with a rest before each atomic step, so that what isn't one step is met by another
  * thread. */
 #define _GNU_SOURCE
-#include "blocks.h"
+#include "check.h"
 
 #include <pthread.h>
 #include <stdatomic.h>
@@ -80,7 +80,7 @@ static void *give_kept(void *unused) {
 static void *work(void *number) {
     int byte = *(const int *)number;
     for (int turn = 0; turn < TURNS; turn++) {
-        unsigned char *block = take_block(SIZE);
+        unsigned char *block = rattle_alloc(SIZE, 8).start;
         CHECK(is_all(block, 0, SIZE));
         memset(block, byte, SIZE);
         sched_yield();
@@ -94,7 +94,7 @@ static void *work(void *number) {
 static void lower_bound(void) {
     for (int step = 0; steps_to_lowering < 0; step++) {
         keep_at_most(KEPT);
-        void *block = take_block(SIZE);
+        void *block = rattle_alloc(SIZE, 8).start;
         steps_to_lowering = step;
         rattle_dealloc(block);
         CHECK(steps_to_lowering < 0 ? mapped == 0 : step > 4); /* to the last step */

@@ -7,8 +7,8 @@ import shutil
 import stat
 import unittest
 
-from harness import COMPILER, IS_HOST, OUT, ROOM, TOP, TRIPLET
-from harness import files_below, need, need_glibc, need_host, run, runnable
+from harness import COMPILER, IS_HOST, OUT, ROOM, TOP
+from harness import files_below, need, need_host, run, runnable
 
 
 VERSION = (TOP.parent / "VERSION").read_text().strip()
@@ -22,21 +22,6 @@ INSTALLED = {
     "lib/pkgconfig/rigzumal.pc",
     "lib/rigzumal/libargon2.so.1",
     "share/man/man3/rigzumal.3",
-}
-LIBRARIES = f"usr/lib/{TRIPLET}"
-LOADED = {"lib/librigzumal.so.1", "lib/rigzumal/libargon2.so.1"}
-
-
-def packed(names):
-    """Where a package of Debian's has what is installed."""
-    return {f"usr/{it}".replace("usr/lib", LIBRARIES).replace(".3", ".3.gz") for it in names}
-
-
-PACKED = {"librigzumal1": packed(LOADED), "librigzumal-dev": packed(INSTALLED - LOADED)}
-SCRIPTS = {
-    "triggers": "activate-noawait ldconfig",
-    "shlibs": "librigzumal 1 ",
-    "symbols": "rigzumal_check@RIGZUMAL_1 0.2.0",
 }
 
 
@@ -207,34 +192,3 @@ class Package(unittest.TestCase):
             said = run("readelf", "-W", "-d", "-l", OUT / name)
             for form in ("BIND_NOW|FLAGS_1.*NOW", "SYMBOLIC", "GNU_RELRO", "GNU_STACK .* RW +0x"):
                 self.assertRegex(said, form, name)
-
-    def test_debs(self):
-        """Debian's packages: what lintian says of them, and a program over what they hold."""
-        need("dpkg-deb", "lintian", "pkg-config")
-        need_glibc()
-        for deb in OUT.glob("*.deb"):
-            deb.unlink()
-        run("make", "deb")
-        debs = {it.name.split("_")[0]: it for it in OUT.glob("*.deb")}
-        self.assertEqual(set(debs), set(PACKED))
-        run("lintian", "--fail-on", "error", *debs.values())
-        needs = {
-            "librigzumal-dev": f"librigzumal1 (= {VERSION})",
-            "librigzumal1": "libc6 (>= ",
-        }
-        room = ROOM / "debs"
-        room.mkdir()
-        for name, deb in debs.items():
-            self.assertIn(needs[name], run("dpkg-deb", "-f", deb, "Depends"))
-            run("dpkg-deb", "-R", deb, room / name)
-            held = {it for it in files_below(room / name) if "/doc/" not in it}
-            self.assertEqual({it for it in held if it[:7] != "DEBIAN/"}, PACKED[name])
-            run("dpkg-deb", "-x", deb, room)
-        for script, line in SCRIPTS.items():
-            self.assertIn(line, (room / "librigzumal1/DEBIAN" / script).read_text())
-        libraries = room / LIBRARIES
-        check_pkg_config({"PKG_CONFIG_PATH": str(libraries / "pkgconfig")})
-        program = ROOM / "of-debs"
-        folders = (f"-I{room / 'usr/include'}", f"-L{libraries}")
-        run(COMPILER, "tests/threads.c", "-pthread", *folders, "-lrigzumal", "-o", program)
-        run(runnable(program), env={"LD_LIBRARY_PATH": str(libraries)})

@@ -3,7 +3,8 @@
 #ifndef WATCHED_MEMORY_H
 #define WATCHED_MEMORY_H
 
-#include "blocks.h"
+#include "check.h"
+#include "heap.h"
 
 #include <errno.h>
 #include <stdint.h>
@@ -88,6 +89,13 @@ WRAP(int, madvise, void *start, size_t size, int advice) {
     CHECK(advice >= 0 && advice < 128);
     advised[advice] = (struct advised){start, size, advised[advice].times + 1};
     return __real_madvise(start, size, advice);
+}
+
+/* A block that isn't refused. */
+static unsigned char *take_block(size_t size) {
+    struct tried tried = rattle_alloc(size, 8);
+    CHECK(tried.ok);
+    return tried.start;
 }
 
 #endif

@@ -8,7 +8,8 @@ import sys
 import tempfile
 import unittest
 
-from tests.helpers import TOP, need, need_root, run
+from tests import helpers
+from tests.helpers import TOP, files_below, need, need_root, run
 
 PROGRAMS = ("credbook", "credkeep")
 VERSION = (TOP / "VERSION").read_text().strip()
@@ -80,6 +81,22 @@ def sample(page, language, word):
     return next(it for it in found if word in it)
 
 
+# A processor, where its library is built, its name in folders, and what runs its programs here.
+LIBRARIES = (
+    ("amd64", "c/out", "x86_64-linux-gnu", ()),
+    ("arm64", "c/out/arm64", "aarch64-linux-gnu", ("qemu-aarch64", "-L", "/usr/aarch64-linux-gnu")),
+)
+# What a package needs, and what it has below /usr.
+PACKED = {
+    "librigzumal1": ("libc6 (>= ", "lib/librigzumal.so.1", "lib/rigzumal/libargon2.so.1"),
+    "librigzumal-dev": (
+        f"librigzumal1 (= {VERSION})",
+        *("include/rigzumal.h", "lib/librigzumal.a", "lib/librigzumal.so", "lib/pkgconfig/rigzumal.pc"),
+        *(f"lib/cmake/rigzumal/rigzumal-config{it}.cmake" for it in ("", "-version")),
+        "share/man/man3/rigzumal.3.gz",
+    ),
+}
+SCRIPTS = {"triggers": "activate-noawait ldconfig", "shlibs": "librigzumal 1 ", "symbols": "rigzumal_check@RIGZUMAL_1 0.2.0"}
 IS_BUILT = (TOP / "c/out/librigzumal.so.1").exists()
 
 
@@ -100,8 +117,9 @@ class Install(unittest.TestCase):
 
 
 @unittest.skipUnless(IS_BUILT, "needs what make -C c builds")
-class Debs(unittest.TestCase):
+class Debs(helpers.Case):
     def setUp(self):
+        super().setUp()
         need("dpkg-shlibdeps")
 
     def debs(self, folder, *words):
@@ -122,7 +140,31 @@ class Debs(unittest.TestCase):
             run("lintian", "--fail-on", "error,warning", *debs)
 
     def test_library(self):
-        self.check(self.debs("c"), [("librigzumal1", "amd64"), ("librigzumal-dev", "amd64")])
+        """Of each processor that it is built for: what is packed, and a program over it."""
+        for arch, built, triplet, emulator in LIBRARIES:
+            with self.subTest(arch):
+                if not (TOP / built / "librigzumal.so.1").exists():
+                    self.skipTest(f"{built} isn't built")
+                need(f"{triplet}-gcc", "pkg-config", *emulator[:1])
+                debs = self.debs("c", f"ARCH={'x86_64' if arch == 'amd64' else arch}")
+                self.check(debs, [(name, arch) for name in PACKED])
+                self.check_library(debs, triplet, emulator)
+
+    def check_library(self, debs, triplet, emulator):
+        room, libraries = self.room(), f"usr/lib/{triplet}"
+        for deb, (name, (needs, *files)) in zip(debs, PACKED.items()):
+            self.assertIn(needs, run("dpkg-deb", "-f", deb, "Depends"))
+            run("dpkg-deb", "-R", deb, room / name)
+            held = {it for it in files_below(room / name / "usr") if "/doc/" not in it}
+            self.assertEqual(held, {it.replace("lib/", f"lib/{triplet}/") for it in files})
+            run("dpkg-deb", "-x", deb, room)
+        for script, line in SCRIPTS.items():
+            self.assertIn(line, (room / "librigzumal1/DEBIAN" / script).read_text())
+        env = {"PKG_CONFIG_PATH": str(room / libraries / "pkgconfig")}
+        self.assertEqual(run("pkg-config", "--modversion", "rigzumal", env=env).strip(), VERSION)
+        folders = (f"-I{room / 'usr/include'}", f"-L{room / libraries}")
+        run(f"{triplet}-gcc", "c/tests/threads.c", "-pthread", *folders, "-lrigzumal", "-o", room / "program")
+        run(*emulator, room / "program", env={"LD_LIBRARY_PATH": str(room / libraries)})
 
     def test_python(self):
         self.check(self.debs("python"), [("python3-rigzumal", "all")])
@@ -136,7 +178,7 @@ class Debs(unittest.TestCase):
         listed = "".join(run("dpkg-deb", "-c", it) for it in debs)
         modules = (TOP / "python/rigzumal/server/daemon").glob("*.py")
         names = [f"/{it.name}\n" for it in [*(TOP / "units").iterdir(), *modules]]
-        names += [f"/man{it.suffix[1:]}/{it.name}.gz" for it in (TOP / "man").iterdir()]
+        names += [f"/man{it.suffix[1:]}/{it.name}.gz" for it in (TOP / "man").iterdir() if it.stem != "rigzumal"]
         for name in (*names, "./usr/bin/credkeep-ask", "./usr/sbin/credkeep-server"):
             self.assertIn(name, listed)
 
