@@ -65,8 +65,7 @@ static area map_area(size_t size) {
 }
 
 static void unmap_area(area it) {
-    if (it != 0)
-        munmap(start_of(it), size_of(it));
+    munmap(start_of(it), size_of(it));
 }
 
 /* The areas that are kept, and how many bytes they have: never more than the most, but for a moment

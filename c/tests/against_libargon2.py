@@ -23,11 +23,6 @@ MISMATCH = -35
 HASHED = (0, -31, MISMATCH)  # the answers that the original gives after it has hashed
 
 
-def is_untouched(written):
-    """Whether a buffer is as it was made: all of one byte."""
-    return len(set(written)) == 1
-
-
 def with_high_bytes(draw, text):
     """A string whose '/' are bytes that no base64 has, which the original reads as '/'."""
     return re.sub("/", lambda _: chr(draw.randrange(0x80, 0x100)), text)
@@ -104,7 +99,8 @@ class Comparison:
         answer, wanted = (it[0] if isinstance(it, tuple) else it for it in (one, other))
         if refused is not None and wanted in HASHED:
             self.refused[refused] = self.refused.get(refused, 0) + 1
-            is_good = answer == refused and (answer is one or is_untouched(one[1]))
+            # what could be written is as it was made: all of one byte
+            is_good = answer == refused and (answer is one or len(set(one[1])) == 1)
         else:
             is_good = one == other
         if not is_good:

@@ -67,17 +67,10 @@ JOB(record_fault, rigzumal_record_fault(RECORD(it->record)))
 JOB(setting_fault, rigzumal_setting_fault(has_trouble(it, BAD_RECORD) ? it->record : it->setting))
 JOB(explained, rigzumal_explain(TEXT, RECORD(it->record)))
 JOB(needs_rehash, rigzumal_needs_rehash(it->record, COSTS, sizeof salt, TAG))
+JOB(parts, rigzumal_parts(&(struct rigzumal_parts){0}, it->record))
+JOB(key, rigzumal_scrypt(it->made, KEY, &(struct rigzumal_scrypt){it->job->number, 2, 2}, PASSWORD,
+                         ARRAY(salt)))
 JOB(written_record, rigzumal_argon2_write(TEXT, &numbers, ARRAY(salt), ARRAY(it->tag)))
-
-static int key(struct vault *it) {
-    struct rigzumal_scrypt numbers = {it->job->number, 2, 2};
-    return rigzumal_scrypt(it->made, KEY, &numbers, PASSWORD, ARRAY(salt));
-}
-
-static int parts(struct vault *it) {
-    struct rigzumal_parts parts;
-    return rigzumal_parts(&parts, it->record);
-}
 
 /* The replies to each operation, if the password is right and if it is wrong. */
 static const struct {

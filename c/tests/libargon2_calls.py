@@ -117,10 +117,6 @@ def zeros(size):
     return ctypes.c_char.from_buffer(mmap.mmap(-1, size, flags=flags))
 
 
-def bytes_or_null(data, is_null):
-    return None if is_null else data
-
-
 def places(it):
     """Where the inputs lie in an arena, one behind another, and where what is written does: over any
     of them, or behind them."""
@@ -172,8 +168,8 @@ def by_context(lib, it, name, *given):
 def by_hash(lib, it, encoded_size, has_raw):
     raw = ctypes.create_string_buffer(b"\x5a" * 1100, 1100)
     encoded = ctypes.create_string_buffer(b"\x5a" * 3000, 3000)
-    password = bytes_or_null(it.password, it.null == "p"), len(it.password)
-    salt = bytes_or_null(it.salt, it.null == "s"), len(it.salt)
+    password = None if it.null == "p" else it.password, len(it.password)
+    salt = None if it.null == "s" else it.salt, len(it.salt)
     tag = ctypes.addressof(raw) if has_raw else None, it.tag_size
     text = None if encoded_size is None else ctypes.addressof(encoded), encoded_size or 0
     costs = (it.passes, it.memory, it.lanes)

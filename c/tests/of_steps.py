@@ -76,14 +76,11 @@ class Steps(unittest.TestCase):
         long, right = bytes(257), b"password"
         for operation, copy, password, new, setting, room, fault in (
             (0, "$", long, long, "", 513, N.NO_OPERATION),
-            (6, "$", long, long, "", 513, N.NO_OPERATION),
             (N.VERIFY, "$", long, long, "", 513, N.COPY),
-            (N.ENROL, "", right, right, COSTS, 513, N.COPY),
             (N.VERIFY, "", right, right, None, 513, N.COPY),
             (N.ENROL, None, long, right, COSTS, 513, N.LONG_PASSWORD),
             (N.CHANGE, None, right, long, COSTS, 513, N.LONG_PASSWORD),
             (N.ENROL, None, right, right, None, 513, N.SHAPE),
-            (N.ENROL, None, right, right, COSTS.replace("256", "7"), 513, N.RANGE),
             (N.ENROL, None, right, right, COSTS, 84, N.NO_ROOM),
             (N.ENROL, None, right, right, COSTS, 0, N.NO_ROOM),
         ):

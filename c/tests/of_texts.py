@@ -31,7 +31,6 @@ RECORDS = {
     f"$argon2id$v=19$m=0256,t=2,p=1${SALT}${TAG}": N.PARAMS,
     f"$argon2id$v=19$m=7,t=2,p=1${SALT}${TAG}": "m=7 is under 8 p (8 KiB)",
     f"$argon2i$v=16$m=2097153,t=1,p=1${SALT}${TAG}": "m=2097153 is over 2097152 (KiB)",
-    f"$argon2i$m=0,t=1,p=1${SALT}${TAG}": "m=0 is under 8 p (8 KiB)",
     f"$argon2id$v=19$m=64,t=1,p=256${SALT}${TAG}": "p=256 is not from 1 to 255",
     f"$scrypt$ln=23,r=8,p=1$AA${TAG}": "ln=23: r times 2^ln is over 16777216",
     f"{COSTS}$c29t${TAG}": N.SALT,
@@ -42,10 +41,8 @@ RECORDS = {
 OTHERS = {
     "": N.SHAPE,
     "x": N.SHAPE,
-    "m=7": N.SHAPE,
     "$": N.SCHEME,
     "$argon2id": N.SHAPE,
-    "$argon2id$v=19": N.SHAPE,
     "$scrypt": N.SHAPE,
     "$2b$12$abc": N.SCHEME,
     "$argon2x$v=19$m=8,t=1,p=1": N.SCHEME,

@@ -132,18 +132,19 @@ static int converse(int count, const struct pam_message **messages, struct pam_r
 }
 
 static int done(pam_handle_t *pamh, const char *task) {
-    if (strcmp(task, "authenticate") == 0)
-        return pam_authenticate(pamh, 0);
-    if (strcmp(task, "strict") == 0)
-        return pam_authenticate(pamh, PAM_DISALLOW_NULL_AUTHTOK);
-    if (strcmp(task, "setcred") == 0)
-        return pam_setcred(pamh, PAM_ESTABLISH_CRED);
-    if (strcmp(task, "account") == 0)
-        return pam_acct_mgmt(pamh, 0);
-    if (strcmp(task, "change") == 0)
-        return pam_chauthtok(pamh, 0);
-    if (strcmp(task, "expired") == 0)
-        return pam_chauthtok(pamh, PAM_CHANGE_EXPIRED_AUTHTOK);
+    static const struct {
+        const char *name;
+        int (*call)(pam_handle_t *pamh, int flags);
+        int flags;
+    } tasks[] = {{"authenticate", pam_authenticate, 0},
+                 {"strict", pam_authenticate, PAM_DISALLOW_NULL_AUTHTOK},
+                 {"setcred", pam_setcred, PAM_ESTABLISH_CRED},
+                 {"account", pam_acct_mgmt, 0},
+                 {"change", pam_chauthtok, 0},
+                 {"expired", pam_chauthtok, PAM_CHANGE_EXPIRED_AUTHTOK}};
+    for (size_t i = 0; i < sizeof tasks / sizeof tasks[0]; i++)
+        if (strcmp(task, tasks[i].name) == 0)
+            return tasks[i].call(pamh, tasks[i].flags);
     fprintf(stderr, "no task: %s\n", task);
     exit(2);
 }
