@@ -114,7 +114,7 @@ static char *put_password(char *text, const char *password) {
     *text++ = ' ';
     if (size == 0)
         *text++ = '-';
-    write_base64((uint8_t *)text, (const uint8_t *)password, size);
+    base64_write((uint8_t *)text, (const uint8_t *)password, size);
     return text + base64_size(size);
 }
 

@@ -12,7 +12,7 @@ const struct build *processor_build(void) {
     return &build_generic;
 }
 
-void clear_bytes(void *start, size_t size) {
+void processor_clear_bytes(void *start, size_t size) {
     __asm__ volatile("0: stp xzr, xzr, [%0], #16\n\tsubs %1, %1, #16\n\tb.ne 0b"
                      : "+r"(start), "+r"(size)::"memory", "cc");
 }
@@ -43,7 +43,7 @@ static void clear_vectors(void) {
 }
 
 /* x18 is the platform's. */
-void clear_registers(void) {
+void processor_clear_registers(void) {
     clear_vectors();
     __asm__ volatile(EIGHT(CLEAR_GENERAL) NEXT_EIGHT(CLEAR_GENERAL) CLEAR_GENERAL(16)
                          CLEAR_GENERAL(17)::

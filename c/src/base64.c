@@ -29,7 +29,7 @@ int base64_value(uint8_t letter) {
     return (int)value - 1;
 }
 
-void write_base64(uint8_t *text, const uint8_t *from, size_t size) {
+void base64_write(uint8_t *text, const uint8_t *from, size_t size) {
     uint32_t waiting = 0;
     int bits = 0;
     for (size_t i = 0; i < size; i++) {

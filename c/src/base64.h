@@ -10,7 +10,7 @@
 size_t base64_size(size_t size);
 
 /* Writes the letters of the bytes. */
-void write_base64(uint8_t *text, const uint8_t *from, size_t size);
+void base64_write(uint8_t *text, const uint8_t *from, size_t size);
 
 /* The six bits that a letter stands for, or -1. */
 int base64_value(uint8_t letter);

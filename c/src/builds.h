@@ -1,10 +1,11 @@
 /* What the crate cred_c exports, which is compiled for several levels of a processor: a build for
  * each. The contracts stand in the crate. Its structures are rigzumal_argon2 (Argon2Numbers),
- * rigzumal_scrypt (ScryptNumbers), rigzumal_parts (Parts), those of parts.h, and those below. */
+ * rigzumal_scrypt (ScryptNumbers), rigzumal_parts (Parts), those of tag_parts.h, and those below.
+ */
 #ifndef BUILDS_H
 #define BUILDS_H
 
-#include "parts.h"
+#include "tag_parts.h"
 
 #include <stddef.h>
 #include <stdint.h>
@@ -52,7 +53,7 @@ uint8_t cred_setting_fault(bytes text, size_t text_size);
 uint8_t cred_record_fault(bytes text, size_t text_size);
 uint8_t cred_record_parts(bytes text, size_t text_size, struct rigzumal_parts *parts);
 
-/* A tag in parts: the order of the calls is that of parts.h. */
+/* A tag in parts: the order of the calls is that of tag_parts.h. */
 uint8_t cred_argon2_segment_len(const struct tag_numbers *numbers, uint32_t *segment);
 uint8_t cred_argon2_begin(const struct tag_numbers *numbers, const struct argon2_inputs *inputs,
                           struct argon2_block *first, size_t first_count);

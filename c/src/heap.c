@@ -117,7 +117,7 @@ static bool put_kept(area it) {
     return false;
 }
 
-size_t unmap_kept_areas(void) {
+size_t heap_trim(void) {
     size_t unmapped = 0;
     for (int i = 0; i < PLACES; i++) {
         area it = atomic_exchange(&kept_areas[i], 0);
@@ -152,7 +152,7 @@ static void give_area(area it) {
             return;
     }
     if (atomic_load(&kept) > atomic_load(&most_kept)) /* it was lowered meanwhile */
-        unmap_kept_areas();
+        heap_trim();
 }
 
 /* Has the pages of a kept area be the first of a new one, which is larger. Where that fails the
@@ -186,14 +186,14 @@ static area take_area(size_t size) {
     area it = take_kept(size);
     if (it == 0)
         it = new_area(size);
-    if (it == 0 && unmap_kept_areas() > 0)
+    if (it == 0 && heap_trim() > 0)
         it = map_area(size);
     return it;
 }
 
-size_t keep_at_most(size_t size) {
+size_t heap_keep(size_t size) {
     size_t before = atomic_exchange(&most_kept, size / HUGE_PAGE * HUGE_PAGE);
-    unmap_kept_areas();
+    heap_trim();
     return before;
 }
 
@@ -205,11 +205,11 @@ __attribute__((constructor)) static void read_bound(void) {
     char *end;
     unsigned long long size = strtoull(text, &end, 10);
     if (*end == '\0')
-        keep_at_most(size);
+        heap_keep(size);
 }
 
 __attribute__((destructor)) static void leave_nothing(void) {
-    unmap_kept_areas();
+    heap_trim();
 }
 
 /* The blocks that this thread has taken, the newest last. */
@@ -331,7 +331,7 @@ static struct block struck_out(const void *start) {
     return block;
 }
 
-void end_child_of(pid_t process) {
+void heap_end_child_of(pid_t process) {
     static const char said[] = "rigzumal: a forked child went on with its parent's call\n";
     if (getpid() == process)
         return;
@@ -347,7 +347,7 @@ static void give_back(struct block block) {
     if (block.area == 0) {
         free(block.start);
     } else {
-        end_child_of(taken.process);
+        heap_end_child_of(taken.process);
         give_area_block(block);
     }
     free_empty_table();
@@ -368,7 +368,7 @@ struct tried rattle_realloc(void *old, size_t kept, size_t size, size_t align) {
     return tried;
 }
 
-void *take_zeros(size_t size) {
+void *heap_take_zeros(size_t size) {
     struct tried tried = rattle_alloc(size, LEAST_ALIGN);
     if (!tried.ok)
         return NULL;
@@ -377,6 +377,6 @@ void *take_zeros(size_t size) {
     return tried.start;
 }
 
-void give_zeros(void *start) {
+void heap_give_zeros(void *start) {
     give_back(struck_out(start));
 }

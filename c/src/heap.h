@@ -20,21 +20,21 @@ void rattle_dealloc(void *start);
 
 /* So many bytes that are zero, or null if there is too little memory: large ones in huge pages, in
  * no core dump, and zero in a forked child. */
-void *take_zeros(size_t size);
+void *heap_take_zeros(size_t size);
 
 /* Gives them back, on the thread that took them, when all are zero again. */
-void give_zeros(void *start);
+void heap_give_zeros(void *start);
 
 /* Ends this process with a word on standard error if it isn't that one but a child of it, forked in
  * a signal handler, that went on with its call: it has neither the call's memory nor its threads.
  */
-void end_child_of(pid_t process);
+void heap_end_child_of(pid_t process);
 
 /* Gives the kept areas back to the system: how many bytes they have. */
-size_t unmap_kept_areas(void);
+size_t heap_trim(void);
 
 /* Has at most so many bytes kept from now on, and gives all that is kept back: how many could be
  * kept before. */
-size_t keep_at_most(size_t size);
+size_t heap_keep(size_t size);
 
 #endif

@@ -1,4 +1,4 @@
-/* The order in which parts.h has the parts called, and the threads that call them.
+/* The order in which tag_parts.h has the parts called, and the threads that call them.
  *
  * Segments have numbers, slice by slice and pass by pass. A thread draws the next number, waits
  * until all segments of the slices before are worked, works its own, and draws again. So each is
@@ -51,7 +51,7 @@ static sigset_t block_signals(const struct run *run) {
     sigset_t all, before;
     sigfillset(&all);
     pthread_sigmask(SIG_SETMASK, &all, &before);
-    end_child_of(run->process);
+    heap_end_child_of(run->process);
     return before;
 }
 
@@ -143,7 +143,7 @@ static void *help(void *run) {
     madvise(end - HIDDEN_STACK, HIDDEN_STACK, MADV_WIPEONFORK);
     work_segments(run);
     clear_segments(run);
-    clear_traces();
+    secrets_clear_traces();
     return NULL;
 }
 
@@ -221,7 +221,7 @@ static void give_slices(struct run *run, int count) {
     if (run->task->memory != NULL)
         return;
     while (count > 0)
-        give_zeros(run->slices[--count]);
+        heap_give_zeros(run->slices[--count]);
 }
 
 static bool take_slices(struct run *run) {
@@ -230,7 +230,7 @@ static bool take_slices(struct run *run) {
         return true;
     }
     for (int i = 0; i < SLICES; i++) {
-        run->slices[i] = take_zeros(run->slice_size * sizeof(struct argon2_block));
+        run->slices[i] = heap_take_zeros(run->slice_size * sizeof(struct argon2_block));
         if (run->slices[i] == NULL) {
             give_slices(run, i);
             return false;
@@ -243,7 +243,7 @@ static uint8_t work(struct run *run, uint32_t threads) {
     if (!take_slices(run))
         return RIGZUMAL_MEMORY;
     uint8_t fault = run->task->begin(run->task->inputs, run->slices[0], run->slice_size);
-    clear_traces(); /* of the inputs' hash too, H0 of RFC 9106, section 3.2 */
+    secrets_clear_traces(); /* of the inputs' hash too, H0 of RFC 9106, section 3.2 */
     if (fault == RIGZUMAL_OK) {
         work_with_helpers(run, threads - 1);
         fault = atomic_load(&run->fault);
@@ -252,7 +252,7 @@ static uint8_t work(struct run *run, uint32_t threads) {
     return fault;
 }
 
-uint8_t size_of_slices(const struct tag_numbers *numbers, size_t *size) {
+uint8_t lanes_size(const struct tag_numbers *numbers, size_t *size) {
     uint32_t segment_size;
     uint8_t fault = CALL(cred_argon2_segment_len, numbers, &segment_size);
     if (fault == RIGZUMAL_OK)
@@ -260,9 +260,9 @@ uint8_t size_of_slices(const struct tag_numbers *numbers, size_t *size) {
     return fault;
 }
 
-uint8_t work_lanes(const struct task *task, uint32_t threads) {
+uint8_t lanes_work(const struct task *task, uint32_t threads) {
     size_t size = 0;
-    uint8_t fault = size_of_slices(&task->numbers, &size);
+    uint8_t fault = lanes_size(&task->numbers, &size);
     if (fault != RIGZUMAL_OK)
         return fault;
     size_t slice_size = size / SLICES / sizeof(struct argon2_block);
@@ -291,7 +291,7 @@ static uint32_t allowed_processors(void) {
     return online < 1 ? 1 : (uint32_t)online;
 }
 
-uint32_t useful_threads(const struct tag_numbers *numbers, uint32_t allowed) {
+uint32_t lanes_useful_threads(const struct tag_numbers *numbers, uint32_t allowed) {
     uint32_t most = allowed < numbers->lanes ? allowed : numbers->lanes;
     if (most > MOST_HELPERS + 1)
         most = MOST_HELPERS + 1;

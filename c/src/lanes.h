@@ -16,16 +16,16 @@ struct task {
 };
 
 /* How many bytes the four slices have, or a fault of the numbers. */
-uint8_t size_of_slices(const struct tag_numbers *numbers, size_t *size);
+uint8_t lanes_size(const struct tag_numbers *numbers, size_t *size);
 
 /* How many threads are to work the lanes, if the program allows so many: no more than there are
  * lanes, and processors that it may run on. One, if the memory is so small that the start of
  * threads would take longer. */
-uint32_t useful_threads(const struct tag_numbers *numbers, uint32_t allowed);
+uint32_t lanes_useful_threads(const struct tag_numbers *numbers, uint32_t allowed);
 
 /* Works a task with so many threads, 1 to 255, the caller's among them. Where one can't be started
  * the others work its lanes. All have ended when the call is over, and memory of the caller's,
  * which was zero, is zero again. */
-uint8_t work_lanes(const struct task *task, uint32_t threads);
+uint8_t lanes_work(const struct task *task, uint32_t threads);
 
 #endif

@@ -109,7 +109,7 @@ static uint8_t *memory_of(const argon2_context *context, size_t size) {
 /* Works a task in memory that the caller's functions give and get back. */
 static int work_by_callbacks(struct task *task, const argon2_context *context) {
     size_t size;
-    int fault = size_of_slices(&task->numbers, &size);
+    int fault = lanes_size(&task->numbers, &size);
     if (fault != RIGZUMAL_OK)
         return fault;
     uint8_t *memory = memory_of(context, size);
@@ -117,7 +117,7 @@ static int work_by_callbacks(struct task *task, const argon2_context *context) {
         return RIGZUMAL_MEMORY;
     memset(memory, 0, size);
     task->memory = (struct argon2_block *)memory;
-    fault = work_lanes(task, useful_threads(&task->numbers, context->threads));
+    fault = lanes_work(task, lanes_useful_threads(&task->numbers, context->threads));
     context->free_cbk(memory, size);
     return fault;
 }
@@ -130,7 +130,7 @@ static int make_tag_in_parts(uint8_t *tag, argon2_context *context, argon2_type 
     struct task task = {numbers, begin_tag, end_tag, &made, NULL};
     int fault = context->allocate_cbk != NULL
                     ? work_by_callbacks(&task, context)
-                    : work_lanes(&task, useful_threads(&numbers, context->threads));
+                    : lanes_work(&task, lanes_useful_threads(&numbers, context->threads));
     if (is_begun)
         forget_inputs(context, fault == RIGZUMAL_OK);
     return fault;
@@ -161,7 +161,7 @@ PUBLIC int argon2_ctx(argon2_context *context, argon2_type type) {
         memcpy(context->out, tag, context->outlen);
     explicit_bzero(tag, context->outlen);
     free(tag);
-    clear_traces();
+    secrets_clear_traces();
     return number;
 }
 
@@ -169,8 +169,8 @@ PUBLIC int argon2_verify_ctx(argon2_context *context, const char *hash, argon2_t
     int number = argon2_ctx(context, type);
     if (number != ARGON2_OK)
         return number;
-    bool is_right = are_equal(hash, context->out, context->outlen);
-    clear_traces();
+    bool is_right = secrets_are_equal(hash, context->out, context->outlen);
+    secrets_clear_traces();
     return is_right ? ARGON2_OK : ARGON2_VERIFY_MISMATCH;
 }
 
@@ -218,7 +218,7 @@ PUBLIC int argon2_hash(uint32_t t_cost, uint32_t m_cost, uint32_t parallelism, c
         number = encode(encoded, encodedlen, &context, type);
     explicit_bzero(tag, hashlen);
     free(tag);
-    clear_traces();
+    secrets_clear_traces();
     return number;
 }
 
@@ -280,7 +280,7 @@ PUBLIC int argon2_verify(const char *encoded, const void *pwd, size_t pwdlen, ar
     if (encoded == NULL)
         return ARGON2_DECODING_FAIL;
     int number = verify(encoded, pwd, pwdlen, type);
-    clear_traces();
+    secrets_clear_traces();
     return number;
 }
 
@@ -313,9 +313,9 @@ CALLS_OF(argon2i, Argon2_i)
 CALLS_OF(argon2id, Argon2_id)
 
 PUBLIC size_t rigzumal_libargon2_trim(void) {
-    return unmap_kept_areas();
+    return heap_trim();
 }
 
 PUBLIC size_t rigzumal_libargon2_keep(size_t most) {
-    return keep_at_most(most);
+    return heap_keep(most);
 }

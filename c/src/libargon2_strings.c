@@ -76,9 +76,9 @@ bool write_string(char *text, size_t size, const argon2_context *context, argon2
         return false;
     memcpy(text, numbers, (size_t)length);
     text += length;
-    write_base64((uint8_t *)text, context->salt, context->saltlen);
+    base64_write((uint8_t *)text, context->salt, context->saltlen);
     text[salt_size] = '$';
-    write_base64((uint8_t *)text + salt_size + 1, context->out, context->outlen);
+    base64_write((uint8_t *)text + salt_size + 1, context->out, context->outlen);
     text[salt_size + 1 + tag_size] = '\0';
     return true;
 }

@@ -6,12 +6,12 @@
 #include <stddef.h>
 
 /* Clears a multiple of 16 bytes with no further call, which could reach below a stack. */
-void clear_bytes(void *start, size_t size);
+void processor_clear_bytes(void *start, size_t size);
 
 /* Clears the general registers that a call need not preserve, and every vector and mask register
  * that the processor has and the system keeps. What is left in one stands on the stack as soon as
  * the program binds a function lazily. */
-void clear_registers(void);
+void processor_clear_registers(void);
 
 /* Each of some registers: of(0) to of(7), and so on. */
 #define EIGHT(of) of(0) of(1) of(2) of(3) of(4) of(5) of(6) of(7)

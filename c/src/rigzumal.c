@@ -13,11 +13,11 @@ const char *rigzumal_version(void) {
 }
 
 size_t rigzumal_trim(void) {
-    return unmap_kept_areas();
+    return heap_trim();
 }
 
 size_t rigzumal_keep(size_t most) {
-    return keep_at_most(most);
+    return heap_keep(most);
 }
 
 int rigzumal_argon2(void *tag, size_t tag_size, const struct rigzumal_argon2 *numbers,
@@ -68,7 +68,7 @@ int rigzumal_record(char *text, size_t text_size, size_t tag_size, const char *c
     struct setting setting;
     int fault = null_password_fault(password, password_size);
     if (fault == RIGZUMAL_OK)
-        fault = make_setting(&setting, costs, salt, salt_size);
+        fault = setting_make(&setting, costs, salt, salt_size);
     if (fault != RIGZUMAL_OK)
         return fault;
     size_t written = 0;

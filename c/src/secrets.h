@@ -11,15 +11,15 @@ enum { CLEARED_STACK = 22 * 1024 };
 
 /* Clears the stack below the caller's frame, and the registers: to be called after all that a call
  * did with secrets. */
-void clear_traces(void);
+void secrets_clear_traces(void);
 
 /* Clears what a call left, and hands its answer on. */
 static inline int cleared(int answer) {
-    clear_traces();
+    secrets_clear_traces();
     return answer;
 }
 
 /* Whether two secrets of one size are equal, in a time that doesn't depend on where they differ. */
-bool are_equal(const void *one, const void *other, size_t size);
+bool secrets_are_equal(const void *one, const void *other, size_t size);
 
 #endif

@@ -21,7 +21,7 @@ static int draw(uint8_t *to, size_t size) {
     return RIGZUMAL_OK;
 }
 
-int make_setting(struct setting *setting, const char *costs, const void *salt, size_t salt_size) {
+int setting_make(struct setting *setting, const char *costs, const void *salt, size_t salt_size) {
     size_t costs_size = strlen(costs);
     if (costs_size > LONGEST_TEXT)
         return RIGZUMAL_TOO_LONG;
@@ -36,7 +36,7 @@ int make_setting(struct setting *setting, const char *costs, const void *salt, s
     if (fault != RIGZUMAL_OK)
         return fault;
     setting->text[costs_size] = '$';
-    write_base64(setting->text + costs_size + 1, salt == NULL ? drawn : salt, salt_size);
+    base64_write(setting->text + costs_size + 1, salt == NULL ? drawn : salt, salt_size);
     setting->size += 1 + base64_size(salt_size);
     setting->text[setting->size] = '\0';
     return RIGZUMAL_OK;

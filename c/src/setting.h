@@ -17,7 +17,7 @@ struct setting {
 
 /* Puts the salt behind the costs, if its size isn't 0; it is drawn if it is null.
  * Faults: TOO_LONG, NO_RANDOM. */
-int make_setting(struct setting *setting, const char *costs, const void *salt, size_t salt_size);
+int setting_make(struct setting *setting, const char *costs, const void *salt, size_t salt_size);
 
 /* As the proved code takes the size of a tag: one that doesn't fit is refused as 0 is. */
 static inline uint32_t narrow_tag_size(size_t size) {

@@ -26,7 +26,7 @@ static int make_record(char *text, size_t text_size, size_t tag_size, const char
     struct setting_reading reading;
     int fault = null_fault_of_record(inputs);
     if (fault == RIGZUMAL_OK)
-        fault = make_setting(&setting, costs, inputs->salt, inputs->salt_size);
+        fault = setting_make(&setting, costs, inputs->salt, inputs->salt_size);
     if (fault == RIGZUMAL_OK)
         fault =
             CALL(cred_hash_read, setting.text, setting.size, narrow_tag_size(tag_size), &reading);
@@ -50,7 +50,8 @@ static int check(const char *record, const struct rigzumal_inputs *inputs) {
     uint8_t tag[RIGZUMAL_TAG_SIZE_MAX];
     if (fault == RIGZUMAL_OK)
         fault = make_tag(tag, &reading.setting, inputs);
-    if (fault == RIGZUMAL_OK && !are_equal(tag, reading.tag, reading.setting.numbers.tag_size))
+    if (fault == RIGZUMAL_OK &&
+        !secrets_are_equal(tag, reading.tag, reading.setting.numbers.tag_size))
         fault = RIGZUMAL_MISMATCH;
     explicit_bzero(tag, sizeof tag);
     explicit_bzero(reading.tag, sizeof reading.tag);

@@ -32,14 +32,14 @@ int rigzumal_argon2_from(void *tag, size_t tag_size, const struct rigzumal_argon
                          const struct rigzumal_inputs *inputs) {
     struct tag_numbers all = {numbers->kind,   numbers->version, numbers->memory,
                               numbers->passes, numbers->lanes,   (uint32_t)tag_size};
-    uint32_t threads = useful_threads(&all, inputs->threads);
+    uint32_t threads = lanes_useful_threads(&all, inputs->threads);
     if (threads == 1 || tag_size > UINT32_MAX || null_fault(inputs) != RIGZUMAL_OK)
         return rigzumal_argon2(tag, tag_size, numbers, inputs->password, inputs->password_size,
                                inputs->salt, inputs->salt_size, inputs->secret, inputs->secret_size,
                                inputs->associated, inputs->associated_size);
     struct tag_inputs made = {&all, inputs, tag};
     struct task task = {all, begin_tag, end_tag, &made, NULL};
-    return cleared(work_lanes(&task, threads));
+    return cleared(lanes_work(&task, threads));
 }
 
 int rigzumal_argon2_threads(void *tag, size_t tag_size, const struct rigzumal_argon2 *numbers,
@@ -84,7 +84,7 @@ int rigzumal_check_threads(const char *record, const void *password, size_t pass
     uint8_t fault = CALL(cred_check_read, TEXT(record), &reading);
     int answer;
     if (fault == RIGZUMAL_OK)
-        threads = useful_threads(&reading.setting.numbers, threads);
+        threads = lanes_useful_threads(&reading.setting.numbers, threads);
     if (fault != RIGZUMAL_OK || threads == 1 ||
         null_password_fault(password, password_size) != RIGZUMAL_OK) {
         answer = rigzumal_check(record, password, password_size);
@@ -94,7 +94,7 @@ int rigzumal_check_threads(const char *record, const void *password, size_t pass
                                      .password = password,
                                      .password_size = password_size};
         struct task task = {reading.setting.numbers, begin_text, end_check, &inputs, NULL};
-        answer = cleared(work_lanes(&task, threads));
+        answer = cleared(lanes_work(&task, threads));
     }
     explicit_bzero(reading.tag, sizeof reading.tag);
     return answer;
@@ -104,13 +104,13 @@ int rigzumal_record_threads(char *text, size_t text_size, size_t tag_size, const
                             const void *salt, size_t salt_size, const void *password,
                             size_t password_size, uint32_t threads) {
     struct setting setting;
-    int fault = make_setting(&setting, costs, salt, salt_size);
+    int fault = setting_make(&setting, costs, salt, salt_size);
     if (fault != RIGZUMAL_OK)
         return fault;
     struct setting_reading reading;
     fault = CALL(cred_hash_read, setting.text, setting.size, narrow_tag_size(tag_size), &reading);
     if (fault == RIGZUMAL_OK)
-        threads = useful_threads(&reading.numbers, threads);
+        threads = lanes_useful_threads(&reading.numbers, threads);
     if (fault != RIGZUMAL_OK || threads == 1 ||
         null_password_fault(password, password_size) != RIGZUMAL_OK)
         return rigzumal_record(text, text_size, tag_size, (const char *)setting.text, NULL, 0,
@@ -123,7 +123,7 @@ int rigzumal_record_threads(char *text, size_t text_size, size_t tag_size, const
                                  .text_size = text_size,
                                  .written = &written};
     struct task task = {reading.numbers, begin_text, end_record, &inputs, NULL};
-    fault = cleared(work_lanes(&task, threads));
+    fault = cleared(lanes_work(&task, threads));
     if (fault == RIGZUMAL_OK)
         text[written] = '\0';
     return fault;

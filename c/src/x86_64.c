@@ -100,7 +100,7 @@ const struct build *processor_build(void) {
     return levels[asked_once(&known, level_of) - 1].build;
 }
 
-void clear_bytes(void *start, size_t size) {
+void processor_clear_bytes(void *start, size_t size) {
     __asm__ volatile("rep stosb" : "+D"(start), "+c"(size) : "a"(0) : "memory");
 }
 
@@ -139,7 +139,7 @@ static void clear_vectors(void) {
         __asm__ volatile(UPPER_SIXTEEN(CLEAR_WIDEST) EIGHT(CLEAR_MASK)::);
 }
 
-void clear_registers(void) {
+void processor_clear_registers(void) {
     clear_vectors();
     __asm__ volatile(
         "xor %%eax, %%eax\n\txor %%ecx, %%ecx\n\txor %%edx, %%edx\n\t"

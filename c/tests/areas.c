@@ -41,7 +41,7 @@ static _Thread_local int steps_to_lowering = -1;
 
 static void rest(void) {
     if (steps_to_lowering >= 0 && steps_to_lowering-- == 0)
-        keep_at_most(0);
+        heap_keep(0);
     usleep(20);
 }
 
@@ -71,7 +71,7 @@ WRAP(int, madvise, void *start, size_t size, int advice) {
 /* Gives areas back while others take them: each once. */
 static void *give_kept(void *unused) {
     for (int turn = 0; turn < TURNS; turn++) {
-        size_t size = unmap_kept_areas();
+        size_t size = heap_trim();
         CHECK(size % AREA == 0 && size <= KEPT);
     }
     return unused;
@@ -93,7 +93,7 @@ static void *work(void *number) {
 /* What is given back while the bound is lowered isn't kept, before whichever step that is. */
 static void lower_bound(void) {
     for (int step = 0; steps_to_lowering < 0; step++) {
-        keep_at_most(KEPT);
+        heap_keep(KEPT);
         void *block = rattle_alloc(SIZE, 8).start;
         steps_to_lowering = step;
         rattle_dealloc(block);
@@ -113,7 +113,7 @@ int main(void) {
         CHECK(pthread_join(threads[i], NULL) == 0);
     CHECK(pthread_join(giver, NULL) == 0);
     CHECK(mapped <= KEPT);
-    CHECK(unmap_kept_areas() <= KEPT && mapped == 0);
+    CHECK(heap_trim() <= KEPT && mapped == 0);
     lower_bound();
     return 0;
 }

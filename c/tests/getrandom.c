@@ -1,4 +1,4 @@
-/* Before the C library's getrandom, for tests/of_records.py: what a test has it be. */
+/* Before the C library's getrandom, for tests/records.py: what a test has it be. */
 #include "check.h"
 
 #include <sys/types.h>

@@ -84,18 +84,18 @@ static void test_zeros(void) {
     static const size_t sizes[] = {1024, 48 * KIB, 64 * KIB, 5 * MIB, AREA, AREA, 1024, 40 * MIB};
     unsigned char *taken[COUNT(sizes)];
     for (size_t i = 0; i < COUNT(sizes); i++) {
-        taken[i] = take_zeros(sizes[i]);
+        taken[i] = heap_take_zeros(sizes[i]);
         CHECK(taken[i] != NULL && (uintptr_t)taken[i] % 64 == 0);
         CHECK(is_all(taken[i], 0, sizes[i]));
         memset(taken[i], (int)i + 1, sizes[i]);
     }
     most_mapped = mapped;
-    CHECK(take_zeros(17 * MIB) == NULL && take_zeros(AREA) == NULL);
+    CHECK(heap_take_zeros(17 * MIB) == NULL && heap_take_zeros(AREA) == NULL);
     most_mapped = SIZE_MAX;
     for (size_t i = 0; i < COUNT(sizes); i++) {
         CHECK(is_all(taken[i], (int)i + 1, sizes[i]));
         memset(taken[i], 0, sizes[i]);
-        give_zeros(taken[i]);
+        heap_give_zeros(taken[i]);
     }
 }
 
@@ -172,7 +172,7 @@ static bool reads_zeros_in_child(unsigned char *start, size_t size) {
 static void test_mappings(void) {
     static const size_t sizes[] = {64 * KIB, 5 * MIB, AREA, 40 * MIB, KEPT, 70 * MIB};
     for (size_t i = 0; i < COUNT(sizes); i++) {
-        unmap_kept_areas();
+        heap_trim();
         CHECK(mapped == 0);
         memset(advised, 0, sizeof advised);
         unsigned char *start = take_block(sizes[i]), *last = start + sizes[i] - 1;
@@ -194,12 +194,12 @@ static void test_mappings(void) {
 /* Takes so many blocks of a size, writes to them and gives them back: so many are kept then. */
 static void keep_blocks(int count, size_t size, int kept) {
     unsigned char *taken[160];
-    unmap_kept_areas();
+    heap_trim();
     for (int i = 0; i < count; i++) {
         taken[i] = take_block(size);
         memset(taken[i], i + 1, PAGE);
     }
-    CHECK(unmap_kept_areas() == 0 && mapped == (size_t)count * size);
+    CHECK(heap_trim() == 0 && mapped == (size_t)count * size);
     for (int i = 0; i < count; i++) {
         CHECK(is_all(taken[i], i + 1, PAGE));
         rattle_dealloc(taken[i]);
@@ -212,14 +212,14 @@ static void take_kept_blocks(int count, size_t size, int kept) {
     unsigned char *taken[160];
     most_mapped = mapped;
     for (int i = 0; i < count; i++) {
-        taken[i] = take_zeros(size);
+        taken[i] = heap_take_zeros(size);
         CHECK(taken[i] != NULL && is_all(taken[i], 0, PAGE));
     }
     most_mapped = SIZE_MAX;
-    CHECK(unmap_kept_areas() == (size_t)(kept - count) * size && mapped == (size_t)count * size);
+    CHECK(heap_trim() == (size_t)(kept - count) * size && mapped == (size_t)count * size);
     for (int i = 0; i < count; i++)
-        give_zeros(taken[i]);
-    CHECK(unmap_kept_areas() == (size_t)count * size && mapped == 0);
+        heap_give_zeros(taken[i]);
+    CHECK(heap_trim() == (size_t)count * size && mapped == 0);
 }
 
 /* Blocks that areas are cut for, and larger ones, are kept up to a bound: of 2 GiB that many
@@ -240,13 +240,13 @@ static void test_kept_areas(void) {
                 {130, 128, AREA, (size_t)140 * AREA}};
     for (size_t i = 0; i < COUNT(rows); i++) {
         int kept = rows[i].kept, least = kept > 4 ? kept : 0; /* of many all are taken */
-        keep_at_most(rows[i].bound);
+        heap_keep(rows[i].bound);
         for (int taken = kept; taken >= least; taken--) {
             keep_blocks(rows[i].blocks, rows[i].size, kept);
             take_kept_blocks(taken, rows[i].size, kept);
         }
     }
-    keep_at_most(KEPT);
+    heap_keep(KEPT);
 }
 
 /* The smallest area that is large enough is taken. What is given back last is kept, in the place of
@@ -266,7 +266,7 @@ static void test_replaced_areas(void) {
     CHECK(take_block(30 * MIB) == last && take_block(20 * MIB) == first[0]);
     rattle_dealloc(last);
     rattle_dealloc(first[0]);
-    CHECK(unmap_kept_areas() == 50 * MIB && mapped == 0);
+    CHECK(heap_trim() == 50 * MIB && mapped == 0);
 }
 
 /* The pages that are kept of a larger block are the first of the next one: cleared, and with one
@@ -275,7 +275,7 @@ static void test_grown_areas(void) {
     for (int turn = 0; turn < 4; turn++) {
         moved = 0;
         is_refusing_moves = turn == 3;
-        unsigned char *start = take_zeros(100 * MIB);
+        unsigned char *start = heap_take_zeros(100 * MIB);
         CHECK(moved == (turn == 1 || turn == 2 ? KEPT : 0));
         CHECK(is_all(start, 0, 100 * MIB) && (uintptr_t)start % HUGE_PAGE == 0);
         CHECK(is_hidden(start) && is_hidden(start + 99 * MIB));
@@ -297,34 +297,34 @@ static void test_bounds(void) {
                   {20 * MIB + 5, 20 * MIB},
                   {SIZE_MAX, 100 * MIB}};
     keep_blocks(4, AREA, 4);
-    CHECK(keep_at_most(0) == KEPT && mapped == 0);
+    CHECK(heap_keep(0) == KEPT && mapped == 0);
     for (size_t i = 0; i < COUNT(bounds); i++) {
-        keep_at_most(bounds[i].bound);
+        heap_keep(bounds[i].bound);
         unsigned char *block = take_block(100 * MIB);
         memset(block, 1, 100 * MIB);
         rattle_dealloc(block);
         CHECK(mapped == bounds[i].kept);
-        CHECK(keep_at_most(0) == bounds[i].bound / HUGE_PAGE * HUGE_PAGE && mapped == 0);
+        CHECK(heap_keep(0) == bounds[i].bound / HUGE_PAGE * HUGE_PAGE && mapped == 0);
     }
-    keep_at_most(KEPT);
+    heap_keep(KEPT);
 }
 
 /* Where no area can be mapped large blocks have as little as they need, with the same flags, and
  * what is kept is given up for one that would else be refused. */
 static void test_little_room(void) {
     most_mapped = 3 * HUGE_PAGE;
-    unsigned char *first = take_zeros(64 * KIB), *second = take_zeros(HUGE_PAGE);
+    unsigned char *first = heap_take_zeros(64 * KIB), *second = heap_take_zeros(HUGE_PAGE);
     CHECK(first != NULL && second != NULL && mapped == 2 * HUGE_PAGE);
     CHECK(is_hidden(second));
-    CHECK(take_zeros(HUGE_PAGE) == NULL); /* its start is to be aligned */
-    give_zeros(first);
-    give_zeros(second);
+    CHECK(heap_take_zeros(HUGE_PAGE) == NULL); /* its start is to be aligned */
+    heap_give_zeros(first);
+    heap_give_zeros(second);
     most_mapped = SIZE_MAX;
     keep_blocks(2, AREA, 2);
     most_mapped = 24 * MIB;
-    unsigned char *larger = take_zeros(20 * MIB);
+    unsigned char *larger = heap_take_zeros(20 * MIB);
     CHECK(larger != NULL && mapped == 20 * MIB);
-    give_zeros(larger);
+    heap_give_zeros(larger);
     most_mapped = SIZE_MAX;
 }
 

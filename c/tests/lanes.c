@@ -31,11 +31,11 @@ static void try_threads(uint32_t threads, int wanted) {
     int state, before = random_below(2) == 0 ? PTHREAD_CANCEL_ENABLE : PTHREAD_CANCEL_DISABLE;
     size_t size = 0;
     struct task task = {now.numbers, begin, end, &now, now.callers};
-    CHECK_NUMBER(size_of_slices(&now.numbers, &size), wanted == RIGZUMAL_NO_KIND ? wanted : 0);
+    CHECK_NUMBER(lanes_size(&now.numbers, &size), wanted == RIGZUMAL_NO_KIND ? wanted : 0);
     CHECK(size == (wanted == RIGZUMAL_NO_KIND ? 0 : SLICES * now.slice * sizeof *now.callers));
     now.signals = blocked_signals();
     pthread_setcancelstate(before, &state);
-    CHECK_NUMBER(work_lanes(&task, threads), wanted);
+    CHECK_NUMBER(lanes_work(&task, threads), wanted);
     CHECK(blocked_signals() == now.signals);
     pthread_setcancelstate(PTHREAD_CANCEL_ENABLE, &state);
     CHECK(state == before);
@@ -85,7 +85,7 @@ static void test_many_segments(void) {
         now.last_segment = 100;
         now.signals = blocked_signals();
         struct task task = {now.numbers, begin, end, &now, NULL};
-        work_lanes(&task, 1);
+        lanes_work(&task, 1);
         _exit(1);
     }
     CHECK_NUMBER(status_of(child), 0);
@@ -145,7 +145,7 @@ static void test_faults(int turns) {
 
 static uint32_t threads_for(uint32_t lanes, uint32_t memory, uint32_t allowed) {
     struct tag_numbers numbers = {2, 0x13, memory, 1, lanes, 32};
-    return useful_threads(&numbers, allowed);
+    return lanes_useful_threads(&numbers, allowed);
 }
 
 static void test_useful_threads(void) {

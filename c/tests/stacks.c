@@ -23,7 +23,7 @@ static int answer;
 static bool is_painted;
 static unsigned char *frame; /* below which a thread's call stands */
 
-WRAP(void, clear_traces, void) {
+WRAP(void, secrets_clear_traces, void) {
     if (!is_painted)
         __real_clear_traces();
 }

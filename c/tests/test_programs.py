@@ -92,7 +92,7 @@ class Programs(unittest.TestCase):
 
     def test_calls(self):
         """Texts, records, steps and salts, good and bad, under the sanitizers."""
-        run_sanitized("-m", "unittest", "of_texts", "of_records", "of_steps")
+        run_sanitized("-m", "unittest", "texts", "records", "steps")
 
     def test_kept_memory(self):
         """What is kept after calls of each size: up to 64 MiB, or what the environment says."""

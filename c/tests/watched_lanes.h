@@ -1,5 +1,5 @@
 /* The proved parts and the heap in src/lanes.c's place: stand-ins, which rest at random and look at
- * what they are given, when, how often and on which thread, as src/parts.h has it. */
+ * what they are given, when, how often and on which thread, as src/tag_parts.h has it. */
 #ifndef WATCHED_LANES_H
 #define WATCHED_LANES_H
 
@@ -105,7 +105,7 @@ static uint64_t stamp_of(int64_t g) {
     return g >= 0 ? (uint64_t)g + STAMPS : g == -SLICES ? 1 : 0; /* the first was begun */
 }
 
-void *take_zeros(size_t size) {
+void *heap_take_zeros(size_t size) {
     CHECK(is_caller() && seen(&now.begins) == 0 && now.callers == NULL);
     CHECK(size == now.slice * sizeof(struct argon2_block) && now.takes < SLICES);
     if (now.takes == now.refused_slice)
@@ -117,13 +117,13 @@ void *take_zeros(size_t size) {
 }
 
 /* It is asked while nobody can fork any more before the wait. */
-void end_child_of(pid_t process) {
+void heap_end_child_of(pid_t process) {
     CHECK(process == getpid());
     check_all_are_blocked();
     count(&now.child_looks);
 }
 
-void give_zeros(void *start) {
+void heap_give_zeros(void *start) {
     CHECK(is_caller() && now.alive == 0);
     CHECK(is_all(start, 0, now.slice * sizeof(struct argon2_block)));
     now.gives++;

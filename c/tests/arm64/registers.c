@@ -1,5 +1,6 @@
-/* After clear_traces every vector and mask register is zero, but for the lower halves of v8 to v15,
- * which a call preserves; and so is every general register that a call need not preserve. */
+/* After secrets_clear_traces every vector and mask register is zero, but for the lower halves of v8
+ * to v15, which a call preserves; and so is every general register that a call need not preserve.
+ */
 #include "check.h"
 #include "secrets.h"
 #include "stored.h"
@@ -17,11 +18,11 @@ static uint64_t general[GENERAL];
 #define FILL_GENERAL(n) "mov x" #n ", x9\n\t"
 #define STORE_GENERAL(n) "str x" #n ", [x20, #8 * " #n "]\n\t"
 
-/* clear_traces is called with a mark in each register. */
+/* secrets_clear_traces is called with a mark in each register. */
 static void call_marked(struct vectors here) {
     register uint64_t mark __asm__("x9") = UINT64_C(0x5a5a5a5a5a5a5a5a);
     register uint64_t *to __asm__("x20") = general;
-    register void (*call)(void) __asm__("x21") = clear_traces;
+    register void (*call)(void) __asm__("x21") = secrets_clear_traces;
     if (here.has_masks)
         __asm__ volatile(".arch_extension sve\n\t" EIGHT(FILL_LONG) NEXT_EIGHT(FILL_LONG)
                              UPPER_SIXTEEN(FILL_LONG) EIGHT(FILL_MASK)
@@ -49,7 +50,7 @@ int main(void) {
         CHECK(is_all(vector, MARK, kept) && is_all(vector + kept, 0, here.size - kept));
     }
     CHECK(is_all(found.masks, 0, sizeof found.masks));
-    for (int i = 0; i < GENERAL; i++) /* the size of clear_traces' frame may be in one */
+    for (int i = 0; i < GENERAL; i++) /* the size of secrets_clear_traces' frame may be in one */
         CHECK(general[i] < 2 * CLEARED_STACK);
     printf("%d vectors of %zu bytes\n", VECTORS, here.size);
     return 0;

@@ -1,6 +1,6 @@
-/* After clear_traces every vector and mask register that there is is zero, and so is every general
- * one that a call need not preserve. A system that keeps fewer, of which KEPT is the bits, has no
- * other touched. */
+/* After secrets_clear_traces every vector and mask register that there is is zero, and so is every
+ * general one that a call need not preserve. A system that keeps fewer, of which KEPT is the bits,
+ * has no other touched. */
 #include "check.h"
 #include "secrets.h"
 #include "stored.h"
@@ -23,12 +23,12 @@ enum { AVX_STATE = 0x4, AVX512_STATE = 0xe0, GENERAL = 9 };
 #define FILL_GENERAL(at, name) "mov %%r12, %%" #name "\n\t"
 #define STORE_GENERAL(at, name) "mov %%" #name ", " #at "(%%rbx)\n\t"
 
-/* clear_traces is called with the mark in each general register that it need not preserve, below
- * what this function may have on the stack. */
+/* secrets_clear_traces is called with the mark in each general register that it need not preserve,
+ * below what this function may have on the stack. */
 static void call_marked(uint64_t mark, uint64_t found[GENERAL]) {
     register uint64_t held __asm__("r12") = mark;
     register uint64_t *to __asm__("rbx") = found;
-    register void (*call)(void) __asm__("r13") = clear_traces;
+    register void (*call)(void) __asm__("r13") = secrets_clear_traces;
     __asm__ volatile(
         "mov %%rsp, %%r14\n\tsub $128, %%rsp\n\tand $-16, %%rsp\n\t" EACH_GENERAL(
             FILL_GENERAL) "call *%%r13\n\t" EACH_GENERAL(STORE_GENERAL) "mov %%r14, %%rsp"
@@ -47,7 +47,7 @@ int main(void) {
     static struct stored found;
     memset(mark, 0x5a, sizeof mark);
     fill_registers(here, mark);
-    clear_traces();
+    secrets_clear_traces();
     store_registers(here, &found);
     for (int i = 0; i < here.count; i++) {
         size_t zeros = i < cleared.count ? cleared.size : 0;

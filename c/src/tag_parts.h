@@ -13,8 +13,8 @@
  * - end is called once, with the last slice, when all segments are worked.
  * - Only then are the slices cleared; all four are, whatever was answered.
  * - After an answer that isn't 0 there is no further call. */
-#ifndef PARTS_H
-#define PARTS_H
+#ifndef TAG_PARTS_H
+#define TAG_PARTS_H
 
 #include "rigzumal.h"
 
