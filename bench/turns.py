@@ -6,6 +6,7 @@ import random
 import statistics
 import sys
 import time
+from concurrent.futures import ThreadPoolExecutor
 
 
 def timed(work, *given):
@@ -13,6 +14,21 @@ def timed(work, *given):
     wall, cpu = time.perf_counter(), time.process_time()
     made = work(*given)
     return (1000 * (time.perf_counter() - wall), 1000 * (time.process_time() - cpu)), made
+
+
+def rate(work, seconds, at_once):
+    """Calls a second, of so many threads that each make one after another."""
+    start = time.perf_counter()
+
+    def works(_):
+        count = 0
+        while time.perf_counter() < start + seconds:
+            work()
+            count += 1
+        return count
+
+    with ThreadPoolExecutor(at_once) as pool:
+        return sum(pool.map(works, range(at_once))) / (time.perf_counter() - start)
 
 
 def take_turns(rows, times, warm=1):
@@ -64,4 +80,4 @@ def print_head(names):
 
 def print_load(before):
     now, processors = os.getloadavg()[0], os.cpu_count()
-    print(f"\nThe load was {before:.1f} before and {now:.1f} after, on {processors} processors.")
+    print(f"The load was {before:.1f} before and {now:.1f} after, on {processors} processors.")

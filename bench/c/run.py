@@ -1,120 +1,218 @@
 #!/usr/bin/python3
 """Times the C library beside libargon2, libsodium and OpenSSL's scrypt, in one run on the same settings.
 
-    make -C c && /usr/bin/python3 bench/c/run.py [--times N] [--other LIBRARY]
+    make -C c && /usr/bin/python3 bench/c/run.py [--times N] [--callers N [N ..]] [--small] [--other LIBRARY]
 
-All are called from this one process in turn, N times over; the best wall time of each is printed, and
-the least processor time where libargon2 has threads. libargon2 gets as many threads as lanes; libsodium
-has one lane only; ours works on the caller's thread, and threads.py times it with threads. All give the
-same tags, which is looked at. What isn't installed has no column's values. Ours clears its memory as it
-gives it back, and its stack. --other names another librigzumal.so.1, as one that was built before a
-change: what ours takes over it, by the best times and by the median of the turns' ratios.
+All are called from this one process in turn, N times over; the best wall time of each is printed, and the least processor time where
+libargon2 has threads. libargon2 gets as many threads as lanes; libsodium has one lane only; ours works on the caller's thread. All give
+the same tags, which is looked at. What isn't installed has no column's values. Ours clears its memory as it gives it back, and its stack.
+--other names another librigzumal.so.1, as one that was built before a change: what ours takes over it, by the best times and by the
+median of the turns' ratios.
+
+With --callers Argon2 alone is timed, ours also with a thread a lane, by so many callers at once: threads that begin at the same moment,
+and make two tags one after another. A cell has the best and the median of the N times, in milliseconds a tag: the wall time of all
+callers over the number of their tags, and behind it the processor time. --small times memories for which the library starts no thread,
+in a build that starts them whatever the memory is.
 """
 
 import argparse
 import ctypes
 import functools
+import itertools
 import os
 import pathlib
+import re
+import subprocess
 import sys
+import tempfile
+import threading
 
 sys.path.insert(0, str(pathlib.Path(__file__).resolve().parents[1]))
 
 import libraries
 from libraries import ORIGINAL, OURS, library, libsodium
-from turns import best, median_ratio, print_head, print_load, print_row, ratio, take_turns, timed
+from turns import best, median, median_ratio, print_head, print_load, print_row, ratio, take_turns, timed
 
+C = OURS.parents[1]
 # Memory in KiB, passes, lanes.
 ARGON2 = [(65536, 3, 1), (65536, 3, 4), (65536, 3, 16), (102400, 2, 8), (19456, 2, 1), (1024, 2, 1)]
+WITH_THREADS = [(65536, 3, 1), (65536, 3, 4), (65536, 3, 8), (19456, 2, 1), (19456, 2, 4), (19456, 2, 8), (262144, 1, 4)]
+SMALL = [(256, 2, 4), (1024, 2, 4), (2048, 2, 4), (4096, 2, 4), (8192, 2, 4), (16384, 2, 4)]
 # ln, r, p.
 SCRYPT = [(14, 8, 1), (15, 8, 1), (16, 8, 1), (17, 8, 1), (14, 8, 4)]
 WALL, CPU = 0, 1
+TAGS_A_CALLER = 2
 
-# What a column has of a row's turns: whose best time, and what ours takes over whom by what.
+
+def ms(name):
+    """A column: the best time of one of them, or nothing where its library isn't there."""
+    return lambda row: f"{best(row[name]):.1f}" if name in row else ""
+
+
+def over(name, figure, part=WALL):
+    """A column: what ours takes over another by a figure."""
+    return lambda row: f"{figure(row['ours'], row[name], part):.2f}" if name in row else ""
+
+
+def spread(name):
+    """A column: best and median of both times."""
+    figures = lambda turns, part: f"{best(turns, part):.1f}/{median(turns, part):.1f}"
+    return lambda row: "; ".join(figures(row[name], part) for part in (WALL, CPU)) if name in row else ""
+
+
+def threads_over_libargon2(part):
+    """A column: ours, with threads where there are lanes for them, by the best times and by the medians."""
+
+    def cell(row):
+        ours, theirs = row.get("threads") or row["ours"], row.get("libargon2")
+        return "/".join(f"{it(ours, part) / it(theirs, part):.2f}" for it in (best, median)) if theirs else ""
+
+    return cell
+
+
 ARGON2_COLUMNS = {
-    "Ours, ms": ("ours",),
-    "libargon2, ms": ("libargon2",),
-    "libsodium, ms": ("libsodium",),
-    "Ours over libargon2": ("libargon2", ratio, WALL),
-    "of processor time": ("libargon2", ratio, CPU),
-    "Ours over libsodium": ("libsodium", ratio, WALL),
-    "of processor time, median: over libargon2": ("libargon2", median_ratio, CPU),
-    "over libsodium": ("libsodium", median_ratio, CPU),
+    "Ours, ms": ms("ours"),
+    "libargon2, ms": ms("libargon2"),
+    "libsodium, ms": ms("libsodium"),
+    "Ours over libargon2": over("libargon2", ratio),
+    "of processor time": over("libargon2", ratio, CPU),
+    "Ours over libsodium": over("libsodium", ratio),
+    "of processor time, median: over libargon2": over("libargon2", median_ratio, CPU),
+    "over libsodium": over("libsodium", median_ratio, CPU),
 }
 SCRYPT_COLUMNS = {
-    "Ours, ms": ("ours",),
-    "OpenSSL, ms": ("OpenSSL",),
-    "libsodium, ms": ("libsodium",),
-    "Ours over OpenSSL": ("OpenSSL", ratio, WALL),
-    "Ours over libsodium": ("libsodium", ratio, WALL),
-    "of processor time, median": ("libsodium", median_ratio, CPU),
+    "Ours, ms": ms("ours"),
+    "OpenSSL, ms": ms("OpenSSL"),
+    "libsodium, ms": ms("libsodium"),
+    "Ours over OpenSSL": over("OpenSSL", ratio),
+    "Ours over libsodium": over("libsodium", ratio),
+    "of processor time, median": over("libsodium", median_ratio, CPU),
 }
 OTHER_COLUMNS = {
-    "Other, ms": ("other",),
-    "Ours over other: best": ("other", ratio, WALL),
-    "median": ("other", median_ratio, WALL),
+    "Other, ms": ms("other"),
+    "Ours over other: best": over("other", ratio),
+    "median": over("other", median_ratio),
 }
-
-
-def cell(turns, name, over=None, part=WALL):
-    """A column's figure; nothing where the library isn't there."""
-    if name not in turns:
-        return ""
-    if over is None:
-        return f"{best(turns[name]):.1f}"
-    return f"{over(turns['ours'], turns[name], part):.2f}"
+CALLERS_COLUMNS = {
+    "one thread": spread("ours"),
+    **{name: spread(name) for name in ("threads", "libargon2", "libsodium")},
+    "Ours over libargon2": threads_over_libargon2(WALL),
+    "of processor time": threads_over_libargon2(CPU),
+}
 
 
 def print_table(what, columns, rows, times):
+    """Rows are named by what stands in their first columns, and have a call for each way."""
     found = take_turns(rows, times)
-    if any("other" in ways for ways in rows.values()):
-        columns = columns | OTHER_COLUMNS
-    print_head([what, *columns])
-    for setting, turns in found.items():
-        print_row([setting, *(cell(turns, *column) for column in columns.values())])
+    print_head([*what, *columns])
+    for names, row in found.items():
+        print_row([*names, *(column(row) for column in columns.values())])
+    print()
 
 
-def each_timed(ways, setting):
-    """The ways that are there."""
-    return {name: functools.partial(timed, way, *setting) for name, way in ways.items() if way}
+def at_once(callers, way, *setting):
+    """Wall and processor milliseconds a tag, and the tag that all callers made."""
+    tags, start = set(), threading.Barrier(callers + 1)
+
+    def work():
+        start.wait()
+        for _ in range(TAGS_A_CALLER):
+            tags.add(way(*setting))
+
+    def all_work():
+        start.wait()
+        for it in threads:
+            it.join()
+
+    threads = [threading.Thread(target=work) for _ in range(callers)]
+    for it in threads:
+        it.start()
+    times, _ = timed(all_work)
+    if len(tags) != 1:
+        sys.exit(f"the tags differ at {setting}")
+    return tuple(it / (callers * TAGS_A_CALLER) for it in times), tags.pop()
 
 
-def argon2_rows(other):
-    original, sodium = library(ORIGINAL), libsodium()
-    ways = {
-        "ours": libraries.rigzumal_argon2(library(OURS)),
+def argon2_ways(ours, sodium):
+    original = library(ORIGINAL)
+    return {
+        "ours": libraries.rigzumal_argon2(ours),
         "libargon2": original and libraries.original_argon2(original),
         "libsodium": sodium and libraries.sodium_argon2(sodium),
-        "other": other and libraries.rigzumal_argon2(other),
     }
-    for setting in ARGON2:
-        fitting = ways if setting[2] == 1 else ways | {"libsodium": None}
-        yield ", ".join(map(str, setting)), each_timed(fitting, setting)
 
 
-def scrypt_rows(other):
-    sodium = libsodium()
+def calls(ways, call, *setting):
+    """A row's ways, those that are there."""
+    return {name: functools.partial(call, way, *setting) for name, way in ways.items() if way}
+
+
+def argon2_calls(ways, call, *setting):
+    """Threads are for several lanes, and libsodium has one."""
+    lanes = setting[-1]
+    fits = {"threads": lanes > 1, "libsodium": lanes == 1}
+    return calls({name: way for name, way in ways.items() if fits.get(name, True)}, call, *setting)
+
+
+def without_least_memory(room):
+    """A build of the library that starts threads whatever the memory is."""
+    path = pathlib.Path(room) / "librigzumal.so"
+    sources = [it for it in sorted((C / "src").glob("*.c")) if not re.match("libargon2|arm64|build", it.name)]
+    builds = sorted((C / "out").glob("v?.o"))
+    flags = "-O2 -std=c11 -fPIC -pthread -shared -Wl,-Bsymbolic -DLEAST_SHARED_MEMORY=1".split()
+    words = ["cc", *flags, f"-I{C / 'include'}", *sources, *builds, "-o", path]
+    subprocess.run([str(it) for it in words], check=True)
+    return path
+
+
+def shown(*setting):
+    return ", ".join(map(str, setting))
+
+
+def tables(ours, other):
+    """Argon2 and scrypt beside the others: the names of the first columns, the others, and the rows."""
+    more, sodium = OTHER_COLUMNS if other else {}, libsodium()
+    ways = {**argon2_ways(ours, sodium), "other": other and libraries.rigzumal_argon2(other)}
+    rows = {(shown(*it),): argon2_calls(ways, timed, *it) for it in ARGON2}
+    yield ["m (KiB), t, p"], ARGON2_COLUMNS | more, rows
     ways = {
-        "ours": libraries.rigzumal_scrypt(library(OURS)),
+        "ours": libraries.rigzumal_scrypt(ours),
         "OpenSSL": libraries.openssl_scrypt,
         "libsodium": sodium and libraries.sodium_scrypt(sodium),
         "other": other and libraries.rigzumal_scrypt(other),
     }
-    for setting in SCRYPT:
-        ln, r, p = setting
-        yield f"{1 << ln}, {r}, {p}", each_timed(ways, setting)
+    rows = {(shown(1 << ln, r, p),): calls(ways, timed, ln, r, p) for ln, r, p in SCRYPT}
+    yield ["N, r, p"], SCRYPT_COLUMNS | more, rows
+
+
+def table_of_callers(ours, other, callers, settings):
+    """Argon2 by so many callers at once, in the same form."""
+    ways = {**argon2_ways(ours, libsodium()), "threads": libraries.rigzumal_argon2(ours, most_threads=255)}
+    columns = dict(CALLERS_COLUMNS)
+    if other:
+        ways["other"] = libraries.rigzumal_argon2(other)
+        columns["other"] = spread("other")
+    each = itertools.product(settings, callers)
+    rows = {(shown(*it), count): argon2_calls(ways, functools.partial(at_once, count), *it) for it, count in each}
+    return ["m (KiB), t, p", "Callers"], columns, rows
 
 
 def main():
-    words = argparse.ArgumentParser(description=__doc__.splitlines()[0])
+    words = argparse.ArgumentParser(usage=__doc__.split("\n\n")[1].strip())
     words.add_argument("--times", type=int, default=15, help="runs of each")
-    words.add_argument("--other", help="another librigzumal.so.1, to be compared with")
-    given = words.parse_args()
-    other = None if given.other is None else ctypes.CDLL(given.other)
+    words.add_argument("--callers", type=int, nargs="+", metavar="N")
+    words.add_argument("--small", action="store_true")
+    words.add_argument("--other", type=ctypes.CDLL, metavar="LIBRARY")
+    asked = words.parse_args()
+    if asked.small and not asked.callers:
+        words.error("--small goes with --callers")
     before = os.getloadavg()[0]
-    print_table("m (KiB), t, p", ARGON2_COLUMNS, dict(argon2_rows(other)), given.times)
-    print()
-    print_table("N, r, p", SCRYPT_COLUMNS, dict(scrypt_rows(other)), given.times)
+    with tempfile.TemporaryDirectory() as room:
+        ours = ctypes.CDLL(str(without_least_memory(room) if asked.small else OURS))
+        settings = SMALL if asked.small else WITH_THREADS
+        of_callers = lambda: [table_of_callers(ours, asked.other, asked.callers, settings)]
+        for table in of_callers() if asked.callers else tables(ours, asked.other):
+            print_table(*table, asked.times)
     print_load(before)
 
 

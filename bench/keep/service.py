@@ -2,45 +2,33 @@
 
 import os
 import pathlib
-import subprocess
+import sys
 import threading
 import time
 from collections.abc import Callable
 
+sys.path.insert(1, str(pathlib.Path(__file__).resolve().parents[2]))
+from tests.credkeep import books
 
-class Service:
+
+class Service(books.Service):
+    """It may run for as long as a benchmark does."""
+
     def __init__(self, *command: str | pathlib.Path) -> None:
-        self.process = subprocess.Popen(command, stdin=subprocess.PIPE, stdout=subprocess.PIPE)
-        assert self.process.stdin and self.process.stdout
-        self.asked, self.answers = self.process.stdin, self.process.stdout
+        super().__init__([*map(str, command)])
+        self.guard.cancel()
 
-    def __enter__(self) -> "Service":
-        return self
-
-    def __exit__(self, *_: object) -> None:
+    def __exit__(self, *given: object) -> None:
         self.process.communicate()
-
-    def send(self, *lines: str) -> None:
-        self.asked.write("".join(f"{line}\n" for line in lines).encode())
-        self.asked.flush()
-
-    def ask(self, line: str) -> str:
-        """Sends a line and reads the next answer."""
-        self.send(line)
-        return self.answer()
-
-    def answer(self) -> str:
-        text = self.answers.readline().decode()
-        assert text, "the service ended"
-        return text.removesuffix("\n")
+        super().__exit__(*given)
 
     def seconds_at_once(self, lines: list[str]) -> float:
         """The seconds of lines that don't wait for answers."""
-        writer, left = threading.Thread(target=self.send, args=["\n".join(lines)]), len(lines)
+        writer, left = threading.Thread(target=self.send, args=[books.lined(lines)]), len(lines)
         start = time.perf_counter()
         writer.start()
         while left > 0:
-            piece = os.read(self.answers.fileno(), 1 << 16)
+            piece = os.read(self.stdout.fileno(), 1 << 16)
             assert piece, "the service ended"
             left -= piece.count(b"\n")
         seconds = time.perf_counter() - start
@@ -49,11 +37,11 @@ class Service:
 
     def rate(self, lines: list[str], after: Callable[[str, str], str], seconds: float) -> float:
         """Answers a second: these tagged lines are open, and each answer has a line after it."""
-        self.send(*lines)
+        self.send(books.lined(lines))
         start, count = time.perf_counter(), 0
         while time.perf_counter() - start < seconds:
             tag, answer = self.answer().split()
-            self.send(after(tag, answer))
+            self.send(after(tag, answer) + "\n")
             count += 1
         return count / (time.perf_counter() - start)
 

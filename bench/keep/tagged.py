@@ -14,17 +14,20 @@ they do (4 if it isn't said), which strace adds. Run it on a machine that does n
 
 import argparse
 import base64
-import concurrent.futures
 import pathlib
 import resource
 import statistics
 import subprocess
+import sys
 import tempfile
 import time
 
-from service import Service
-
 TOP = pathlib.Path(__file__).resolve().parent.parent.parent
+sys.path.insert(1, str(TOP / "bench"))
+
+from service import Service
+from turns import rate
+
 WORD = base64.b64encode(b"secret").decode()
 SALT = base64.b64encode(b"a salt of the bench").decode().rstrip("=")
 CHEAPEST = "$argon2id$v=19$m=8,t=1,p=1"
@@ -33,19 +36,8 @@ CLIENTS = (1, 4, 16, 64)
 
 def hashes(program: pathlib.Path, setting: str, seconds: float, at_once: int) -> float:
     """Hashes a second of a process each, of which so many run side by side."""
-    end = time.perf_counter() + seconds
-
-    def one_lane(_lane: int) -> int:
-        count = 0
-        while time.perf_counter() < end:
-            subprocess.run([program, "hash", f"{setting}${SALT}", WORD], check=True, stdout=subprocess.DEVNULL)
-            count += 1
-        return count
-
-    start = time.perf_counter()
-    with concurrent.futures.ThreadPoolExecutor(at_once) as lanes:
-        count = sum(lanes.map(one_lane, range(at_once)))
-    return count / (time.perf_counter() - start)
+    words = [program, "hash", f"{setting}${SALT}", WORD]
+    return rate(lambda: subprocess.run(words, check=True, stdout=subprocess.DEVNULL), seconds, at_once)
 
 
 class Book:
@@ -61,12 +53,12 @@ class Book:
     def one_at_a_time(self) -> float:
         """Verifies a second of `serve`."""
         with Service(*self.words, "serve") as run:
-            start, count = time.perf_counter(), 0
-            while time.perf_counter() - start < self.seconds:
+
+            def verify() -> None:
                 assert run.ask(f"begin 1 verify ann {WORD}") == "begun"
                 assert run.ask("commit 1") == "yes"
-                count += 1
-            return count / (time.perf_counter() - start)
+
+            return rate(verify, self.seconds, 1)
 
     def many(self, threads: int) -> float:
         """Verifies a second of `serve --tagged`."""
@@ -117,9 +109,9 @@ def changes_together(program: pathlib.Path, seconds: float, pause: float) -> Non
         print(f"changes a second, {CHEAPEST}, a sync takes {pause:g} ms more:")
         alone = 0.0
         for clients in CLIENTS:
-            rate = book.changes_a_second(clients, pause)
-            alone = alone or rate
-            print(f"  {clients} clients: {rate:.0f}, {rate / alone:.1f} times those of one", flush=True)
+            made = book.changes_a_second(clients, pause)
+            alone = alone or made
+            print(f"  {clients} clients: {made:.0f}, {made / alone:.1f} times those of one", flush=True)
 
 
 def verifies(words: argparse.Namespace, setting: str, path: pathlib.Path) -> None:
@@ -130,10 +122,10 @@ def verifies(words: argparse.Namespace, setting: str, path: pathlib.Path) -> Non
     print(f"{setting}: serve {book.one_at_a_time():.1f} verifies a second", flush=True)
     single = 0.0
     for threads in words.threads:
-        rate = book.many(threads)
-        single = single or rate / threads
-        over = f"{rate / (threads * alone):.2f} of credbook's and {rate / (threads * single):.2f} of one thread's"
-        print(f"  --at-once {threads}: {rate:.1f} a second, {over} as many times", flush=True)
+        made = book.many(threads)
+        single = single or made / threads
+        over = f"{made / (threads * alone):.2f} of credbook's and {made / (threads * single):.2f} of one thread's"
+        print(f"  --at-once {threads}: {made:.1f} a second, {over} as many times", flush=True)
     times = book.changes(most)
     cuts = statistics.quantiles(times, n=100) if len(times) > 1 else [0.0] * 99
     print(f"  changes beside verifies: p50 {cuts[49] * 1000:.1f} ms, p99 {cuts[98] * 1000:.1f} ms of {len(times)}")

@@ -13,7 +13,6 @@ path. Run it on a machine that does nothing else.
 
 import argparse
 import asyncio
-import concurrent.futures
 import pathlib
 import subprocess
 import sys
@@ -21,32 +20,21 @@ import tempfile
 import time
 
 TOP = pathlib.Path(__file__).resolve().parent.parent.parent
-sys.path.insert(0, str(TOP / "tests/server"))
+sys.path[:0] = [str(TOP / it) for it in ("tests/server", "bench", "bench/keep")]
 from machine import RUN, begun, install, prepared, shell  # noqa: E402
 from served import PYTHON, field_of  # noqa: E402
+from tagged import Book  # noqa: E402
+from turns import print_head, print_row, rate  # noqa: E402
 
 WORD = "secret word"
 FIELD = field_of(WORD.encode())
 
 
-def of_serve(room: pathlib.Path, setting: str, seconds: float) -> float:
+def by_serve(room: pathlib.Path, setting: str, seconds: float) -> float:
     """Verifies a second of a `serve` that answers one line after another."""
-    credkeep, path = str(TOP / "crates/credkeep/out/credkeep"), room / "alone.db"
+    path = room / "alone.db"
     path.unlink(missing_ok=True)
-    shell(f"{credkeep} {path} init")
-    shell(f"echo '{WORD}' | {credkeep} {path} add --setting '{setting}' ada")
-    pipe = subprocess.PIPE
-    with subprocess.Popen([credkeep, path, "serve"], stdin=pipe, stdout=pipe) as run:
-        assert run.stdin and run.stdout
-        start, count = time.perf_counter(), 0
-        while time.perf_counter() < start + seconds:
-            run.stdin.write(f"begin 1 verify ada {FIELD}\ncommit 1\n".encode())
-            run.stdin.flush()
-            assert (run.stdout.readline(), run.stdout.readline()) == (b"begun\n", b"yes\n")
-            count += 1
-        rate = count / (time.perf_counter() - start)
-        run.communicate()
-    return rate
+    return Book(TOP / "crates/credkeep/out/credkeep", path, setting, seconds).one_at_a_time()
 
 
 async def at_socket(clients: int, seconds: float) -> float:
@@ -69,18 +57,8 @@ async def at_socket(clients: int, seconds: float) -> float:
 def by_pam(service: str, clients: int, seconds: float) -> float:
     """Logins a second of so many clients, ten by each run of pamtester."""
     words, given = ["pamtester", service, "ada", *["authenticate"] * 10], f"{WORD}\n" * 10
-    end = time.perf_counter() + seconds
-
-    def one(_: int) -> int:
-        count = 0
-        while time.perf_counter() < end:
-            subprocess.run(words, input=given, text=True, capture_output=True, check=True)
-            count += 10
-        return count
-
-    start = time.perf_counter()
-    with concurrent.futures.ThreadPoolExecutor(clients) as pool:
-        return sum(pool.map(one, range(clients))) / (time.perf_counter() - start)
+    ten = lambda: subprocess.run(words, input=given, text=True, capture_output=True, check=True)
+    return 10 * rate(ten, seconds, clients)
 
 
 def inside(room: pathlib.Path, given: argparse.Namespace) -> None:
@@ -90,18 +68,16 @@ def inside(room: pathlib.Path, given: argparse.Namespace) -> None:
     pathlib.Path("/etc/pam.d/unix").write_text(lines)
     shell("sed -i '/^ada:/d' /etc/shadow && echo 'ada::19000:0:99999:7:::' >> /etc/shadow")
     shell(f"echo 'ada:{WORD}' | chpasswd -c YESCRYPT")
-    print("| Costs | Clients | serve | At the socket | By PAM | pam_unix, yescrypt |")
-    print("|---|--:|--:|--:|--:|--:|")
+    print_head(["Costs", "Clients", "serve", "At the socket", "By PAM", "pam_unix, yescrypt"])
     settings = {f"{it} MiB": f"$argon2id$v=19$m={it * 1024},t=1,p=1" for it in (64, 4)}
     for costs, setting in ({"none": "$fast$c=1"} if given.fast else settings).items():
         server = begun("--setting", setting)
         server.enrol(ada=WORD)
-        serve = "" if given.fast else f"{of_serve(room, setting, given.seconds):.1f}"
+        serve = "" if given.fast else f"{by_serve(room, setting, given.seconds):.1f}"
         for clients in given.clients:
             rates = [asyncio.run(at_socket(clients, given.seconds))]
             rates += [by_pam(it, clients, given.seconds) for it in ("book", "unix")]
-            row = [costs, str(clients), serve, *(f"{rate:.1f}" for rate in rates)]
-            print("|", " | ".join(row), "|", flush=True)
+            print_row([costs, clients, serve, *(f"{it:.1f}" for it in rates)])
         server.talk("admin delete ada -> deleted")
         server.stop()
 
