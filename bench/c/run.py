@@ -209,10 +209,12 @@ def main():
     before = os.getloadavg()[0]
     with tempfile.TemporaryDirectory() as room:
         ours = ctypes.CDLL(str(without_least_memory(room) if asked.small else OURS))
-        settings = SMALL if asked.small else WITH_THREADS
-        of_callers = lambda: [table_of_callers(ours, asked.other, asked.callers, settings)]
-        for table in of_callers() if asked.callers else tables(ours, asked.other):
-            print_table(*table, asked.times)
+        if asked.callers:
+            settings = SMALL if asked.small else WITH_THREADS
+            print_table(*table_of_callers(ours, asked.other, asked.callers, settings), asked.times)
+        else:
+            for table in tables(ours, asked.other):
+                print_table(*table, asked.times)
     print_load(before)
 
 
