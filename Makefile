@@ -71,7 +71,7 @@ wheel: library
 	$(MAKE) -C python wheel RT='$(RT)' PYTHON='$(PYTHON)'
 
 bench: library
-	$(PYTHON) bench/c/run.py
+	for pages in own none all; do $(PYTHON) bench/c/run.py --pages $$pages || exit 1; done
 
 install: build install-programs
 	$(MAKE) -C python install PREFIX='$(PREFIX)' DESTDIR='$(DESTDIR)' PYTHON='$(PYTHON)'

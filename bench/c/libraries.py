@@ -38,6 +38,12 @@ def libsodium():
     return found
 
 
+def need_initialised(sodium):
+    """sodium_init answers 1 where it was called before."""
+    if sodium.sodium_init() != 1:
+        sys.exit("libsodium isn't initialised")
+
+
 def made(call, *given):
     """What a call writes into its ROOM."""
     room = ctypes.create_string_buffer(SIZE)
@@ -67,6 +73,7 @@ def original_argon2(original):
 
 def sodium_argon2(sodium):
     """It has one lane."""
+    need_initialised(sodium)
     call = sodium.crypto_pwhash
     call.argtypes = [TEXT, WIDE, TEXT, WIDE, TEXT, WIDE, LENGTH, ctypes.c_int]
     return lambda memory, passes, _: made(call, ROOM, SIZE, *INPUTS[:3], passes, memory * 1024, 2)
@@ -84,6 +91,7 @@ def openssl_scrypt(ln, r, p):
 
 
 def sodium_scrypt(sodium):
+    need_initialised(sodium)
     call = sodium.crypto_pwhash_scryptsalsa208sha256_ll
     call.argtypes = [*DATA * 2, ctypes.c_uint64, NUMBER, NUMBER, *DATA]
     return lambda ln, r, p: made(call, *INPUTS, 1 << ln, r, p, ROOM, SIZE)

@@ -1,13 +1,16 @@
 #!/usr/bin/python3
 """Times the C library beside libargon2, libsodium and OpenSSL's scrypt, in one run on the same settings.
 
-    make -C c && /usr/bin/python3 bench/c/run.py [--times N] [--callers N [N ..]] [--small] [--other LIBRARY]
+    make -C c && /usr/bin/python3 bench/c/run.py [--times N] [--pages WHOSE] [--callers N [N ..]] [--small] [--other LIBRARY]
 
 All are called from this one process in turn, N times over; the best wall time of each is printed, and the least processor time where
 libargon2 has threads. libargon2 gets as many threads as lanes; libsodium has one lane only; ours works on the caller's thread. All give
 the same tags, which is looked at. What isn't installed has no column's values. Ours clears its memory as it gives it back, and its stack.
 --other names another librigzumal.so.1, as one that was built before a change: what ours takes over it, by the best times and by the
 median of the turns' ratios.
+
+WHOSE huge pages there are: `own`, where a library asks for them, as ours does; `none`, as where the system allows none; or for `all`,
+with a shim before mmap and malloc's own setting. How much memory is in huge pages at the end is printed.
 
 With --callers Argon2 alone is timed, ours also with a thread a lane, by so many callers at once: threads that begin at the same moment,
 and make two tags one after another. A cell has the best and the median of the N times, in milliseconds a tag: the wall time of all
@@ -36,11 +39,14 @@ from turns import best, median, median_ratio, print_head, print_load, print_row,
 C = OURS.parents[1]
 # Memory in KiB, passes, lanes.
 ARGON2 = [(65536, 3, 1), (65536, 3, 4), (65536, 3, 16), (102400, 2, 8), (19456, 2, 1), (1024, 2, 1)]
+ARGON2 += [(512, 384, 1)]  # in the cache
 WITH_THREADS = [(65536, 3, 1), (65536, 3, 4), (65536, 3, 8), (19456, 2, 1), (19456, 2, 4), (19456, 2, 8), (262144, 1, 4)]
 SMALL = [(256, 2, 4), (1024, 2, 4), (2048, 2, 4), (4096, 2, 4), (8192, 2, 4), (16384, 2, 4)]
 # ln, r, p.
-SCRYPT = [(14, 8, 1), (15, 8, 1), (16, 8, 1), (17, 8, 1), (14, 8, 4)]
+SCRYPT = [(14, 8, 1), (15, 8, 1), (16, 8, 1), (17, 8, 1), (14, 8, 4), (14, 1, 16)]
 WALL, CPU = 0, 1
+PAGES = {"own": "Huge pages where a library asks for them", "none": "No huge pages", "all": "Huge pages for all"}
+PR_SET_THP_DISABLE = 41
 TAGS_A_CALLER = 2
 
 
@@ -165,6 +171,24 @@ def without_least_memory(room):
     return path
 
 
+def have_pages(whose):
+    """Has this process go on with such pages: where they are for all in a new program, over the shim."""
+    if whose == "none" and ctypes.CDLL(None).prctl(PR_SET_THP_DISABLE, 1, 0, 0, 0) != 0:
+        sys.exit("the system doesn't let a process do without huge pages")
+    shim = os.environ.get("LD_PRELOAD", "")
+    if whose == "all" and "huge_pages" not in shim:
+        with tempfile.TemporaryDirectory() as room:
+            made = pathlib.Path(room) / "huge_pages.so"
+            subprocess.run(["cc", "-O2", "-fPIC", "-shared", pathlib.Path(__file__).with_name("huge_pages.c"), "-o", made], check=True)
+            env = {**os.environ, "LD_PRELOAD": str(made), "GLIBC_TUNABLES": "glibc.malloc.hugetlb=1"}
+            sys.exit(subprocess.run([sys.executable, *sys.argv], env=env).returncode)
+
+
+def huge_pages():
+    """How many MiB of this process's memory are in huge pages."""
+    return int(re.search(r"AnonHugePages: +(\d+)", pathlib.Path("/proc/self/smaps_rollup").read_text())[1]) // 1024
+
+
 def shown(*setting):
     return ", ".join(map(str, setting))
 
@@ -200,6 +224,7 @@ def table_of_callers(ours, other, callers, settings):
 def main():
     words = argparse.ArgumentParser(usage=__doc__.split("\n\n")[1].strip())
     words.add_argument("--times", type=int, default=15, help="runs of each")
+    words.add_argument("--pages", choices=PAGES, default="own")
     words.add_argument("--callers", type=int, nargs="+", metavar="N")
     words.add_argument("--small", action="store_true")
     words.add_argument("--other", type=ctypes.CDLL, metavar="LIBRARY")
@@ -207,6 +232,8 @@ def main():
     if asked.small and not asked.callers:
         words.error("--small goes with --callers")
     before = os.getloadavg()[0]
+    have_pages(asked.pages)
+    print(f"{PAGES[asked.pages]}.\n")
     with tempfile.TemporaryDirectory() as room:
         ours = ctypes.CDLL(str(without_least_memory(room) if asked.small else OURS))
         if asked.callers:
@@ -215,6 +242,7 @@ def main():
         else:
             for table in tables(ours, asked.other):
                 print_table(*table, asked.times)
+    print(f"{huge_pages()} MiB are in huge pages.")
     print_load(before)
 
 

@@ -2,8 +2,12 @@
 
 import importlib.util
 import pathlib
+import sys
+import tempfile
 import unittest
 from unittest import mock
+
+from tests.helpers import run
 
 TOP = pathlib.Path(__file__).resolve().parents[2]
 
@@ -53,6 +57,39 @@ class Libraries(unittest.TestCase):
                 found.sodium_init.assert_called_once_with()
             found.sodium_init.return_value = -1
             self.assertRaises(SystemExit, self.libraries.libsodium)
+
+    def test_libsodium_that_is_not_initialised_is_not_timed(self):
+        for way in (self.libraries.sodium_argon2, self.libraries.sodium_scrypt):
+            with self.subTest(way.__name__):
+                self.assertRaises(SystemExit, way, mock.Mock(sodium_init=mock.Mock(return_value=0)))
+                self.assertTrue(callable(way(mock.Mock(sodium_init=mock.Mock(return_value=1)))))
+
+
+class Pages(unittest.TestCase):
+    """What bench/c/run.py has of huge pages, in a process that maps 16 MiB and asks for none."""
+
+    MAPS = """
+import mmap, sys
+sys.path[:0] = {folders!r}
+import run
+run.have_pages({whose!r})
+room = mmap.mmap(-1, 1 << 24, flags=mmap.MAP_PRIVATE | mmap.MAP_ANONYMOUS)
+if {asks!r}:
+    room.madvise(mmap.MADV_HUGEPAGE)
+room[:] = bytes(1 << 24)
+print(run.huge_pages())
+"""
+
+    def test_who_has_huge_pages(self):
+        allowed = pathlib.Path("/sys/kernel/mm/transparent_hugepage/enabled").read_text()
+        if "[never]" in allowed:
+            self.skipTest("this system has no huge pages")
+        folders, always = [str(TOP / it) for it in ("bench/c", "bench")], "[always]" in allowed
+        for whose, asks, has_some in (("own", False, always), ("own", True, True), ("none", True, False), ("all", False, True)):
+            with self.subTest(whose, asks=asks), tempfile.TemporaryDirectory() as room:
+                script = pathlib.Path(room) / "maps.py"
+                script.write_text(self.MAPS.format(folders=folders, whose=whose, asks=asks))
+                self.assertEqual(int(run(sys.executable, script)) > 0, has_some)
 
 
 if __name__ == "__main__":
