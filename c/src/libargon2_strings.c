@@ -3,12 +3,11 @@
 #define _GNU_SOURCE
 #include "base64.h"
 #include "libargon2.h"
+#include "rigzumal.h"
 
 #include <stdio.h>
 #include <stdlib.h>
 #include <string.h>
-
-enum { VERSION_10 = 0x10 };
 
 /* Each of these reads from *text on, and moves it, or answers false. */
 
@@ -56,7 +55,7 @@ static bool read_bytes(const char **text, uint8_t *to, uint32_t *size) {
 }
 
 const char *read_string(argon2_context *read, const char *text) {
-    read->version = VERSION_10;
+    read->version = RIGZUMAL_VERSION_10;
     bool is_read = (!read_word(&text, "$v=") || read_number(&text, &read->version)) &&
                    read_word(&text, "$m=") && read_number(&text, &read->m_cost) &&
                    read_word(&text, ",t=") && read_number(&text, &read->t_cost) &&

@@ -12,7 +12,6 @@
 static void rest(void);
 
 #undef atomic_load
-#undef atomic_store
 #undef atomic_exchange
 #undef atomic_compare_exchange_strong
 #undef atomic_compare_exchange_weak
@@ -21,7 +20,6 @@ static void rest(void);
 #define RESTED(step) (rest(), (step))
 
 #define atomic_load(at) RESTED(atomic_load_explicit(at, memory_order_seq_cst))
-#define atomic_store(at, value) RESTED(atomic_store_explicit(at, value, memory_order_seq_cst))
 #define atomic_exchange(at, value) RESTED(atomic_exchange_explicit(at, value, memory_order_seq_cst))
 #define atomic_compare_exchange_strong(at, old, value)                                             \
     RESTED(atomic_compare_exchange_strong_explicit(at, old, value, memory_order_seq_cst,           \

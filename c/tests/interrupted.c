@@ -24,15 +24,12 @@ static void make_tag(unsigned char *tag, uint32_t threads) {
                  RIGZUMAL_OK);
 }
 
-static void try_tag(void) {
-    unsigned char tag[32];
-    make_tag(tag, LANES);
-    CHECK(memcmp(tag, wanted, sizeof tag) == 0);
-}
-
-static void try_tags(void) {
-    for (int turn = 0; turn < 20; turn++)
-        try_tag();
+static void try_tags(int times) {
+    for (int turn = 0; turn < times; turn++) {
+        unsigned char tag[32];
+        make_tag(tag, LANES);
+        CHECK(memcmp(tag, wanted, sizeof tag) == 0);
+    }
 }
 
 static int threads_before;
@@ -87,7 +84,7 @@ static void test_signals(void) {
     is_ours = 1;
     CHECK(pthread_create(&sender, NULL, send_signals, &self) == 0);
     while (!is_over)
-        try_tag();
+        try_tags(1);
     CHECK(pthread_join(sender, NULL) == 0);
     CHECK(handled > 0);
     CHECK_NUMBER(handled_elsewhere, 0);
@@ -99,7 +96,7 @@ static _Atomic(int) is_within, calls;
 static void *call_for_ever(void *unused) {
     for (;;) {
         is_within = 1;
-        try_tag();
+        try_tags(1);
         is_within = 0;
         calls++;
         pthread_testcancel();
@@ -169,10 +166,10 @@ static void test_no_threads(void) {
         CHECK(geteuid() != 0 || setuid(NOBODY) == 0);
         CHECK(pthread_create(&thread, NULL, nothing, NULL) != 0 ||
               pthread_create(&thread, NULL, nothing, NULL) != 0);
-        try_tags();
+        try_tags(20);
         _exit(0);
     }
-    try_tags();
+    try_tags(20);
     CHECK_NUMBER(status_of(child), 0);
 }
 

@@ -163,10 +163,6 @@ static int clearing(struct vault *it, argon2_context context) {
     return answer;
 }
 
-static int libargon2_clearing_ctx(struct vault *it) {
-    return clearing(it, context_of(it));
-}
-
 static int held; /* blocks of the context's own memory */
 
 static int allocate(uint8_t **memory, size_t size) {
@@ -189,6 +185,8 @@ static int libargon2_ctx_with_memory(struct vault *it) {
     CHECK(held == 0);
     return answer;
 }
+
+JOB(libargon2_clearing_ctx, clearing(it, context_of(it)))
 
 #define OF_ARGON2_H 1, 64, 3, PASSWORD, ARRAY(salt)
 #define TYPE (argon2_type) job_kind

@@ -49,14 +49,10 @@ static void try_threads(uint32_t threads, int wanted) {
     }
 }
 
-static void try_turn(int wanted) {
-    try_threads(1 + random_below(9), wanted);
-}
-
 static void test_order(int turns) {
     for (int turn = 0; turn < turns; turn++) {
         begin_turn(random_below(4) == 0);
-        try_turn(RIGZUMAL_OK);
+        try_threads(1 + random_below(9), RIGZUMAL_OK);
         CHECK(now.begins == 1 && now.ends == 1);
         CHECK((uint64_t)now.segments_over ==
               (uint64_t)SLICES * now.numbers.passes * now.numbers.lanes);
@@ -121,24 +117,24 @@ static void test_faults(int turns) {
         begin_turn(turn % 2 == 0);
         uint32_t lanes = now.numbers.lanes, segments = SLICES * now.numbers.passes * lanes;
         now.bad_segment = random_below(segments);
-        try_turn(PLACE);
+        try_threads(1 + random_below(9), PLACE);
         for (uint64_t next = now.bad_segment / lanes * lanes + lanes; next < segments; next++)
             CHECK(now.begun[next] == 0);
         CHECK(now.ends == 0);
         begin_turn(false);
         now.end_answer = RIGZUMAL_MEMORY;
-        try_turn(RIGZUMAL_MEMORY);
+        try_threads(1 + random_below(9), RIGZUMAL_MEMORY);
         begin_turn(turn % 2 == 1);
         now.begin_answer = RIGZUMAL_INPUT_SIZE;
-        try_turn(RIGZUMAL_INPUT_SIZE);
+        try_threads(1 + random_below(9), RIGZUMAL_INPUT_SIZE);
         CHECK(now.begun[0] == 0 && now.ends == 0);
         begin_turn(false);
         now.refused_slice = (int)random_below(SLICES);
-        try_turn(RIGZUMAL_MEMORY);
+        try_threads(1 + random_below(9), RIGZUMAL_MEMORY);
         CHECK(now.begins == 0);
         begin_turn(false);
         now.numbers.kind = 3;
-        try_turn(RIGZUMAL_NO_KIND);
+        try_threads(1 + random_below(9), RIGZUMAL_NO_KIND);
         CHECK(now.takes == 0);
     }
 }

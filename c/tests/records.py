@@ -93,13 +93,6 @@ class Records(unittest.TestCase):
         given = (N.TEXT_SIZE, 32, "$scrypt$ln=4,r=1,p=1", b"somesalt", b"password")
         self.assertEqual(written_text("record_with_secret", *given, b"x"), (N.SCHEME, ""))
 
-    def test_drawn_salts(self):
-        given = inputs(password="password", salt=None, salt_size=8, secret="pepper")
-        made = {written_text("record_from", N.TEXT_SIZE, 32, COSTS, given) for _ in range(2)}
-        self.assertEqual(len(made), 2)
-        for answer, record in made:
-            self.assertEqual((answer, call("check_from", record, given)), (N.OK, N.OK))
-
     def test_faults(self):
         """One bad input of a new record."""
         for costs, salt, tag_size, room, fault in (

@@ -33,12 +33,9 @@ def processor(*flags, kept=None):
 
 class Calls(unittest.TestCase):
     def test_layout(self):
-        """clang-format leaves the sources as they are."""
+        """clang-format leaves the sources as they are, those of the PAM module too."""
         need("clang-format")
-        files = [
-            it for folder in ("src", "include", "tests") for it in (TOP / folder).rglob("*.[ch]")
-        ]
-        run("clang-format", "--dry-run", "-Werror", *files)
+        run("clang-format", "--dry-run", "-Werror", *TOP.rglob("*.[ch]"))
 
     def test_calls_of_each_build(self):
         """Each call as on processors of each level, under the sanitizers."""

@@ -129,20 +129,6 @@ class Package(unittest.TestCase):
         (out / "proved.sum").write_text("of other sources")
         run("make", "RT=false", at=room / "c", status=2)
 
-    def test_debian_symbols(self):
-        """Debian's package says the library's symbols, each since a version that there was."""
-        said = (TOP.parent / "packaging/librigzumal1/symbols").read_text().splitlines()
-        self.assertEqual(said[0], "librigzumal.so.1 librigzumal1 #MINVER#")
-        since = dict(re.fullmatch(r" (\S+) (\d+\.\d+\.\d+)", line).groups() for line in said[1:])
-        shown = run("nm", "-D", "--defined-only", OUT / "librigzumal.so.1").split()[2::3]
-        self.assertEqual(
-            set(since), {it.replace("@@", "@") if "@" in it else f"{it}@{it}" for it in shown}
-        )
-        for version in since.values():
-            self.assertLessEqual(
-                *([int(it) for it in text.split(".")] for text in (version, VERSION))
-            )
-
     def test_uninstalled(self):
         """`make uninstall` takes away what `make install` put there, and nothing of anyone else's.
         DESTDIR is where files are put, and stands in none of them."""

@@ -166,6 +166,16 @@ class Debs(helpers.Case):
         run(f"{triplet}-gcc", "c/tests/threads.c", "-pthread", *folders, "-lrigzumal", "-o", room / "program")
         run(*emulator, room / "program", env={"LD_LIBRARY_PATH": str(room / libraries)})
 
+    def test_symbols(self):
+        """The package says the library's symbols, each since a version that there was."""
+        head, *lines = (TOP / "packaging/librigzumal1/symbols").read_text().splitlines()
+        self.assertEqual(head, "librigzumal.so.1 librigzumal1 #MINVER#")
+        since = dict(re.fullmatch(r" (\S+) (\d+\.\d+\.\d+)", line).groups() for line in lines)
+        shown = run("nm", "-D", "--defined-only", "c/out/librigzumal.so.1").split()[2::3]
+        self.assertEqual({*since}, {it.replace("@@", "@") if "@" in it else f"{it}@{it}" for it in shown})
+        for version in since.values():
+            self.assertLessEqual([*map(int, version.split("."))], [*map(int, VERSION.split("."))])
+
     def test_python(self):
         self.check(self.debs("python"), [("python3-rigzumal", "all")])
 
