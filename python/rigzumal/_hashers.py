@@ -150,8 +150,8 @@ class PasswordHasher(_Hasher):
         threads: how many threads may work the lanes of one record, the caller's among them; it
             changes no record. 1 is right for a service: other logins use the other processors.
             `parallelism` is right for a program that hashes one password at a time: 64 MiB and
-            four lanes then need some 0.6 of the time. At most one thread for each processor
-            starts, and none below 4 MiB.
+            four lanes need a third of the time on four idle processors. At most one thread for
+            each processor starts, and none below 4 MiB.
         secrets: the new pepper and older ones, instead of `secret`, while peppers rotate. Records
             are made with the first, which is then `secret`, and verified with any: a wrong
             password costs a hash for each. `verify_and_rehash` replaces records of older ones.
