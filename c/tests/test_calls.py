@@ -18,7 +18,7 @@ PROCESSORS = {
 LEVEL_2 = "sse3 ssse3 sse4.1 sse4.2 cx16 popcnt lahf-lm".split()
 LEVEL_3 = "avx avx2 bmi1 bmi2 f16c fma abm movbe xsave".split()
 # What the code of a level has, and that of no older one.
-INSTRUCTIONS = {"v1": "%xmm", "v2": "pshufb", "v3": "%ymm", "v4": "%[xyz]mm(1[6-9]|2|3)"}
+INSTRUCTIONS = {"v1": "%xmm", "v2": "pshufb", "v3": "%ymm", "v4": r"mm(1[6-9]|2\d|3[01])\b"}
 # Bits of leaf 7 and of XCR0: qemu has no such processor.
 LEVEL_4 = {"avx512f": 16, "avx512dq": 17, "avx512cd": 28, "avx512bw": 30, "avx512vl": 31}
 STATES = {"sse": 1, "avx": 2, "k0 to k7": 5, "zmm0 to zmm15": 6, "zmm16 to zmm31": 7}
