@@ -13,19 +13,13 @@ import sys
 from typing import NamedTuple
 
 TOP = pathlib.Path(__file__).resolve().parent.parent
-TEMPLATES = TOP / "completions"
 PROGRAMS = {"credbook": "crates/credbook/out/credbook", "credkeep": "crates/credkeep/out/credkeep"}
 PROGRAMS |= {"credkeep-server": "bin/credkeep-server"}
-
-
-class Option(NamedTuple):
-    name: str
-    value: str
-    text: str
+OPTION = re.compile(r"^ +(?:-\w, )?--([\w-]+)(?:[ =]<?([\w-]+)>?)?(?:(?:  +|\n {8,})(?!-)(\S.*))?", re.M)
 
 
 class Command(NamedTuple):
-    """What help says of a program, or of one of its commands."""
+    """What help says of a program, or of one of its commands: an option is its name, its value's name and its text."""
 
     word: str
     text: str
@@ -33,72 +27,62 @@ class Command(NamedTuple):
     options: list
 
 
-def command_of(program, word, text, words):
-    said = subprocess.run([program, *words, "--help"], capture_output=True, text=True)
-    shown = said.stdout + said.stderr
-    found = re.findall(r"^ +(?:-\w, )?--([\w-]+)(?:[ =]<?([\w-]+)>?)?(?:(?:  +|\n {8,})(?!-)(\S.*))?", shown, re.M)
-    return shown, Command(word, text, shown.partition("sage: ")[2].partition("\n")[0], [Option(*it) for it in found])
+def help_of(path, *words):
+    said = subprocess.run([path, *words, "--help"], capture_output=True, text=True)
+    return said.stdout + said.stderr
+
+
+def command_of(shown, word="", text=""):
+    return Command(word, text, shown.partition("sage: ")[2].partition("\n")[0], OPTION.findall(shown))
 
 
 class Program:
     """A program's completions."""
 
-    def __init__(self, name, path, file_first):
-        self.name, self.file_first = name, file_first
-        shown, self.top = command_of(path, "", "", [])
+    def __init__(self, name, path):
+        self.name, self.file_first, shown = name, name != "credbook", help_of(path)
+        self.top = command_of(shown)
         below = re.findall(r"^  (\w+)  +(\S.*)", shown.partition("Commands:\n")[2].partition("\n\n")[0], re.M)
-        front = ["-"] if file_first else []
-        self.commands = [command_of(path, word, text, [*front, word])[1] for word, text in below if word != "help"]
+        file = ["-"] if self.file_first else []
+        self.commands = [command_of(help_of(path, *file, word), word, text) for word, text in below if word != "help"]
         if not self.top.options:
             sys.exit(f"{path} --help names no option")
 
-    def with_words(self, *words):
-        """The commands after whose word one of these comes."""
-        return [it.word for it in self.commands if any(f"<{word}>" in it.usage.partition(it.word)[2] for word in words)]
-
-    def valued(self):
-        return sorted({it.name for command in [self.top, *self.commands] for it in command.options if it.value})
+    def words_before(self, *values):
+        """The commands after whose word one of these values comes."""
+        return [it.word for it in self.commands if any(f"<{value}>" in it.usage.partition(it.word)[2] for value in values)]
 
     def fields(self):
-        named = {"NAME": self.name, "FUNCTION": "_" + self.name.replace("-", "_"), "ALIASES": self.name}
-        if self.name == "credkeep":
-            named["ALIASES"] = "credkeep credkeep-ask"
-        # add is for a name that isn't there yet
-        named["ACCOUNTS"] = "|".join(it for it in self.with_words("NAME") if it != "add") or "-"
-        named["FILES"] = "|".join(self.with_words("TO", "FROM")) or "-"
-        return named | {"COMMANDS": " ".join(it.word for it in self.commands)}
+        """What the templates are filled with: lists of words for fish."""
+        valued = sorted({f"--{name}" for command in [self.top, *self.commands] for name, value, _ in command.options if value})
+        # add is for a name that no account has yet
+        lists = {"VALUED": valued, "ACCOUNTS": [it for it in self.words_before("NAME") if it != "add"], "FILES": self.words_before("TO", "FROM")}
+        return {"NAME": self.name, "FUNCTION": "_" + self.name.replace("-", "_")} | {it: " ".join(words or ["-"]) for it, words in lists.items()}
 
-    def bash(self):
-        options = [f"    {it.word}) options='{' '.join('--' + o.name for o in it.options)}' ;;" for it in self.commands]
-        top = " ".join("--" + it.name for it in self.top.options)
-        begun = {"FILE": "" if self.file_first else "-", "COMMAND": "" if self.commands else "-", "TOP": top}
-        valued = " | ".join("--" + it for it in self.valued()) or "-"
-        return {**self.fields(), **begun, "VALUED": valued, "OPTIONS": "\n".join(options) or "    *) ;;"}
+    def sh(self, template):
+        """For bash and zsh, which share what is done with a line's words."""
+        fields = self.fields()
+        made = {it: " | ".join(f"*/2/{word}" for word in fields[it].split()) for it in ("ACCOUNTS", "FILES")}
+        options = [f"        {it.word or '*'}) {printed(('--' + name, text) for name, _, text in it.options)} ;;" for it in [*self.commands, self.top]]
+        made |= {"VALUED": fields["VALUED"].replace(" ", " | "), "OPTIONS": "\n".join(options), "COUNT": str(1 - self.file_first)}
+        made |= {"COMMANDS": printed((it.word, it.text) for it in self.commands)}
+        made |= {"ALIASES": "credkeep credkeep-ask" if self.name == "credkeep" else self.name}
+        return written(template, fields | made | {"WORDS": written("words", fields | made)})
 
-    def zsh(self):
-        commands = [f"        {quoted(f'{it.word}:{short(it.text)}')}" for it in self.commands]
-        options = [f"        {it.word}) options=({' '.join(map(zsh_option, it.options))}) ;;" for it in self.commands]
-        at = 2 if self.file_first else 1
-        first = ["'1:file:_files'"] if self.file_first else []
-        rest = [f"'{at}:command:->command'", "'*::word:->word'"] if self.commands else []
-        top = " \\\n        ".join([*map(zsh_option, self.top.options), *first, *rest])
-        lines = {"DESCRIBED": "\n".join(commands), "OPTIONS": "\n".join(options) or "        *) ;;", "TOP": top}
-        return {**self.fields(), **lines, "AT": str(at), "BEFORE": str(at - 1)}
-
-    def fish(self):
-        at, name = (1 if self.file_first else 0), self.name
-        words = f"__{name.replace('-', '_')}_words"
-        lines = [f"complete -c {name} -n 'test (count ({words})) -eq 0' -F"] if self.file_first else []
-        for it in self.commands:
-            lines.append(f"complete -c {name} -n 'test (count ({words})) -eq {at}' -a {it.word} -d {quoted(short(it.text))}")
+    def fish(self, template):
+        at, words = int(self.file_first), f"_{self.fields()['FUNCTION']}_words"
+        lines = [("-F", f"test (count ({words})) -eq 0", "")] if self.file_first else []
+        lines += [(f"-a {it.word}", f"test (count ({words})) -eq {at}", it.text) for it in self.commands]
         for command in [self.top, *self.commands]:
             place = f"contains -- {command.word} ({words})" if command.word else f"test (count ({words})) -le {at}"
-            for it in command.options:
-                value = " -x" if it.value else ""
-                lines.append(f"complete -c {name} -n {quoted(place)} -l {it.name}{value} -d {quoted(short(it.text))}")
-        valued = " ".join("--" + it for it in self.valued()) or "-"
-        fields = {name: value.replace("|", " ") for name, value in self.fields().items()}
-        return {**fields, "WORDS": words, "VALUED": valued, "LINES": "\n".join(lines)}
+            lines += [(f"-l {name}{' -x' if value else ''}", place, text) for name, value, text in command.options]
+        shown = [f"complete -c {self.name} -n {quoted(place)} {what} -d {quoted(short(text))}" for what, place, text in lines]
+        return written(template, {**self.fields(), "WORDS": words, "LINES": "\n".join(shown)})
+
+
+def printed(words):
+    """What prints these words with their descriptions."""
+    return " ".join(["printf '%s\\n'", *(quoted(f"{word}:{short(text)}") for word, text in words)])
 
 
 def short(text):
@@ -110,13 +94,8 @@ def quoted(text):
     return "'" + text.replace("'", r"'\''") + "'"
 
 
-def zsh_option(it):
-    text = short(it.text).replace("[", r"\[").replace("]", r"\]").replace(":", r"\:")
-    return quoted(f"--{it.name}[{text}]" + (f":{it.value.lower()}:" if it.value else ""))
-
-
 def written(template, fields):
-    return re.sub(r"@([A-Z]+)@", lambda it: fields[it[1]], (TEMPLATES / template).read_text())
+    return re.sub(r"@([A-Z]+)@", lambda it: fields[it[1]], (TOP / "completions" / template).read_text())
 
 
 def files(folders):
@@ -136,11 +115,12 @@ def main():
         for path, _, _ in files(folders):
             path.unlink(missing_ok=True)
         return
-    programs = {it: Program(it, TOP / path, it != "credbook") for it, path in PROGRAMS.items()}
+    programs = {name: Program(name, TOP / path) for name, path in PROGRAMS.items()}
     for path, shell, name in files(folders):
         path.parent.mkdir(parents=True, exist_ok=True)
+        made = programs.get(name)
         wraps = "complete -c credkeep-ask -w credkeep\n"
-        path.write_text(written(shell, getattr(programs[name], shell)()) if name in programs else wraps)
+        path.write_text(wraps if made is None else made.fish(shell) if shell == "fish" else made.sh(shell))
 
 
 if __name__ == "__main__":
