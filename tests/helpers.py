@@ -10,6 +10,7 @@ from __future__ import annotations
 import atexit
 import contextlib
 import functools
+import inspect
 import itertools
 import os
 import pathlib
@@ -70,6 +71,25 @@ class Case(unittest.TestCase):
         room = pathlib.Path(self.enterContext(tempfile.TemporaryDirectory(prefix="rigzumal-")))
         room.chmod(0o755)
         return room
+
+
+def each(*rows: Any) -> Callable[[Callable[..., None]], Callable[..., None]]:
+    """Has a test run for each of these rows, which is a subtest with its values by the names of the
+    parameters."""
+
+    def run_each(test: Callable[..., None]) -> Callable[..., None]:
+        _, *names = inspect.signature(test).parameters
+
+        @functools.wraps(test)
+        def run(case: unittest.TestCase) -> None:
+            for row in rows:
+                values = row if len(names) > 1 else (row,)
+                with case.subTest(**dict(zip(names, values))):
+                    test(case, *values)
+
+        return run
+
+    return run_each
 
 
 class Peer(socketserver.ThreadingUnixStreamServer):

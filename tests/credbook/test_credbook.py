@@ -14,6 +14,7 @@ from tests.helpers import (
     TOP,
     Ended,
     counts,
+    each,
     ended,
     in_turn,
     instructions,
@@ -89,8 +90,9 @@ class RunsTest(unittest.TestCase):
         self.assertEqual(credbook("run", stdin=folder), Ended(2, "", "credbook: read\n"))
         with open("/dev/full", "wb") as full:
             for words in (["run"], ["check", RECORD, PASSWORD]):
-                done = credbook(*words, given=SCRIPT, stdout=full)
-                self.assertEqual((words, done), (words, Ended(2, "", "credbook: write\n")))
+                with self.subTest(words=words):
+                    done = credbook(*words, given=SCRIPT, stdout=full)
+                    self.assertEqual(done, Ended(2, "", "credbook: write\n"))
 
     def test_refused_memory(self) -> None:
         """Each request for memory refused in turn: status 3 with a front of the answers, or the
@@ -115,10 +117,11 @@ class RunsTest(unittest.TestCase):
         script = SCRIPT.replace("m=256,t=2,p=1", "m=1024,t=4,p=4").rpartition("show")[0]
         script += f"begin 2 verify a {PASSWORD}\ncommit 2\n"
         for workers, wanted in ((1, (0,)), (2, (1, 2)), (4, (3, 4)), (64, (3, 4))):
-            command = [program("credbook"), "run", "--workers", str(workers)]
-            done, found = counts(command, script)
-            self.assertEqual(done, Ended(0, "ok\nbegun\nenrolled\nbegun\nyes\n"))
-            self.assertIn(found["THREADS"], wanted, f"{workers} workers")
+            with self.subTest(workers=workers):
+                command = [program("credbook"), "run", "--workers", str(workers)]
+                done, found = counts(command, script)
+                self.assertEqual(done, Ended(0, "ok\nbegun\nenrolled\nbegun\nyes\n"))
+                self.assertIn(found["THREADS"], wanted, f"{workers} workers")
 
     def test_instructions(self) -> None:
         """A check takes as many instructions whichever byte of the tag differs, and if none does:
@@ -127,11 +130,12 @@ class RunsTest(unittest.TestCase):
         done, right = instructions([program("credbook"), "check", RECORD, PASSWORD])
         self.assertEqual(done[:2], (0, "yes\n"))
         for byte in (0, 1, 15, 30, 31):
-            tag = bytearray(base64.b64decode(f"{TAG}="))
-            tag[byte] ^= 0x55
-            record = f"{SETTING}${base64.b64encode(tag).decode().rstrip('=')}"
-            done, wrong = instructions([program("credbook"), "check", record, PASSWORD])
-            self.assertEqual((byte, *done[:2], wrong), (byte, 4, "no\n", right))
+            with self.subTest(byte=byte):
+                tag = bytearray(base64.b64decode(f"{TAG}="))
+                tag[byte] ^= 0x55
+                record = f"{SETTING}${base64.b64encode(tag).decode().rstrip('=')}"
+                done, wrong = instructions([program("credbook"), "check", record, PASSWORD])
+                self.assertEqual((*done[:2], wrong), (4, "no\n", right))
 
 
 class LauncherTest(unittest.TestCase):
@@ -146,10 +150,10 @@ class LauncherTest(unittest.TestCase):
             launcher.chmod(0o755)
             return ended([str(launcher), *words], SCRIPT, **options)
 
-    def test_same_run(self) -> None:
-        for words in (["check", RECORD, OTHER], ["run"], ["hash", "a b", ""]):
-            wanted = credbook(*words, given=SCRIPT)
-            self.assertEqual((words, self.launched(program("credbook"), *words)), (words, wanted))
+    @each(["check", RECORD, OTHER], ["run"], ["hash", "a b", ""])
+    def test_same_run(self, words: Any) -> None:
+        wanted = credbook(*words, given=SCRIPT)
+        self.assertEqual(self.launched(program("credbook"), *words), wanted)
 
     def test_tunables(self) -> None:
         huge, arenas = "glibc.malloc.hugetlb=1", "glibc.malloc.arena_max=2"
@@ -160,7 +164,8 @@ class LauncherTest(unittest.TestCase):
             ("glibc.malloc.hugetlb=0", "glibc.malloc.hugetlb=0"),
             (f"{arenas}:glibc.malloc.hugetlb=2", f"{arenas}:glibc.malloc.hugetlb=2"),
         ):
-            env = {"PATH": os.environ["PATH"]}
-            env |= {} if given is None else {"GLIBC_TUNABLES": given}
-            done = self.launched("printenv", "GLIBC_TUNABLES", env=env)
-            self.assertEqual((given, done), (given, Ended(0, f"{wanted}\n")))
+            with self.subTest(given=given):
+                env = {"PATH": os.environ["PATH"]}
+                env |= {} if given is None else {"GLIBC_TUNABLES": given}
+                done = self.launched("printenv", "GLIBC_TUNABLES", env=env)
+                self.assertEqual(done, Ended(0, f"{wanted}\n"))

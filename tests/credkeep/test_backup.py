@@ -9,7 +9,7 @@ import time
 
 from tests.credkeep.books import DONE, OTHER, RECORD, Accounts, Book, BookTest, Service
 from tests.credkeep.books import contents, rows
-from tests.helpers import Ended, need_root
+from tests.helpers import Ended, each, need_root
 
 NOBODY = 65534
 
@@ -36,17 +36,17 @@ class CopyTest(BookTest):
 
 
 class BackupTest(CopyTest):
-    def test_sizes(self) -> None:
+    @each(0, 1, 2, 300, 5000)
+    def test_sizes(self, count: int) -> None:
         """The answer says how many accounts there are, and what is in the log."""
-        for count in (0, 1, 2, 300, 5000):
-            accounts = {f"u{at:05}": RECORD if at % 3 else "" for at in range(count)}
-            book, copy = self.begun(accounts), self.file("copy.db")
-            before = contents(self.room)
-            self.assertEqual(book("backup", str(copy.path)), counted(count, 0))
-            self.assertWhole(copy, accounts)
-            self.assertTrue(copy.accounts() == accounts)
-            self.assertTrue(contents(self.room) == before | {"copy.db": copy.path.read_bytes()})
-            copy.remove()
+        accounts = {f"u{at:05}": RECORD if at % 3 else "" for at in range(count)}
+        book, copy = self.begun(accounts), self.file("copy.db")
+        before = contents(self.room)
+        self.assertEqual(book("backup", str(copy.path)), counted(count, 0))
+        self.assertWhole(copy, accounts)
+        self.assertTrue(copy.accounts() == accounts)
+        self.assertTrue(contents(self.room) == before | {"copy.db": copy.path.read_bytes()})
+        copy.remove()
 
     def test_service(self) -> None:
         """While a service adds accounts one by one, each copy has the first so many, and all that
@@ -83,9 +83,11 @@ class BackupTest(CopyTest):
         link.symlink_to(book.path)
         text.write_text("hello\n")
         for path in (book.path, link):
-            self.assertFails(book("backup", str(path)), 5, "it is the database itself")
+            with self.subTest(path=path):
+                self.assertFails(book("backup", str(path)), 5, "it is the database itself")
         for path in (text, self.room, self.room / "none/copy.db"):
-            self.assertFails(book("backup", str(path)), 5)
+            with self.subTest(path=path):
+                self.assertFails(book("backup", str(path)), 5)
         with other.start("serve") as service:
             self.assertEqual(service.ask("account late"), "ok")
             self.assertFails(book("backup", str(other.path)), 5, "busy")
@@ -102,12 +104,13 @@ class BackupTest(CopyTest):
         book, copy, link = self.begun(), self.file("copy.db"), self.file("link.db")
         link.path.symlink_to(book.path)
         for at, name in enumerate(("ann", "bob", "cid"), 1):
-            old = copy.path.stat().st_ino if copy.path.exists() else 0
-            book.add(name)
-            self.assertEqual(link("backup", str(copy.path)), counted(at, 0))
-            self.assertNotEqual(copy.path.stat().st_ino, old)
-            self.assertFalse(copy.log.exists())
-            self.assertEqual(copy.accounts(), book.accounts())
+            with self.subTest(at=at, name=name):
+                old = copy.path.stat().st_ino if copy.path.exists() else 0
+                book.add(name)
+                self.assertEqual(link("backup", str(copy.path)), counted(at, 0))
+                self.assertNotEqual(copy.path.stat().st_ino, old)
+                self.assertFalse(copy.log.exists())
+                self.assertEqual(copy.accounts(), book.accounts())
         book.add("late")
         self.assertEqual(link("restore", str(copy.path)), counted(3, 0))
         self.assertTrue(link.path.is_symlink())
@@ -119,15 +122,16 @@ class BackupTest(CopyTest):
         book, copy, prey = self.begun({"ann": RECORD}), self.file("copy.db"), self.room / "prey"
         prey.write_text("prey\n")
         for end in ("-read", "-new"):
-            part = self.room / f"copy.db{end}"
-            for make in (pathlib.Path.symlink_to, pathlib.Path.hardlink_to):
-                make(part, prey)
-                self.assertFails(book("backup", str(copy.path)), 5)
-                part.unlink()
-            part.write_bytes(b"left by a run that was stopped" * 1000)
-            self.assertEqual(book("backup", str(copy.path)), counted(1, 0))
-            self.assertWhole(copy, {"ann": RECORD})
-            self.assertFalse(part.exists())
+            with self.subTest(end=end):
+                part = self.room / f"copy.db{end}"
+                for make in (pathlib.Path.symlink_to, pathlib.Path.hardlink_to):
+                    make(part, prey)
+                    self.assertFails(book("backup", str(copy.path)), 5)
+                    part.unlink()
+                part.write_bytes(b"left by a run that was stopped" * 1000)
+                self.assertEqual(book("backup", str(copy.path)), counted(1, 0))
+                self.assertWhole(copy, {"ann": RECORD})
+                self.assertFalse(part.exists())
         self.assertEqual(prey.read_text(), "prey\n")
 
 
@@ -139,24 +143,25 @@ class RestoreTest(CopyTest):
         book, copy = self.begun(old), self.file("copy.db")
         self.assertEqual(book("backup", str(copy.path)), counted(400, 0))
         for how in ("ended", "killed", "gone", "gone with its log", "empty", "damaged"):
-            changes = [f"load {it} {OTHER}" for it in random.sample(sorted(old), 205)]
-            self.assertEqual(book.script(["serve"], changes[5:]), ["ok"] * 200)
-            if how != "ended":
-                self.killed_after(book, *changes[:5])
-            if how.startswith("gone"):
-                book.path.unlink()
-            if how == "gone with its log":
-                book.log.unlink()
-            if how == "empty":
-                book.path.write_bytes(b"")
-            if how == "damaged":
-                book.path.write_bytes(book.path.read_bytes()[:8192] + os.urandom(40000))
-            before = copy.path.read_bytes()
-            self.assertEqual((how, book("restore", str(copy.path))), (how, counted(400, 0)))
-            self.assertWhole(book, old)
-            self.assertTrue(book.accounts() == old)
-            self.assertEqual(copy.path.read_bytes(), before)
-            self.assertLeft("users.db", "copy.db")
+            with self.subTest(how=how):
+                changes = [f"load {it} {OTHER}" for it in random.sample(sorted(old), 205)]
+                self.assertEqual(book.script(["serve"], changes[5:]), ["ok"] * 200)
+                if how != "ended":
+                    self.killed_after(book, *changes[:5])
+                if how.startswith("gone"):
+                    book.path.unlink()
+                if how == "gone with its log":
+                    book.log.unlink()
+                if how == "empty":
+                    book.path.write_bytes(b"")
+                if how == "damaged":
+                    book.path.write_bytes(book.path.read_bytes()[:8192] + os.urandom(40000))
+                before = copy.path.read_bytes()
+                self.assertEqual(book("restore", str(copy.path)), counted(400, 0))
+                self.assertWhole(book, old)
+                self.assertTrue(book.accounts() == old)
+                self.assertEqual(copy.path.read_bytes(), before)
+                self.assertLeft("users.db", "copy.db")
 
     def test_log(self) -> None:
         """A killed service's changes are in a copy, and stay in the log. A file and its log that
@@ -189,11 +194,13 @@ class RestoreTest(CopyTest):
         with book.start("serve") as service:
             self.assertEqual(service.ask("account late"), "ok")
             for source in (copy, bad):
-                self.assertFails(book("restore", str(source.path)), 5, "busy")
+                with self.subTest(source=source):
+                    self.assertFails(book("restore", str(source.path)), 5, "busy")
             self.assertEqual(service.ask("show late"), "none")
             self.assertEqual(service.end(), DONE)
         for source in (text, other, self.file(".")):
-            self.assertFails(book("restore", str(source.path)), 5)
+            with self.subTest(source=source):
+                self.assertFails(book("restore", str(source.path)), 5)
         none = self.file("none.db").path
         self.assertFails(book("restore", str(none)), 5, f"{none}: there is no such file\n")
         done = book("restore", str(bad.path))

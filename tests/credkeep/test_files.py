@@ -12,7 +12,7 @@ import time
 from collections.abc import Callable
 
 from tests.credkeep.books import DONE, RECORD, Book, BookTest, Service, contents, fails, rows, says
-from tests.helpers import Ended, need_root
+from tests.helpers import Ended, each, need_root
 
 TABLE = "CREATE TABLE account (name TEXT NOT NULL PRIMARY KEY, record TEXT) STRICT;"
 NOBODY = 65534
@@ -106,7 +106,8 @@ class FormatTest(BookTest):
     def test_no_file_in_memory(self) -> None:
         memory = Book(pathlib.Path(":memory:"))
         for words in ("init", "list"):
-            self.assertFails(memory(words, cwd=self.room), 1)
+            with self.subTest(words=words):
+                self.assertFails(memory(words, cwd=self.room), 1)
         self.assertFails(self.book("backup", ":memory:", cwd=self.room), 1)
         self.assertEqual(sorted(contents(self.room)), ["users.db"])
 
@@ -156,10 +157,11 @@ class NamesTest(BookTest):
         refused = [(mode, owner, "others can read or write it") for mode in (0o666, 0o644, 0o620)]
         refused += [(0o600, NOBODY, "another user owns it")] if owner == 0 else []
         for mode, other, text in refused:
-            book.path.chmod(mode)
-            os.chown(book.path, other, -1)
-            self.assertFails(book("init"), 5, text)
-            self.assertEqual(book.path.read_bytes(), b"")
+            with self.subTest(mode=mode, other=other):
+                book.path.chmod(mode)
+                os.chown(book.path, other, -1)
+                self.assertFails(book("init"), 5, text)
+                self.assertEqual(book.path.read_bytes(), b"")
         book.path.chmod(0o600)
         os.chown(book.path, owner, -1)
         self.assertEqual(book("init"), DONE)
@@ -175,14 +177,16 @@ class NamesTest(BookTest):
         with book.start("run") as run:
             self.assertEqual(run.ask("account ann"), "ok")
             for file in (book.path, book.log):
-                self.assertEqual(stat.S_IMODE(file.stat().st_mode), 0o600)
+                with self.subTest(file=file):
+                    self.assertEqual(stat.S_IMODE(file.stat().st_mode), 0o600)
             self.assertEqual(run.end(), DONE)
         book.path.chmod(0o640)
         for words, said in (("list", "ann\n"), ("serve", ""), ("serve --tagged", "")):
-            done = book(*words.split())
-            self.assertEqual(done[:2], (0, said))
-            self.assertIn("warning: ", done.faults)
-            self.assertEqual(book("--quiet", *words.split()), (0, said, ""))
+            with self.subTest(words=words):
+                done = book(*words.split())
+                self.assertEqual(done[:2], (0, said))
+                self.assertIn("warning: ", done.faults)
+                self.assertEqual(book("--quiet", *words.split()), (0, said, ""))
 
     def test_read_only(self) -> None:
         """A file that this process may not write is left alone. Root may write any, so the program
@@ -192,7 +196,8 @@ class NamesTest(BookTest):
         self.book.path.chmod(0o444)
         before = self.book.path.read_bytes()
         for words in ("list", "add bob", "init"):
-            self.assertFails(self.book(*words.split(), given="x\n", user=NOBODY), 5)
+            with self.subTest(words=words):
+                self.assertFails(self.book(*words.split(), given="x\n", user=NOBODY), 5)
         self.assertEqual(self.book.path.read_bytes(), before)
 
     def test_links(self) -> None:
@@ -204,23 +209,24 @@ class NamesTest(BookTest):
         self.assertTrue(link.path.is_symlink())
         os.link(self.book.path, second.path)
         for book in (self.book, second):
-            self.assertFails(book("list"), 5, "it has another name, by a hard link")
+            with self.subTest(book=book):
+                self.assertFails(book("list"), 5, "it has another name, by a hard link")
 
 
 class LocksTest(BookTest):
-    def test_two_processes(self) -> None:
+    @each("run", "serve")
+    def test_two_processes(self, order: str) -> None:
         """Beside a process that has the file it is busy for every other one, also if the process is
         stopped for a while."""
-        for order in ("run", "serve"):
-            with self.begun().start(order) as run:
-                self.assertEqual(run.ask("account ann"), "ok")
-                run.process.send_signal(signal.SIGSTOP)
-                for words in ("list", "init", "add bob", "run", "serve"):
-                    self.assertFails(self.book(*words.split(), given="x\n"), 5, "busy")
-                run.process.send_signal(signal.SIGCONT)
-                self.assertEqual(run.ask("show ann"), "none")
-                self.assertEqual(run.end(), DONE)
-            self.assertEqual(self.book.names(), ["ann"])
+        with self.begun().start(order) as run:
+            self.assertEqual(run.ask("account ann"), "ok")
+            run.process.send_signal(signal.SIGSTOP)
+            for words in ("list", "init", "add bob", "run", "serve"):
+                self.assertFails(self.book(*words.split(), given="x\n"), 5, "busy")
+            run.process.send_signal(signal.SIGCONT)
+            self.assertEqual(run.ask("show ann"), "none")
+            self.assertEqual(run.end(), DONE)
+        self.assertEqual(self.book.names(), ["ann"])
 
     def test_waits(self) -> None:
         """With --wait it is tried again until the seconds are over, or the other has ended."""

@@ -7,7 +7,7 @@ import subprocess
 from collections.abc import Iterator
 
 from tests.credkeep.books import EDITS, EMPTY_LOG, RECORD, Accounts, Book, BookTest, fails, lined
-from tests.helpers import Ended, need_root, small_files
+from tests.helpers import Ended, each, need_root, small_files
 
 # How many accounts a script adds, far more than there is room for.
 COUNT = 4000
@@ -81,10 +81,10 @@ class LostTest(BookTest):
 
 
 class ScriptsTest(LostTest):
-    def test_lost_change(self) -> None:
-        for order in ("run", "serve"):
-            book = self.begun()
-            self.assertLost(book(order, given=LINES, **small_files(100_000)), book, {})
+    @each("run", "serve")
+    def test_lost_change(self, order: str) -> None:
+        book = self.begun()
+        self.assertLost(book(order, given=LINES, **small_files(100_000)), book, {})
 
     def test_full_disk(self) -> None:
         self.assertLost(*self.on_full_disk("run", 256 * 1024), {})

@@ -38,7 +38,8 @@ class OthersTest(ImportTest):
         wanted = {at: faults[name] for at, name in enumerate(names, 1) if name in faults}
         self.assertEqual(len(wanted), 3)
         for words, end in (([], Ended(6)), (["--skip-bad"], Ended(0, imported(1, bad=3)))):
-            self.assertNames(self.book("import", *words, given=path.read_text()), end, wanted)
+            with self.subTest(words=words, end=end):
+                self.assertNames(self.book("import", *words, given=path.read_text()), end, wanted)
         self.assertEqual(self.book.accounts(), {"ann": RECORD})
 
     def test_files_of_usermod(self) -> None:
@@ -81,8 +82,9 @@ class OthersTest(ImportTest):
         done = self.book("import", given=written)
         self.assertEqual(done, Ended(0, imported(len(forms))))
         for form in forms:
-            self.assertEqual(self.book("check", form.lower(), given="secret\n"), says("yes"))
-            self.assertEqual(self.book("check", form.lower(), given="guess\n"), says("no"))
+            with self.subTest(form=form):
+                self.assertEqual(self.book("check", form.lower(), given="secret\n"), says("yes"))
+                self.assertEqual(self.book("check", form.lower(), given="guess\n"), says("no"))
 
 
 def made_by_dovecot(form: str) -> str:

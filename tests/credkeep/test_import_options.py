@@ -6,7 +6,7 @@ import json
 from tests.credkeep.books import OTHER, RECORD, SALT, SCRYPT, TAG, Accounts, fails, imported
 from tests.credkeep.books import lined, lines_of
 from tests.credkeep.test_import import ImportTest, named_lines, other_texts
-from tests.helpers import Ended
+from tests.helpers import Ended, each
 
 # Each bad line with its fault. The book has ann, and a line before these names new.
 BAD_LINES = [
@@ -167,25 +167,26 @@ class OptionsTest(ImportTest):
             ("--update", {"added": 1, "updated": 1, "there": 0, "bad": 1}),
             ("--skip-existing", {"added": 1, "updated": 0, "there": 1, "bad": 1}),
         ):
-            for words, told in (([], imported(*counts.values())), (["--quiet"], "")):
-                done = self.begun(BEFORE)("import", "--skip-bad", option, *words, given=lines)
-                self.assertNames(done, Ended(0, told), {2: "11 line"})
-            done = self.begun(BEFORE)("import", "--skip-bad", "--json", option, given=lines)
-            self.assertEqual(json.loads(done.written), counts)
+            with self.subTest(option=option, counts=counts):
+                for words, told in (([], imported(*counts.values())), (["--quiet"], "")):
+                    done = self.begun(BEFORE)("import", "--skip-bad", option, *words, given=lines)
+                    self.assertNames(done, Ended(0, told), {2: "11 line"})
+                done = self.begun(BEFORE)("import", "--skip-bad", "--json", option, given=lines)
+                self.assertEqual(json.loads(done.written), counts)
         with open("/dev/full", "wb") as full:
             done = self.book("import", given="eve:\n", stdout=full)
         self.assertEqual(done, fails(2, "writing failed"))
         self.assertIn("eve", self.book.names())
 
-    def test_updates_of_sizes(self) -> None:
+    @each(1, 2, 4095, 4096, 4097, 5000, 20000)
+    def test_updates_of_sizes(self, size: int) -> None:
         """Books of sizes round those at which pages and pieces end: half of the names are there."""
-        for size in (1, 2, 4095, 4096, 4097, 5000, 20000):
-            book = self.begun({f"n{at:05}": RECORD for at in range(0, size, 2)})
-            lines = {f"n{at:05}": OTHER if at % 3 else "" for at in range(size)}
-            done = book("import", "--update", given=lines_of(lines))
-            self.assertEqual(done, Ended(0, imported(size // 2, size - size // 2)))
-            self.assertTrue(book.accounts() == lines, size)
-            self.assertSound(book)
+        book = self.begun({f"n{at:05}": RECORD for at in range(0, size, 2)})
+        lines = {f"n{at:05}": OTHER if at % 3 else "" for at in range(size)}
+        done = book("import", "--update", given=lines_of(lines))
+        self.assertEqual(done, Ended(0, imported(size // 2, size - size // 2)))
+        self.assertTrue(book.accounts() == lines)
+        self.assertSound(book)
 
     def test_costly_lines(self) -> None:
         """With --most-memory a line is bad whose record asks for more, and is named and counted as
@@ -208,8 +209,9 @@ class OptionsTest(ImportTest):
         update = f"ann:{above}\ncat:{within}\n"
         self.assertFails(self.book(*bound, "--update", given=update), 6)
         for how in ("--update", "--skip-existing"):
-            done = self.book(*bound, how, given=f"ann:{above}\n")
-            self.assertEqual(done, Ended(6, "", costly.format(1)))
+            with self.subTest(how=how):
+                done = self.book(*bound, how, given=f"ann:{above}\n")
+                self.assertEqual(done, Ended(6, "", costly.format(1)))
         self.assertEqual(self.book.accounts(), after)
         # Without a bound they are taken in; and so they are with one that is as high.
         done = self.book("import", "--update", given=update)

@@ -41,7 +41,8 @@ class LargeTest(LostTest, test_kills.ScriptsTest):
                 ("record = 'x'", f"{no_record} (1 shape)"),
                 ("name = 'Ann'", f"{no_name} (3 name)"),
             ):
-                shutil.copy(self.book.path, hurt.path)
-                rows(hurt.path, f"UPDATE account SET {change} WHERE rowid = {row}")
-                done = hurt("serve", given="show ann\n")
-                self.assertEqual(done, Ended(5, "", f"credkeep: row {row}: {why}\n"))
+                with self.subTest(row=row, change=change):
+                    shutil.copy(self.book.path, hurt.path)
+                    rows(hurt.path, f"UPDATE account SET {change} WHERE rowid = {row}")
+                    done = hurt("serve", given="show ann\n")
+                    self.assertEqual(done, Ended(5, "", f"credkeep: row {row}: {why}\n"))

@@ -78,8 +78,9 @@ class LogsTest(CopyTest):
         self.killed_after(book, *(f"account k{at}" for at in range(5)))
         log = book.log.read_bytes()
         for at in (2, 5, 9, 13, 25, 31):
-            book.log.write_bytes(log[:at] + bytes([log[at] ^ 1]) + log[at + 1 :])
-            self.assertFails(book("list"), 5, "its log is damaged: 0 changes")
+            with self.subTest(at=at):
+                book.log.write_bytes(log[:at] + bytes([log[at] ^ 1]) + log[at + 1 :])
+                self.assertFails(book("list"), 5, "its log is damaged: 0 changes")
         book.log.write_bytes(log)
         self.assertEqual(len(book.names()), 6)
 

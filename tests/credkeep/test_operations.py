@@ -177,12 +177,14 @@ class OperationsTest(BookTest):
     def test_faults(self) -> None:
         """A line that isn't one has the same fault from a script and a service, and no effect."""
         lines = [f"begin 1 {it}" if it.split(" ")[0] in Script.begun else it for it, _ in FAULTS]
+        faults = [f"bad {it}" for _, it in FAULTS]
         for order in ("run", "serve"):
-            found = self.book.script([order], lines)
-            self.assertEqual([*zip(lines, found)], [*zip(lines, (f"bad {it}" for _, it in FAULTS))])
-        faults = [*FAULTS[1:], *TAGGED_FAULTS]
-        found = self.book.answers(*(f"t {line}" for line, _ in faults))
-        self.assertEqual([*zip(faults, found)], [(it, f"t bad {it[1]}") for it in faults])
+            with self.subTest(order=order):
+                found = self.book.script([order], lines)
+                self.assertEqual([*zip(lines, found)], [*zip(lines, faults)])
+        rows = [*FAULTS[1:], *TAGGED_FAULTS]
+        found = self.book.answers(*(f"t {line}" for line, _ in rows))
+        self.assertEqual([*zip(rows, found)], [(it, f"t bad {it[1]}") for it in rows])
         self.assertEqual(self.book.names(), [])
 
     def test_bounds(self) -> None:
@@ -209,5 +211,6 @@ class OperationsTest(BookTest):
             (*own, "--most-work", "63"),
             (*tagged, "--most-memory", "65535"),
         ):
-            self.assertEqual(book(*words, given="t account cat\n"), fails(1, why))
+            with self.subTest(words=words):
+                self.assertEqual(book(*words, given="t account cat\n"), fails(1, why))
         self.assertEqual(book.names(), ["bob"])

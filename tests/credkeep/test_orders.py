@@ -66,9 +66,10 @@ class PasswordsTest(BookTest):
         self.book.add("ann", "first\n")
         self.book.add("bob", "first\r\n")
         for text, given, wanted in PASSWORDS:
-            words = [*text.split(), *(["--setting", CHEAP] if text.split()[0] in MAKING else [])]
-            done = self.book(*words, given=given)
-            self.assertEqual((text, given, done), (text, given, wanted))
+            with self.subTest(text=text, given=given):
+                words = text.split()
+                words += ["--setting", CHEAP] if words[0] in MAKING else []
+                self.assertEqual(self.book(*words, given=given), wanted)
 
     def test_passwords_are_not_shown(self) -> None:
         """Neither the words nor what is said on standard error holds a password."""
@@ -84,7 +85,8 @@ class PasswordsTest(BookTest):
         self.assertNotIn(secret.encode(), seen)
         for given in (secret * 20, secret, f"{secret}\n{secret * 20}"):
             for words in (["change", "ann"], ["add", "ann"], ["import"], ["run"]):
-                self.assertNotIn(secret, self.book(*words, given=given).faults, words)
+                with self.subTest(given=given, words=words):
+                    self.assertNotIn(secret, self.book(*words, given=given).faults)
         self.assertNotIn(secret.encode(), self.book.path.read_bytes())
 
 
@@ -99,12 +101,14 @@ class RecordsTest(BookTest):
             ("change", "ann", "password\npassword\n", "replaced"),
             ("reset", "bob", "password\n", "replaced"),
         ):
-            self.assertEqual(self.book(order, name, given=given), says(answer))
-            made.append(self.book.accounts()[name])
+            with self.subTest(order=order, name=name):
+                self.assertEqual(self.book(order, name, given=given), says(answer))
+                made.append(self.book.accounts()[name])
         self.assertEqual([it[: len(DEFAULT)] for it in made], [DEFAULT] * 4)
         self.assertEqual(len(self.salts(made)), 4)
         for name in ("ann", "bob"):
-            self.assertEqual(self.book("check", name, given="password\n"), says("yes"))
+            with self.subTest(name=name):
+                self.assertEqual(self.book("check", name, given="password\n"), says("yes"))
 
     def salts(self, records: list[str]) -> set[bytes]:
         """The salts of these records, each of 16 bytes."""
@@ -123,12 +127,13 @@ class RecordsTest(BookTest):
             self.book.answers(*(line for pair in lines for line in pair))
         accounts = self.book.accounts()
         for kind in "at":
-            records = [record for name, record in accounts.items() if name.startswith(kind)]
-            salts = self.salts(records)
-            self.assertEqual(len(salts), 100)
-            for place in range(16):
+            with self.subTest(kind=kind):
+                records = [record for name, record in accounts.items() if name.startswith(kind)]
+                salts = self.salts(records)
+                self.assertEqual(len(salts), 100)
                 # Of 256 values 100 draws hit 83 on average; fewer than 50 come once in 10^20 times.
-                self.assertGreaterEqual(len({salt[place] for salt in salts}), 50, f"byte {place}")
+                values = [len({salt[place] for salt in salts}) for place in range(16)]
+                self.assertGreaterEqual(min(values), 50, values)
 
     def test_shows(self) -> None:
         """Costs have a record's scheme and numbers, and neither a salt nor a hash. In JSON each
@@ -148,13 +153,14 @@ class RecordsTest(BookTest):
         objects = [{"name": name, "costs": it or None} for name, it in costs.items()]
         self.assertEqual([json.loads(line) for line in listed.written.splitlines()], objects)
         for name, it, shown in zip(costs, costs.values(), objects):
-            record = records[name].replace("argon2id$m", "argon2id$v=16$m") or None
-            for words, found in (([], it), (["--record"], record)):
-                answer = Ended(0, f"{found}\n") if found else says("absent")
-                self.assertEqual(book("show", name, *words), answer)
-            for words, value in (([], shown), (["--record"], {"name": name, "record": record})):
-                done = book("show", "--json", name, *words)
-                self.assertEqual((done.status, json.loads(done.written)), (0 if it else 4, value))
+            with self.subTest(name=name):
+                record = records[name].replace("argon2id$m", "argon2id$v=16$m") or None
+                for words, found in (([], it), (["--record"], record)):
+                    answer = Ended(0, f"{found}\n") if found else says("absent")
+                    self.assertEqual(book("show", name, *words), answer)
+                for words, value in (([], shown), (["--record"], {"name": name, "record": record})):
+                    status, written, _ = book("show", "--json", name, *words)
+                    self.assertEqual((status, json.loads(written)), (0 if it else 4, value))
         self.assertEqual(book("show", "zoe"), says("noaccount"))
         self.assertEqual(book("show", "zoe", "--json"), Ended(4, "null\n"))
 
@@ -168,7 +174,8 @@ class RecordsTest(BookTest):
         self.assertEqual(done, fails(2, "writing failed"))
         self.assertEqual(self.book.accounts(), before)
         for name, answer in (("cat", "absent"), ("zoe", "noaccount")):
-            self.assertEqual(self.book("disable", name, "--show"), says(answer))
+            with self.subTest(name=name):
+                self.assertEqual(self.book("disable", name, "--show"), says(answer))
         line = f"bob:{OTHER}\n"
         self.assertEqual(self.book("disable", "bob", "--show"), Ended(0, line))
         self.assertEqual(self.book.accounts(), {**before, "bob": ""})

@@ -7,7 +7,7 @@ from collections.abc import Callable
 from typing import Any
 
 from tests.credkeep.books import DONE, EDITS, RECORD, Accounts, Book, BookTest, Change, lines_of
-from tests.helpers import Ended, Found, Stop, ended, need
+from tests.helpers import Ended, Found, Stop, each, ended, need
 
 # The calls that change files or make changes last, and those between them. strace counts each by
 # itself.
@@ -62,12 +62,12 @@ class RefusedCallsTest(BookTest):
         may = ({-9}, {-9}) if how.startswith("signal") else ({5}, {0, 2, 5})
         self.assertTrue(may[0] <= statuses <= may[1], statuses)
 
-    def test_orders(self) -> None:
+    @each(*EDITS, Change({}, ["import"], MANY, lines_of(MANY)))
+    def test_orders(self, change: Change) -> None:
         """Each refusal leaves the book before the change or after it."""
-        for change in [*EDITS, Change({}, ["import"], MANY, lines_of(MANY))]:
-            self.begun(change.before, "base/users.db").log.unlink(missing_ok=True)
-            judge = functools.partial(self.assertStopped, change)
-            self.each(change, WRITES, "error=EIO", Book.accounts, judge)
+        self.begun(change.before, "base/users.db").log.unlink(missing_ok=True)
+        judge = functools.partial(self.assertStopped, change)
+        self.each(change, WRITES, "error=EIO", Book.accounts, judge)
 
     def test_scripts(self) -> None:
         """What was answered is kept, and at most the line after it."""

@@ -6,7 +6,7 @@ import time
 from typing import Any
 
 from tests.credkeep.books import CHEAP, DONE, SALT, TAG, BookTest, fails, lined
-from tests.helpers import Ended
+from tests.helpers import Ended, each
 
 # More than a script may have.
 TWO_MIB = 2 * 1024 * 1024
@@ -70,46 +70,48 @@ class LinesTest(BookTest):
         once; one that is cut is refused, without its tag, which may be cut too, and nothing is
         done for it. A script does it."""
         for words, tag, none in SERVICES:
-            text = lined(f"{tag}{line}" for line in ("show ann", "account bo", "account cat"))
-            for cut in range(len(text)):
-                book, (*whole, rest) = self.begun({"ann": ""}), text[:cut].split("\n")
-                done = book(*words, given=text[:cut])
-                wanted = [f"{tag}none", f"{tag}ok"][: len(whole)]
-                wanted += [f"{none}bad 11 line"] * bool(rest)
-                self.assertEqual((cut, sorted(done.written.splitlines())), (cut, sorted(wanted)))
-                self.assertEqual(done._replace(written=""), DONE)
-                self.assertEqual(book.names(), ["ann", "bo"][: max(1, len(whole))])
-            self.assertEqual(book(*words, given="x" * 5000), Ended(0, f"{none}bad 11 line\n"))
+            with self.subTest(words=words, tag=tag):
+                text = lined(f"{tag}{line}" for line in ("show ann", "account bo", "account cat"))
+                for cut in range(len(text)):
+                    book, (*whole, rest) = self.begun({"ann": ""}), text[:cut].split("\n")
+                    done = book(*words, given=text[:cut])
+                    wanted = [f"{tag}none", f"{tag}ok"][: len(whole)]
+                    wanted += [f"{none}bad 11 line"] * bool(rest)
+                    self.assertEqual(sorted(done.written.splitlines()), sorted(wanted), cut)
+                    self.assertEqual(done._replace(written=""), DONE)
+                    self.assertEqual(book.names(), ["ann", "bo"][: max(1, len(whole))])
+                self.assertEqual(book(*words, given="x" * 5000), Ended(0, f"{none}bad 11 line\n"))
         self.assertEqual(book("run", given="account cat"), Ended(0, "ok\n"))
 
     def test_slow_reader(self) -> None:
         """A client that doesn't read its answers holds the service back, and gets them all in the
         end. Nothing ends a service but its input."""
         for (words, tag, _), count in zip(SERVICES, (100_000, 1_000_000)):
-            tags = [tag and f"t{at} " for at in range(count)]
-            with self.book.start(*words) as service:
-                feeder = service.feed(lined(f"{it}show nobody" for it in tags))
-                time.sleep(0.5)
-                self.assertIsNone(service.process.poll())
-                written = service.stdout.read().decode().splitlines()
-                feeder.join()
-                self.assertEqual(service.process.wait(), 0)
-            self.assertTrue(sorted(written) == sorted(f"{it}bad 5 noaccount" for it in tags))
+            with self.subTest(words=words, tag=tag):
+                tags = [tag and f"t{at} " for at in range(count)]
+                with self.book.start(*words) as service:
+                    feeder = service.feed(lined(f"{it}show nobody" for it in tags))
+                    time.sleep(0.5)
+                    self.assertIsNone(service.process.poll())
+                    written = service.stdout.read().decode().splitlines()
+                    feeder.join()
+                    self.assertEqual(service.process.wait(), 0)
+                self.assertTrue(sorted(written) == sorted(f"{it}bad 5 noaccount" for it in tags))
 
-    def test_closed_output(self) -> None:
+    @each(*SERVICES)
+    def test_closed_output(self, words: Any, tag: str, _: Any) -> None:
         """If nobody reads the answers it ends with status 2, though its input is still open, and
         the change of the line is kept."""
-        for words, tag, _ in SERVICES:
-            book = self.begun()
-            with book.start(*words) as service:
-                self.assertEqual(service.ask(f"{tag}account ann"), f"{tag}ok")
-                service.stdout.close()
-                service.send(f"{tag}account bob\n")
-                self.assertEqual(service.process.wait(), 2)
-                faults = service.stderr.read().decode()
-            told = "writing failed" if tag else "the writer failed, or took no byte"
-            self.assertEqual(faults, f"credkeep: {told}\n")
-            self.assertEqual(book.names(), ["ann", "bob"])
+        book = self.begun()
+        with book.start(*words) as service:
+            self.assertEqual(service.ask(f"{tag}account ann"), f"{tag}ok")
+            service.stdout.close()
+            service.send(f"{tag}account bob\n")
+            self.assertEqual(service.process.wait(), 2)
+            faults = service.stderr.read().decode()
+        told = "writing failed" if tag else "the writer failed, or took no byte"
+        self.assertEqual(faults, f"credkeep: {told}\n")
+        self.assertEqual(book.names(), ["ann", "bob"])
 
 
 class MemoryTest(BookTest):

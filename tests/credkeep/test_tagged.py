@@ -11,7 +11,7 @@ from typing import Any
 
 from tests.credkeep.books import CHEAP, DONE, RECORD, SALT, Book, BookTest, commits_in, lined
 from tests.credkeep.doors import in_base64
-from tests.helpers import LONGEST, TOP, limited, small_files
+from tests.helpers import LONGEST, TOP, each, limited, small_files
 
 ONE = in_base64("one")
 
@@ -51,8 +51,9 @@ class LinesTest(BookTest):
             ("n 2", [name for name in names if name >= "n"][:2]),
             (f"{'z' * 32} 1", ["z" * 32]),
         ):
-            found = self.book.answers(f"t list {line}")
-            self.assertEqual((line, found), (line, [" ".join(["t names", *wanted])]))
+            with self.subTest(line=line):
+                found = self.book.answers(f"t list {line}")
+                self.assertEqual(found, [" ".join(["t names", *wanted])])
 
     def test_logins_at_its_costs(self) -> None:
         """A right login leaves a record of the service's own costs as it is."""
@@ -119,7 +120,8 @@ class HashesTest(BookTest):
             (f"login ann {ONE}", "bad 4 memory"),
             (f"change bob {ONE} - {dear}", "bad 4 memory"),
         ):
-            self.assertServed([(line, answer)], "--memory", "4095")
+            with self.subTest(line=line):
+                self.assertServed([(line, answer)], "--memory", "4095")
 
     def test_memory_of_starved_lines(self) -> None:
         """Lines that are refused memory take none from those behind them."""
@@ -150,11 +152,12 @@ class HashesTest(BookTest):
         than a hash with the service's own costs takes."""
         self.enrolled(36_864)
         for memory, least, most in (("36M", 1, 1), ("72M", 2, 2), ("2G", 3, 8)):
-            peak, left = self.peak_of(memory)
-            # Sixteen MiB are for all else.
-            self.assertGreater(peak, (least - 1) * 36_864 + 16_384, memory)
-            self.assertLess(peak, most * 36_864 + 16_384, memory)
-            self.assertLess(left, 16_384, memory)
+            with self.subTest(memory=memory):
+                peak, left = self.peak_of(memory)
+                # Sixteen MiB are for all else.
+                self.assertGreater(peak, (least - 1) * 36_864 + 16_384)
+                self.assertLess(peak, most * 36_864 + 16_384)
+                self.assertLess(left, 16_384)
 
     def answer_beside(self, changes: int, passes: int) -> str:
         """The answer to a line whose record is changed so often, each time while the line is hashed
@@ -173,12 +176,12 @@ class HashesTest(BookTest):
             self.assertEqual(service.end(), DONE)
             return answer
 
-    def test_lines_that_give_up(self) -> None:
+    @each((7, "v no"), (8, "v bad 14 busy"))
+    def test_lines_that_give_up(self, changes: int, ought: str) -> None:
         """A line whose record is another each time that it is hashed is given up as busy, after
         eight changes and not before."""
-        for changes, ought in ((7, "v no"), (8, "v bad 14 busy")):
-            answers = (self.answer_beside(changes, passes) for passes in (6, 24, 96))
-            self.assertEqual((changes, next(filter(None, answers), "late")), (changes, ought))
+        answers = (self.answer_beside(changes, passes) for passes in (6, 24, 96))
+        self.assertEqual(next(filter(None, answers), "late"), ought)
 
     def test_memory_runs_out(self) -> None:
         """Where the system refuses memory a line is answered so, and the next one is served."""
@@ -277,18 +280,18 @@ class GroupsTest(BookTest):
         self.assertIn(self.enrolled(self.book), (standing, kept))
         self.assertSound(self.book)
 
-    def test_writer_fails_in_a_group(self) -> None:
+    @each(0, 1, 20, 300)
+    def test_writer_fails_in_a_group(self, left: int) -> None:
         """Where the answers of a group can't be written whole, those that were are of changes that
         stand."""
-        for left in (0, 1, 20, 300):
-            book, out = self.begun({name: "" for name in MEMBERS}), self.room / "answers"
-            out.write_bytes(b"." * (100_000 - left))
-            words = ("serve", "--tagged", "--setting", CHEAP)
-            with out.open("ab") as answers:
-                options: dict[str, Any] = {"stdout": answers, **small_files(100_000)}
-                done = book(*words, given=self.lines(0), **options)
-            written = out.read_text()[100_000 - left :]
-            self.assertEqual((done.status, len(written)), (2, left))
-            whole = self.assertAnswered(0, written.split("\n")[:-1])
-            self.assertLessEqual(whole, self.enrolled(book))
-            self.assertSound(book)
+        book, out = self.begun({name: "" for name in MEMBERS}), self.room / "answers"
+        out.write_bytes(b"." * (100_000 - left))
+        words = ("serve", "--tagged", "--setting", CHEAP)
+        with out.open("ab") as answers:
+            options: dict[str, Any] = {"stdout": answers, **small_files(100_000)}
+            done = book(*words, given=self.lines(0), **options)
+        written = out.read_text()[100_000 - left :]
+        self.assertEqual((done.status, len(written)), (2, left))
+        whole = self.assertAnswered(0, written.split("\n")[:-1])
+        self.assertLessEqual(whole, self.enrolled(book))
+        self.assertSound(book)

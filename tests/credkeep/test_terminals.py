@@ -48,28 +48,30 @@ class TerminalsTest(BookTest):
             ("check", ["first"], (0, "yes")),
             ("change", ["first", "third", "third"], (0, "replaced")),
         ):
-            costs = [] if order == "check" else ["--setting", CHEAP]
-            command = self.book.command(order, "--echo", *costs, "ann")
-            status, shown, _ = at_a_terminal(command, typed)
-            answer = shown.splitlines()[-1] if ended[1] else None
-            self.assertEqual((order, typed, status, answer), (order, typed, *ended))
-            if status:
-                self.assertEqual(self.book.names(), [])
+            with self.subTest(order=order, typed=typed):
+                costs = [] if order == "check" else ["--setting", CHEAP]
+                command = self.book.command(order, "--echo", *costs, "ann")
+                status, shown, _ = at_a_terminal(command, typed)
+                answer = shown.splitlines()[-1] if ended[1] else None
+                self.assertEqual((status, answer), (*ended,))
+                if status:
+                    self.assertEqual(self.book.names(), [])
         self.assertEqual(self.book("check", "ann", given="third\n"), says("yes"))
 
     def test_progress(self) -> None:
         """A terminal sees how far a long import is, and neither --quiet nor a short one tells."""
         lines = "".join(f"n{at}:\n" for at in range(12_000))
         for given, words, is_told in ((lines, [], 1), (lines, ["--quiet"], 0), ("ann:\n", [], 0)):
-            book = self.begun()
-            terminal, faults = pty.openpty()
-            self.addCleanup(os.close, terminal)
-            self.assertEqual(book("import", *words, given=given, stderr=faults).status, 0)
-            os.write(faults, b".")
-            os.close(faults)
-            shown = os.read(terminal, 1000).decode()
-            self.assertEqual(shown.count("credkeep: 12000 lines read"), is_told)
-            self.assertTrue(is_told or shown == ".", shown)
+            with self.subTest(given=given, words=words):
+                book = self.begun()
+                terminal, faults = pty.openpty()
+                self.addCleanup(os.close, terminal)
+                self.assertEqual(book("import", *words, given=given, stderr=faults).status, 0)
+                os.write(faults, b".")
+                os.close(faults)
+                shown = os.read(terminal, 1000).decode()
+                self.assertEqual(shown.count("credkeep: 12000 lines read"), is_told)
+                self.assertTrue(is_told or shown == ".", shown)
 
     def test_credkeep_ask(self) -> None:
         """It shows nothing of what is typed, and its status is credkeep's."""
@@ -87,9 +89,10 @@ class TerminalsTest(BookTest):
             (["reset", "--setting", CHEAP, "ann"], ["third", "3rd"], (6, differ)),
             (["remove", "ann"], ["a b\\n "], (0, "removed")),
         ):
-            env = {"CREDKEEP": program("credkeep")}
-            status, shown, echo = at_a_terminal([*script, *words], typed, env)
-            found = (words, status, shown.splitlines()[-1], echo)
-            self.assertEqual(found, (words, *ended, False))
-            for line in typed:
-                self.assertNotIn(line, shown, words)
+            with self.subTest(words=words, typed=typed):
+                env = {"CREDKEEP": program("credkeep")}
+                status, shown, echo = at_a_terminal([*script, *words], typed, env)
+                found = (words, status, shown.splitlines()[-1], echo)
+                self.assertEqual(found, (words, *ended, False))
+                for line in typed:
+                    self.assertNotIn(line, shown)

@@ -111,21 +111,24 @@ class WordsTest(BookTest):
             ("add --help", "Makes "),
             ("--version", r"credkeep \d+\.\d+\.\d+\n"),
         ):
-            done = book(*words.split())
-            self.assertEqual((done.status, done.faults), (0, ""))
-            self.assertRegex(done.written, rf"\A{text}")
+            with self.subTest(words=words):
+                done = book(*words.split())
+                self.assertEqual((done.status, done.faults), (0, ""))
+                self.assertRegex(done.written, rf"\A{text}")
         for word in ("help", "version"):
-            both = [ended([program("credkeep"), it]) for it in (word, f"--{word}")]
-            self.assertEqual(both[0], both[1])
+            with self.subTest(word=word):
+                both = [ended([program("credkeep"), it]) for it in (word, f"--{word}")]
+                self.assertEqual(both[0], both[1])
         self.assertFalse(book.path.exists())
 
     def test_width_of_help(self) -> None:
         """No line of any command's help has over 80 columns."""
         for words in ([], *([it] for it in self.commands())):
             for option in ("-h", "--help"):
-                lines = self.book(*words, option).written.splitlines()
-                self.assertGreater(len(lines), 5)
-                self.assertEqual([it for it in lines if len(it) > 80], [])
+                with self.subTest(words=words, option=option):
+                    lines = self.book(*words, option).written.splitlines()
+                    self.assertGreater(len(lines), 5)
+                    self.assertEqual([it for it in lines if len(it) > 80], [])
 
     def commands(self) -> list[str]:
         """Those that the help names."""
@@ -137,15 +140,17 @@ class WordsTest(BookTest):
         secret = "--Rare@Secret1"
         for word in (secret, secret.strip("-"), f"--password={secret}"):
             for words in ([], ["check"], ["check", "ann"], ["add", "ann"], ["list"], ["frob"]):
-                done = self.book(*words, word)
-                self.assertFails(done, 1)
-                self.assertNotIn("Secret", done.faults, words)
+                with self.subTest(word=word, words=words):
+                    done = self.book(*words, word)
+                    self.assertFails(done, 1)
+                    self.assertNotIn("Secret", done.faults)
 
     def test_manual(self) -> None:
         """credkeep(1) has each command and each option of the help, and no other."""
         page = manual("credkeep.1")
         commands = self.commands()
-        helped = "".join(self.book(*it, "--help").written for it in ([], *([it] for it in commands)))
+        each_words = [[], *([it] for it in commands)]
+        helped = "".join(self.book(*it, "--help").written for it in each_words)
         self.assertEqual(options_in(helped) - {"--help", "--version"}, options_in(page))
         headed = re.findall(r'^\.TP\n\.[A-Z]+ "?([a-z]+)', page, re.M)
         self.assertLessEqual(set(commands), set(headed))
@@ -173,10 +178,11 @@ class WordsTest(BookTest):
             (["add", "--frob", "ann"], False),
             (["list", "ann"], False),
         ):
-            done = self.book(*words)
-            self.assertFails(done, 1)
-            told = re.findall(r"^The commands: (.*)$", done.faults, re.MULTILINE)
-            self.assertEqual((words, told), (words, [" ".join(commands)] if are_told else []))
+            with self.subTest(words=words):
+                done = self.book(*words)
+                self.assertFails(done, 1)
+                told = re.findall(r"^The commands: (.*)$", done.faults, re.MULTILINE)
+                self.assertEqual(told, [" ".join(commands)] if are_told else [])
 
 
 class StreamsTest(BookTest):
@@ -185,12 +191,14 @@ class StreamsTest(BookTest):
         folder = os.open(self.room, os.O_RDONLY)
         self.addCleanup(os.close, folder)
         for words in ("check ann", "import", "add bob"):
-            done = self.book(*words.split(), stdin=folder)
-            self.assertEqual((words, done), (words, fails(2, "reading failed")))
+            with self.subTest(words=words):
+                done = self.book(*words.split(), stdin=folder)
+                self.assertEqual(done, fails(2, "reading failed"))
 
     def test_output_that_fails(self) -> None:
         self.book.add("ann", "first")
         with open("/dev/full", "wb") as full:
             for words in ("check ann", "list", "export", "--help"):
-                done = self.book(*words.split(), given="first", stdout=full)
-                self.assertEqual((words, done), (words, fails(2, "writing failed")))
+                with self.subTest(words=words):
+                    done = self.book(*words.split(), given="first", stdout=full)
+                    self.assertEqual(done, fails(2, "writing failed"))

@@ -2,53 +2,54 @@
 
 import base64
 import resource
+from typing import Any
 
 from tests.credkeep.books import CHEAP, RECORD, SALT, BookTest, imported, says
 from tests.credkeep.doors import Operation, in_base64
-from tests.helpers import counts, instructions, limited, need
+from tests.helpers import counts, each, instructions, limited, need
 
 # Four lanes.
 COSTS = "$argon2id$v=19$m=1024,t=4,p=4"
 
 
 class ThreadsTest(BookTest):
-    def test_workers(self) -> None:
+    @each("run", "serve")
+    def test_workers(self, order: str) -> None:
         """As many threads hash as were asked for: the caller's waits for them, or is one of
         them."""
-        for order in ("run", "serve"):
-            for count in (1, 3, 4):
-                # An account of its own: one with a record would be answered without a hash.
-                name = f"{order}{count}"
-                enrol = f"begin 1 enrol {name} cGFzc3dvcmQ {COSTS}${SALT}"
-                command = self.book.command(order, "--workers", str(count))
-                done, found = counts(command, f"account {name}\n{enrol}\ncommit 1\n")
-                self.assertEqual(done, (0, "ok\nbegun\nenrolled\n", ""))
-                wanted = (0,) if count == 1 else (count - 1, count)
-                self.assertIn(found["THREADS"], wanted, f"{order}, {count} workers")
+        for count in (1, 3, 4):
+            # An account of its own: one with a record would be answered without a hash.
+            name = f"{order}{count}"
+            enrol = f"begin 1 enrol {name} cGFzc3dvcmQ {COSTS}${SALT}"
+            command = self.book.command(order, "--workers", str(count))
+            done, found = counts(command, f"account {name}\n{enrol}\ncommit 1\n")
+            self.assertEqual(done, (0, "ok\nbegun\nenrolled\n", ""))
+            wanted = (0,) if count == 1 else (count - 1, count)
+            self.assertIn(found["THREADS"], wanted, f"{order}, {count} workers")
 
-    def test_workers_of_an_order(self) -> None:
+    @each(
+        ("add", COSTS, "old\n", "enrolled"),
+        ("check", None, "old\n", "yes"),
+        ("change", COSTS, "old\nnew\n", "replaced"),
+        ("upgrade", COSTS.replace("t=4", "t=3"), "new\n", "upgraded"),
+        ("reset", COSTS, "old\n", "replaced"),
+        ("remove", None, "old\n", "removed"),
+    )
+    def test_workers_of_an_order(self, order: str, costs: Any, given: str, answer: str) -> None:
         """An order on one account hashes a record of four lanes on four threads, the caller's
         among them or not."""
-        for order, costs, given, answer in (
-            ("add", COSTS, "old\n", "enrolled"),
-            ("check", None, "old\n", "yes"),
-            ("change", COSTS, "old\nnew\n", "replaced"),
-            ("upgrade", COSTS.replace("t=4", "t=3"), "new\n", "upgraded"),
-            ("reset", COSTS, "old\n", "replaced"),
-            ("remove", None, "old\n", "removed"),
-        ):
-            words = ["--setting", costs] if costs else []
-            done, found = counts(self.book.command(order, "ann", *words), given)
-            self.assertEqual((order, done), (order, says(answer)))
-            self.assertIn(found["THREADS"], (3, 4), order)
+        words = ["--setting", costs] if costs else []
+        done, found = counts(self.book.command(order, "ann", *words), given)
+        self.assertEqual(done, says(answer))
+        self.assertIn(found["THREADS"], (3, 4))
 
-    def test_workers_of_tagged_lines(self) -> None:
+    @each(1, 3)
+    def test_workers_of_tagged_lines(self, count: int) -> None:
         """As many threads hash as lines at once were asked for. One more reads."""
-        for count in (1, 3):
-            words = ("--tagged", "--setting", CHEAP, "--at-once", str(count))
-            done, found = counts(self.book.command("serve", *words), "t verify nobody -\n")
-            self.assertEqual(done, (0, "t noaccount\n", ""))
-            self.assertEqual(found["THREADS"], count + 1)
+        words = ("--tagged", "--setting", CHEAP, "--at-once", str(count))
+        done, found = counts(self.book.command("serve", *words), "t verify nobody -\n")
+        self.assertEqual(done, (0, "t noaccount\n", ""))
+        self.assertEqual(found["THREADS"], count + 1)
 
 
 class SyncsTest(BookTest):
@@ -87,8 +88,9 @@ class HashesTest(BookTest):
             ("reset ann", "first", (3, "")),
             ("add zoe", "first", (3, "")),
         ):
-            done = self.book(*words.split(), *costly, given=given, preexec_fn=small)
-            self.assertEqual((words, done[:2]), (words, ended))
+            with self.subTest(words=words, given=given):
+                done = self.book(*words.split(), *costly, given=given, preexec_fn=small)
+                self.assertEqual(done[:2], ended)
         self.assertEqual(self.book.names(), ["ann"])
 
     def test_hashes_of_a_line(self) -> None:
@@ -117,8 +119,9 @@ class HashesTest(BookTest):
             ("upgrade {} one", {"ann": 1}),
             ("change {} one two", {"ann": 2}),
         ):
-            found = {it: round((work(line.format(it)) - none) / one) for it in hashes}
-            self.assertEqual((line, found), (line, hashes))
+            with self.subTest(line=line, hashes=hashes):
+                found = {it: round((work(line.format(it)) - none) / one) for it in hashes}
+                self.assertEqual(found, hashes)
 
     def test_equal_work(self) -> None:
         """As many instructions whichever byte of the tag differs, so that no time tells how far
@@ -130,14 +133,15 @@ class HashesTest(BookTest):
             ("change", "password\nnew\n"),
             ("remove", "password\n"),
         ):
-            found = set()
-            for byte in (0, 1, 15, 30, 31):
-                other = bytearray(base64.b64decode(f"{tag}="))
-                other[byte] ^= 0x55
-                stored = base64.b64encode(other).decode().rstrip("=")
-                book = self.begun({"ann": f"{setting}${stored}"})
-                words = ["--setting", CHEAP] if order == "change" else []
-                done, count = instructions(book.command(order, *words, "ann"), given)
-                self.assertEqual(done[:2], says("no" if order == "check" else "wrong")[:2])
-                found.add(count)
-            self.assertEqual(len(found), 1, f"{order}: {sorted(found)} instructions")
+            with self.subTest(order=order, given=given):
+                found = set()
+                for byte in (0, 1, 15, 30, 31):
+                    other = bytearray(base64.b64decode(f"{tag}="))
+                    other[byte] ^= 0x55
+                    stored = base64.b64encode(other).decode().rstrip("=")
+                    book = self.begun({"ann": f"{setting}${stored}"})
+                    words = ["--setting", CHEAP] if order == "change" else []
+                    done, count = instructions(book.command(order, *words, "ann"), given)
+                    self.assertEqual(done[:2], says("no" if order == "check" else "wrong")[:2])
+                    found.add(count)
+                self.assertEqual(len(found), 1, f"{order}: {sorted(found)} instructions")

@@ -190,7 +190,8 @@ class Debs(helpers.Case):
         names = [f"/{it.name}\n" for it in [*(TOP / "units").iterdir(), *modules]]
         names += [f"/man{it.suffix[1:]}/{it.name}.gz" for it in (TOP / "man").iterdir() if it.stem != "rigzumal"]
         for name in (*names, "./usr/bin/credkeep-ask", "./usr/sbin/credkeep-server"):
-            self.assertIn(name, listed)
+            with self.subTest(name=name):
+                self.assertIn(name, listed)
 
     def test_programs_of_another_level(self):
         """Programs that don't run on every processor aren't packed without a word."""

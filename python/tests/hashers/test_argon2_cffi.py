@@ -14,6 +14,7 @@ from records import OLD
 
 import rigzumal
 from rigzumal import argon2_cffi as ours
+from tests.helpers import each
 
 try:
     import argon2 as theirs
@@ -108,68 +109,71 @@ class LowLevel(Same):
         for number in range(-60, 20):
             self.same(lambda it: it.low_level.error_to_str(number), number)
 
-    def test_types(self):
-        for wrong in ("x", 5, None):
-            for given in ((wrong, b"somesalt"), (b"x", wrong)):
-                with self.assertRaises(TypeError):
-                    ours.low_level.hash_secret(*given, 1, 8, 1, 32, ours.Type.ID)
+    @each("x", 5, None)
+    def test_types(self, wrong):
+        for given in ((wrong, b"somesalt"), (b"x", wrong)):
+            with self.assertRaises(TypeError):
+                ours.low_level.hash_secret(*given, 1, 8, 1, 32, ours.Type.ID)
 
 
 class Hashers(Same):
     def test_what_one_makes_the_other_reads(self):
         mismatches = (ours.exceptions.VerifyMismatchError, theirs.exceptions.VerifyMismatchError)
         for kind, encoding in itertools.product(KINDS, ("latin1", "utf-16-le", "utf-8")):
-            named = {**COSTS, "hash_len": 32, "encoding": encoding}
-            mine, other = (it.PasswordHasher(**named, type=it.Type[kind]) for it in (ours, theirs))
-            for maker, reader in ((mine, other), (other, mine), (mine, mine)):
-                for password in ("p\xe4ssword", "p\xe4ssword".encode(encoding), b"bytes", ""):
-                    hashed = maker.hash(password)
-                    self.assertIs(reader.verify(hashed, password), True)
-                    self.assertIs(reader.check_needs_rehash(hashed), False)
-                    self.assertRaises(mismatches, reader.verify, hashed, "another")
+            with self.subTest(kind=kind, encoding=encoding):
+                named = {**COSTS, "hash_len": 32, "encoding": encoding}
+                hashers = (it.PasswordHasher(**named, type=it.Type[kind]) for it in (ours, theirs))
+                mine, other = hashers
+                for maker, reader in ((mine, other), (other, mine), (mine, mine)):
+                    for password in ("p\xe4ssword", "p\xe4ssword".encode(encoding), b"bytes", ""):
+                        hashed = maker.hash(password)
+                        self.assertIs(reader.verify(hashed, password), True)
+                        self.assertIs(reader.check_needs_rehash(hashed), False)
+                        self.assertRaises(mismatches, reader.verify, hashed, "another")
 
-    def test_answers_are_theirs(self):
-        for given in (
-            "",
-            "$argon2id$",
-            "x" * 20,
-            OLD,
-            OLD[:-1],
-            b"$argon2i$",
-            OLD.replace("2i", "2x"),
-            f" {OLD}",
-            f"{OLD} ",
-            f"{OLD}\n",
-            OLD.replace("$c29", "$ c29"),
-        ):
-            self.same(lambda it: it.PasswordHasher(**COSTS).verify(given, "password"), given)
+    @each(
+        "",
+        "$argon2id$",
+        "x" * 20,
+        OLD,
+        OLD[:-1],
+        b"$argon2i$",
+        OLD.replace("2i", "2x"),
+        f" {OLD}",
+        f"{OLD} ",
+        f"{OLD}\n",
+        OLD.replace("$c29", "$ c29"),
+    )
+    def test_answers_are_theirs(self, given):
+        self.same(lambda it: it.PasswordHasher(**COSTS).verify(given, "password"), given)
 
-    def test_wrong_types_are_named(self):
-        for named in ({"time_cost": "1"}, {"type": "ID"}, {"hash_len": 1.0, "salt_len": None}):
-            self.same(lambda it: it.PasswordHasher(**named), named)
+    @each({"time_cost": "1"}, {"type": "ID"}, {"hash_len": 1.0, "salt_len": None})
+    def test_wrong_types_are_named(self, named):
+        self.same(lambda it: it.PasswordHasher(**named), named)
 
-    def test_what_is_refused_here_alone(self):
+    @each(
+        ({"parallelism": 256, "memory_cost": 4096}, "Too many lanes"),
+        ({"memory_cost": 2**21 + 1}, "Memory cost is too large"),
+        ({"version": 17}, "There is no such version of Argon2"),
+    )
+    def test_what_is_refused_here_alone(self, named, said):
         """Numbers that libargon2 takes, and the proved code doesn't, and a version of neither."""
-        for named, said in (
-            ({"parallelism": 256, "memory_cost": 4096}, "Too many lanes"),
-            ({"memory_cost": 2**21 + 1}, "Memory cost is too large"),
-            ({"version": 17}, "There is no such version of Argon2"),
-        ):
-            given = {"secret": b"x", "salt": b"somesalt", "hash_len": 32, "type": ours.Type.ID}
-            given.update(time_cost=1, memory_cost=8, parallelism=1)
-            for call in (ours.low_level.hash_secret, ours.low_level.hash_secret_raw):
-                with self.assertRaises(ours.exceptions.HashingError) as raised:
-                    call(**{**given, **named})
-                self.assertEqual(str(raised.exception), said)
+        given = {"secret": b"x", "salt": b"somesalt", "hash_len": 32, "type": ours.Type.ID}
+        given.update(time_cost=1, memory_cost=8, parallelism=1)
+        for call in (ours.low_level.hash_secret, ours.low_level.hash_secret_raw):
+            with self.assertRaises(ours.exceptions.HashingError) as raised:
+                call(**{**given, **named})
+            self.assertEqual(str(raised.exception), said)
 
     def test_a_salt_may_be_given(self):
         """As any bytes."""
         salt, hasher = b"sixteen of salt.", ours.PasswordHasher(1, 8, 1)
         wanted = theirs.low_level.hash_secret(b"x", salt, 1, 8, 1, 32, theirs.Type.ID)
         for holds in (bytes, bytearray, memoryview, lambda it: array.array("B", it)):
-            made = ours.low_level.hash_secret(b"x", holds(salt), 1, 8, 1, 32, ours.Type.ID)
-            self.assertEqual(made, wanted)
-            self.assertEqual(hasher.hash("x", salt=holds(salt)), wanted.decode())
+            with self.subTest(holds=holds):
+                made = ours.low_level.hash_secret(b"x", holds(salt), 1, 8, 1, 32, ours.Type.ID)
+                self.assertEqual(made, wanted)
+                self.assertEqual(hasher.hash("x", salt=holds(salt)), wanted.decode())
         with self.assertRaisesRegex(ours.exceptions.HashingError, "Salt is too short"):
             hasher.hash("x", salt=b"")
 
@@ -182,18 +186,19 @@ class Hashers(Same):
                 ours.extract_parameters,
                 lambda it: hasher.verify(it, "x"),
             ):
-                with self.assertRaises(ours.exceptions.InvalidHash) as raised:
-                    call(text)
-                self.assertIsInstance(raised.exception, ValueError)
+                with self.subTest(call=call):
+                    with self.assertRaises(ours.exceptions.InvalidHash) as raised:
+                        call(text)
+                    self.assertIsInstance(raised.exception, ValueError)
 
-    def test_signatures_are_theirs(self):
-        for place, names in (
-            ("PasswordHasher", ("__init__", "verify", "check_needs_rehash")),
-            ("low_level", ("hash_secret", "hash_secret_raw", "verify_secret")),
-        ):
-            for name in names:
-                signature = lambda it: inspect.signature(getattr(getattr(it, place), name))
-                self.same(lambda it: list(signature(it).parameters), name)
+    @each(
+        ("PasswordHasher", ("__init__", "verify", "check_needs_rehash")),
+        ("low_level", ("hash_secret", "hash_secret_raw", "verify_secret")),
+    )
+    def test_signatures_are_theirs(self, place, names):
+        for name in names:
+            signature = lambda it: inspect.signature(getattr(getattr(it, place), name))
+            self.same(lambda it: list(signature(it).parameters), name)
 
 
 class Parameters(Same):
@@ -223,12 +228,13 @@ class Parameters(Same):
             ("PRE_21_2", 2, 102400, 8, 16, 16),
             ("CHEAPEST", 1, 8, 1, 8, 4),
         ):
-            wanted = ours.Parameters(ours.Type.ID, 19, salt, tag, passes, memory, lanes)
-            self.assertEqual(getattr(ours.profiles, name), wanted)
-            for kind in ours.Type:
-                params = dataclasses.replace(wanted, type=kind)
-                hasher = ours.PasswordHasher.from_parameters(params)
-                self.assertEqual(hasher._parameters, params)
+            with self.subTest(name=name, passes=passes):
+                wanted = ours.Parameters(ours.Type.ID, 19, salt, tag, passes, memory, lanes)
+                self.assertEqual(getattr(ours.profiles, name), wanted)
+                for kind in ours.Type:
+                    params = dataclasses.replace(wanted, type=kind)
+                    hasher = ours.PasswordHasher.from_parameters(params)
+                    self.assertEqual(hasher._parameters, params)
         hashed = hasher.from_parameters(ours.profiles.CHEAPEST).hash("x")
         self.assertEqual(ours.extract_parameters(hashed), ours.profiles.CHEAPEST)
 
@@ -253,9 +259,10 @@ class Exceptions(unittest.TestCase):
             (lambda: ours.PasswordHasher(time_cost=0).hash("x"), rigzumal.RigzumalError),
             (lambda: ours.PasswordHasher(1, 4096, 256).hash("x"), rigzumal.RigzumalError),
         ):
-            with self.assertRaises(kind) as raised:
-                call()
-            made = raised.exception
-            other = pickle.loads(pickle.dumps(made))
-            self.assertEqual((type(other), other.args), (type(made), made.args))
-            self.assertEqual(other.number, made.number)
+            with self.subTest(call=call, kind=kind):
+                with self.assertRaises(kind) as raised:
+                    call()
+                made = raised.exception
+                other = pickle.loads(pickle.dumps(made))
+                self.assertEqual((type(other), other.args), (type(made), made.args))
+                self.assertEqual(other.number, made.number)

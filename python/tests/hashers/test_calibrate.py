@@ -10,6 +10,7 @@ from unittest import mock
 import records  # noqa: F401 (before rigzumal)
 from rigzumal import PasswordHasher, __main__, _calibrate
 from rigzumal._calibrate import Measured, measured, trials
+from tests.helpers import each
 
 
 EACH_WORD = "--target-ms 70 --memory 32M --lanes 3 --threads 2 --below"
@@ -41,37 +42,38 @@ def tried(machine, target, memory, lanes, threads=1, below=True):
 
 
 class Trials(unittest.TestCase):
-    def test_the_last(self):
+    @each(
+        (linear(1 / 1024), 250, 65536, 1, (65536, 3)),
+        (linear(1 / 264), 250, 65536, 1, (65536, 1)),
+        (linear(1 / 512), 255, 65536, 1, (65536, 1)),
+        (linear(1 / 512), 256, 65536, 1, (65536, 2)),
+        (linear(1 / 1024), 1000, 65536, 1, (65536, 15)),
+        (linear(0.01), 40, 16, 1, (16, 250)),
+        (linear(1000), 1, 65536, 1, (8, 1)),
+        (linear(1000), 1, 65536, 2, (16, 1)),
+        (linear(1000), 1, 65536, 255, (2040, 1)),
+        (linear(1 / 64), 250, 65536, 4, (16000, 1)),
+        (with_a_slow_start, 250, 65536, 1, (65536, 19)),
+        (with_a_slow_start, 59.9, 65536, 1, (8, 1)),
+    )
+    def test_the_last(self, machine, target, memory, lanes, wanted):
         """As many passes as the time allows; with one that is too slow, less memory, to the least
         one at the end, which comes soon where memory costs nothing."""
-        for machine, target, memory, lanes, wanted in (
-            (linear(1 / 1024), 250, 65536, 1, (65536, 3)),
-            (linear(1 / 264), 250, 65536, 1, (65536, 1)),
-            (linear(1 / 512), 255, 65536, 1, (65536, 1)),
-            (linear(1 / 512), 256, 65536, 1, (65536, 2)),
-            (linear(1 / 1024), 1000, 65536, 1, (65536, 15)),
-            (linear(0.01), 40, 16, 1, (16, 250)),
-            (linear(1000), 1, 65536, 1, (8, 1)),
-            (linear(1000), 1, 65536, 2, (16, 1)),
-            (linear(1000), 1, 65536, 255, (2040, 1)),
-            (linear(1 / 64), 250, 65536, 4, (16000, 1)),
-            (with_a_slow_start, 250, 65536, 1, (65536, 19)),
-            (with_a_slow_start, 59.9, 65536, 1, (8, 1)),
-        ):
-            last = tried(machine, target, memory, lanes)[-1].hasher
-            self.assertEqual((last.memory_cost, last.time_cost), wanted, (target, lanes))
+        last = tried(machine, target, memory, lanes)[-1].hasher
+        self.assertEqual((last.memory_cost, last.time_cost), wanted)
 
-    def test_the_last_is_never_too_slow(self):
-        for target in (50, 60, 64, 65, 100, 500, 2000):
-            found = tried(with_dear_passes(1 / 1024), target, 65536, 2)
-            self.assertLessEqual(found[-1].milliseconds, max(target, found[0].milliseconds))
-            fits = [it for it in found if it.milliseconds <= target]
-            self.assertEqual(found[-1], max(fits, key=lambda it: it.milliseconds))
+    @each(50, 60, 64, 65, 100, 500, 2000)
+    def test_the_last_is_never_too_slow(self, target):
+        found = tried(with_dear_passes(1 / 1024), target, 65536, 2)
+        self.assertLessEqual(found[-1].milliseconds, max(target, found[0].milliseconds))
+        fits = [it for it in found if it.milliseconds <= target]
+        self.assertEqual(found[-1], max(fits, key=lambda it: it.milliseconds))
 
     def test_lanes_and_threads_are_those_given(self):
         for lanes, threads in ((1, 1), (4, 1), (4, 4), (7, 3)):
             for it in tried(linear(1 / 512), 100, 65536, lanes, threads):
-                self.assertEqual((it.hasher.parallelism, it.hasher.threads), (lanes, threads))
+                with self.subTest(lanes=lanes, threads=threads):
+                    self.assertEqual((it.hasher.parallelism, it.hasher.threads), (lanes, threads))
         one, four = (tried(linear(1 / 512), 250, 65536, 4, n)[-1].hasher for n in (1, 4))
         self.assertEqual((one.time_cost, four.time_cost), (1, 7))
 
@@ -79,60 +81,60 @@ class Trials(unittest.TestCase):
 class Safety(unittest.TestCase):
     """What is never gone below unless it is asked for: OWASP's least costs."""
 
-    def test_the_least_costs_are_owasps(self):
-        for memory, passes, is_safe in (
-            (19456, 2, True),
-            (19456, 1, False),
-            (19455, 2, False),
-            (19455, 9, False),
-            (47103, 1, False),
-            (47104, 1, True),
-            (65536, 3, True),
-        ):
-            hasher = PasswordHasher(passes, memory, 1)
-            self.assertEqual(_calibrate.is_safe(hasher), is_safe, (memory, passes))
+    @each(
+        (19456, 2, True),
+        (19456, 1, False),
+        (19455, 2, False),
+        (19455, 9, False),
+        (47103, 1, False),
+        (47104, 1, True),
+        (65536, 3, True),
+    )
+    def test_the_least_costs_are_owasps(self, memory, passes, is_safe):
+        hasher = PasswordHasher(passes, memory, 1)
+        self.assertEqual(_calibrate.is_safe(hasher), is_safe)
 
-    def test_a_slow_machine_has_them_all_the_same(self):
-        for machine in (linear(1), linear(1 / 64), with_dear_passes(1), with_a_slow_start):
-            for memory in (19456, 20000, 47103, 47104, 65536, 2**20):
-                for lanes in (1, 4, 255):
-                    last = tried(machine, 20, memory, lanes, below=False)[-1].hasher
-                    self.assertTrue(_calibrate.is_safe(last), (memory, last))
-                    self.assertLessEqual(last.memory_cost, memory)
+    @each(linear(1), linear(1 / 64), with_dear_passes(1), with_a_slow_start)
+    def test_a_slow_machine_has_them_all_the_same(self, machine):
+        for memory in (19456, 20000, 47103, 47104, 65536, 2**20):
+            for lanes in (1, 4, 255):
+                last = tried(machine, 20, memory, lanes, below=False)[-1].hasher
+                self.assertTrue(_calibrate.is_safe(last), (memory, last))
+                self.assertLessEqual(last.memory_cost, memory)
 
-    def test_a_fast_machine_is_as_before(self):
-        for target in (100, 250, 1000):
-            machine = (linear(1 / 1024), target, 65536, 4)
-            self.assertEqual(*(tried(*machine, below=it)[-1] for it in (False, True)))
+    @each(100, 250, 1000)
+    def test_a_fast_machine_is_as_before(self, target):
+        machine = (linear(1 / 1024), target, 65536, 4)
+        self.assertEqual(*(tried(*machine, below=it)[-1] for it in (False, True)))
 
 
 class Busy(unittest.TestCase):
-    def test_it_is_said_when_half_of_the_processors_are(self):
-        for load, processors, said in (
-            (0.0, 4, None),
-            (2.0, 4, None),
-            (2.1, 4, "the machine is busy (a load of 2.1 on 4 processors)"),
-            (0.6, 1, "the machine is busy (a load of 0.6 on 1 processors)"),
-        ):
-            system = mock.Mock(getloadavg=lambda: (load, 9, 9), cpu_count=lambda: processors)
-            with mock.patch.object(_calibrate, "os", system):
-                self.assertEqual(_calibrate.why_busy(), said)
+    @each(
+        (0.0, 4, None),
+        (2.0, 4, None),
+        (2.1, 4, "the machine is busy (a load of 2.1 on 4 processors)"),
+        (0.6, 1, "the machine is busy (a load of 0.6 on 1 processors)"),
+    )
+    def test_it_is_said_when_half_of_the_processors_are(self, load, processors, said):
+        system = mock.Mock(getloadavg=lambda: (load, 9, 9), cpu_count=lambda: processors)
+        with mock.patch.object(_calibrate, "os", system):
+            self.assertEqual(_calibrate.why_busy(), said)
 
 
 class Timing(unittest.TestCase):
-    def test_the_time_is_the_best_after_the_first(self):
-        for first in (0, 4, 6, 100):
-            now, hashes = [0.0], []
-            seconds = iter((first, 5, 1, 9, 3, 7))
+    @each(0, 4, 6, 100)
+    def test_the_time_is_the_best_after_the_first(self, first):
+        now, hashes = [0.0], []
+        seconds = iter((first, 5, 1, 9, 3, 7))
 
-            class Hasher:
-                def hash(self, password):
-                    hashes.append(password)
-                    now[0] += next(seconds)
+        class Hasher:
+            def hash(self, password):
+                hashes.append(password)
+                now[0] += next(seconds)
 
-            with mock.patch.object(_calibrate.time, "perf_counter", lambda: now[0]):
-                found = measured(Hasher())
-            self.assertEqual((found.milliseconds, len(hashes)), (1000, 6))
+        with mock.patch.object(_calibrate.time, "perf_counter", lambda: now[0]):
+            found = measured(Hasher())
+        self.assertEqual((found.milliseconds, len(hashes)), (1000, 6))
 
 
 class Shell(unittest.TestCase):
@@ -150,25 +152,25 @@ class Shell(unittest.TestCase):
                 self.assertEqual(__main__.main(), 0)
         return calls, out.getvalue(), said.getvalue()
 
-    def test_each_word_counts(self):
+    @each(
+        ("", (250, 65536, 4, 1, False), "m=65536,t=3,p=4", None),
+        (
+            "--target-ms 20",
+            (20, 65536, 4, 1, False),
+            "m=19456,t=2,p=4",
+            "take 38 ms here; --below",
+        ),
+        ("--target-ms 20 --below", (20, 65536, 4, 1, True), "m=20480,t=1,p=4", None),
+        (EACH_WORD, (70, 32768, 3, 2, True), "m=32768,t=4,p=3", None),
+    )
+    def test_each_word_counts(self, words, asked, costs, advice):
         """Costs that take too long are said."""
-        for words, asked, costs, advice in (
-            ("", (250, 65536, 4, 1, False), "m=65536,t=3,p=4", None),
-            (
-                "--target-ms 20",
-                (20, 65536, 4, 1, False),
-                "m=19456,t=2,p=4",
-                "take 38 ms here; --below",
-            ),
-            ("--target-ms 20 --below", (20, 65536, 4, 1, True), "m=20480,t=1,p=4", None),
-            (EACH_WORD, (70, 32768, 3, 2, True), "m=32768,t=4,p=3", None),
-        ):
-            calls, said, faults = self.asked(*words.split())
-            self.assertEqual((calls, said), ([asked], f"$argon2id$v=19${costs}\n"))
-            self.assertEqual("least costs" in faults, advice is not None)
-            self.assertIn(advice or "", faults)
+        calls, said, faults = self.asked(*words.split())
+        self.assertEqual((calls, said), ([asked], f"$argon2id$v=19${costs}\n"))
+        self.assertEqual("least costs" in faults, advice is not None)
+        self.assertIn(advice or "", faults)
 
-    def test_a_busy_machine_is_said(self):
-        for said in ("the machine is busy", None):
-            with mock.patch.object(__main__, "why_busy", lambda: said):
-                self.assertEqual("the machine is busy: " in self.asked()[2], said is not None)
+    @each("the machine is busy", None)
+    def test_a_busy_machine_is_said(self, said):
+        with mock.patch.object(__main__, "why_busy", lambda: said):
+            self.assertEqual("the machine is busy: " in self.asked()[2], said is not None)

@@ -11,6 +11,7 @@ from records import ARGON2, LEAST, LEAST_COSTS, OLD, SMALL, verdict
 
 import rigzumal
 from rigzumal import PasswordHasher, ScryptHasher, Type, argon2_cffi
+from tests.helpers import each
 
 
 def base64_of(data):
@@ -36,29 +37,30 @@ WITH_NUL = "$argon2id$v=19$m=64,t=1,p=1$c29tZXNhbHQ$6oIEETo0BJ7q/vyz7jFW6wFb/Gyf
 
 
 class Kinds(unittest.TestCase):
-    def test_a_hasher_has_its_own(self):
-        for kind, record in RECORDS.items():
-            for given in (kind, int(kind)):
-                hasher = PasswordHasher(2, 256, 1, salt_len=8, type=given)
-                self.assertEqual(hasher.hash("password", salt=b"somesalt"), record)
-                self.assertEqual(hasher.costs, record.rsplit("$", 2)[0])
-                for other in RECORDS.values():
-                    self.assertEqual(hasher.check_needs_rehash(other), other != record)
-                    self.assertTrue(hasher.verify(other, "password"))
+    @each(*RECORDS.items())
+    def test_a_hasher_has_its_own(self, kind, record):
+        for given in (kind, int(kind)):
+            hasher = PasswordHasher(2, 256, 1, salt_len=8, type=given)
+            self.assertEqual(hasher.hash("password", salt=b"somesalt"), record)
+            self.assertEqual(hasher.costs, record.rsplit("$", 2)[0])
+            for other in RECORDS.values():
+                self.assertEqual(hasher.check_needs_rehash(other), other != record)
+                self.assertTrue(hasher.verify(other, "password"))
 
     def test_a_raw_tag_has_its_kind_and_version(self):
         costs = {"time_cost": 2, "memory_cost": 256, "parallelism": 1}
         for (kind, version), wanted in TAGS.items():
-            given = {"type": kind, "version": version, **costs}
-            self.assertEqual(rigzumal.argon2("password", b"somesalt", **given).hex(), wanted)
+            with self.subTest(kind=kind, version=version):
+                given = {"type": kind, "version": version, **costs}
+                self.assertEqual(rigzumal.argon2("password", b"somesalt", **given).hex(), wanted)
 
 
 class Verifying(unittest.TestCase):
-    def test_the_right_password_alone_is_verified(self):
-        for record in (ARGON2, ARGON2.encode(), OLD):
-            tried = ("password", "Password", "", "password\0", b"\xff")
-            found = [verdict(SMALL, record, it) for it in tried]
-            self.assertEqual(found, [True, False, False, False, False])
+    @each(ARGON2, ARGON2.encode(), OLD)
+    def test_the_right_password_alone_is_verified(self, record):
+        tried = ("password", "Password", "", "password\0", b"\xff")
+        found = [verdict(SMALL, record, it) for it in tried]
+        self.assertEqual(found, [True, False, False, False, False])
 
     def test_a_secret_is_rfc_9106s(self):
         costs = {"time_cost": 2, "memory_cost": 256, "parallelism": 1}
@@ -68,8 +70,9 @@ class Verifying(unittest.TestCase):
         self.assertEqual(record.rsplit("$", 1)[1], base64_of(tag))
         other = SMALL.replace(secret=b"Pepper")
         for one, password in itertools.product((hasher, SMALL, other), ("password", "x")):
-            is_right = one is hasher and password == "password"
-            self.assertIs(verdict(one, record, password), is_right, (one, password))
+            with self.subTest(one=one, password=password):
+                is_right = one is hasher and password == "password"
+                self.assertIs(verdict(one, record, password), is_right)
         self.assertFalse(SMALL.replace(salt_len=8).check_needs_rehash(record))
         with self.assertRaises(rigzumal.InvalidRecordError):
             hasher.verify(ScryptHasher(log2_n=4).hash("x"), "x")
@@ -87,16 +90,17 @@ class Rehash(unittest.TestCase):
             (argon2_cffi, "PasswordHasher", argon2),
             (rigzumal, "ScryptHasher", scrypt),
         ):
-            maker, numbers = getattr(module, maker), {**numbers, "hash_len": 32, "salt_len": 16}
-            kinds = (module.Type.D, module.Type.I) if "time_cost" in numbers else ()
-            hasher = maker(**numbers)
-            record = hasher.hash("x")
-            self.assertFalse(hasher.check_needs_rehash(record))
-            changes = [{name: it + by} for name, it in numbers.items() for by in (-1, 1)]
-            for change in (*changes, *({"type": it} for it in kinds)):
-                other = maker(**{**numbers, **change})
-                self.assertTrue(other.check_needs_rehash(record), change)
-                self.assertTrue(hasher.check_needs_rehash(other.hash("x")), change)
+            with self.subTest(module=module, maker=maker):
+                maker, numbers = getattr(module, maker), {**numbers, "hash_len": 32, "salt_len": 16}
+                kinds = (module.Type.D, module.Type.I) if "time_cost" in numbers else ()
+                hasher = maker(**numbers)
+                record = hasher.hash("x")
+                self.assertFalse(hasher.check_needs_rehash(record))
+                changes = [{name: it + by} for name, it in numbers.items() for by in (-1, 1)]
+                for change in (*changes, *({"type": it} for it in kinds)):
+                    other = maker(**{**numbers, **change})
+                    self.assertTrue(other.check_needs_rehash(record), change)
+                    self.assertTrue(hasher.check_needs_rehash(other.hash("x")), change)
 
     def test_of_another_scheme_and_version(self):
         self.assertTrue(ScryptHasher().check_needs_rehash(ARGON2))
@@ -108,10 +112,12 @@ class Inputs(unittest.TestCase):
     def test_a_zero_byte_ends_no_password(self):
         hasher = PasswordHasher(1, 64, 1)
         for password in ("pass\0word", b"pass\0word"):
-            self.assertEqual(hasher.hash(password, salt=b"somesalt"), WITH_NUL)
-            self.assertTrue(hasher.verify(WITH_NUL, password))
+            with self.subTest(password=password):
+                self.assertEqual(hasher.hash(password, salt=b"somesalt"), WITH_NUL)
+                self.assertTrue(hasher.verify(WITH_NUL, password))
         for wrong in ("pass", "pass\0", "pass\0worD", "\0", ""):
-            self.assertFalse(verdict(hasher, WITH_NUL, wrong))
+            with self.subTest(wrong=wrong):
+                self.assertFalse(verdict(hasher, WITH_NUL, wrong))
         record = ScryptHasher(4).hash("pass\0word", salt=b"some\0salt")
         self.assertEqual(rigzumal.parts(record).salt_size, 9)
         self.assertFalse(verdict(hasher, record, "pass"))
@@ -126,19 +132,20 @@ class Inputs(unittest.TestCase):
             memoryview(words),
             memoryview(b"_s_i_x_t_e_e_n__")[::2],
         ):
-            data = bytes(holds)
-            wanted = LEAST.hash(data, salt=data)
-            self.assertEqual(LEAST.hash(holds, salt=holds), wanted)
-            self.assertTrue(LEAST.verify(wanted, holds))
-            scrypt = ScryptHasher(1, 1, 1)
-            self.assertEqual(scrypt.hash(holds, salt=holds), scrypt.hash(data, salt=data))
-            tags = {
-                rigzumal.argon2(it, it, secret=it, associated=it, **LEAST_COSTS)
-                for it in (holds, data)
-            }
-            self.assertEqual(len(tags), 1)
-            made = LEAST.replace(secret=holds).hash("x", salt=data)
-            self.assertTrue(LEAST.replace(secret=data).verify(made, "x"))
+            with self.subTest(holds=holds):
+                data = bytes(holds)
+                wanted = LEAST.hash(data, salt=data)
+                self.assertEqual(LEAST.hash(holds, salt=holds), wanted)
+                self.assertTrue(LEAST.verify(wanted, holds))
+                scrypt = ScryptHasher(1, 1, 1)
+                self.assertEqual(scrypt.hash(holds, salt=holds), scrypt.hash(data, salt=data))
+                tags = {
+                    rigzumal.argon2(it, it, secret=it, associated=it, **LEAST_COSTS)
+                    for it in (holds, data)
+                }
+                self.assertEqual(len(tags), 1)
+                made = LEAST.replace(secret=holds).hash("x", salt=data)
+                self.assertTrue(LEAST.replace(secret=data).verify(made, "x"))
 
     def test_a_hasher_keeps_its_secret_as_it_was_given(self):
         secret = bytearray(b"pepper")
@@ -152,8 +159,9 @@ class Inputs(unittest.TestCase):
         record = LEAST.hash("p\xe4ss\U0001f600")
         self.assertTrue(LEAST.verify(record, "p\xe4ss\U0001f600".encode()))
         for text in ("\ud800", "\udc80", "pass\udcffword", "\udfff"):
-            self.assertRaises(ValueError, LEAST.hash, text)
-            self.assertRaises(ValueError, LEAST.verify, record, text)
+            with self.subTest(text=text):
+                self.assertRaises(ValueError, LEAST.hash, text)
+                self.assertRaises(ValueError, LEAST.verify, record, text)
 
     def test_scrypt_is_hashlibs(self):
         """Keys, passwords and salts of every length, and a record."""
@@ -162,9 +170,10 @@ class Inputs(unittest.TestCase):
         given = [(it, b"salt", 32) for it in inputs] + [(b"password", it, 32) for it in inputs]
         given += [(b"password", b"s", it) for it in (*range(1, 8), *range(62, 101), 1000)]
         for password, salt, length in given:
-            key = rigzumal.scrypt(password, salt, log2_n=2, r=1, p=3, length=length)
-            wanted = hashlib.scrypt(password, salt=salt, n=4, r=1, p=3, dklen=length)
-            self.assertEqual(key, wanted)
+            with self.subTest(password=password, salt=salt):
+                key = rigzumal.scrypt(password, salt, log2_n=2, r=1, p=3, length=length)
+                wanted = hashlib.scrypt(password, salt=salt, n=4, r=1, p=3, dklen=length)
+                self.assertEqual(key, wanted)
         record = ScryptHasher(log2_n=4, block_size=2, parallelism=3).hash("password", salt=b"s")
         wanted = hashlib.scrypt(b"password", salt=b"s", n=16, r=2, p=3, dklen=32)
         self.assertEqual(record, f"$scrypt$ln=4,r=2,p=3$cw${base64_of(wanted)}")
@@ -176,7 +185,9 @@ class Parts(unittest.TestCase):
             ("$argon2d$v=16$m=2048,t=7,p=5$c29tZXNhbHQ$nf65EA", ("argon2d", 16, 2048, 7, 5, 8, 4)),
             ("$scrypt$ln=4,r=3,p=2$YmVucyBzYWx0$nf65EA", ("scrypt", 0, 4, 3, 2, 9, 4)),
         ):
-            found = rigzumal.parts(record)
-            self.assertEqual((found, found.costs), (rigzumal.Parts(*wanted), wanted[:5]))
+            with self.subTest(record=record):
+                found = rigzumal.parts(record)
+                self.assertEqual((found, found.costs), (rigzumal.Parts(*wanted), wanted[:5]))
         for kind, record in RECORDS.items():
-            self.assertEqual(rigzumal.parts(record).scheme, f"argon2{kind.name.lower()}")
+            with self.subTest(kind=kind):
+                self.assertEqual(rigzumal.parts(record).scheme, f"argon2{kind.name.lower()}")

@@ -12,7 +12,7 @@ from records import HERE, LIBRARIES, PYTHON, python
 
 import rigzumal
 from rigzumal import PasswordHasher, _library
-from tests.helpers import need_module
+from tests.helpers import each, need_module
 
 
 class Places(unittest.TestCase):
@@ -32,16 +32,16 @@ class Places(unittest.TestCase):
         said = python("python/build_backend.py", self.room, at=self.room, status=1)
         self.assertIn("make -C c", said)
 
-    def test_the_package_comes_first(self):
+    @each(("own", "python/rigzumal"), ("made", "c/out"))
+    def test_the_package_comes_first(self, package, library):
         """Its own library is taken before that of a make beside it, which is no library here."""
-        for package, library in (("own", "python/rigzumal"), ("made", "c/out")):
-            room = self.room / package
-            shutil.copytree(PYTHON / "rigzumal", room / "python/rigzumal")
-            (room / "c/out").mkdir(parents=True)
-            (room / "c/out/librigzumal.so.1").write_text("none")
-            shutil.copy(LIBRARIES / "librigzumal.so.1", room / library)
-            env = {"PYTHONPATH": str(room / "python"), "RIGZUMAL_LIBRARY": ""}
-            python("-c", "import rigzumal", at=self.room, **env)
+        room = self.room / package
+        shutil.copytree(PYTHON / "rigzumal", room / "python/rigzumal")
+        (room / "c/out").mkdir(parents=True)
+        (room / "c/out/librigzumal.so.1").write_text("none")
+        shutil.copy(LIBRARIES / "librigzumal.so.1", room / library)
+        env = {"PYTHONPATH": str(room / "python"), "RIGZUMAL_LIBRARY": ""}
+        python("-c", "import rigzumal", at=self.room, **env)
 
     def test_the_one_that_is_named_is_loaded(self):
         def loaded(named):
@@ -58,33 +58,36 @@ class Places(unittest.TestCase):
 
 
 class Names(unittest.TestCase):
-    def test_what_a_package_exports_is_what_it_has(self):
-        for name in ("", ".accounts", ".accounts.dialects", ".argon2_cffi", ".server"):
-            package = importlib.import_module(f"rigzumal{name}")
-            public = {
-                it
-                for it, value in vars(package).items()
-                if not it.startswith("_") and not inspect.ismodule(value)
-            }
-            self.assertEqual({*package.__all__} | public - {"annotations"}, {*package.__all__})
-            for it in package.__all__:
-                self.assertTrue(hasattr(package, it), f"{name}.{it}")
+    @each("", ".accounts", ".accounts.dialects", ".argon2_cffi", ".server")
+    def test_what_a_package_exports_is_what_it_has(self, name):
+        package = importlib.import_module(f"rigzumal{name}")
+        public = {
+            it
+            for it, value in vars(package).items()
+            if not it.startswith("_") and not inspect.ismodule(value)
+        }
+        self.assertEqual({*package.__all__} | public - {"annotations"}, {*package.__all__})
+        for it in package.__all__:
+            self.assertTrue(hasattr(package, it), f"{name}.{it}")
 
 
 class Kept(unittest.TestCase):
     def test_memory_is_given_back(self):
         rigzumal.trim()
         for memory, kept in ((65536, 2**26), (8, 0), (1024, 2**24)):
-            PasswordHasher(1, memory, 1).hash("x")
-            self.assertEqual((rigzumal.trim(), rigzumal.trim()), (kept, 0))
+            with self.subTest(memory=memory, kept=kept):
+                PasswordHasher(1, memory, 1).hash("x")
+                self.assertEqual((rigzumal.trim(), rigzumal.trim()), (kept, 0))
 
     def test_the_bound(self):
         script = "import rigzumal; print(rigzumal.keep(0), rigzumal.keep(2**21), rigzumal.keep(0))"
         for bound, wanted in (("", 2**26), (str(2**25), 2**25)):
-            said = python("-c", script, RIGZUMAL_KEEP=bound)
-            self.assertEqual(said, f"{wanted} 0 {2**21}\n")
+            with self.subTest(bound=bound):
+                said = python("-c", script, RIGZUMAL_KEEP=bound)
+                self.assertEqual(said, f"{wanted} 0 {2**21}\n")
         for wrong, kind in ((-1, OverflowError), (2**63, OverflowError), ("0", TypeError)):
-            self.assertRaises(kind, rigzumal.keep, wrong)
+            with self.subTest(wrong=wrong, kind=kind):
+                self.assertRaises(kind, rigzumal.keep, wrong)
 
 
 class OfOthers(unittest.TestCase):

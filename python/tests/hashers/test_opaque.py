@@ -5,6 +5,7 @@ import unittest
 
 import records  # noqa: F401: finds the package
 from rigzumal import opaque_string
+from tests.helpers import each
 
 
 class Opaque(unittest.TestCase):
@@ -17,15 +18,17 @@ class Opaque(unittest.TestCase):
             ("Jack of \u2666s", "Jack of \u2666s"),
             ("foo\u1680bar", "foo bar"),
         ):
-            self.assertEqual(opaque_string(text), wanted)
+            with self.subTest(text=text):
+                self.assertEqual(opaque_string(text), wanted)
         for text in ("", "my cat is a \u0009by"):
-            self.assertRaises(ValueError, opaque_string, text)
+            with self.subTest(text=text):
+                self.assertRaises(ValueError, opaque_string, text)
 
-    def test_each_keyboard_makes_the_same(self):
-        for text in ("caf\u00e9", "\u1e9b\u0323", "\uac00", "na\u00efve \u212b"):
-            made = {opaque_string(unicodedata.normalize(it, text)) for it in ("NFC", "NFD")}
-            self.assertEqual(len(made), 1)
-            self.assertEqual(opaque_string(*made), *made)  # once and for all
+    @each("caf\u00e9", "\u1e9b\u0323", "\uac00", "na\u00efve \u212b")
+    def test_each_keyboard_makes_the_same(self, text):
+        made = {opaque_string(unicodedata.normalize(it, text)) for it in ("NFC", "NFD")}
+        self.assertEqual(len(made), 1)
+        self.assertEqual(opaque_string(*made), *made)  # once and for all
 
     def test_what_nobody_types(self):
         """And no text is in what is raised."""
@@ -38,9 +41,9 @@ class Opaque(unittest.TestCase):
                 opaque_string(f"hunter{odd}2")
             self.assertNotIn("hunter", str(raised.exception))
 
-    def test_what_people_type(self):
-        for text in (
-            *("\u2764\ufe0f", "\U0001f469\u200d\U0001f680", "\u0646\u0627\u0645\u0647\u200c"),
-            *("\uff21\uff22", "\u0928\u094d\u200d", "\u5bc6\u7801", "\ud55c\uae00", "a\u0301b"),
-        ):
-            self.assertTrue(opaque_string(text))
+    @each(
+        *("\u2764\ufe0f", "\U0001f469\u200d\U0001f680", "\u0646\u0627\u0645\u0647\u200c"),
+        *("\uff21\uff22", "\u0928\u094d\u200d", "\u5bc6\u7801", "\ud55c\uae00", "a\u0301b"),
+    )
+    def test_what_people_type(self, text):
+        self.assertTrue(opaque_string(text))

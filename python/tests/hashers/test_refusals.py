@@ -8,6 +8,7 @@ from records import ARGON2, LEAST_COSTS, SMALL, python
 
 import rigzumal
 from rigzumal import PasswordHasher, ScryptHasher, _library
+from tests.helpers import each
 
 
 class Exceptions(unittest.TestCase):
@@ -26,8 +27,9 @@ class Exceptions(unittest.TestCase):
                 made = raised.exception
                 self.assertEqual((type(made), made.number), (kind, number))
                 for it in (pickle.loads(pickle.dumps(made)), copy.copy(made), copy.deepcopy(made)):
-                    said = (type(it), it.number, it.word, str(it))
-                    self.assertEqual(said, (kind, number, made.word, str(made)))
+                    with self.subTest(it=it):
+                        said = (type(it), it.number, it.word, str(it))
+                        self.assertEqual(said, (kind, number, made.word, str(made)))
         self.assertIsNone(_library.raise_fault(0))
 
 
@@ -39,22 +41,22 @@ class Refusals(unittest.TestCase):
         for fault in (raised.exception, pickle.loads(pickle.dumps(raised.exception))):
             self.assertEqual((fault.word, str(fault)), (word, said or str(raised.exception)))
 
-    def test_texts(self):
-        for text, word in (
-            ("", "shape"),
-            (ARGON2[:-1] + "\0", "shape"),
-            (ARGON2.rsplit("$", 1)[0], "shape"),
-            (SMALL.costs, "shape"),
-            (ARGON2.replace("2id", "2x"), "scheme"),
-            (ARGON2.replace("m=256", "m=7"), "range"),
-            (ARGON2 * 9, "toolong"),
+    @each(
+        ("", "shape"),
+        (ARGON2[:-1] + "\0", "shape"),
+        (ARGON2.rsplit("$", 1)[0], "shape"),
+        (SMALL.costs, "shape"),
+        (ARGON2.replace("2id", "2x"), "scheme"),
+        (ARGON2.replace("m=256", "m=7"), "range"),
+        (ARGON2 * 9, "toolong"),
+    )
+    def test_texts(self, text, word):
+        for call in (
+            lambda it: SMALL.verify(it, "x"),
+            SMALL.check_needs_rehash,
+            rigzumal.parts,
         ):
-            for call in (
-                lambda it: SMALL.verify(it, "x"),
-                SMALL.check_needs_rehash,
-                rigzumal.parts,
-            ):
-                self.refused(rigzumal.InvalidRecordError, word, call, text)
+            self.refused(rigzumal.InvalidRecordError, word, call, text)
 
     def test_a_number_out_of_its_range_is_named(self):
         """With the range, also by a copy of the exception; nothing else of the text is shown."""
@@ -83,12 +85,13 @@ class Refusals(unittest.TestCase):
             (ScryptHasher, scrypt, "hash_len", 4, 64, "tag"),
             (ScryptHasher, scrypt, "salt_len", 1, 48, "salt"),
         ):
-            for number in (least, most):
-                self.assertEqual(getattr(kind(**{**given, name: number}), name), number)
-            for number in (least - 1, most + 1, -1):
-                said = f"{name} is to be {least} to {most}, and not {number}"
-                changed = {**given, name: number}
-                self.refused(rigzumal.InvalidNumbersError, word, kind, **changed, said=said)
+            with self.subTest(kind=kind, given=given):
+                for number in (least, most):
+                    self.assertEqual(getattr(kind(**{**given, name: number}), name), number)
+                for number in (least - 1, most + 1, -1):
+                    said = f"{name} is to be {least} to {most}, and not {number}"
+                    changed = {**given, name: number}
+                    self.refused(rigzumal.InvalidNumbersError, word, kind, **changed, said=said)
 
     def test_what_a_hasher_takes_the_library_takes(self):
         """At the ends of each range that a test has the memory and the time for."""
@@ -101,23 +104,25 @@ class Refusals(unittest.TestCase):
             ScryptHasher(15, 1, 1, 64, 48),
             ScryptHasher(1, 255, 255),
         ):
-            self.assertTrue(hasher.verify(hasher.hash("x"), "x"))
+            with self.subTest(hasher=hasher):
+                self.assertTrue(hasher.verify(hasher.hash("x"), "x"))
         for hasher in (ScryptHasher(23, 2), ScryptHasher(21, 8), ScryptHasher(16, 255, 255)):
-            record = f"{hasher.costs}$c29tZXNhbHQ$c29tZXRhZw"
-            self.assertEqual(rigzumal.parts(record).memory, hasher.log2_n)
+            with self.subTest(hasher=hasher):
+                record = f"{hasher.costs}$c29tZXNhbHQ$c29tZXRhZw"
+                self.assertEqual(rigzumal.parts(record).memory, hasher.log2_n)
         record = f"{PasswordHasher(2**32 - 1, 2097152, 255).costs}$c29tZXNhbHQ$c29tZXRhZw"
         self.assertEqual(rigzumal.parts(record).passes, 2**32 - 1)
 
-    def test_salts(self):
-        for hasher, sizes, range_ in (
-            (SMALL, (0, 7, 49), "8 to 48"),
-            (SMALL.replace(secret=b"x"), (0, 7, 49), "8 to 48"),
-            (ScryptHasher(log2_n=1), (0, 49), "1 to 48"),
-        ):
-            for size in sizes:
-                said, salt = f"the salt's length is to be {range_}, and not {size}", bytes(size)
-                bad = rigzumal.InvalidNumbersError
-                self.refused(bad, "salt", hasher.hash, "x", salt=salt, said=said)
+    @each(
+        (SMALL, (0, 7, 49), "8 to 48"),
+        (SMALL.replace(secret=b"x"), (0, 7, 49), "8 to 48"),
+        (ScryptHasher(log2_n=1), (0, 49), "1 to 48"),
+    )
+    def test_salts(self, hasher, sizes, range_):
+        for size in sizes:
+            said, salt = f"the salt's length is to be {range_}, and not {size}", bytes(size)
+            bad = rigzumal.InvalidNumbersError
+            self.refused(bad, "salt", hasher.hash, "x", salt=salt, said=said)
 
     def test_numbers(self):
         bad, call = rigzumal.InvalidNumbersError, rigzumal.argon2
@@ -137,7 +142,8 @@ class Refusals(unittest.TestCase):
             return rigzumal.argon2("x", salt, **{**LEAST_COSTS, **changes})
 
         for wrong in (5, None, ["x"]):
-            self.assertRaises(TypeError, SMALL.hash, wrong)
+            with self.subTest(wrong=wrong):
+                self.assertRaises(TypeError, SMALL.hash, wrong)
         for wrong in (16, "somesalt", [1] * 16, (b"somesalt",)):
             for call in (
                 lambda it: SMALL.hash("x", salt=it),
@@ -147,16 +153,19 @@ class Refusals(unittest.TestCase):
                 lambda it: tag(associated=it),
                 lambda it: PasswordHasher(secret=it),
             ):
-                self.assertRaises(TypeError, call, wrong)
+                with self.subTest(wrong=wrong, call=call):
+                    self.assertRaises(TypeError, call, wrong)
         scrypt = ("log2_n", "block_size", "parallelism")
         for kind, names in ((PasswordHasher, (*LEAST_COSTS, "threads")), (ScryptHasher, scrypt)):
             for name in (*names, "hash_len", "salt_len"):
                 for wrong in ("3", 3.0, None, True):
-                    self.assertRaises(TypeError, kind, **{name: wrong})
+                    with self.subTest(kind=kind, names=names):
+                        self.assertRaises(TypeError, kind, **{name: wrong})
         for wrong in ("2", 2.7, 2.0, True, None):
-            self.assertRaises(TypeError, PasswordHasher, type=wrong)
-            for name in ("time_cost", "type"):
-                self.assertRaises(TypeError, tag, **{name: wrong})
+            with self.subTest(wrong=wrong):
+                self.assertRaises(TypeError, PasswordHasher, type=wrong)
+                for name in ("time_cost", "type"):
+                    self.assertRaises(TypeError, tag, **{name: wrong})
         self.assertRaises(ValueError, PasswordHasher, type=7)
         with self.assertRaises(ValueError) as raised:
             SMALL.hash("pass\ud800word")

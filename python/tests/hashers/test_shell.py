@@ -14,6 +14,7 @@ from records import LEAST, SMALL
 
 import rigzumal
 from rigzumal._commands import hint, memory as memory_of
+from tests.helpers import each
 
 
 LEAST_WORDS = "--memory 8 --passes 1 --lanes 1"
@@ -45,25 +46,25 @@ class Shell(unittest.TestCase):
         self.assertEqual((status, out), (1, ""))
         self.assertIn("1 shape", said)
 
-    def test_what_is_no_record_of_ours(self):
+    @each(
+        ("$2b$12$abcdefgh", "2b"),
+        ("$pbkdf2-sha256$29000$abc", "pbkdf2-sha256"),
+        ("pbkdf2_sha256$260000$abc", "pbkdf2_sha256"),
+        ("argon2$argon2id$v=19", "argon2"),
+        ("$argon2id$v=18$m=8,t=1,p=1$c29tZXNhbHQ$abcd", None),
+        ("$my hunter2$", None),
+        ("$hunter2!$", None),
+        ("$hunter2" + "x" * 20 + "$", None),
+        ("hunter2$", None),
+        ("hunter2", None),
+    )
+    def test_what_is_no_record_of_ours(self, text, name):
         """The scheme's name is said where one stands; nothing else of the text is shown."""
-        for text, name in (
-            ("$2b$12$abcdefgh", "2b"),
-            ("$pbkdf2-sha256$29000$abc", "pbkdf2-sha256"),
-            ("pbkdf2_sha256$260000$abc", "pbkdf2_sha256"),
-            ("argon2$argon2id$v=19", "argon2"),
-            ("$argon2id$v=18$m=8,t=1,p=1$c29tZXNhbHQ$abcd", None),
-            ("$my hunter2$", None),
-            ("$hunter2!$", None),
-            ("$hunter2" + "x" * 20 + "$", None),
-            ("hunter2$", None),
-            ("hunter2", None),
-        ):
-            status, out, said = run(["verify", text], b"secret")
-            self.assertEqual((status, out), (1, ""), text)
-            self.assertNotIn("hunter2", said)
-            self.assertEqual("record's scheme" in said, name is not None, said)
-            self.assertIn(f"(the record's scheme is {name})" if name else "rigzumal: ", said)
+        status, out, said = run(["verify", text], b"secret")
+        self.assertEqual((status, out), (1, ""))
+        self.assertNotIn("hunter2", said)
+        self.assertEqual("record's scheme" in said, name is not None, said)
+        self.assertIn(f"(the record's scheme is {name})" if name else "rigzumal: ", said)
 
     def test_a_newline_that_was_meant_to_end_the_password(self):
         for right, given, advice in (
@@ -73,30 +74,32 @@ class Shell(unittest.TestCase):
             (b"one", b"one\r\n", "without the carriage return"),
             (b"one", b"two\n", "None"),
         ):
-            self.assertIn(advice, str(hint(given, right.__eq__)))
+            with self.subTest(right=right, given=given):
+                self.assertIn(advice, str(hint(given, right.__eq__)))
         status, out, said = run(["verify", LEAST.hash("hunter2")], b"hunter2\n")
         self.assertEqual((status, out, said.count("\n")), (4, "no\n", 1))
         self.assertNotIn("hunter2", said)
 
-    def test_costs(self):
-        for given, costs in (
-            ("--memory 64 --passes 2 --lanes 3", "$argon2id$v=19$m=64,t=2,p=3$"),
-            ("--memory 100 --passes 1 --lanes 5", "$argon2id$v=19$m=100,t=1,p=5$"),
-            (" ", "$argon2id$v=19$m=65536,t=3,p=4$"),
-            ("--scrypt", "$scrypt$ln=17,r=8,p=1$"),
-            ("--scrypt --log2-n 4", "$scrypt$ln=4,r=8,p=1$"),
-            ("--scrypt --log2-n 11", "$scrypt$ln=11,r=8,p=1$"),
-        ):
-            made = hashed(given)
-            self.assertTrue(made.startswith(costs), made)
+    @each(
+        ("--memory 64 --passes 2 --lanes 3", "$argon2id$v=19$m=64,t=2,p=3$"),
+        ("--memory 100 --passes 1 --lanes 5", "$argon2id$v=19$m=100,t=1,p=5$"),
+        (" ", "$argon2id$v=19$m=65536,t=3,p=4$"),
+        ("--scrypt", "$scrypt$ln=17,r=8,p=1$"),
+        ("--scrypt --log2-n 4", "$scrypt$ln=4,r=8,p=1$"),
+        ("--scrypt --log2-n 11", "$scrypt$ln=11,r=8,p=1$"),
+    )
+    def test_costs(self, given, costs):
+        made = hashed(given)
+        self.assertTrue(made.startswith(costs), made)
 
     def test_an_empty_password_is_asked_for(self):
         refusal = "rigzumal: the password is empty; --empty allows it\n"
         for given in (b"", b"\n", b"\r\n", b"\n\n"):
-            self.assertEqual(run(f"hash {LEAST_WORDS}", given), (6, "", refusal))
-            record = hashed(f"--empty {LEAST_WORDS}", given)
-            self.assertTrue(SMALL.verify(record, given))
-            self.assertEqual(run(["verify", record], given)[:2], (0, "yes\n"))
+            with self.subTest(given=given):
+                self.assertEqual(run(f"hash {LEAST_WORDS}", given), (6, "", refusal))
+                record = hashed(f"--empty {LEAST_WORDS}", given)
+                self.assertTrue(SMALL.verify(record, given))
+                self.assertEqual(run(["verify", record], given)[:2], (0, "yes\n"))
 
     def at_a_terminal(self, words, *lines):
         """The status of the command, what it wrote, and what stood on its terminal."""
@@ -130,8 +133,9 @@ class Shell(unittest.TestCase):
         status, shown = self.at_a_terminal(["verify", record], b"hunter2\n")
         self.assertEqual((status, shown.splitlines()), (0, ["Password: |", "yes"]))
         for lines, said in (((b"hunter2\n", b"hunter3\n"), "differ"), ((b"\n", b"\n"), "--empty")):
-            status, shown = self.at_a_terminal(making, *lines)
-            self.assertEqual((status, said in shown.splitlines()[-1]), (6, True), shown)
+            with self.subTest(lines=lines):
+                status, shown = self.at_a_terminal(making, *lines)
+                self.assertEqual((status, said in shown.splitlines()[-1]), (6, True), shown)
 
     def test_no_traceback(self):
         """At Ctrl-C, at the end of a terminal's input, and where nothing can be read or written."""
@@ -140,8 +144,9 @@ class Shell(unittest.TestCase):
             self.assertEqual(run([*accounts, "init"])[0], 0)
             for words in (["hash"], [*accounts, "check", "ann"]):
                 for key, wanted in ((b"\x03", 130), (b"\x04", 6)):
-                    status, shown = self.at_a_terminal(words, key)
-                    self.assertEqual((status, "Traceback" in shown), (wanted, False), shown)
+                    with self.subTest(words=words, key=key):
+                        status, shown = self.at_a_terminal(words, key)
+                        self.assertEqual((status, "Traceback" in shown), (wanted, False), shown)
         command = f"{shlex.quote(sys.executable)} -m rigzumal hash <&-"
         done = subprocess.run(["sh", "-c", command], stderr=subprocess.PIPE)
         self.assertEqual((done.returncode, done.stderr.count(b"\n")), (2, 1), done.stderr)
@@ -151,24 +156,24 @@ class Shell(unittest.TestCase):
         self.assertEqual(done.stderr, b"rigzumal: No space left on device\n")
         self.assertEqual(done.returncode, 2)
 
-    def test_refused_words(self):
+    @each(
+        ("hash hunter2", "a password is never an argument"),
+        ("accounts --database= list", "no database: --database URL"),
+        ("hash --log2-n 10", "rigzumal: --log2-n is of scrypt, and --scrypt is missing\n"),
+        ("hash --scrypt --lanes 4", "rigzumal: --lanes is of Argon2, and --scrypt is given\n"),
+        ("hash --lanes 0", "rigzumal: 14 lanes: parallelism is to be 1 to 255, and not 0\n"),
+        ("calibrate --lanes 0", "lanes"),
+        ("calibrate --memory 4M --lanes 1", "--memory is below 19456 KiB; --below allows it\n"),
+        ("calibrate --memory 4X", "--memory"),
+        *((f"calibrate --target-ms {it}", "--target-ms") for it in NO_MILLISECONDS),
+        *((f"calibrate --threads {it}", "--threads") for it in ("0", "-1", "x")),
+    )
+    def test_refused_words(self, words, said):
         """Each is named, unless it may be a password; none ends in a traceback."""
-        for words, said in (
-            ("hash hunter2", "a password is never an argument"),
-            ("accounts --database= list", "no database: --database URL"),
-            ("hash --log2-n 10", "rigzumal: --log2-n is of scrypt, and --scrypt is missing\n"),
-            ("hash --scrypt --lanes 4", "rigzumal: --lanes is of Argon2, and --scrypt is given\n"),
-            ("hash --lanes 0", "rigzumal: 14 lanes: parallelism is to be 1 to 255, and not 0\n"),
-            ("calibrate --lanes 0", "lanes"),
-            ("calibrate --memory 4M --lanes 1", "--memory is below 19456 KiB; --below allows it\n"),
-            ("calibrate --memory 4X", "--memory"),
-            *((f"calibrate --target-ms {it}", "--target-ms") for it in NO_MILLISECONDS),
-            *((f"calibrate --threads {it}", "--threads") for it in ("0", "-1", "x")),
-        ):
-            status, out, fault = run(words, b"secret")
-            self.assertEqual((status, out), (1, ""), words)
-            self.assertIn(said, fault)
-            self.assertNotRegex(fault, "Traceback|hunter2")
+        status, out, fault = run(words, b"secret")
+        self.assertEqual((status, out), (1, ""))
+        self.assertIn(said, fault)
+        self.assertNotRegex(fault, "Traceback|hunter2")
 
     def test_calibration(self):
         status, costs, said = run("calibrate --target-ms 40 --memory 4M --lanes 1 --below")
@@ -177,7 +182,8 @@ class Shell(unittest.TestCase):
         costs = run("calibrate --target-ms 10 --memory 19M --lanes 1")[1]
         self.assertEqual(costs, "$argon2id$v=19$m=19456,t=2,p=1\n")
         for text, memory in (("2G", 2097152), ("16", 16), ("16K", 16), ("16k", 16), ("1M", 1024)):
-            self.assertEqual(memory_of(text), memory)
+            with self.subTest(memory=memory):
+                self.assertEqual(memory_of(text), memory)
 
     def test_the_version_is_the_headers(self):
         self.assertEqual(rigzumal.__version__, rigzumal.version())

@@ -11,6 +11,7 @@ from records import ARGON2, LEAST, LEAST_COSTS, PYTHON, SMALL, Calls, python, ve
 
 import rigzumal
 from rigzumal import PasswordHasher, ScryptHasher, Type, argon2_cffi
+from tests.helpers import each
 
 COSTS = {"time_cost": 1, "memory_cost": 64, "parallelism": 4}
 
@@ -24,11 +25,12 @@ class Defaults(unittest.TestCase):
             (argon2, "$argon2id$v=19$m=65536,t=3,p=4"),
             (ScryptHasher(), "$scrypt$ln=17,r=8,p=1"),
         ):
-            record = hasher.hash("x")
-            self.assertEqual((hasher.costs, record.rsplit("$", 2)[0]), (costs, costs))
-            parts = rigzumal.parts(record)
-            self.assertEqual((parts.salt_size, parts.tag_size), (16, 32))
-            self.assertFalse(hasher.check_needs_rehash(record))
+            with self.subTest(hasher=hasher, costs=costs):
+                record = hasher.hash("x")
+                self.assertEqual((hasher.costs, record.rsplit("$", 2)[0]), (costs, costs))
+                parts = rigzumal.parts(record)
+                self.assertEqual((parts.salt_size, parts.tag_size), (16, 32))
+                self.assertFalse(hasher.check_needs_rehash(record))
         self.assertEqual((argon2.threads, argon2.secret, argon2.secrets), (1, None, ()))
         self.assertEqual((argon2.type, int(argon2.type)), (Type.ID, 2))
 
@@ -57,8 +59,9 @@ class Values(unittest.TestCase):
     def test_they_do_not_change(self):
         for value, name in ((SMALL, "time_cost"), (ScryptHasher(), "log2_n")):
             for name in (name, "hash_len", "another"):
-                self.assertRaises(AttributeError, setattr, value, name, 1)
-                self.assertRaises(AttributeError, delattr, value, name)
+                with self.subTest(value=value, name=name):
+                    self.assertRaises(AttributeError, setattr, value, name, 1)
+                    self.assertRaises(AttributeError, delattr, value, name)
         self.assertRaises(AttributeError, setattr, rigzumal.parts(ARGON2), "memory", 1)
 
     def test_equal_ones_are_equal_in_each_number(self):
@@ -92,14 +95,15 @@ class Values(unittest.TestCase):
         shown = "PasswordHasher(time_cost=1, memory_cost=8, parallelism=1, hash_len=32, salt_len=16"
         shown += ", type=<Type.ID: 2>, threads=1)"
         for changes in ({}, {"secret": b"pepper"}, {"secrets": [b"pepper", b"older"]}):
-            self.assertEqual(repr(LEAST.replace(**changes)), shown)
+            with self.subTest(changes=changes):
+                self.assertEqual(repr(LEAST.replace(**changes)), shown)
         shown = "ScryptHasher(log2_n=4, block_size=8, parallelism=1, hash_len=32, salt_len=16)"
         self.assertEqual(repr(ScryptHasher(4)), shown)
 
-    def test_copies_are_equal(self):
-        for value in (SMALL.replace(secrets=[b"a", b"b"]), ScryptHasher(4), rigzumal.parts(ARGON2)):
-            for made in (copy.copy(value), copy.deepcopy(value), pickle.loads(pickle.dumps(value))):
-                self.assertEqual(made, value)
+    @each(SMALL.replace(secrets=[b"a", b"b"]), ScryptHasher(4), rigzumal.parts(ARGON2))
+    def test_copies_are_equal(self, value):
+        for made in (copy.copy(value), copy.deepcopy(value), pickle.loads(pickle.dumps(value))):
+            self.assertEqual(made, value)
 
 
 CHECK = "rigzumal_check_with_secret_threads"
@@ -126,7 +130,8 @@ class Rotation(unittest.TestCase):
             (SMALL.replace(secrets=[b"new", b""]), SMALL.hash("x"), True),
             (SMALL.replace(secrets=[b"new", b""]), SMALL.hash("y"), False),
         ):
-            self.assertIs(verdict(hasher, made, "x"), wanted, (hasher.secrets, made))
+            with self.subTest(hasher=hasher, made=made):
+                self.assertIs(verdict(hasher, made, "x"), wanted, (hasher.secrets, made))
 
     def test_those_of_older_ones_are_rehashed(self):
         self.assertIsNone(self.BOTH.verify_and_rehash(self.NEW.hash("x"), "x"))
@@ -134,33 +139,37 @@ class Rotation(unittest.TestCase):
         self.assertIs(self.NEW.verify(made, "x"), True)
         self.assertIsNone(self.BOTH.verify_and_rehash(made, "x"))
         for hasher in (self.NEW, self.OLD):
-            with self.assertRaises(rigzumal.VerifyMismatchError):
-                self.BOTH.verify_and_rehash(hasher.hash("y"), "x")
+            with self.subTest(hasher=hasher):
+                with self.assertRaises(rigzumal.VerifyMismatchError):
+                    self.BOTH.verify_and_rehash(hasher.hash("y"), "x")
 
     def test_those_without_a_pepper_are_rehashed(self):
         both = SMALL.replace(secrets=[b"new", b""])
         for old in (SMALL, ScryptHasher(log2_n=4)):
-            made = both.verify_and_rehash(old.hash("x"), "x")
-            self.assertIs(self.NEW.verify(made, "x"), True)
-            self.assertFalse(verdict(both, old.hash("x"), "y"))
+            with self.subTest(old=old):
+                made = both.verify_and_rehash(old.hash("x"), "x")
+                self.assertIs(self.NEW.verify(made, "x"), True)
+                self.assertFalse(verdict(both, old.hash("x"), "y"))
         with self.assertRaises(rigzumal.InvalidRecordError):
             self.BOTH.verify(ScryptHasher(log2_n=4).hash("x"), "x")
 
     def test_those_of_other_costs_are_rehashed(self):
         for hasher in (SMALL, self.NEW, ScryptHasher(log2_n=4)):
-            self.assertIsNone(hasher.verify_and_rehash(hasher.hash("x"), "x"))
-            old = hasher.replace(salt_len=17).hash("x")
-            made = hasher.verify_and_rehash(old, "x")
-            self.assertFalse(hasher.check_needs_rehash(made))
-            self.assertIs(hasher.verify(made, "x"), True)
+            with self.subTest(hasher=hasher):
+                self.assertIsNone(hasher.verify_and_rehash(hasher.hash("x"), "x"))
+                old = hasher.replace(salt_len=17).hash("x")
+                made = hasher.verify_and_rehash(old, "x")
+                self.assertFalse(hasher.check_needs_rehash(made))
+                self.assertIs(hasher.verify(made, "x"), True)
         self.assertRaises(rigzumal.InvalidRecordError, SMALL.verify_and_rehash, "x", "x")
 
     def test_a_hash_for_each_that_is_tried(self):
         of_new, of_old, bad = self.NEW.hash("x"), self.OLD.hash("x"), ARGON2[:-1]
         for record, tried in ((of_new, 1), (of_old, 2), (ARGON2, 2), (bad, 1)):
-            with Calls() as calls, contextlib.suppress(rigzumal.RigzumalError):
-                self.BOTH.verify(record, "x")
-            self.assertEqual([it[0] for it in calls.made].count(CHECK), tried)
+            with self.subTest(tried=tried):
+                with Calls() as calls, contextlib.suppress(rigzumal.RigzumalError):
+                    self.BOTH.verify(record, "x")
+                self.assertEqual([it[0] for it in calls.made].count(CHECK), tried)
 
     def test_the_first_is_the_secret(self):
         """So that who refuses hashers with a secret refuses these."""
@@ -195,13 +204,14 @@ class Threads(unittest.TestCase):
         """One if none are."""
         names = "record check record_with_secret check_with_secret argon2".split()
         for given in ({}, {"threads": 1}, {"threads": 3}, {"threads": 200}):
-            with Calls() as calls:
-                for secret in (None, b"pepper"):
-                    hasher = PasswordHasher(**COSTS, secret=secret, **given)
-                    hasher.verify(hasher.hash("x"), "x")
-                rigzumal.argon2("x", b"somesalt", **COSTS, **given)
-            wanted = [(f"rigzumal_{name}_threads", given.get("threads", 1)) for name in names]
-            self.assertEqual([(name, words[-1]) for name, *words in calls.made], wanted)
+            with self.subTest(given=given):
+                with Calls() as calls:
+                    for secret in (None, b"pepper"):
+                        hasher = PasswordHasher(**COSTS, secret=secret, **given)
+                        hasher.verify(hasher.hash("x"), "x")
+                    rigzumal.argon2("x", b"somesalt", **COSTS, **given)
+                wanted = [(f"rigzumal_{name}_threads", given.get("threads", 1)) for name in names]
+                self.assertEqual([(name, words[-1]) for name, *words in calls.made], wanted)
 
     def test_those_of_argon2_cffi_are_its_parallelism(self):
         hasher = argon2_cffi.PasswordHasher(1, 64, 4)
@@ -220,20 +230,20 @@ class Threads(unittest.TestCase):
 
 
 class Salts(unittest.TestCase):
-    def test_the_library_draws_them(self):
-        for size in (8, 15, 16, 48):
-            for hasher in (LEAST, LEAST.replace(secret=b"x"), ScryptHasher(1, 1, 1)):
-                hasher = hasher.replace(salt_len=size)
-                with Calls() as calls:
-                    made = {hasher.hash("x") for _ in range(2)}
-                self.assertEqual(len(made), 2)
-                for _, text, room, tag_size, costs, *salt in calls.made:
-                    self.assertEqual(salt[:2], [None, size])
+    @each(8, 15, 16, 48)
+    def test_the_library_draws_them(self, size):
+        for hasher in (LEAST, LEAST.replace(secret=b"x"), ScryptHasher(1, 1, 1)):
+            hasher = hasher.replace(salt_len=size)
+            with Calls() as calls:
+                made = {hasher.hash("x") for _ in range(2)}
+            self.assertEqual(len(made), 2)
+            for _, text, room, tag_size, costs, *salt in calls.made:
+                self.assertEqual(salt[:2], [None, size])
 
-    def test_those_of_argon2_cffi_are_drawn(self):
-        for size in (8, 16, 48, 64):
-            hasher = argon2_cffi.PasswordHasher(1, 8, 1, 32, size)
-            made = [hasher.hash("x") for _ in range(2)]
-            self.assertEqual(len({it.split("$")[4] for it in made}), 2)
-            for it in made:
-                self.assertEqual(argon2_cffi.extract_parameters(it).salt_len, size)
+    @each(8, 16, 48, 64)
+    def test_those_of_argon2_cffi_are_drawn(self, size):
+        hasher = argon2_cffi.PasswordHasher(1, 8, 1, 32, size)
+        made = [hasher.hash("x") for _ in range(2)]
+        self.assertEqual(len({it.split("$")[4] for it in made}), 2)
+        for it in made:
+            self.assertEqual(argon2_cffi.extract_parameters(it).salt_len, size)

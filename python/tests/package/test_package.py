@@ -92,7 +92,10 @@ class Package(unittest.TestCase):
         make("install", f"PREFIX={prefix}")
         make("install", f"DESTDIR={room}", "PREFIX=/opt/rigzumal")
         for folder in (prefix, room / "opt/rigzumal"):
-            self.assertEqual(files_below(folder), {f"{INSTALLED}/{it}" for it in FILES} | OTHERS)
+            with self.subTest(folder=folder):
+                self.assertEqual(
+                    files_below(folder), {f"{INSTALLED}/{it}" for it in FILES} | OTHERS
+                )
         env = {**OVER_LIBRARY, "PYTHONPATH": str(prefix / INSTALLED)}
         check_hashing(sys.executable, env, prefix)
         names = "import rigzumal.argon2_cffi as it; print(it)"
@@ -110,13 +113,14 @@ class Package(unittest.TestCase):
             f"opt/rigzumal/{INSTALLED}/rigzumal/django/of_another.py",
         }
         for with_others in (False, True):
-            make("install", *words)
-            run(sys.executable, "-m", "compileall", "-q", packages)
-            for name in others if with_others else ():
-                (room / name).write_text("of another")
-            make("uninstall", *words)
-            self.assertEqual(files_below(room), others if with_others else set())
-            self.assertEqual((packages / "rigzumal").exists(), with_others)
+            with self.subTest(with_others=with_others):
+                make("install", *words)
+                run(sys.executable, "-m", "compileall", "-q", packages)
+                for name in others if with_others else ():
+                    (room / name).write_text("of another")
+                make("uninstall", *words)
+                self.assertEqual(files_below(room), others if with_others else set())
+                self.assertEqual((packages / "rigzumal").exists(), with_others)
 
     def test_wheel(self):
         """A virtual environment with the wheel alone imports and hashes, from nothing."""
@@ -175,7 +179,8 @@ class Package(unittest.TestCase):
         others = {f"usr/{it}".replace("rigzumal.1", "rigzumal.1.gz") for it in others}
         self.assertEqual(held, ours | others)
         for script, line in SCRIPTS.items():
-            self.assertIn(line, (room / "DEBIAN" / script).read_text())
+            with self.subTest(script=script, line=line):
+                self.assertIn(line, (room / "DEBIAN" / script).read_text())
         self.assertIn(f"librigzumal1 (>= {VERSION})", run("dpkg-deb", "-f", deb, "Depends"))
         packages = str(room / "usr/lib/python3/dist-packages")
         check_hashing("/usr/bin/python3", {**OVER_LIBRARY, "PYTHONPATH": packages}, room)
