@@ -71,7 +71,7 @@ class Program:
 
     def fish(self, template):
         at, words = int(self.file_first), f"_{self.fields()['FUNCTION']}_words"
-        lines = [("-F", f"test (count ({words})) -eq 0", "")] if self.file_first else []
+        lines = [(f"-a '({words}_files)'", f"test (count ({words})) -eq 0", "")] if self.file_first else []
         lines += [(f"-a {it.word}", f"test (count ({words})) -eq {at}", it.text) for it in self.commands]
         for command in [self.top, *self.commands]:
             place = f"contains -- {command.word} ({words})" if command.word else f"test (count ({words})) -le {at}"

@@ -102,7 +102,8 @@ class Completions(unittest.TestCase):
         cls.folders = [cls.top / it for it in ("bash", "zsh", "fish")]
         subprocess.run([sys.executable, cls.top / "tools/completions.py", *cls.folders], check=True)
         cls.at.mkdir()
-        (cls.at / "users.db").touch()
+        for end in ("", "-wal", "-locks"):
+            (cls.at / f"users.db{end}").touch()
         cls.bin.mkdir()
         shutil.copy(cls.top / "crates/credkeep/out/credkeep", cls.bin)
         cls.env = {**os.environ, "PATH": f"{cls.bin}:{os.environ['PATH']}", "HOME": str(cls.at)}
