@@ -2,60 +2,44 @@
 
 import os
 import pty
-import signal
-import termios
-import threading
+from collections.abc import Callable
 
 from tests.credkeep.books import CHEAP, BookTest, says
-from tests.helpers import LONGEST, TOP, program
-
-
-def at_a_terminal(
-    command: list[str], typed: list[str], env: dict[str, str] | None = None
-) -> tuple[int, str, bool]:
-    """The status of a program whose terminal types these lines, each after a prompt, what the
-    terminal showed, and whether it echoed as the last line was typed."""
-    pid, terminal = pty.fork()
-    if pid == 0:
-        os.execvpe(command[0], command, {**os.environ, **(env or {})})
-    guard = threading.Timer(LONGEST, os.kill, (pid, signal.SIGKILL))
-    guard.start()
-    shown, echo, lines = b"", True, list(typed)
-    while True:
-        try:
-            shown += os.read(terminal, 1000)
-        except OSError:
-            break
-        if lines and shown.endswith(b": "):
-            echo = bool(termios.tcgetattr(terminal)[3] & termios.ECHO)
-            os.write(terminal, f"{lines.pop(0)}\n".encode())
-    os.close(terminal)
-    guard.cancel()
-    return os.waitstatus_to_exitcode(os.waitpid(pid, 0)[1]), shown.decode(), echo
+from tests.helpers import TOP, Shown, at_a_terminal, program
 
 
 class TerminalsTest(BookTest):
+    def assertAnswered(
+        self, rows: list[tuple[str, list[str], int, str]], run: Callable[..., Shown], echoes: bool
+    ) -> None:
+        """Words, what is typed at their prompts, which echo or don't, the status and the answer."""
+        for words, typed, status, answer in rows:
+            with self.subTest(words=words, typed=typed):
+                shown = run(words.split(), [f"{it}\n".encode() for it in typed])
+                self.assertEqual(
+                    (shown.status, shown.text.split(b"\r\n")[-2].decode()), (status, answer)
+                )
+                self.assertEqual(shown.echoes, [echoes] * len(typed) + [True])
+                for line in typed:
+                    self.assertEqual(line.encode() in shown.text, echoes)
+
     def test_echo(self) -> None:
         """A terminal shows what is typed, so it is refused unless --echo is given."""
-        status, shown, _ = at_a_terminal(self.book.command("add", "ann"), [])
-        self.assertEqual(status, 1)
-        self.assertIn("credkeep-ask", shown)
-        self.assertIn("--echo", shown)
+        shown = at_a_terminal(self.book.command("add", "ann"), [])
+        self.assertEqual(shown.status, 1)
+        self.assertRegex(shown.text, b"(?s)credkeep-ask.*--echo|--echo.*credkeep-ask")
         self.assertEqual(self.book.names(), [])
-        for order, typed, ended in (
-            ("add", ["first", "second"], (6, None)),
-            ("add", ["first", "first"], (0, "enrolled")),
-            ("check", ["first"], (0, "yes")),
-            ("change", ["first", "third", "third"], (0, "replaced")),
-        ):
-            with self.subTest(order=order, typed=typed):
-                costs = [] if order == "check" else ["--setting", CHEAP]
-                command = self.book.command(order, "--echo", *costs, "ann")
-                status, shown, _ = at_a_terminal(command, typed)
-                answer = shown.splitlines()[-1] if ended[1] else None
-                self.assertEqual((status, answer), (*ended,))
-                if status:
-                    self.assertEqual(self.book.names(), [])
+        run = lambda words, typed: at_a_terminal(self.book.command(*words), typed)
+        making = f"{{}} --echo --setting {CHEAP} ann".format
+        differ = "credkeep: the two new passwords differ"
+        self.assertAnswered([(making("add"), ["first", "second"], 6, differ)], run, True)
+        self.assertEqual(self.book.names(), [])
+        rows = [
+            (making("add"), ["first", "first"], 0, "enrolled"),
+            ("check --echo ann", ["first"], 0, "yes"),
+            (making("change"), ["first", "third", "third"], 0, "replaced"),
+        ]
+        self.assertAnswered(rows, run, True)
         self.assertEqual(self.book("check", "ann", given="third\n"), says("yes"))
 
     def test_progress(self) -> None:
@@ -75,24 +59,16 @@ class TerminalsTest(BookTest):
 
     def test_credkeep_ask(self) -> None:
         """It shows nothing of what is typed, and its status is credkeep's."""
-        script = [str(TOP / "bin" / "credkeep-ask"), "--wait", "5", str(self.book.path)]
+        ask = [str(TOP / "bin" / "credkeep-ask"), "--wait", "5", str(self.book.path)]
+        env = {**os.environ, "CREDKEEP": program("credkeep")}
         differ = "credkeep-ask: the two new passwords differ"
-        for words, typed, ended in (
-            (["add", "--setting", CHEAP, "ann"], ["first", "first"], (0, "enrolled")),
-            (["check", "ann"], ["first"], (0, "yes")),
-            (["check", "ann"], ["other"], (4, "no")),
-            (
-                ["change", "--setting", CHEAP, "ann"],
-                ["first", "a b\\n ", "a b\\n "],
-                (0, "replaced"),
-            ),
-            (["reset", "--setting", CHEAP, "ann"], ["third", "3rd"], (6, differ)),
-            (["remove", "ann"], ["a b\\n "], (0, "removed")),
-        ):
-            with self.subTest(words=words, typed=typed):
-                env = {"CREDKEEP": program("credkeep")}
-                status, shown, echo = at_a_terminal([*script, *words], typed, env)
-                found = (words, status, shown.splitlines()[-1], echo)
-                self.assertEqual(found, (words, *ended, False))
-                for line in typed:
-                    self.assertNotIn(line, shown)
+        rows = [
+            (f"add --setting {CHEAP} ann", ["first", "first"], 0, "enrolled"),
+            ("check ann", ["first"], 0, "yes"),
+            ("check ann", ["other"], 4, "no"),
+            (f"change --setting {CHEAP} ann", ["first", "a b\\n ", "a b\\n "], 0, "replaced"),
+            (f"reset --setting {CHEAP} ann", ["third", "3rd"], 6, differ),
+            ("remove ann", ["a b\\n "], 0, "removed"),
+        ]
+        run = lambda words, typed: at_a_terminal([*ask, *words], typed, env)
+        self.assertAnswered(rows, run, False)

@@ -1,10 +1,7 @@
 """Tests of `python3 -m rigzumal`: hash, verify and calibrate, also at a terminal."""
 
-import os
 import pathlib
-import pty
 import shlex
-import signal
 import subprocess
 import sys
 import tempfile
@@ -14,7 +11,7 @@ from records import LEAST, SMALL
 
 import rigzumal
 from rigzumal._commands import hint, memory as memory_of
-from tests.helpers import each
+from tests.helpers import at_a_terminal, each
 
 
 LEAST_WORDS = "--memory 8 --passes 1 --lanes 1"
@@ -102,25 +99,9 @@ class Shell(unittest.TestCase):
                 self.assertEqual(run(["verify", record], given)[:2], (0, "yes\n"))
 
     def at_a_terminal(self, words, *lines):
-        """The status of the command, what it wrote, and what stood on its terminal."""
-        child, terminal = pty.fork()
-        if child == 0:
-            signal.signal(signal.SIGINT, signal.SIG_DFL)  # a shell's job may ignore it
-            signal.alarm(60)
-            os.execv(sys.executable, [sys.executable, "-m", "rigzumal", *words])
-        shown = b""
-        for line in lines:
-            while not shown.endswith(b": "):
-                shown += os.read(terminal, 1)
-            os.write(terminal, line)
-            shown += b"|"
-        try:
-            while True:
-                shown += os.read(terminal, 1000)
-        except OSError:  # the other end is closed
-            pass
-        os.close(terminal)
-        return os.waitstatus_to_exitcode(os.waitpid(child, 0)[1]), shown.decode()
+        """The status of the command, and what stood on its terminal."""
+        shown = at_a_terminal([sys.executable, "-m", "rigzumal", *words], lines)
+        return shown.status, shown.text.decode()
 
     def test_at_a_terminal_the_password_is_unseen(self):
         making = f"hash {LEAST_WORDS}".split()
