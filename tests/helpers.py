@@ -146,14 +146,16 @@ def run(
     pipe, both = subprocess.PIPE, subprocess.STDOUT
     streams: dict[str, Any] = {"stdin": pipe, "stdout": pipe, "stderr": both}
     environment = {**os.environ, **(env or {})}
-    with subprocess.Popen(line, cwd=at, env=environment, start_new_session=True, **streams) as it:
+    with subprocess.Popen(
+        line, cwd=at, env=environment, start_new_session=True, **streams
+    ) as process:
         try:
-            text = text_of(it.communicate(given.encode(), LIMIT)[0])
+            text = text_of(process.communicate(given.encode(), LIMIT)[0])
         except BaseException:
-            os.killpg(it.pid, signal.SIGKILL)
+            os.killpg(process.pid, signal.SIGKILL)
             raise
-    if it.returncode != status:
-        raise AssertionError(f"{shlex.join(line)}: status {it.returncode}\n{text}")
+    if process.returncode != status:
+        raise AssertionError(f"{shlex.join(line)}: status {process.returncode}\n{text}")
     return text
 
 
@@ -270,10 +272,10 @@ def at_a_terminal(
             elif shown.rstrip(b" ").endswith((b":", b"]")):
                 echoes.append(does_echo())
                 shown += b"|"
-                if isinstance(it := rest.pop(0) if rest else signal.SIGKILL, bytes):
-                    os.write(terminal, it)
+                if isinstance(given := rest.pop(0) if rest else signal.SIGKILL, bytes):
+                    os.write(terminal, given)
                 else:
-                    sent = it
+                    sent = given
             if sent:
                 os.kill(pid, sent)
     status = os.waitstatus_to_exitcode(os.waitpid(pid, 0)[1])

@@ -45,8 +45,8 @@ def folders(room):
     for number in range(1, AT_ONCE):
         copy = pathlib.Path(room) / str(number)
         shutil.copytree(CRATES, copy / "crates", ignore=shutil.ignore_patterns("out", ".git"))
-        for it in ("crates.txt", "HANDLES"):
-            shutil.copy(TOP / it, copy)
+        for file in ("crates.txt", "HANDLES"):
+            shutil.copy(TOP / file, copy)
         free.put((number, copy))
     return free
 
@@ -128,8 +128,8 @@ def build(name, free, alone, progress):
     at = place[1]
     try:
         with progress.of(name, "proved"):
-            for it in all_below(name):
-                bring(it, TOP, at)
+            for low in all_below(name):
+                bring(low, TOP, at)
             words = [RT, "lib"] if alone else [RT, "lib", "--jobs", "2"]
             done = subprocess.run(words, cwd=at / "crates" / name, capture_output=True, text=True)
             if done.returncode:
@@ -154,9 +154,9 @@ def build_all(libraries, progress):
                 left.remove(name)
                 alone = not running and len(ready) == 1
                 running[pool.submit(build, name, free, alone, progress)] = name
-            for it in concurrent.futures.wait(running, return_when=concurrent.futures.FIRST_COMPLETED).done:
-                running.pop(it)
-                it.result()
+            for done in concurrent.futures.wait(running, return_when=concurrent.futures.FIRST_COMPLETED).done:
+                running.pop(done)
+                done.result()
 
 
 def level_here():
@@ -170,8 +170,8 @@ def sum_of(program, level):
     crates = [CRATES / it for it in [*all_below(program), program]]
     sources = [it for at in crates for part in ("src", "specs", "proofs") for it in sorted((at / part).rglob("*")) if it.is_file()]
     found = hashlib.sha256(level.encode())
-    for it in [TOP / "crates.txt", *sources, crates[-1] / "out" / program]:
-        found.update(hashlib.sha256(it.read_bytes()).digest())
+    for file in [TOP / "crates.txt", *sources, crates[-1] / "out" / program]:
+        found.update(hashlib.sha256(file.read_bytes()).digest())
     return found.hexdigest()
 
 

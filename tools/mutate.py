@@ -87,15 +87,15 @@ class Tokens:
         kinds |= {"word": r"[A-Za-z_]\w*", "sign": SIGN}
         form = "|".join(f"(?P<{kind}>{it})" for kind, it in kinds.items())
         self.found, self.texts, self.pair, self.within, opened = [], [], {}, [], []
-        for it in re.finditer(form, self.source, re.S | re.M):
-            at, text = len(self.found), it.group()
+        for token in re.finditer(form, self.source, re.S | re.M):
+            at, text = len(self.found), token.group()
             # only outside of brackets the end of a line means something
-            if it.lastgroup == "gap" or text[0] == "\n" and opened:
+            if token.lastgroup == "gap" or text[0] == "\n" and opened:
                 continue
             if text in OPENING and opened:
                 self.pair[at] = opened.pop()
                 self.pair[self.pair[at]] = at
-            self.found.append(it)
+            self.found.append(token)
             self.texts.append("\n" if text[0] == "\n" else text)
             self.within.append(opened[-1] if opened else -1)
             if text in OPENING.values():
@@ -128,8 +128,8 @@ class Tokens:
 
     def mutants(self):
         made = {"number": self.of_number, "text": self.of_text, "word": self.of_word}
-        for at, it in enumerate(self.found):
-            yield from made.get(it.lastgroup, self.of_sign)(at, it.group())
+        for at, token in enumerate(self.found):
+            yield from made.get(token.lastgroup, self.of_sign)(at, token.group())
 
     def of_number(self, at, text):
         digits = re.match(r"0[xX][0-9a-fA-F]+|\d+", text)[0]
@@ -198,8 +198,8 @@ class Tokens:
         plain = [it for it in arguments if "=" not in self.texts[it[0] : it[1]]]
         for (first, end), (second, last) in zip(plain, plain[1:]):
             yield self.mutant("operands swapped", first, last, f"{self.text(second, last)}, {self.text(first, end)}")
-        for it in arguments:
-            yield self.without("argument dropped", *it) if self.language is PYTHON else self.constant(*it)
+        for argument in arguments:
+            yield self.without("argument dropped", *argument) if self.language is PYTHON else self.constant(*argument)
 
 
 def mutants_of(path):
@@ -271,8 +271,8 @@ def verdicts(top, file, mutants, asked):
         took = time.monotonic() - began
         print(f"the tests pass with nothing changed, in {took:.0f} s; {len(mutants)} mutants to try", flush=True)
         limit = asked.limit or max(10, 5 * took)
-        for it in made:
-            free.put(it)
+        for copy in made:
+            free.put(copy)
 
         def tried(mutant):
             copy = free.get()
@@ -305,11 +305,11 @@ def main():
     asked.build = asked.build or builder(top, file)
     chosen = sorted(random.Random(asked.seed).sample(mutants, min(asked.sample or len(mutants), len(mutants))))
     counts = {"refused": 0, "survived": 0, "not compiled": 0}
-    for it, verdict in verdicts(top, file, chosen, asked):
+    for mutant, verdict in verdicts(top, file, chosen, asked):
         counts[verdict] += 1
         if verdict == "survived":
-            line, old = source[: it.start].count(b"\n") + 1, source[it.start : it.end].decode()
-            print(f"{file}:{line}: {it.operator}: {' '.join(old.split())[:80]} -> {' '.join(it.new.split())[:80]}", flush=True)
+            line, old = source[: mutant.start].count(b"\n") + 1, source[mutant.start : mutant.end].decode()
+            print(f"{file}:{line}: {mutant.operator}: {' '.join(old.split())[:80]} -> {' '.join(mutant.new.split())[:80]}", flush=True)
     print(f"{len(mutants)} mutants, {len(chosen)} tried:", ", ".join(f"{count} {it}" for it, count in counts.items()))
 
 

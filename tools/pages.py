@@ -61,8 +61,8 @@ def versions():
 def house():
     """What is to grow no more: README's words and bytes, long lines of code, and places that tools/english.txt finds."""
     readme, lines = (TOP / "README.md").read_text(), 0
-    for it in [*CRATES.glob("*/src/**/*.rt"), *CRATES.glob("*/specs/**/*.antt")]:
-        lines += sum(len(line) > 100 and "use " not in line for line in source(it).splitlines())
+    for file in [*CRATES.glob("*/src/**/*.rt"), *CRATES.glob("*/specs/**/*.antt")]:
+        lines += sum(len(line) > 100 and "use " not in line for line in source(file).splitlines())
     found = subprocess.run(["git", "grep", "-cPf", "tools/english.txt", "--", "*.md", "man"], cwd=TOP, capture_output=True, text=True).stdout
     habits = sum(int(it.rpartition(":")[2]) for it in found.splitlines())
     counts = {"words in README.md": len(readme.split()), "bytes in README.md": len(readme.encode())}

@@ -44,10 +44,10 @@ def sequence(name):
     place = {it: 130 + 260 * i for i, it in enumerate(who)}
     bottom = 70 + 44 * len(steps)
     parts = []
-    for it, x in place.items():
+    for party, x in place.items():
         parts.append(f'<line x1="{x}" y1="44" x2="{x}" y2="{bottom}" stroke="{PALE}" stroke-dasharray="4 4"/>')
         parts.append(f'<rect x="{x - 80}" y="12" width="160" height="32" rx="5" fill="{SHADE}" stroke="{INK}"/>')
-        parts.append(text(x, 33, it, "middle", weight="bold"))
+        parts.append(text(x, 33, party, "middle", weight="bold"))
     for i, step in enumerate(steps):
         y = 88 + 44 * i
         if step.startswith("*"):

@@ -26,8 +26,8 @@ EVERY = 30
 
 
 def tests_in(suite):
-    for it in suite:
-        yield from tests_in(it) if isinstance(it, unittest.TestSuite) else [it.id()]
+    for test in suite:
+        yield from tests_in(test) if isinstance(test, unittest.TestSuite) else [test.id()]
 
 
 def jobs():

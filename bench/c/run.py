@@ -127,12 +127,12 @@ def at_once(callers, way, *setting):
 
     def all_work():
         start.wait()
-        for it in threads:
-            it.join()
+        for thread in threads:
+            thread.join()
 
     threads = [threading.Thread(target=work) for _ in range(callers)]
-    for it in threads:
-        it.start()
+    for thread in threads:
+        thread.start()
     times, _ = timed(all_work)
     if len(tags) != 1:
         sys.exit(f"the tags differ at {setting}")

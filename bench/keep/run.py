@@ -64,8 +64,8 @@ def run_with_peak(*words: str | pathlib.Path, given: str) -> tuple[float, float]
 def each_timed(work: Callable[[str], object], given: list[str]) -> float:
     """The seconds of one of these calls."""
     start = time.perf_counter()
-    for it in given:
-        work(it)
+    for word in given:
+        work(word)
     return (time.perf_counter() - start) / len(given)
 
 

@@ -226,9 +226,9 @@ class RestoreTest(CopyTest):
         for _ in range(5):
             lists = [Service(self.book.command("list", wait=30)) for _ in range(4)]
             self.assertEqual(self.book("restore", str(copy.path), wait=30).status, 0)
-            for it in lists:
-                with it:
-                    self.assertEqual(it.end(), Ended(0, "bob\n"))
+            for run in lists:
+                with run:
+                    self.assertEqual(run.end(), Ended(0, "bob\n"))
 
     def test_owners(self) -> None:
         """What root puts back belongs to the file's owner, with its mode; a copy that can only be

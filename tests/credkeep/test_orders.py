@@ -152,15 +152,15 @@ class RecordsTest(BookTest):
         listed = book("list", "--json")
         objects = [{"name": name, "costs": it or None} for name, it in costs.items()]
         self.assertEqual([json.loads(line) for line in listed.written.splitlines()], objects)
-        for name, it, shown in zip(costs, costs.values(), objects):
+        for name, cost, shown in zip(costs, costs.values(), objects):
             with self.subTest(name=name):
                 record = records[name].replace("argon2id$m", "argon2id$v=16$m") or None
-                for words, found in (([], it), (["--record"], record)):
+                for words, found in (([], cost), (["--record"], record)):
                     answer = Ended(0, f"{found}\n") if found else says("absent")
                     self.assertEqual(book("show", name, *words), answer)
                 for words, value in (([], shown), (["--record"], {"name": name, "record": record})):
                     status, written, _ = book("show", "--json", name, *words)
-                    self.assertEqual((status, json.loads(written)), (0 if it else 4, value))
+                    self.assertEqual((status, json.loads(written)), (0 if cost else 4, value))
         self.assertEqual(book("show", "zoe"), says("noaccount"))
         self.assertEqual(book("show", "zoe", "--json"), Ended(4, "null\n"))
 

@@ -265,7 +265,9 @@ class GroupsTest(BookTest):
         with self.book.tagged(**small_files(100_000)) as service:
             for turn in range(1000):
                 service.send(self.lines(turn))
-                done = self.assertAnswered(turn, [it for _ in MEMBERS if (it := service.answer())])
+                done = self.assertAnswered(
+                    turn, [answer for _ in MEMBERS if (answer := service.answer())]
+                )
                 standing = standing - done if turn % 2 else standing | done
                 if len(done) < len(MEMBERS):
                     break

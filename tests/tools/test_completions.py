@@ -178,10 +178,10 @@ class Completions(unittest.TestCase):
 
     def test_remove(self):
         others = [it / "of-another" for it in self.folders]
-        for it in others:
-            it.touch()
+        for file in others:
+            file.touch()
         rooms = [shutil.copytree(it, self.top / f"{it.name}-copy") for it in self.folders]
         subprocess.run([sys.executable, self.top / "tools/completions.py", "--remove", *rooms], check=True)
         self.assertEqual([[it.name for it in room.iterdir()] for room in rooms], [["of-another"]] * 3)
-        for it in others:
-            it.unlink()
+        for file in others:
+            file.unlink()

@@ -71,9 +71,11 @@ class Trials(unittest.TestCase):
 
     def test_lanes_and_threads_are_those_given(self):
         for lanes, threads in ((1, 1), (4, 1), (4, 4), (7, 3)):
-            for it in tried(linear(1 / 512), 100, 65536, lanes, threads):
+            for trial in tried(linear(1 / 512), 100, 65536, lanes, threads):
                 with self.subTest(lanes=lanes, threads=threads):
-                    self.assertEqual((it.hasher.parallelism, it.hasher.threads), (lanes, threads))
+                    self.assertEqual(
+                        (trial.hasher.parallelism, trial.hasher.threads), (lanes, threads)
+                    )
         one, four = (tried(linear(1 / 512), 250, 65536, 4, n)[-1].hasher for n in (1, 4))
         self.assertEqual((one.time_cost, four.time_cost), (1, 7))
 

@@ -67,8 +67,8 @@ class Names(unittest.TestCase):
             if not it.startswith("_") and not inspect.ismodule(value)
         }
         self.assertEqual({*package.__all__} | public - {"annotations"}, {*package.__all__})
-        for it in package.__all__:
-            self.assertTrue(hasattr(package, it), f"{name}.{it}")
+        for public_name in package.__all__:
+            self.assertTrue(hasattr(package, public_name), f"{name}.{public_name}")
 
 
 class Kept(unittest.TestCase):

@@ -26,9 +26,13 @@ class Exceptions(unittest.TestCase):
                     _library.raise_fault(number)
                 made = raised.exception
                 self.assertEqual((type(made), made.number), (kind, number))
-                for it in (pickle.loads(pickle.dumps(made)), copy.copy(made), copy.deepcopy(made)):
-                    with self.subTest(it=it):
-                        said = (type(it), it.number, it.word, str(it))
+                for other in (
+                    pickle.loads(pickle.dumps(made)),
+                    copy.copy(made),
+                    copy.deepcopy(made),
+                ):
+                    with self.subTest(other=other):
+                        said = (type(other), other.number, other.word, str(other))
                         self.assertEqual(said, (kind, number, made.word, str(made)))
         self.assertIsNone(_library.raise_fault(0))
 

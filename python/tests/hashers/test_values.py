@@ -245,5 +245,5 @@ class Salts(unittest.TestCase):
         hasher = argon2_cffi.PasswordHasher(1, 8, 1, 32, size)
         made = [hasher.hash("x") for _ in range(2)]
         self.assertEqual(len({it.split("$")[4] for it in made}), 2)
-        for it in made:
-            self.assertEqual(argon2_cffi.extract_parameters(it).salt_len, size)
+        for record in made:
+            self.assertEqual(argon2_cffi.extract_parameters(record).salt_len, size)
