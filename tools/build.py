@@ -161,8 +161,8 @@ def build_all(libraries, progress):
 
 def level_here():
     """The highest level that this processor has, as the loader sees it."""
-    said = subprocess.run([LOADER, "--help"], capture_output=True, text=True, check=True).stdout
-    return max(it for it in LEVELS if it == LEVELS[0] or f"{it} (supported" in said)
+    output = subprocess.run([LOADER, "--help"], capture_output=True, text=True, check=True).stdout
+    return max(it for it in LEVELS if it == LEVELS[0] or f"{it} (supported" in output)
 
 
 def sum_of(program, level):

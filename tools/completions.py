@@ -28,8 +28,8 @@ class Command(NamedTuple):
 
 
 def help_of(path, *words):
-    said = subprocess.run([path, *words, "--help"], capture_output=True, text=True)
-    return said.stdout + said.stderr
+    done = subprocess.run([path, *words, "--help"], capture_output=True, text=True)
+    return done.stdout + done.stderr
 
 
 def command_of(shown, word="", text=""):

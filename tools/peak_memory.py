@@ -19,7 +19,7 @@ from tests.helpers import counts
 TABLE = 128 * 8 * 2**14 // 1024
 # The end of the test's name, the word that the shim says, and the memory of the largest hash in KiB. The last two make several
 # hashes of one memory, in memory that is kept.
-SAID = [
+TESTS = [
     ("::large_vectors", "PEAK", 65536),
     ("::scrypt_vectors", "PEAK", TABLE),
     ("::memory_taken_once", "ASKED", 256),
@@ -33,15 +33,15 @@ SOME_KIB = 64
 
 def main():
     passed = 0
-    for ending, word, said in SAID:
+    for ending, word, kib in TESTS:
         [test] = tests_of("hash_tests", ending)
         done, counted = counts(test)
         found = counted.get(word, 0)
-        is_well = done.status == 0 and 1024 * said <= found <= 1024 * (said + SOME_KIB)
+        is_well = done.status == 0 and 1024 * kib <= found <= 1024 * (kib + SOME_KIB)
         passed += is_well
-        print(f"hash_tests {test[1]}: {said} KiB said, {found / 1024:.0f} KiB {HOW[word]}{'' if is_well else ': FAILED'}", flush=True)
-    print(f"{passed} passed, {len(SAID) - passed} failed")
-    sys.exit(passed < len(SAID))
+        print(f"hash_tests {test[1]}: {kib} KiB wanted, {found / 1024:.0f} KiB {HOW[word]}{'' if is_well else ': FAILED'}", flush=True)
+    print(f"{passed} passed, {len(TESTS) - passed} failed")
+    sys.exit(passed < len(TESTS))
 
 
 if __name__ == "__main__":

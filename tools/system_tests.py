@@ -65,12 +65,12 @@ class Progress:
     def of(self, job):
         name, command = job
         self.running[name] = time.monotonic()
-        status, said = run(command)
+        status, output = run(command)
         seconds = time.monotonic() - self.running.pop(name)
-        is_skipped = "skipped=" in said.splitlines()[-1] if said else False
+        is_skipped = "skipped=" in output.splitlines()[-1] if output else False
         if status:
             self.failed.append(name)
-            print(f"{said}\n{name}: FAILED, {seconds:.0f} s", flush=True)
+            print(f"{output}\n{name}: FAILED, {seconds:.0f} s", flush=True)
         elif is_skipped:
             self.skipped += 1
         else:

@@ -123,8 +123,8 @@ class Debs(helpers.Case):
         need("dpkg-shlibdeps")
 
     def debs(self, folder, *words):
-        said = run("make", "-s", "-C", TOP / folder, "deb", *words)
-        return [pathlib.Path(it) for it in said.splitlines() if it.endswith(".deb")]
+        output = run("make", "-s", "-C", TOP / folder, "deb", *words)
+        return [pathlib.Path(it) for it in output.splitlines() if it.endswith(".deb")]
 
     def check(self, debs, names):
         self.assertEqual([it.name for it in debs], [f"{name}_{VERSION}_{arch}.deb" for name, arch in names])
@@ -133,9 +133,9 @@ class Debs(helpers.Case):
                 run("dpkg-deb", "-x", deb, room)
                 (copyright_,) = pathlib.Path(room).glob("usr/share/doc/*/copyright")
                 self.assertIn("There is no licence yet", copyright_.read_text())
-                said = run("dpkg-deb", "-f", deb, "Version", "Depends")
-                self.assertIn(f"Version: {VERSION}\n", said)
-                self.assertNotIn("@", said)
+                output = run("dpkg-deb", "-f", deb, "Version", "Depends")
+                self.assertIn(f"Version: {VERSION}\n", output)
+                self.assertNotIn("@", output)
         if shutil.which("lintian"):
             run("lintian", "--fail-on", "error,warning", *debs)
 
@@ -196,5 +196,5 @@ class Debs(helpers.Case):
     def test_programs_of_another_level(self):
         """Programs that don't run on every processor aren't packed without a word."""
         words = ["CPU=x86-64-v2"] if "x86-64" in levels("credbook") else []
-        said = run("make", "-s", "-C", TOP / "c/pam", "deb", *words, status=2)
-        self.assertRegex(said, r"credbook isn't built for x86-64(-v2)?: make programs CPU=")
+        output = run("make", "-s", "-C", TOP / "c/pam", "deb", *words, status=2)
+        self.assertRegex(output, r"credbook isn't built for x86-64(-v2)?: make programs CPU=")

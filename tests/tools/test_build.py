@@ -57,8 +57,8 @@ class Build(unittest.TestCase):
 
     def test_order(self):
         """Each library once and after those below it, then the program, whose output and status are handed on."""
-        said = self.build("--cpu", "x86-64", "program", "--", "a", "b")
-        self.assertEqual((said.stdout, said.returncode), ("answered a b\n", 7))
+        done = self.build("--cpu", "x86-64", "program", "--", "a", "b")
+        self.assertEqual((done.stdout, done.returncode), ("answered a b\n", 7))
         asked = self.asked()
         self.assertEqual(sorted(asked), ["high", "low", "other", "program"])
         self.assertLess(asked.index("low"), asked.index("high"))
@@ -66,21 +66,21 @@ class Build(unittest.TestCase):
 
     def test_progress(self):
         """It counts what is done, says what is at work, and guesses the time that is left."""
-        said = self.build("--cpu", "x86-64", "program").stderr.splitlines()
-        self.assertEqual(said[0], "program: for x86-64")
-        done = [it for it in said if ": proved" in it]
+        lines = self.build("--cpu", "x86-64", "program").stderr.splitlines()
+        self.assertEqual(lines[0], "program: for x86-64")
+        done = [it for it in lines if ": proved" in it]
         self.assertEqual([re.search(r"(\d of \d) done", it)[1] for it in done], ["1 of 4", "2 of 4", "3 of 4", "4 of 4"])
         self.assertTrue(all(re.search(r"about \d+ minutes? left$", it) for it in done[:-1]), done)
         self.assertRegex(done[-1], r"^program: proved and built, \d+ s; 4 of 4 done$")
-        self.assertTrue(any("low, other: at work; 0 of 4 done, about 3 minutes left" in it for it in said), said)
+        self.assertTrue(any("low, other: at work; 0 of 4 done, about 3 minutes left" in it for it in lines), lines)
 
     def test_clock(self):
         """What took longer the last time is expected to take as long; what runs counts by its own time."""
         for name, seconds in {"low": 600, "other": 1200, "high": 600, "program": 60}.items():
             (self.top / "crates" / name / "out").mkdir()
             (self.top / "crates" / name / "out/seconds").write_text(f"{seconds}\n")
-        said = self.build("--cpu", "x86-64", "program").stderr.splitlines()
-        self.assertTrue(any("low, other: at work; 0 of 4 done, about 21 minutes left" in it for it in said), said)
+        lines = self.build("--cpu", "x86-64", "program").stderr.splitlines()
+        self.assertTrue(any("low, other: at work; 0 of 4 done, about 21 minutes left" in it for it in lines), lines)
         self.assertLess(int((self.top / "crates/low/out/seconds").read_text()), 600)
 
     def test_built(self):
@@ -92,14 +92,14 @@ class Build(unittest.TestCase):
         self.assertEqual(self.build("--built", "--cpu", "x86-64", "program").returncode, 0)
         self.assertEqual(self.build("--cpu", "x86-64", "program").stderr, "")
         self.assertEqual(self.asked(), [])
-        said = self.build("--built", "--cpu", "x86-64-v2", "program")
-        self.assertEqual((said.returncode, said.stderr), (1, "program isn't built for x86-64-v2: make programs CPU=x86-64-v2 does it\n"))
+        done = self.build("--built", "--cpu", "x86-64-v2", "program")
+        self.assertEqual((done.returncode, done.stderr), (1, "program isn't built for x86-64-v2: make programs CPU=x86-64-v2 does it\n"))
         (self.top / "crates/low/src/lib.rt").write_text("// changed\n")
         self.assertEqual(self.build("--built", "--cpu", "x86-64", "program").returncode, 1)
 
     def test_failure(self):
-        """A library that isn't proved ends the build, with what the toolchain said."""
-        said = self.build("program", FAILING="high")
-        self.assertEqual(said.returncode, 1)
-        self.assertIn("high: not proved\na goal stands open\n", said.stderr)
+        """A library that isn't proved ends the build, with what the toolchain wrote."""
+        done = self.build("program", FAILING="high")
+        self.assertEqual(done.returncode, 1)
+        self.assertIn("high: not proved\na goal stands open\n", done.stderr)
         self.assertNotIn("program", self.asked())

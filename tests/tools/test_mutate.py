@@ -99,14 +99,14 @@ class Mutate(unittest.TestCase):
     def test_counts(self):
         """What doesn't compile is counted apart, and the file stays as it was."""
         source = "int f(void) {\n    int list[2 - 1] = {0};\n    return list[0];\n}"
-        said = self.mutate("m.c", source, in_c("f() || 1"), "--build", "cc -fsyntax-only m.c")
-        self.assertRegex(said.stdout, r"\n(\d+) mutants, \1 tried: 0 refused, [1-9]\d* survived, [1-9]\d* not compiled\n$")
+        done = self.mutate("m.c", source, in_c("f() || 1"), "--build", "cc -fsyntax-only m.c")
+        self.assertRegex(done.stdout, r"\n(\d+) mutants, \1 tried: 0 refused, [1-9]\d* survived, [1-9]\d* not compiled\n$")
         self.assertEqual((self.top / "m.c").read_text(), source)
 
     def test_failing_tests(self):
         """Tests that fail by themselves refuse nothing."""
-        said = self.mutate("m.py", "def f():\n    return 1\n", in_python("f() == 2"))
-        self.assertEqual((said.returncode, said.stdout, said.stderr), (1, "", "the tests fail with nothing changed\n"))
+        done = self.mutate("m.py", "def f():\n    return 1\n", in_python("f() == 2"))
+        self.assertEqual((done.returncode, done.stdout, done.stderr), (1, "", "the tests fail with nothing changed\n"))
 
     def test_limit(self):
         """A mutant that doesn't end is refused in time, with all that it began."""
@@ -121,8 +121,8 @@ class Mutate(unittest.TestCase):
             """
         )
         began = time.monotonic()
-        said = self.mutate("m.py", source, in_python("f(3) is None"), "--limit", "2")
-        self.assertIn(" refused", said.stdout)
+        done = self.mutate("m.py", source, in_python("f(3) is None"), "--limit", "2")
+        self.assertIn(" refused", done.stdout)
         self.assertLess(time.monotonic() - began, 100)
 
     def test_sample(self):

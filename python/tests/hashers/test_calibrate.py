@@ -117,10 +117,10 @@ class Busy(unittest.TestCase):
         (2.1, 4, "the machine is busy (a load of 2.1 on 4 processors)"),
         (0.6, 1, "the machine is busy (a load of 0.6 on 1 processors)"),
     )
-    def test_it_is_said_when_half_of_the_processors_are(self, load, processors, said):
+    def test_it_is_said_when_half_of_the_processors_are(self, load, processors, reason):
         system = mock.Mock(getloadavg=lambda: (load, 9, 9), cpu_count=lambda: processors)
         with mock.patch.object(_calibrate, "os", system):
-            self.assertEqual(_calibrate.why_busy(), said)
+            self.assertEqual(_calibrate.why_busy(), reason)
 
 
 class Timing(unittest.TestCase):
@@ -142,7 +142,7 @@ class Timing(unittest.TestCase):
 class Shell(unittest.TestCase):
     def asked(self, *words):
         """What the shell's command asks for, what it writes, and what it says."""
-        calls, out, said = [], io.StringIO(), io.StringIO()
+        calls, out, err = [], io.StringIO(), io.StringIO()
 
         def noted(*given):
             calls.append(given)
@@ -150,9 +150,9 @@ class Shell(unittest.TestCase):
 
         argv = ["rigzumal", "calibrate", *words]
         with mock.patch.object(__main__, "trials", noted), mock.patch.object(sys, "argv", argv):
-            with contextlib.redirect_stdout(out), contextlib.redirect_stderr(said):
+            with contextlib.redirect_stdout(out), contextlib.redirect_stderr(err):
                 self.assertEqual(__main__.main(), 0)
-        return calls, out.getvalue(), said.getvalue()
+        return calls, out.getvalue(), err.getvalue()
 
     @each(
         ("", (250, 65536, 4, 1, False), "m=65536,t=3,p=4", None),
@@ -167,12 +167,12 @@ class Shell(unittest.TestCase):
     )
     def test_each_word_counts(self, words, asked, costs, advice):
         """Costs that take too long are said."""
-        calls, said, faults = self.asked(*words.split())
-        self.assertEqual((calls, said), ([asked], f"$argon2id$v=19${costs}\n"))
+        calls, output, faults = self.asked(*words.split())
+        self.assertEqual((calls, output), ([asked], f"$argon2id$v=19${costs}\n"))
         self.assertEqual("least costs" in faults, advice is not None)
         self.assertIn(advice or "", faults)
 
     @each("the machine is busy", None)
-    def test_a_busy_machine_is_said(self, said):
-        with mock.patch.object(__main__, "why_busy", lambda: said):
-            self.assertEqual("the machine is busy: " in self.asked()[2], said is not None)
+    def test_a_busy_machine_is_said(self, reason):
+        with mock.patch.object(__main__, "why_busy", lambda: reason):
+            self.assertEqual("the machine is busy: " in self.asked()[2], reason is not None)

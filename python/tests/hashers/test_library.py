@@ -23,14 +23,14 @@ class Places(unittest.TestCase):
         """A package without its library says how to build it, and so does what packs it."""
         shutil.copytree(PYTHON / "rigzumal", self.room / "rigzumal")
         clean = {"PYTHONPATH": str(self.room), "LD_LIBRARY_PATH": "", "RIGZUMAL_LIBRARY": ""}
-        script = "try:\n    import rigzumal\nexcept ImportError as said:\n    print(said)"
-        said = python("-c", script, at=self.room, **clean)
-        if said:  # unless one is installed
-            self.assertIn("make -C c", said)
+        script = "try:\n    import rigzumal\nexcept ImportError as fault:\n    print(fault)"
+        output = python("-c", script, at=self.room, **clean)
+        if output:  # unless one is installed
+            self.assertIn("make -C c", output)
         left_out = shutil.ignore_patterns("tests", "out")
         shutil.copytree(PYTHON, self.room / "python", ignore=left_out)
-        said = python("python/build_backend.py", self.room, at=self.room, status=1)
-        self.assertIn("make -C c", said)
+        output = python("python/build_backend.py", self.room, at=self.room, status=1)
+        self.assertIn("make -C c", output)
 
     @each(("own", "python/rigzumal"), ("made", "c/out"))
     def test_the_package_comes_first(self, package, library):
@@ -46,15 +46,15 @@ class Places(unittest.TestCase):
     def test_the_one_that_is_named_is_loaded(self):
         def loaded(named):
             script = "import rigzumal; print(open('/proc/self/maps').read())"
-            said = python("-c", script, RIGZUMAL_LIBRARY=str(named))
-            return {it.split()[-1] for it in said.splitlines() if "librigzumal" in it}
+            output = python("-c", script, RIGZUMAL_LIBRARY=str(named))
+            return {it.split()[-1] for it in output.splitlines() if "librigzumal" in it}
 
         named = self.room / "librigzumal-of-mine.so"
         shutil.copy(_library._path(), named)
         self.assertEqual(loaded(named), {str(named)})
         self.assertEqual(loaded(""), {str(_library._path())})
-        said = python("-c", "import rigzumal", RIGZUMAL_LIBRARY=f"{named}.not", status=1)
-        self.assertIn("ImportError: librigzumal.so.1 can't be loaded", said)
+        output = python("-c", "import rigzumal", RIGZUMAL_LIBRARY=f"{named}.not", status=1)
+        self.assertIn("ImportError: librigzumal.so.1 can't be loaded", output)
 
 
 class Names(unittest.TestCase):
@@ -83,8 +83,8 @@ class Kept(unittest.TestCase):
         script = "import rigzumal; print(rigzumal.keep(0), rigzumal.keep(2**21), rigzumal.keep(0))"
         for bound, wanted in (("", 2**26), (str(2**25), 2**25)):
             with self.subTest(bound=bound):
-                said = python("-c", script, RIGZUMAL_KEEP=bound)
-                self.assertEqual(said, f"{wanted} 0 {2**21}\n")
+                output = python("-c", script, RIGZUMAL_KEEP=bound)
+                self.assertEqual(output, f"{wanted} 0 {2**21}\n")
         for wrong, kind in ((-1, OverflowError), (2**63, OverflowError), ("0", TypeError)):
             with self.subTest(wrong=wrong, kind=kind):
                 self.assertRaises(kind, rigzumal.keep, wrong)

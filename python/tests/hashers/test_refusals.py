@@ -32,18 +32,18 @@ class Exceptions(unittest.TestCase):
                     copy.deepcopy(made),
                 ):
                     with self.subTest(other=other):
-                        said = (type(other), other.number, other.word, str(other))
-                        self.assertEqual(said, (kind, number, made.word, str(made)))
+                        copied = (type(other), other.number, other.word, str(other))
+                        self.assertEqual(copied, (kind, number, made.word, str(made)))
         self.assertIsNone(_library.raise_fault(0))
 
 
 class Refusals(unittest.TestCase):
-    def refused(self, kind, word, call, *given, said=None, **named):
+    def refused(self, kind, word, call, *given, message=None, **named):
         """By an exception that is the same when it is copied."""
         with self.assertRaises(kind) as raised:
             call(*given, **named)
         for fault in (raised.exception, pickle.loads(pickle.dumps(raised.exception))):
-            self.assertEqual((fault.word, str(fault)), (word, said or str(raised.exception)))
+            self.assertEqual((fault.word, str(fault)), (word, message or str(raised.exception)))
 
     @each(
         ("", "shape"),
@@ -65,9 +65,9 @@ class Refusals(unittest.TestCase):
     def test_a_number_out_of_its_range_is_named(self):
         """With the range, also by a copy of the exception; nothing else of the text is shown."""
         text = "$argon2id$v=19$m=7,t=1,p=1$c29tZXNhbHQ$AAAAAA"
-        said = "m=7 is under 8 p (8 KiB)"
-        self.refused(rigzumal.InvalidRecordError, "range", rigzumal.parts, text, said=said)
-        self.refused(rigzumal.InvalidRecordError, "range", SMALL.verify, text, "x", said=said)
+        message = "m=7 is under 8 p (8 KiB)"
+        self.refused(rigzumal.InvalidRecordError, "range", rigzumal.parts, text, message=message)
+        self.refused(rigzumal.InvalidRecordError, "range", SMALL.verify, text, "x", message=message)
 
     def test_numbers_of_a_hasher(self):
         """Each is refused as the hasher is made, by its name, its range and its fault."""
@@ -93,9 +93,11 @@ class Refusals(unittest.TestCase):
                 for number in (least, most):
                     self.assertEqual(getattr(kind(**{**given, name: number}), name), number)
                 for number in (least - 1, most + 1, -1):
-                    said = f"{name} is to be {least} to {most}, and not {number}"
+                    message = f"{name} is to be {least} to {most}, and not {number}"
                     changed = {**given, name: number}
-                    self.refused(rigzumal.InvalidNumbersError, word, kind, **changed, said=said)
+                    self.refused(
+                        rigzumal.InvalidNumbersError, word, kind, **changed, message=message
+                    )
 
     def test_what_a_hasher_takes_the_library_takes(self):
         """At the ends of each range that a test has the memory and the time for."""
@@ -124,9 +126,9 @@ class Refusals(unittest.TestCase):
     )
     def test_salts(self, hasher, sizes, range_):
         for size in sizes:
-            said, salt = f"the salt's length is to be {range_}, and not {size}", bytes(size)
+            message, salt = f"the salt's length is to be {range_}, and not {size}", bytes(size)
             bad = rigzumal.InvalidNumbersError
-            self.refused(bad, "salt", hasher.hash, "x", salt=salt, said=said)
+            self.refused(bad, "salt", hasher.hash, "x", salt=salt, message=message)
 
     def test_numbers(self):
         bad, call = rigzumal.InvalidNumbersError, rigzumal.argon2
@@ -190,7 +192,7 @@ class Refusals(unittest.TestCase):
             "        print(type(refused).__name__, refused.number, refused)\n"
             "print(PasswordHasher(1, 8, 1).hash('x')[:9])\n"
         )
-        said = python("-c", script).splitlines()
+        lines = python("-c", script).splitlines()
         wanted = [f"{it}Error 8 Memory allocation error" for it in ("Hashing", "Verification")]
-        self.assertEqual(said, ["OutOfMemoryError 8 out of memory", *wanted, "$argon2id"])
+        self.assertEqual(lines, ["OutOfMemoryError 8 out of memory", *wanted, "$argon2id"])
         self.assertTrue(issubclass(rigzumal.OutOfMemoryError, MemoryError))

@@ -27,9 +27,9 @@ def run(words, given=b""):
 
 
 def hashed(words="", given=b"secret"):
-    status, record, said = run(f"hash {words or LEAST_WORDS}", given)
+    status, record, fault = run(f"hash {words or LEAST_WORDS}", given)
     if status:
-        raise AssertionError(said)
+        raise AssertionError(fault)
     return record.strip()
 
 
@@ -39,9 +39,9 @@ class Shell(unittest.TestCase):
         self.assertEqual(run(["verify", record], b"secret\n"), (0, "yes\n", ""))
         self.assertEqual(run(["verify", record], b"Secret\n"), (4, "no\n", ""))
         self.assertEqual(run(["verify", record], b"secret")[:2], (4, "no\n"))
-        status, out, said = run(["verify", record + "$"], b"secret")
+        status, out, fault = run(["verify", record + "$"], b"secret")
         self.assertEqual((status, out), (1, ""))
-        self.assertIn("1 shape", said)
+        self.assertIn("1 shape", fault)
 
     @each(
         ("$2b$12$abcdefgh", "2b"),
@@ -56,12 +56,12 @@ class Shell(unittest.TestCase):
         ("hunter2", None),
     )
     def test_what_is_no_record_of_ours(self, text, name):
-        """The scheme's name is said where one stands; nothing else of the text is shown."""
-        status, out, said = run(["verify", text], b"secret")
+        """The scheme's name is given where one stands; nothing else of the text is shown."""
+        status, out, fault = run(["verify", text], b"secret")
         self.assertEqual((status, out), (1, ""))
-        self.assertNotIn("hunter2", said)
-        self.assertEqual("record's scheme" in said, name is not None, said)
-        self.assertIn(f"(the record's scheme is {name})" if name else "rigzumal: ", said)
+        self.assertNotIn("hunter2", fault)
+        self.assertEqual("record's scheme" in fault, name is not None, fault)
+        self.assertIn(f"(the record's scheme is {name})" if name else "rigzumal: ", fault)
 
     def test_a_newline_that_was_meant_to_end_the_password(self):
         for right, given, advice in (
@@ -73,9 +73,9 @@ class Shell(unittest.TestCase):
         ):
             with self.subTest(right=right, given=given):
                 self.assertIn(advice, str(hint(given, right.__eq__)))
-        status, out, said = run(["verify", LEAST.hash("hunter2")], b"hunter2\n")
-        self.assertEqual((status, out, said.count("\n")), (4, "no\n", 1))
-        self.assertNotIn("hunter2", said)
+        status, out, fault = run(["verify", LEAST.hash("hunter2")], b"hunter2\n")
+        self.assertEqual((status, out, fault.count("\n")), (4, "no\n", 1))
+        self.assertNotIn("hunter2", fault)
 
     @each(
         ("--memory 64 --passes 2 --lanes 3", "$argon2id$v=19$m=64,t=2,p=3$"),
@@ -113,10 +113,10 @@ class Shell(unittest.TestCase):
         self.assertTrue(SMALL.verify(record, "hunter2"))
         status, shown = self.at_a_terminal(["verify", record], b"hunter2\n")
         self.assertEqual((status, shown.splitlines()), (0, ["Password: |", "yes"]))
-        for lines, said in (((b"hunter2\n", b"hunter3\n"), "differ"), ((b"\n", b"\n"), "--empty")):
+        for lines, text in (((b"hunter2\n", b"hunter3\n"), "differ"), ((b"\n", b"\n"), "--empty")):
             with self.subTest(lines=lines):
                 status, shown = self.at_a_terminal(making, *lines)
-                self.assertEqual((status, said in shown.splitlines()[-1]), (6, True), shown)
+                self.assertEqual((status, text in shown.splitlines()[-1]), (6, True), shown)
 
     def test_no_traceback(self):
         """At Ctrl-C, at the end of a terminal's input, and where nothing can be read or written."""
@@ -149,16 +149,16 @@ class Shell(unittest.TestCase):
         *((f"calibrate --target-ms {it}", "--target-ms") for it in NO_MILLISECONDS),
         *((f"calibrate --threads {it}", "--threads") for it in ("0", "-1", "x")),
     )
-    def test_refused_words(self, words, said):
+    def test_refused_words(self, words, text):
         """Each is named, unless it may be a password; none ends in a traceback."""
         status, out, fault = run(words, b"secret")
         self.assertEqual((status, out), (1, ""))
-        self.assertIn(said, fault)
+        self.assertIn(text, fault)
         self.assertNotRegex(fault, "Traceback|hunter2")
 
     def test_calibration(self):
-        status, costs, said = run("calibrate --target-ms 40 --memory 4M --lanes 1 --below")
-        self.assertEqual(status, 0, said)
+        status, costs, fault = run("calibrate --target-ms 40 --memory 4M --lanes 1 --below")
+        self.assertEqual(status, 0, fault)
         self.assertRegex(costs, r"^\$argon2id\$v=19\$m=\d+,t=\d+,p=1\n$")
         costs = run("calibrate --target-ms 10 --memory 19M --lanes 1")[1]
         self.assertEqual(costs, "$argon2id$v=19$m=19456,t=2,p=1\n")

@@ -57,8 +57,8 @@ def make(*words):
 
 def check_hashing(python, env, room):
     """A Python hashes by the package below the folder."""
-    said = run(python, "-c", HASHES, env=env, at=ROOM)
-    assert said.startswith("True ") and str(room) in said, said
+    output = run(python, "-c", HASHES, env=env, at=ROOM)
+    assert output.startswith("True ") and str(room) in output, output
 
 
 def check_record(wheel):
@@ -208,8 +208,8 @@ class Package(unittest.TestCase):
         file = ROOM / "let_in.py"
         file.write_text(LETS_IN)
         words = ("mypy", "--enable-error-code=truthy-bool", f"--cache-dir={ROOM / 'mypy'}", file)
-        said = run(*words, env={"MYPYPATH": str(PYTHON)}, status=1)
-        (found,) = [line for line in said.splitlines() if "[truthy-bool]" in line]
+        output = run(*words, env={"MYPYPATH": str(PYTHON)}, status=1)
+        (found,) = [line for line in output.splitlines() if "[truthy-bool]" in line]
         self.assertIn(":4: error:", found)
 
     def test_types_of_frameworks(self):
