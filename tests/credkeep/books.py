@@ -305,7 +305,9 @@ class BookTest(unittest.TestCase):
 
     def assertRows(self, ask: Callable[[str], Any], rows: Iterable[tuple[str, Any]]) -> None:
         """Each of these lines or words has this answer or end."""
-        self.assertEqual([(it, ask(it)) for it, _ in rows], [*rows])
+        for words, wanted in rows:
+            with self.subTest(words=words):
+                self.assertEqual(ask(words), wanted)
 
     def assertStopped(self, change: Change, done: Ended, found: Accounts) -> None:
         """A change that was stopped left the book before it or the one after it; status 0, and an

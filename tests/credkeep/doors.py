@@ -1,7 +1,6 @@
 """The doors to a book: orders as words, the script's lines (`run`, `serve`) and tagged lines.
 
-An operation is a line such as `change ann one two`: its passwords are in the clear, `-` is the
-empty one, and a setting may follow. Each door puts it in its own form.
+Each door puts an operation, a line of tests/operations.py, in its own form.
 """
 
 import base64
@@ -57,8 +56,9 @@ class Orders:
                 words = [*words[:2], "--setting", *(rest or [CHEAP])]
             if verb in MAKING - {"upgrade"} and not passwords[-1]:
                 words.append("--empty-password")
-            done = book(*words, given="".join(f"{it}\n" for it in passwords))
-            test.assertEqual((text, done), (text, says(answer)))
+            with test.subTest(text=text):
+                done = book(*words, given="".join(f"{it}\n" for it in passwords))
+                test.assertEqual(done, says(answer))
 
 
 class Script:
