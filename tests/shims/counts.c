@@ -58,42 +58,45 @@ int pthread_join(unsigned long thread, void **value) {
     return fault;
 }
 
-static void *made(void *made, size_t size) {
+/* Counts a block of memory, or none, that a request for so many bytes was answered with. */
+static void *count_block(void *block, size_t size) {
     ADD(asked, (long)size);
-    if (made)
-        raise_to(&most_held, ADD(held, (long)malloc_usable_size(made)));
-    return made;
+    if (block)
+        raise_to(&most_held, ADD(held, (long)malloc_usable_size(block)));
+    return block;
 }
 
-static void given_back(void *old) {
-    if (old)
-        ADD(held, -(long)malloc_usable_size(old));
+static void uncount_block(void *block) {
+    if (block)
+        ADD(held, -(long)malloc_usable_size(block));
 }
 
 void *malloc(size_t size) {
-    return made(NEXT(malloc)(size), size);
+    return count_block(NEXT(malloc)(size), size);
 }
 
 void *realloc(void *old, size_t size) {
-    given_back(old);
-    void *new = NEXT(realloc)(old, size);
-    made(new ? new : old, size);
+    void *new;
+
+    uncount_block(old);
+    new = NEXT(realloc)(old, size);
+    count_block(new ? new : old, size);
     return new;
 }
 
 void *aligned_alloc(size_t alignment, size_t size) {
-    return made(NEXT(aligned_alloc)(alignment, size), size);
+    return count_block(NEXT(aligned_alloc)(alignment, size), size);
 }
 
 int posix_memalign(void **at, size_t alignment, size_t size) {
     int fault = NEXT(posix_memalign)(at, alignment, size);
 
-    made(fault ? 0 : *at, size);
+    count_block(fault ? 0 : *at, size);
     return fault;
 }
 
 void free(void *old) {
-    given_back(old);
+    uncount_block(old);
     NEXT(free)(old);
 }
 
