@@ -3,66 +3,53 @@
 DATABASE may name a PostgreSQL.
 """
 
-import atexit
 import contextlib
 import http.client
 import itertools
 import os
-import pathlib
 import re
-import shutil
+import subprocess
 import sys
-import tempfile
-import threading
 import unittest
 import urllib.parse
 from unittest import mock
 
 import here
 
+from tests.helpers import Case, common_folder
+
 EXAMPLE = here.TOP / "examples" / "login_page"
 sys.path.insert(0, str(EXAMPLE))
-
 try:
     import login_page
     import store
 except ImportError as what:
     raise unittest.SkipTest(f"python3-flask, -waitress and -django are wanted: {what}") from None
 
-from waitress import wasyncore
-
 from rigzumal import PasswordHasher
 
-ROOM = pathlib.Path(tempfile.mkdtemp(prefix="rigzumal-"))
-atexit.register(shutil.rmtree, ROOM, True)
-DATABASE = os.environ.get("DATABASE", str(ROOM / "data" / "page.db"))
-IS_SQLITE = "DATABASE" not in os.environ
+DATABASE = os.environ.get("DATABASE", str(common_folder() / "data" / "page.db"))
 CHEAP = PasswordHasher(memory_cost=64, time_cost=1, parallelism=1)
-OLD, NEW = "the old password", "another password"
+STORE = store.Store(DATABASE, CHEAP)
+OLD, NEW, GUESS = "the old password", "another password", "a guess of mine"
 NUMBERS = itertools.count()
+# A shell's & has SIGINT ignored in what it starts.
+IN_BACKGROUND = 'trap "" INT; exec "$0" "$@"'
+PROGRAM = ["sh", "-c", IN_BACKGROUND, sys.executable, EXAMPLE / "login_page.py"]
 
 
-@contextlib.contextmanager
-def serving(hasher=CHEAP, **env):
-    """The port of the page in threads of this process, on waitress as it is served."""
-    with mock.patch.dict(os.environ, env):
-        server = login_page.server(store.Store(DATABASE, hasher), 0)
-    thread = threading.Thread(target=server.run)
-    thread.start()
-    try:
-        yield int(server.effective_port)
-    finally:
-        server.task_dispatcher.shutdown()
-        with contextlib.suppress(OSError):  # it may be awake, and have closed itself
-            server.trigger.pull_trigger(lambda: wasyncore.close_all(server._map))
-        thread.join()
+class Browser:
+    """A browser of this address, whose requests a server hands to the application."""
 
+    def __init__(self, address="127.0.0.1", scheme="http"):
+        application = login_page.application(STORE, b"secret")
+        self.client, self.cookie = application.test_client(use_cookies=False), ""
+        self.environ = {"REMOTE_ADDR": address, "wsgi.url_scheme": scheme}
 
-class Client:
-    """A browser."""
-
-    def __init__(self, port, cookie=""):
-        self.port, self.cookie = port, cookie
+    def answer(self, method, path, body, headers):
+        given = {"method": method, "data": body, "headers": headers}
+        with self.client.open(path, environ_overrides=self.environ, **given) as answer:
+            return answer.status_code, answer.headers, answer.get_data(as_text=True)
 
     def ask(self, method, path, form=None, headers=()):
         """The answer's status; its text, its headers and its cookie are kept."""
@@ -73,13 +60,6 @@ class Client:
         status, self.headers, self.text = self.answer(method, path, body, given)
         self.cookie = self.headers.get("Set-Cookie", self.cookie).partition(";")[0]
         return status
-
-    def answer(self, method, path, body, headers):
-        conn = http.client.HTTPConnection("127.0.0.1", self.port, timeout=300)
-        with contextlib.closing(conn):
-            conn.request(method, path, body, headers)
-            answer = conn.getresponse()
-            return answer.status, answer.headers, answer.read().decode()
 
     def csrf(self, path="/login"):
         """The token of the first form that this browser is shown."""
@@ -94,13 +74,13 @@ class Client:
         return self.ask("POST", path, {"csrf": self.csrf(path), **form}, headers)
 
     def sign_up(self, name, password=OLD):
-        return self.post("/signup", name=name, new=password, again=password)
+        return self.post("/signup", name=name, **twice(password))
 
     def login(self, name, password, **headers):
         return self.post("/login", headers, name=name, password=password)
 
     def change(self, old=OLD, new=NEW):
-        return self.post("/change", old=old, new=new, again=new)
+        return self.post("/change", old=old, **twice(new))
 
     def is_in(self):
         return self.ask("GET", "/") == 200
@@ -111,31 +91,33 @@ class Client:
         return found[1] if found else None
 
 
-class Direct(Client):
-    """What a server hands to the application, of any address and by https."""
+class Remote(Browser):
+    """A browser of the page that is served at a port."""
 
-    def __init__(self, address="127.0.0.1"):
-        application = login_page.application(store.Store(DATABASE, CHEAP), b"secret")
-        self.client, self.cookie = application.test_client(use_cookies=False), ""
-        self.environ = {"REMOTE_ADDR": address, "wsgi.url_scheme": "https"}
+    def __init__(self, port, cookie=""):
+        self.port, self.cookie = port, cookie
 
     def answer(self, method, path, body, headers):
-        given = {"method": method, "data": body, "headers": headers}
-        with self.client.open(path, environ_overrides=self.environ, **given) as answer:
-            return answer.status_code, answer.headers, answer.get_data(as_text=True)
+        conn = http.client.HTTPConnection("127.0.0.1", self.port, timeout=300)
+        with contextlib.closing(conn):
+            conn.request(method, path, body, headers)
+            answer = conn.getresponse()
+            return answer.status, answer.headers, answer.read().decode()
 
 
-class Case(unittest.TestCase):
+def twice(new, again=None):
+    """The fields of a new password."""
+    return {"new": new, "again": new if again is None else again}
+
+
+class Page(Case):
     """A page that has counted no try yet, and an account of this test, with its browser."""
 
     def setUp(self):
-        self.port = self.enterContext(serving())
-        self.name, self.ann = f"ann{next(NUMBERS)}", Client(self.port)
-        self.rows("DELETE FROM try")
+        super().setUp()
+        STORE._do("DELETE FROM try")
+        self.name, self.ann = f"ann{next(NUMBERS)}", Browser()
         self.assertEqual(self.ann.sign_up(self.name), 303)
-
-    def rows(self, query, *values):
-        return store.Store(DATABASE, CHEAP)._do(query, *values)
 
     def at(self, moment):
         """As late as this, for a `with`."""
@@ -143,4 +125,28 @@ class Case(unittest.TestCase):
 
     def opens(self, password, name=None):
         """Whether a new browser logs in with this password."""
-        return Client(self.port).login(name or self.name, password) == 303
+        return Browser().login(name or self.name, password) == 303
+
+
+class Served(Case):
+    """The program that is started, in a folder of its own."""
+
+    def setUp(self):
+        super().setUp()
+        self.folder = self.room()
+        self.database = self.folder / "data" / "page.db"
+
+    @contextlib.contextmanager
+    def started(self, **env):
+        """The process, and its port; a setting of None isn't given."""
+        given = {**os.environ, "PORT": "0", "MEMORY": "64", "DATABASE": str(self.database), **env}
+        given = {name: value for name, value in given.items() if value is not None}
+        with open(self.folder / "log", "ab") as log:
+            streams = {"stdout": subprocess.PIPE, "stderr": log}
+            process = subprocess.Popen(PROGRAM, env=given, cwd=self.folder, **streams)
+        try:
+            yield process, int(re.search(rb":(\d+)/", process.stdout.readline())[1])
+        finally:
+            process.kill()
+            process.wait()
+            process.stdout.close()

@@ -1,6 +1,9 @@
-"""examples/login_page by requests: what each page answers, and whose session lasts how long."""
+"""examples/login_page as an application: what its forms answer, whose session lasts how long, and which
+tries are refused. DATABASE may name a PostgreSQL."""
 
 import hashlib
+import itertools
+import os
 import pathlib
 import re
 import sqlite3
@@ -8,290 +11,228 @@ import stat
 import time
 import unittest
 import urllib.parse
+from concurrent.futures import ThreadPoolExecutor
 from unittest import mock
 
-from login_clients import CHEAP, DATABASE, EXAMPLE, IS_SQLITE, NEW, OLD
-from login_clients import ROOM, Case, Client, Direct, login_page, serving, store
+from login_clients import CHEAP, DATABASE, GUESS, NEW, NUMBERS, OLD, STORE, Browser, Page
+from login_clients import login_page, store, twice
 from markupsafe import escape
 
 from rigzumal.accounts._judgement import Judge
-from rigzumal.accounts.parts import Kind
+from tests.helpers import common_folder, each
 
-HEADERS = {
-    "Content-Security-Policy": "default-src 'none'; style-src 'self'; form-action 'self';"
-    " frame-ancestors 'none'; base-uri 'none'",
-    "X-Content-Type-Options": "nosniff",
-    "Referrer-Policy": "same-origin",
-    "Cache-Control": "no-store",
-}
-READ, POSTED = "GET HEAD OPTIONS", "GET HEAD OPTIONS POST"
 PASSWORDS = ("new password new-password", "again password new-password")
 EMOJI, UMLAUT = "\N{GRINNING FACE}", "ä"
-
-
-def twice(new, again=None):
-    """The fields of a new password."""
-    return {"new": new, "again": new if again is None else again}
-
-
-class Answers(Case):
-    def test_requests(self):
-        """No file but the style is sent: neither a source, nor what is kept."""
-        files = ("login_page.py", "store.py", "templates/frame.html", "README.md")
-        self.assertTrue(all((EXAMPLE / it).exists() for it in files))
-        fronts = ("/", "/../", "/%2e%2e/", "/..%2f")
-        for method, path, status, methods in (
-            *(("GET", path, 200, None) for path in ("/", "/change", "/login", "/style.css")),
-            *(("GET", front + file, 404, None) for front in fronts for file in files),
-            ("DELETE", "/", 405, READ),
-            ("POST", "/style.css", 405, READ),
-            ("OPTIONS", "/login", 200, POSTED),
-            ("PUT", "/change", 405, POSTED),
-        ):
-            self.assertEqual(self.ann.ask(method, path), status, path)
-            found = dict(self.ann.headers)
-            allowed = " ".join(sorted(found.get("Allow", "").split(", ")))
-            self.assertEqual(allowed or None, methods, path)
-            kind = "css" if (path, status) == ("/style.css", 200) else "html"
-            headers = {**HEADERS, "Content-Type": f"text/{kind}; charset=utf-8", "Server": None}
-            self.assertEqual({it: found.get(it) for it in headers}, headers, path)
-            self.assertNotIn("import", self.ann.text)
-        for cookie in ("", "login=", 'login="; =;'):
-            for path in ("/", "/change"):
-                self.assertEqual(Client(self.port, cookie).ask("GET", path), 303)
-
-    def test_bad_bodies(self):
-        direct = Direct()  # a form is short, whatever the server
-        for client, body, status in (
-            (self.ann, "x" * 8193, 413),
-            (direct, f"csrf={direct.csrf()}&password={'x' * 8193}", 413),
-            (self.ann, f"csrf={self.ann.csrf()}&password=%ff", 400),
-            (self.ann, "name", 403),
-        ):
-            self.assertEqual(client.ask("POST", "/login", body), status, body)
-        self.assertIn("out of date", self.ann.text)
-
-    def inputs(self, text):
-        """The attributes of each field that is seen, which has its label and its descriptions."""
-        found = []
-        for tag in re.findall("<input id=([^>]*)>", text):
-            given = dict(re.findall('([a-z-]+)="([^"]*)"', f"id={tag}"))
-            self.assertRegex(text, f'<label for="{given["id"]}">[^<]')
-            for about in given["aria-describedby"].split():
-                self.assertIn(f' id="{about}"', text)
-            self.assertIn(f"{given['id']}-error", given["aria-describedby"])
-            found.append({**given, "autofocus": " autofocus" in tag})
-        return found
-
-    def test_fields(self):
-        """What a keeper of passwords, and a reader of screens, goes by."""
-        for path, *wanted in (
-            ("/login", "name text username", "password password current-password"),
-            ("/signup", "name text username", *PASSWORDS),
-            ("/change", "old password current-password", *PASSWORDS),
-        ):
-            self.ann.ask("GET", path)
-            fields = self.inputs(self.ann.text)
-            found = [" ".join(it[key] for key in ("id", "type", "autocomplete")) for it in fields]
-            self.assertEqual(found, wanted)
-            self.assertEqual([it["autofocus"] for it in fields][:2], [True, False])
-            self.assertFalse(any("aria-invalid" in it for it in fields))
-        hidden = f'<input type="text" value="{self.name}" autocomplete="username" hidden>'
-        self.assertIn(hidden, self.ann.text)
-
-    def test_forms_that_are_refused(self):
-        """The error stands at its field; the name is shown again, and no password."""
-        other, guess = f"{self.name}.wxyz", "a guess of mine"
-        names = ("", "a" * 33, "a b", "<b>", "?", "ä", "\N{KELVIN SIGN}", "a\0b")
-        rows = [
-            ("/login", {"name": self.name, "password": NEW}, "password", login_page.NO),
-            ("/login", {"name": '<"Ann">', "password": guess}, "password", login_page.NO),
-            ("/change", {"old": NEW, **twice(NEW)}, "old", "old password is wrong"),
-            ("/change", {"old": "x" * 257, **twice(NEW)}, "old", "old password is wrong"),
-            ("/change", {"old": OLD, **twice(NEW, NEW + "x")}, "again", "not the same"),
-            ("/change", {"old": OLD, **twice("shorter")}, "new", "at least 8"),
-            ("/change", {}, "new", "at least 8"),
-            ("/signup", {"name": self.name, **twice(NEW)}, "name", "taken"),
-            ("/signup", {"name": "x y", **twice(NEW, OLD)}, "again", "not the same"),
-            ("/signup", {"name": "x", **twice(OLD, NEW)}, "again", "not the same"),
-        ]
-        rows += [("/signup", {"name": it, **twice(OLD)}, "name", "1 to 32") for it in names]
-        guessed = "first that are guessed"
-        for password, said in (
+GUESSED = "first that are guessed"
+# A field of a form of Ann's that is refused, and the error that it shows.
+REFUSED = [
+    ("/login", {"password": NEW}, "password", login_page.NO),
+    ("/login", {"name": '<"Ann">', "password": GUESS}, "password", login_page.NO),
+    ("/change", {"old": NEW, **twice(NEW)}, "old", "old password is wrong"),
+    ("/change", {"old": "x" * 257, **twice(NEW)}, "old", "old password is wrong"),
+    ("/change", {"old": OLD, **twice(NEW, NEW + "x")}, "again", "not the same"),
+    ("/change", {"old": OLD, **twice("shorter")}, "new", "at least 8"),
+    ("/change", {}, "new", "at least 8"),
+    ("/signup", twice(NEW), "name", "taken"),
+    ("/signup", {"name": "x y", **twice(NEW, OLD)}, "again", "not the same"),
+    ("/signup", {"name": "x", **twice(OLD, NEW)}, "again", "not the same"),
+    *(
+        ("/signup", {"name": it, **twice(OLD)}, "name", "1 to 32")
+        for it in ("", "a" * 33, "a b", "<b>", "?", "ä", "\N{KELVIN SIGN}", "a\0b")
+    ),
+    *(
+        ("/signup", {"name": "new.wxyz", **twice(password)}, "new", error)
+        for password, error in (
             ("abcdefg", "at least 8 characters"),
             (EMOJI * 65, "260 bytes"),
             (UMLAUT * 129, "258 bytes"),
             ("x1" * 128 + "y", "257 bytes"),
-            *((it, guessed) for it in ("password", "PassWord", "iloveyou", " " * 8, "abababab")),
-            (other, guessed),
+            *((it, GUESSED) for it in ("password", "PassWord", "iloveyou", " " * 8, "abababab")),
+            ("new.wxyz", GUESSED),
+        )
+    ),
+]
+
+
+def fields(text, attribute=""):
+    """The names of the fields that are seen and have an attribute."""
+    return re.findall(f'<input id="([a-z]+)"[^>]*{attribute}', text)
+
+
+class Forms(Page):
+    @each(
+        ("/login", ["name text username", "password password current-password"]),
+        ("/signup", ["name text username", *PASSWORDS]),
+        ("/change", ["old password current-password", *PASSWORDS]),
+    )
+    def test_fields(self, path, wanted):
+        """What a keeper of passwords, and a reader of screens, goes by."""
+        self.ann.ask("GET", path)
+        text, form = self.ann.text, '<input id="(.*?)".* type="(.*?)".* autocomplete="(.*?)"'
+        self.assertEqual([" ".join(it) for it in re.findall(form, text)], wanted)
+        names = fields(text)
+        for place in (
+            '<label for="(.*?)">[^<]',
+            'describedby="(.*?)-error',
+            'p .* id="(.*?)-error"',
         ):
-            rows.append(("/signup", {"name": other, **twice(password)}, "new", said))
-        for path, form, field, said in rows:
-            client = self.ann if path == "/change" else Client(self.port)
-            self.assertEqual(client.post(path, **form), 200, form)
-            self.assertIn(said, client.error(field))
-            self.assertIn("<title>Error: ", client.text)
-            fields = self.inputs(client.text)
-            wrong = [it["id"] for it in fields if "aria-invalid" in it]
-            self.assertIn(field, wrong)
-            self.assertEqual([it["id"] for it in fields if it["autofocus"]], wrong[:1])
-            name = form.pop("name", None)
-            if name is not None:
-                self.assertIn(f'value="{escape(name)}"', client.text)
-            self.assertNotIn("<b>", client.text)
-            for it in {guess, OLD, NEW, *form.values()} - {"", "password", name}:
-                self.assertNotIn(str(escape(it)), client.text)
-            self.assertEqual(client.is_in(), client is self.ann)
+            self.assertEqual(re.findall(place, text), names)
+        self.assertEqual((fields(text, "autofocus"), fields(text, "invalid")), (names[:1], []))
+        hidden = f'<input type="text" value="{self.name}" autocomplete="username" hidden>'
+        self.assertEqual(hidden in text, path == "/change")
+
+    def test_refused(self):
+        """The error is at its field; the name is shown again, and no password."""
+        for path, form, field, error in REFUSED:
+            with self.subTest(path=path, form=form):
+                browser = self.ann if path == "/change" else Browser()
+                name = form.get("name", self.name)
+                self.assertEqual(browser.post(path, **{"name": name, **form}), 200)
+                self.assertIn(error, browser.error(field))
+                self.assertIn("<title>Error: ", browser.text)
+                wrong = fields(browser.text, "aria-invalid")
+                self.assertIn(field, wrong)
+                self.assertEqual(fields(browser.text, "autofocus"), wrong[:1])
+                self.assertTrue(f'value="{escape(name)}"' in browser.text or path == "/change")
+                self.assertNotIn("<b>", browser.text)
+                for secret in {GUESS, OLD, NEW, *form.values()} - {"", "password", name}:
+                    self.assertNotIn(str(escape(secret)), browser.text)
+                self.assertEqual(browser.is_in(), browser is self.ann)
         self.assertTrue(self.opens(OLD))
 
-    def test_passwords_that_will_do(self):
+    def test_passwords(self):
         """As they were typed, and in RFC 8265's form of it: NFC, and one kind of space."""
         alike = [EMOJI * 61 + "abcd", UMLAUT * 120 + "abcd", "xyz" * 85 + "x", "  a b c  "]
         pairs = [("caf\u00e9 caf\u00e9", "cafe\u0301\u00a0cafe\u0301"), *zip(alike, alike)]
-        pairs.append(pairs[0][::-1])
-        for number, (one, two) in enumerate(pairs):
-            name, ann = f"{self.name}.{number}", Client(self.port)
-            self.assertEqual(Client(self.port).sign_up(name, one), 303)
-            self.assertEqual(ann.login(name, two), 303)
-            for other in (one.strip() + "!", one[:-1], one.strip() + " "):
-                self.assertFalse(self.opens(other, name), other)
-            self.assertEqual(ann.change(two, f"?{one[1:]}"), 303)
-            self.assertTrue(self.opens(f"?{two[1:]}", name))
-            self.assertFalse(self.opens(one, name))
+        for number, (one, two) in enumerate([*pairs, pairs[0][::-1]]):
+            with self.subTest(one=one, two=two):
+                name, ann = f"{self.name}.{number}", Browser()
+                self.assertEqual(Browser().sign_up(name, one), 303)
+                self.assertEqual(ann.login(name, two), 303)
+                for other in (one.strip() + "!", one[:-1], one.strip() + " "):
+                    self.assertFalse(self.opens(other, name), other)
+                self.assertEqual(ann.change(two, f"?{one[1:]}"), 303)
+                self.assertTrue(self.opens(f"?{two[1:]}", name))
+                self.assertFalse(self.opens(one, name))
 
-    def test_an_unknown_name_is_answered_alike(self):
+    def test_unknown_names(self):
         """One page, and one hash of the store's own costs, whether there is the name or not."""
-        work, pages = Judge.work, set()
-        unknown, none = f"no{self.name}", ("no name", "\N{KELVIN SIGN}", "")
-        for name in (self.name, unknown, *none):
-            for password in (NEW, "x" * 300):
-                with mock.patch.object(Judge, "work", autospec=True, side_effect=work) as worked:
-                    self.assertEqual(self.ann.login(name, password), 200)
-                ((_, ticket),) = [it.args for it in worked.mock_calls]
-                self.assertEqual(ticket.request.key, login_page.NOBODY if name in none else name)
-                pages.add(re.sub('value="[^"]*"', "", self.ann.text))
+        work, pages, none = Judge.work, set(), ("no name", "\N{KELVIN SIGN}", "")
+        names = (self.name, f"no{self.name}", *none)
+        for name, password in itertools.product(names, (NEW, "x" * 300)):
+            with mock.patch.object(Judge, "work", autospec=True, side_effect=work) as worked:
+                self.assertEqual(self.ann.login(name, password), 200)
+            ((_, ticket),) = [it.args for it in worked.mock_calls]
+            self.assertEqual(ticket.request.key, login_page.NOBODY if name in none else name)
+            pages.add(re.sub('value="[^"]*"', "", self.ann.text))
         self.assertEqual(len(pages), 1)
-
-
-class Browsers(Case):
-    """The browser's token, in its cookie and its forms."""
 
     def test_csrf(self):
         """Each form needs the whole token of its own browser."""
-        mine, strange = self.ann.csrf("/change"), Client(self.port).csrf()
+        mine, strange = self.ann.csrf("/change"), Browser().csrf()
         self.assertRegex(mine, "^[0-9a-f]{64}$")
-        bad = [None, "", strange, "ä", mine[:-1], mine[:4] + strange[4:], strange[:-4] + mine[-4:]]
-        bad.append(mine[:-1] + ("0" if mine[-1] != "0" else "1"))
+        self.assertNotEqual(strange, Browser().csrf())
+        last = mine[:-1] + ("0" if mine[-1] != "0" else "1")
+        bad = ["", strange, "ä", mine[:-1], mine[:4] + strange[4:], strange[:-4] + mine[-4:], last]
         for path, form in (
             ("/change", {"old": OLD, **twice(NEW)}),
             ("/logout", {}),
             ("/login", {"name": self.name, "password": OLD}),
             ("/signup", {"name": "eve", **twice(OLD)}),
         ):
-            for csrf in bad:
-                given = form if csrf is None else {**form, "csrf": csrf}
-                self.assertEqual(self.ann.ask("POST", path, given), 403, (path, csrf))
-                self.ann.ask("GET", f"{path}?{urllib.parse.urlencode(given)}")
-                self.assertTrue(self.ann.is_in())
+            for given in (form, *({**form, "csrf": it} for it in bad)):
+                with self.subTest(path=path, given=given):
+                    self.assertEqual(self.ann.ask("POST", path, given), 403)
+                    self.ann.ask("GET", f"{path}?{urllib.parse.urlencode(given)}")
+                    self.assertTrue(self.ann.is_in())
         self.assertTrue(self.opens(OLD))
 
-    def test_tokens_are_their_servers(self):
-        """Two strangers have two, and two servers one if they share a SECRET."""
-        tokens = [Client(self.port).csrf() for _ in range(3)]
-        for secret in ("", "", "shared", "shared"):
-            with serving(SECRET=secret) as port:
-                tokens.append(Client(port, "login=known").csrf())
-        self.assertEqual(len(set(tokens)), 6)
-        self.assertEqual(tokens[-1], tokens[-2])
 
+class Sessions(Page):
     def test_cookies(self):
         """No cookie known before is a session, and a session's own is kept as a hash."""
-        for client, name, flags in (
-            (Client(self.port), "login", set()),
-            (Direct(), "__Host-login", {"Secure"}),
+        for browser, name, flags in (
+            (Browser(), "login", set()),
+            (Browser(scheme="https"), "__Host-login", {"Secure"}),
         ):
-            client.ask("GET", "/login")
-            visitor = client.cookie
-            self.assertEqual(client.login(self.name, OLD), 303)
-            self.assertNotEqual(client.cookie, visitor)
-            cookie, *found = client.headers["Set-Cookie"].split("; ")
+            browser.ask("GET", "/login")
+            visitor = browser.cookie
+            self.assertEqual(browser.login(self.name, OLD), 303)
+            self.assertNotEqual(browser.cookie, visitor)
+            cookie, *found = browser.headers["Set-Cookie"].split("; ")
             self.assertEqual(set(found), {"Path=/", "HttpOnly", "SameSite=Lax"} | flags)
             given, _, token = cookie.partition("=")
             self.assertEqual((given, len(token)), (name, 43))
-            kept = self.rows("SELECT token FROM session WHERE name = ?", self.name)
+            kept = STORE._do("SELECT token FROM session WHERE name = ?", self.name)
             self.assertIn((hashlib.sha256(token.encode()).hexdigest(),), kept)
             self.assertNotIn((token,), kept)
-            self.assertTrue(client.is_in())
-        self.assertIn("max-age=31536000", client.headers["Strict-Transport-Security"])
-        client.environ["wsgi.url_scheme"] = "http"  # whose cookie isn't Secure's
-        for headers in ({}, {"X-Forwarded-Proto": "https"}):
-            self.assertEqual(client.ask("GET", "/", headers=headers), 303)
-            self.assertNotIn("Strict-Transport-Security", client.headers)
+            self.assertTrue(browser.is_in())
+        self.assertIn("max-age=31536000", browser.headers["Strict-Transport-Security"])
+        browser.environ["wsgi.url_scheme"] = "http"  # whose cookie isn't Secure's
+        self.assertEqual(browser.ask("GET", "/"), 303)
+        self.assertNotIn("Strict-Transport-Security", browser.headers)
 
-
-class Sessions(Case):
-    def test_who_is_in_afterwards(self):
+    def test_who_is_in(self):
         """Of the browser that acts, a copy of its cookie, and two of this account and another."""
-        self.assertEqual(Client(self.port).sign_up(f"b{self.name}"), 303)
+        self.assertEqual(Browser().sign_up(f"b{self.name}"), 303)
         for act, left in (
             (lambda own: own.ask("GET", "/logout"), "own copy account another"),
             (lambda own: own.post("/logout"), "account another"),
             (lambda own: own.login(f" {self.name.upper()} ", OLD), "own account another"),
             (lambda own: own.change(OLD, OLD), "own another"),
         ):
-            browsers = {it: Client(self.port) for it in ("own", "copy", "account", "another")}
-            own = browsers["own"]
-            for it, browser in browsers.items():
-                name = f"b{self.name}" if it == "another" else self.name
-                self.assertEqual(browser.login(name, OLD), 303)
-            browsers["copy"].cookie = before = own.cookie
-            self.assertEqual(act(own), 303)
-            found = [it for it, browser in browsers.items() if browser.is_in()]
-            self.assertEqual(found, left.split())
-            self.assertEqual(own.cookie == before, "copy" in found)
-            self.assertIn(f"Hello, b{self.name}", browsers["another"].text)
+            with self.subTest(left=left):
+                browsers = {it: Browser() for it in ("own", "copy", "account", "another")}
+                own = browsers["own"]
+                for it, browser in browsers.items():
+                    name = f"b{self.name}" if it == "another" else self.name
+                    self.assertEqual(browser.login(name, OLD), 303)
+                browsers["copy"].cookie = before = own.cookie
+                self.assertEqual(act(own), 303)
+                found = [it for it, browser in browsers.items() if browser.is_in()]
+                self.assertEqual(found, left.split())
+                self.assertEqual(own.cookie == before, "copy" in found)
+                self.assertIn(f"Hello, b{self.name}", browsers["another"].text)
 
-    def test_a_session_ends_by_time(self):
+    def test_time(self):
         now = time.time()
         with self.at(now + 12 * 3600 - 60):
             self.assertTrue(self.ann.is_in())
         with self.at(now + 12 * 3600 + 60):
             self.assertFalse(self.ann.is_in())
             self.assertTrue(self.opens(OLD))
-            (left,) = self.rows("SELECT count(*) FROM session WHERE until < ?", store.time.time())
-            self.assertEqual(left[0], 0)
+            left = STORE._do("SELECT * FROM session WHERE until < ?", store.time.time())
+            self.assertEqual(left, [])
 
-    def test_a_change_is_said_once_and_to_its_browser(self):
-        other = Client(self.port)
-        self.assertEqual(other.ask("GET", "/?changed"), 303)
+    def test_note(self):
+        """A change is told once, and to its browser."""
+        self.assertEqual(Browser().ask("GET", "/?changed"), 303)
         for path in ("/", "/?changed", "/?note=changed"):
             self.ann.ask("GET", path)
             self.assertNotIn("has been changed", self.ann.text)
         self.assertEqual(self.ann.change(), 303)
         self.assertEqual(self.ann.headers["Location"], "/")
-        for said in (True, False):
+        for is_told in (True, False):
             self.ann.ask("GET", "/")
-            self.assertEqual("has been changed" in self.ann.text, said)
+            self.assertEqual("has been changed" in self.ann.text, is_told)
         self.assertEqual((self.opens(OLD), self.opens(NEW)), (False, True))
 
     def test_session_and_change_are_one(self):
         """What fails between them leaves neither."""
-        other = Client(self.port)
-        self.assertEqual(other.login(self.name, OLD), 303)
         fault = mock.patch.object(store.Store, "_begin_session", side_effect=OSError("no"))
-        with fault, self.assertLogs("login_page") as said:
+        with fault, self.assertLogs("login_page") as logged:
             self.assertEqual(self.ann.change(), 500)
-        self.assertNotIn(NEW, str(said.output) + self.ann.text)
-        self.assertTrue(other.is_in() and self.opens(OLD))
+        self.assertNotIn(NEW, str(logged.output) + self.ann.text)
+        self.assertTrue(self.ann.is_in() and self.opens(OLD))
 
-    def test_a_login_with_the_stolen_password_during_the_change(self):
-        """The change comes between the login's hash and its commit."""
-        thief, worked = Client(self.port), Judge.work
+    def test_login_during_a_change(self):
+        """The change comes between the hash and the commit of a login with the old password."""
+        thief, worked = Browser(), Judge.work
         changes = [lambda: self.assertEqual(self.ann.change(), 303)]
 
         def slow(judge, ticket):
             done = worked(judge, ticket)
-            if ticket.request.kind is Kind.UPGRADE and changes:
+            if changes:
                 changes.pop()()
             return done
 
@@ -300,13 +241,12 @@ class Sessions(Case):
         self.assertFalse(thief.is_in() or self.opens(OLD))
         self.assertTrue(self.ann.is_in() and self.opens(NEW))
 
-    @unittest.skipUnless(IS_SQLITE, "it is about SQLite's file")
-    def test_the_file(self):
+    @unittest.skipIf("DATABASE" in os.environ, "it is about SQLite's file")
+    def test_file(self):
         """For its owner alone, with what SQLite puts beside it; committed to the disk."""
-        folder = pathlib.Path(DATABASE).parent
+        folder, file = pathlib.Path(DATABASE).parent, common_folder() / "old.db"
         for path in (folder, *folder.iterdir()):
             self.assertEqual(stat.S_IMODE(path.stat().st_mode) & 0o077, 0, path)
-        file = ROOM / "old.db"
         file.touch(0o644)
         kept = store.Store(str(file), CHEAP)
         self.assertEqual(stat.S_IMODE(file.stat().st_mode), 0o600)
@@ -315,22 +255,119 @@ class Sessions(Case):
         with kept._transaction(), self.assertRaises(sqlite3.OperationalError):
             sqlite3.connect(file, timeout=0).execute("BEGIN IMMEDIATE")
 
-    @unittest.skipIf(IS_SQLITE, "a file closes no connection")
-    def test_a_server_that_closes_its_connections(self):
+    @unittest.skipUnless("DATABASE" in os.environ, "a file closes no connection")
+    def test_connections_that_are_closed(self):
         """No visitor sees it."""
         import psycopg
 
         for act in (
-            lambda client: client.is_in(),
-            lambda client: client.login(self.name, OLD) == 303,
-            lambda client: client.change(OLD, OLD) == 303,
+            lambda: self.ann.is_in(),
+            lambda: self.ann.login(self.name, OLD) == 303,
+            lambda: self.ann.change(OLD, OLD) == 303,
         ):
-            for _ in range(16):  # so that each thread has a connection
-                self.assertTrue(self.ann.is_in())
+            self.assertTrue(self.ann.is_in())
             with psycopg.connect(DATABASE, autocommit=True) as conn:
                 conn.execute(
                     "SELECT pg_terminate_backend(pid) FROM pg_stat_activity"
                     " WHERE datname = current_database() AND pid <> pg_backend_pid()"
                 )
-            for _ in range(4):
-                self.assertTrue(act(self.ann))
+            self.assertTrue(act())
+
+
+class Limits(Page):
+    def guess(self, name):
+        return Browser().login(name, NEW)
+
+    def refused_after(self, limit, act, right=200):
+        """So many tries are answered, and one more is refused."""
+        found = [act(turn) for turn in range(limit + 1)]
+        self.assertEqual(found, [right] * limit + [429])
+
+    def test_accounts(self):
+        """A name counts, however it is typed, known or not, and so does each text that is none. The
+        owner, who is logged in, isn't shut out of a change, which forgives this account alone."""
+        names, other = (self.name, self.name.upper(), f" {self.name} "), f"b{self.name}"
+        self.assertEqual(Browser().sign_up(other), 303)
+        self.refused_after(10, lambda turn: self.guess(names[turn % 3]))
+        for name in (other, f"no{self.name}", f"{self.name}@example.org"):
+            self.refused_after(10, lambda turn: self.guess(name))
+        self.assertNotIn(self.name, str(STORE._do("SELECT * FROM try")))
+        self.assertFalse(self.opens(OLD) or self.opens(OLD, self.name.title()))
+        self.assertEqual(self.ann.change(), 303)
+        self.assertTrue(self.opens(NEW))
+        self.assertEqual((self.opens(OLD, other), self.guess(other)), (False, 429))
+
+    def test_a_stolen_session(self):
+        """It has ten guesses of the old password, and its owner has others."""
+        owner = Browser()
+        self.assertEqual(owner.login(self.name, OLD), 303)
+        self.refused_after(10, lambda turn: self.ann.change(old=NEW))
+        self.assertEqual(self.ann.change(), 429)
+        self.assertEqual(owner.change(), 303)
+
+    def test_a_right_login_forgives(self):
+        for _ in range(3):
+            self.assertEqual([self.guess(self.name) for _ in range(9)], [200] * 9)
+            self.assertTrue(self.opens(OLD))
+
+    def test_addresses(self):
+        """Right logins aren't counted. Fifty wrong ones of an address are, whatever the name, and
+        taken names: whoever asks for the names that exist guesses too. So are its sign-ups."""
+        taken = {"name": self.name, **twice(NEW)}
+        for act in (
+            lambda office, turn: office.login(f"x{turn}{self.name}", NEW),
+            lambda office, turn: office.post("/signup", **taken),
+        ):
+            office = Browser(f"10.0.0.{next(NUMBERS)}")
+            for _ in range(60):
+                self.assertEqual(office.login(self.name, OLD), 303)
+            office.cookie = ""
+            self.refused_after(50, lambda turn: act(office, turn))
+            self.assertEqual(office.login(self.name, OLD), 429)
+            self.assertEqual(office.post("/signup", **taken), 429)
+            self.assertEqual(Browser(f"10.0.0.{next(NUMBERS)}").login(self.name, OLD), 303)
+        office, last = Browser(f"10.1.0.{next(NUMBERS)}"), f"{self.name}.50"
+        self.refused_after(50, lambda turn: office.sign_up(f"{self.name}.{turn}"), 303)
+        self.assertEqual(STORE._do("SELECT name FROM account WHERE name = ?", last), [])
+        self.assertEqual(office.login(self.name, OLD), 303)
+
+    def test_when_to_try_again(self):
+        """A try counts for a quarter of an hour, and one that was refused doesn't."""
+        begun, guesser = time.time(), Browser()
+        for minute, status in enumerate([200] * 10 + [429] * 5):
+            with self.at(begun + 60 * minute):
+                self.assertEqual(guesser.login(self.name, NEW), status)
+                for at, left, text in ((10, "300", "in 5 minutes."), (14, "60", "in a minute.")):
+                    if minute == at:
+                        self.assertEqual(guesser.headers["Retry-After"], left)
+                        self.assertIn(text, guesser.text)
+        what = store._hash("address 127.0.0.1")
+        (counted,) = STORE._do("SELECT count(*) FROM try WHERE what = ? AND at >= ?", what, begun)
+        self.assertEqual(counted[0], 10)
+        with self.at(begun + 15 * 60 + 1):
+            self.assertEqual([self.guess(self.name) for _ in range(2)], [200, 429])
+        with self.at(begun + 16 * 60 + 1):
+            self.assertTrue(self.opens(OLD))
+            self.refused_after(10, lambda turn: self.guess(self.name))
+
+    def test_tries_count_before_the_hash(self):
+        """Many at once are no more than one after another, and those too many cost nothing: no
+        hash, no connection, and nothing that is written."""
+        work = mock.patch.object(Judge, "work", autospec=True, side_effect=Judge.work)
+        with work as worked, ThreadPoolExecutor(20) as pool:
+            found = list(pool.map(self.guess, [self.name] * 20))
+        self.assertEqual(sorted(found), [200] * 10 + [429] * 10)
+        self.assertEqual(worked.call_count, 10)
+        counted = STORE._do("SELECT count(*) FROM try")
+        with mock.patch.object(STORE._pool, "_connect") as connected:
+            self.assertEqual(self.guess(self.name), 429)
+        self.assertEqual(STORE._do("SELECT count(*) FROM try"), counted)
+        self.assertEqual(connected.mock_calls, [])
+
+    def test_accounts_that_exist(self):
+        """Nobody signs up for one, nor for one without a record: it was removed, or invited."""
+        STORE._do("DELETE FROM account")
+        STORE._do("INSERT INTO account VALUES ('ann', NULL)")
+        self.assertIsNone(STORE.sign_up("ann", "evil password", "old"))
+        self.assertIsNone(STORE.log_in("ann", "evil password", "old"))
+        self.assertEqual(STORE.who(STORE.sign_up("ben", "a password", "old")), "ben")

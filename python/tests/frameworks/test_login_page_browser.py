@@ -5,11 +5,9 @@ PICTURES may name a folder that gets a picture of each page.
 
 import os
 import shutil
-import tempfile
 import unittest
-from unittest import mock
 
-from login_clients import NEW, OLD, ROOM, Case, store
+from login_clients import NEW, OLD, Remote, Served
 
 try:
     from selenium import webdriver
@@ -30,11 +28,11 @@ FIELDS = "input:not([type=hidden],[hidden])"
 class Browser(webdriver.Chrome):
     """Chromium, with JavaScript off."""
 
-    def __init__(self):
+    def __init__(self, folder):
         options = webdriver.ChromeOptions()
         for word in ("--headless=new", "--no-sandbox", "--disable-gpu"):
             options.add_argument(word)
-        options.add_argument(f"--user-data-dir={tempfile.mkdtemp(dir=ROOM)}")
+        options.add_argument(f"--user-data-dir={folder}")
         forbidden = {"profile.managed_default_content_settings.javascript": 2}
         options.add_experimental_option("prefs", forbidden)
         super().__init__(service=Service("/usr/bin/chromedriver"), options=options)
@@ -65,10 +63,11 @@ class Browser(webdriver.Chrome):
         self.leave(self.find_element("tag name", "button"))
 
 
-class Walk(Case):
+class Walk(Served):
     def setUp(self):
         super().setUp()
-        self.browser = Browser()
+        _, self.port = self.enterContext(self.started())
+        self.browser = Browser(self.folder / "browser")
         self.addCleanup(self.browser.quit)
 
     def picture(self, name):
@@ -91,7 +90,7 @@ class Walk(Case):
         self.picture(name)
 
     def test_a_walk(self):
-        browser, name = self.browser, f"w{self.name}"
+        browser, name = self.browser, "ann"
         browser.get(f"http://127.0.0.1:{self.port}/")
         self.form("login")
         browser.follow("Create an account")
@@ -111,9 +110,10 @@ class Walk(Case):
         self.assertIsNone(browser.execute_script("return document.cookie") or None)
         browser.fill()
         self.assertEqual(browser.text("h1"), "Log in")
-        with mock.patch.dict(store.TRIES, {"account": 1}):
-            browser.fill(name=name, password=OLD)
-            self.form("login-wrong", "password")
-            browser.fill(name=name, password=OLD)
+        for _ in range(9):
+            self.assertEqual(Remote(self.port).login(name, OLD), 200)
+        browser.fill(name=name, password=OLD)
+        self.form("login-wrong", "password")
+        browser.fill(name=name, password=OLD)
         self.assertEqual(browser.text("h1"), "Sorry")
         self.picture("too-many")

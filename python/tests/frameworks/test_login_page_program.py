@@ -1,57 +1,38 @@
 """examples/login_page as the program that is started, on waitress."""
 
 import contextlib
+import itertools
 import os
-import pathlib
-import re
 import signal
 import socket
 import sqlite3
 import subprocess
-import sys
-import tempfile
 import threading
-import unittest
 
-from login_clients import EXAMPLE, NEW, OLD, ROOM, Client, store
+from login_clients import EXAMPLE, GUESS, NEW, OLD, Browser, Remote, Served, store
 
-# A shell's & has SIGINT ignored in what it starts.
-IN_BACKGROUND = 'trap "" INT; exec "$0" "$@"'
-PROGRAM = ["sh", "-c", IN_BACKGROUND, sys.executable, EXAMPLE / "login_page.py"]
+HEADERS = {
+    "Content-Security-Policy": "default-src 'none'; style-src 'self'; form-action 'self';"
+    " frame-ancestors 'none'; base-uri 'none'",
+    "X-Content-Type-Options": "nosniff",
+    "Referrer-Policy": "same-origin",
+    "Cache-Control": "no-store",
+}
+READ, POSTED = "GET HEAD OPTIONS", "GET HEAD OPTIONS POST"
 
 
-class Program(unittest.TestCase):
-    def setUp(self):
-        self.folder = pathlib.Path(self.enterContext(tempfile.TemporaryDirectory(dir=ROOM)))
-        self.database = self.folder / "data" / "page.db"
-
-    @contextlib.contextmanager
-    def started(self, **env):
-        """The process, and its port; a setting of None isn't given."""
-        given = {**os.environ, "PORT": "0", "MEMORY": "64", "DATABASE": str(self.database), **env}
-        given = {name: value for name, value in given.items() if value is not None}
-        with open(self.folder / "log", "ab") as log:
-            process = subprocess.Popen(
-                PROGRAM, env=given, cwd=self.folder, stdout=subprocess.PIPE, stderr=log
-            )
-        try:
-            yield process, int(re.search(rb":(\d+)/", process.stdout.readline())[1])
-        finally:
-            process.kill()
-            process.wait()
-            process.stdout.close()
-
+class Program(Served):
     def ends(self, process, by=signal.SIGINT):
         process.send_signal(by)
         self.assertEqual(process.wait(300), 0)
 
-    def test_its_settings(self):
+    def test_settings(self):
         for name, memory, costs in (("ann", "64", "$m=64,"), ("ben", None, "$m=65536,")):
             with self.started(MEMORY=memory) as (process, port):
-                browser = Client(port)
+                browser = Remote(port)
                 self.assertEqual(browser.sign_up(name), 303)
                 self.assertEqual(browser.change(), 303)
-                self.assertEqual(browser.login(name, "a guess of mine"), 200)
+                self.assertEqual(browser.login(name, GUESS), 200)
                 found = subprocess.run(["ss", "-ltnp"], capture_output=True, text=True).stdout
                 if found:
                     self.assertIn(f"127.0.0.1:{port}", found)
@@ -60,8 +41,65 @@ class Program(unittest.TestCase):
             kept = sqlite3.connect(self.database)
             query = "SELECT record FROM account WHERE name = ?"
             self.assertIn(costs, kept.execute(query, [name]).fetchone()[0])
-        for secret in (OLD, NEW, "a guess of mine"):
+        for secret in (OLD, NEW, GUESS):
             self.assertNotIn(secret, (self.folder / "log").read_text())
+
+    def test_requests(self):
+        """No file but the style is sent: neither a source, nor what is kept. A form is short."""
+        files = ("login_page.py", "store.py", "templates/frame.html", "README.md")
+        self.assertTrue(all((EXAMPLE / it).exists() for it in files))
+        fronts = ("/", "/../", "/%2e%2e/", "/..%2f")
+        with self.started() as (_, port):
+            ann = Remote(port)
+            self.assertEqual(ann.sign_up("ann"), 303)
+            for method, path, status, methods in (
+                *(("GET", path, 200, None) for path in ("/", "/change", "/login", "/style.css")),
+                *(("GET", front + file, 404, None) for front in fronts for file in files),
+                ("DELETE", "/", 405, READ),
+                ("POST", "/style.css", 405, READ),
+                ("OPTIONS", "/login", 200, POSTED),
+                ("PUT", "/change", 405, POSTED),
+            ):
+                with self.subTest(method=method, path=path):
+                    self.assertEqual(ann.ask(method, path), status)
+                    found = dict(ann.headers)
+                    allowed = " ".join(sorted(found.get("Allow", "").split(", ")))
+                    self.assertEqual(allowed or None, methods)
+                    kind = "css" if (path, status) == ("/style.css", 200) else "html"
+                    content = f"text/{kind}; charset=utf-8"
+                    headers = {**HEADERS, "Content-Type": content, "Server": None}
+                    self.assertEqual({it: found.get(it) for it in headers}, headers)
+                    self.assertNotIn("import", ann.text)
+            for cookie, path in itertools.product(("", "login=", 'login="; =;'), ("/", "/change")):
+                self.assertEqual(Remote(port, cookie).ask("GET", path), 303)
+            direct = Browser()
+            for browser, body, status in (
+                (ann, "x" * 8193, 413),
+                (direct, f"csrf={direct.csrf()}&password={'x' * 8193}", 413),
+                (ann, f"csrf={ann.csrf()}&password=%ff", 400),
+                (ann, "name", 403),
+            ):
+                with self.subTest(body=body):
+                    self.assertEqual(browser.ask("POST", "/login", body), status)
+            self.assertIn("out of date", ann.text)
+
+    def test_servers_in_front(self):
+        """X-Forwarded-For and -Proto are the client's word, unless PROXY names who says them. Two
+        servers have one token of a browser if they share a SECRET."""
+        tokens = []
+        for secret, proxy in (("", None), ("", None), ("shared", None), ("shared", "127.0.0.1")):
+            with self.subTest(proxy=proxy), self.started(SECRET=secret, PROXY=proxy) as (_, port):
+                guesser = Remote(port, "login=known")
+                tokens.append(guesser.csrf())
+                guesser.ask("GET", "/login", headers={"X-Forwarded-Proto": "https"})
+                self.assertEqual("Strict-Transport-Security" in guesser.headers, bool(proxy))
+                guesses = range(51 if secret else 0)
+                from_address = lambda at: {"X-Forwarded-For": f"10.2.1.{at}"}
+                found = [guesser.login(f"a{at}", NEW, **from_address(at)) for at in guesses]
+                wanted = [200] * 50 + [200 if proxy else 429]
+                self.assertEqual(found, wanted if secret else [])
+        self.assertEqual(len(set(tokens)), 3)
+        self.assertEqual(tokens[2], tokens[3])
 
     def test_slow_clients_hold_no_thread(self):
         """Connections that send a line and no more, beside idle ones, and more of both than there
@@ -72,7 +110,7 @@ class Program(unittest.TestCase):
                 for line in (begun, b"") * many:
                     idle = held.enter_context(socket.create_connection(("127.0.0.1", port)))
                     idle.sendall(line)
-                ann = Client(port)
+                ann = Remote(port)
                 self.assertEqual(ann.sign_up(f"ann{many}"), 303)
                 self.assertTrue(ann.is_in())
                 self.assertLess(len(os.listdir(f"/proc/{process.pid}/fd")), 560)
@@ -81,10 +119,12 @@ class Program(unittest.TestCase):
     def test_a_login_that_is_worked_is_answered(self):
         """At SIGTERM; its costs are high enough that the signal comes amid the hash."""
         with self.started(MEMORY="16384") as (process, port):
-            ann, said = Client(port), []
+            ann, statuses = Remote(port), []
             self.assertEqual(ann.sign_up("ann"), 303)
             form = {"csrf": ann.csrf("/change"), "old": OLD, "new": NEW, "again": NEW}
-            thread = threading.Thread(target=lambda: said.append(ann.ask("POST", "/change", form)))
+            thread = threading.Thread(
+                target=lambda: statuses.append(ann.ask("POST", "/change", form))
+            )
             kept = sqlite3.connect(self.database)
             thread.start()
             what = store._hash(f"session {ann.cookie.partition('=')[2]}")
@@ -92,4 +132,4 @@ class Program(unittest.TestCase):
                 self.assertTrue(thread.is_alive())
             self.ends(process, signal.SIGTERM)
             thread.join()
-            self.assertEqual(said, [303])
+            self.assertEqual(statuses, [303])

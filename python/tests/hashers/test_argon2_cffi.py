@@ -45,7 +45,8 @@ def outcome(call, *given, **named):
 class Same(unittest.TestCase):
     def same(self, call, *what):
         """What a call of either comes to."""
-        self.assertEqual(outcome(call, ours), outcome(call, theirs), what)
+        with self.subTest(what=what):
+            self.assertEqual(outcome(call, ours), outcome(call, theirs))
 
 
 class LowLevel(Same):
