@@ -1,7 +1,7 @@
 """64 clients on 8 accounts through the server's sockets, while the server and the book are killed.
 
 Every new password is another one, so an answer that lets a password in names the record that stood.
-rigzumal.accounts.torture judges these, and those without an answer as made once or never. An answer
+python/tests/accounts/torture judges these, and those without an answer as made once or never. An answer
 that doesn't let a password in is judged apart: it must not lie within the time in which that password
 surely stood. What was answered before a kill has to be there after it. TORTURE_SECONDS in the
 environment is how long it goes on (60, with a kill every three), TORTURE_SEED its seed.
@@ -21,10 +21,10 @@ from typing import Optional
 
 from served import CHEAP, FAST_BOOK, TOP, Case, Client, Given, Service, chosen_book, field_of
 
-sys.path.insert(0, str(TOP / "python"))
+sys.path[:0] = str(TOP / "python"), str(TOP / "python/tests/accounts")
 try:
-    from rigzumal.accounts.torture._order import Attempt, Operation  # noqa: E402
-    from rigzumal.accounts.torture.history import Account, Illegal, check  # noqa: E402
+    from torture._order import Attempt, Operation  # noqa: E402
+    from torture.history import Account, Illegal, check  # noqa: E402
 except ImportError as fault:
     raise unittest.SkipTest(str(fault).partition(":")[0]) from None
 

@@ -15,7 +15,7 @@ legal history.
 It runs on SQLite (sqlite3), PostgreSQL (psycopg 3), MariaDB and MySQL (PyMySQL), and
 imports no driver. `AsyncAccounts` is the same for asyncio. `rigzumal.accounts.parts` is
 for an operation in three parts, `rigzumal.accounts.dialects` for your own engine.
-`python3 -m rigzumal accounts` is the command; its `torture` tries a database.
+`python3 -m rigzumal accounts` is the command.
 """
 
 from rigzumal.accounts._accounts import Accounts, AsyncAccounts

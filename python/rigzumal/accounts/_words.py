@@ -11,7 +11,7 @@ from typing import Union
 
 from rigzumal import PasswordHasher, ScryptHasher
 from rigzumal._commands import Refusal, Status, Words, add_costs, hasher_of, is_empty
-from rigzumal._commands import positive, read_password
+from rigzumal._commands import read_password
 
 
 def _options() -> Words:
@@ -65,13 +65,6 @@ def parser(description: str, texts: Mapping[str, str]) -> argparse.ArgumentParse
     made["import"].add_argument("file", metavar="FILE", type=pathlib.Path, help=file)
     foreign = "accept records of other schemes, which your hook judges"
     made["import"].add_argument("--foreign", action="store_true", help=foreign)
-    torture = made["torture"]
-    torture.add_argument("--processes", type=positive, default=8)
-    torture.add_argument("--seconds", type=positive, default=60)
-    torture.add_argument("--accounts", type=positive, default=4)
-    torture.add_argument("--kill", action="store_true", help="processes, now and then")
-    torture.add_argument("--logs", type=pathlib.Path, help="a folder for the logs")
-    made["history"].add_argument("logs", metavar="LOG", nargs="+")
     return words
 
 

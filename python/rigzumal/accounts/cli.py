@@ -15,7 +15,6 @@ from __future__ import annotations
 import argparse
 import functools
 import json
-import shutil
 from collections.abc import Callable, Sequence
 from typing import Final, Optional
 
@@ -84,7 +83,7 @@ class _Command:
             fault = "no database: --database URL, or RIGZUMAL_DATABASE"
             raise Refusal(fault, Status.WORDS)
         database = Database(url)
-        if database.is_missing and self.given.command not in ("init", "torture"):
+        if database.is_missing and self.given.command != "init":
             fault = f"{url}: no such file; init makes one"
             raise Refusal(fault, Status.DATABASE)
         return database
@@ -272,48 +271,6 @@ class _Command:
         self.write(said, **counts)
         return Status.NO if another else Status.DONE
 
-    def refuse_json(self) -> None:
-        if self.given.json:
-            raise Refusal(f"{self.given.command} writes text alone", Status.WORDS)
-
-    def torture(self) -> int:
-        self.refuse_json()
-        from rigzumal.accounts import torture
-        from rigzumal.accounts.torture import logs
-
-        given, table = self.given, self.given.table
-        names = ("processes", "seconds", "accounts", "kill", "confirm")
-        run = torture.Torture(
-            self.database.url,
-            "rigzumal_torture" if table == "accounts" else table,
-            folder=given.logs,
-            **{name: getattr(given, name) for name in names},
-        )
-        accounts = run.run()
-        if not logs.is_legal(accounts, f", {run.killed} killed"):
-            print(f"logs: {run.folder}")
-            return Status.NO
-        every = [it for one in accounts.values() for it in one.operations]
-        if not any(it.makes_change for it in every):
-            raise Refusal("no change was made, so nothing is shown", Status.NO)
-        if given.kill and not run.killed:
-            said = "no process was killed, so nothing is shown of that"
-            raise Refusal(said, Status.NO)
-        run.drop()
-        if given.logs is None and run.folder is not None:
-            shutil.rmtree(run.folder)
-        return Status.DONE
-
-    def history(self) -> int:
-        self.refuse_json()
-        from rigzumal.accounts.torture import logs
-
-        try:
-            accounts = logs.read(self.given.logs)
-        except ValueError as fault:
-            raise Refusal(str(fault)) from None
-        return Status.DONE if logs.is_legal(accounts) else Status.NO
-
 
 _COMMANDS: Final[dict[str, tuple[Callable[[_Command], int], str]]] = {
     "init": (_Command.init, "create the table"),
@@ -335,9 +292,4 @@ _COMMANDS: Final[dict[str, tuple[Callable[[_Command], int], str]]] = {
         "count records by scheme and costs, and those to rehash",
     ),
     "examine": (_Command.examine, "name faults of the table and the server"),
-    "torture": (
-        _Command.torture,
-        "run many processes at once, and judge their history",
-    ),
-    "history": (_Command.history, "judge logs"),
 }

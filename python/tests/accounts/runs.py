@@ -11,9 +11,10 @@ import sys
 import time
 
 import servers
-from rigzumal.accounts import Accounts, MariaDB, PerThread, Reply, torture
-from rigzumal.accounts.torture import logs
-from rigzumal.accounts.torture._worker import LOW, hasher
+import torture
+from rigzumal.accounts import Accounts, MariaDB, PerThread, Reply
+from torture import logs
+from torture._worker import LOW, hasher
 
 SECONDS = float(os.environ.get("RIGZUMAL_SECONDS", "8"))
 

@@ -119,15 +119,11 @@ class Commands(Base):
             (["--lanes", "0", "add", "eve"], b"one", 1, ""),
             (["add", "eve", "--log2-n", "10"], b"one", 1, ""),
             (["add", "eve", "--scrypt"], b"one", 1, ""),  # the costs in front are Argon2's
-            (["--json", "torture"], b"", 1, ""),
-            (["--json", "history", "none"], b"", 1, ""),
             (["--table", "none", "check", "ann"], b"two", 5, ""),
             (["--database", "oracle://x", "examine"], b"", 1, ""),
             (["--database", "sqlite:////nowhere/at/all.db", "examine"], b"", 5, ""),
             (["--database", "", "examine"], b"", 1, ""),
             (["examine"], b"", 0, ""),
-            (["history", "none"], b"", 2, ""),
-            (["history", str(bad)], b"", 6, ""),
         ):
             with self.subTest(words=words, given=given):
                 found, error = self.streams(*words, given=given, status=status)
@@ -268,7 +264,7 @@ class Commands(Base):
         page = (top / "man/rigzumal.1").read_text().replace("\\-", "-")
         completed = [(top / f"completions/rigzumal/{it}").read_text() for it in shells]
         words = [[], ["hash"], ["calibrate"], ["accounts"]]
-        words += [["accounts", it] for it in ("disable", "import", "report", "torture")]
+        words += [["accounts", it] for it in ("disable", "import", "report")]
         for given in words:
             command = [sys.executable, "-m", "rigzumal", *given, "--help"]
             done = subprocess.run(command, capture_output=True, text=True)
@@ -529,7 +525,3 @@ class Commands(Base):
         self.assertEqual(len(said.splitlines()), 3)
         self.assertNotIn("\x1b", said)
         self.assertIn("\u00e9ve no record", said)
-
-    def test_logs_that_are_none(self):
-        for line in ("x", "[]", "{}", '{"event": "answer", "id": "1"}', '{"event": "seed"}'):
-            self.run_command("history", self.file(line), status=6)

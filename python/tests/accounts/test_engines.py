@@ -8,6 +8,7 @@ import of_engines
 import of_hooks
 from support import Base
 from rigzumal.accounts import cli
+from torture import __main__ as torture
 
 SERVERS = (engines.OnPostgres, engines.OnMariaDB, engines.OnMySQL)
 ENGINES = (engines.OnSqlite, *SERVERS)
@@ -36,7 +37,7 @@ class TheCommandOnMySQL(engines.OnMySQL, Base):
         said = io.StringIO()
         with contextlib.redirect_stdout(said):
             self.assertEqual(cli.main([*given, "--table", "made", "init"]), 0)
-            words = ["torture", "--seconds", "3", "--processes", "4", "--kill"]
-            self.assertEqual(cli.main([*given, *words]), 0)
+            words = ["--seconds", "3", "--processes", "4", "--kill"]
+            self.assertEqual(torture.main([*given, *words]), 0)
         self.assertIn("legal: ", said.getvalue())
         self.execute("DROP TABLE made")

@@ -14,9 +14,9 @@ import unittest
 from collections import Counter
 
 import support  # noqa: F401: finds the package
-from rigzumal.accounts.torture import _order, history, logs
-from rigzumal.accounts.torture._order import Attempt, Operation
-from rigzumal.accounts.torture.history import Account, Illegal
+from torture import _order, history, logs
+from torture._order import Attempt, Operation
+from torture.history import Account, Illegal
 
 HISTORIES = int(os.environ.get("RIGZUMAL_HISTORIES", "4000"))
 KINDS = ("enrol", "enrol", "verify", "change", "upgrade", "remove", "remove", "reset")

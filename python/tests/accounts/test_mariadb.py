@@ -7,8 +7,9 @@ from unittest import mock
 
 import engines
 import support
+import torture
 from support import LOW, Base, Scripted, run, sent
-from rigzumal.accounts import AsyncAccounts, MariaDB, Reply, StoreFault, cli, torture
+from rigzumal.accounts import AsyncAccounts, MariaDB, Reply, StoreFault, cli
 from rigzumal.accounts._session import Result
 from rigzumal.accounts.dialects import mariadb
 from rigzumal.accounts.parts import Kind

@@ -11,14 +11,14 @@ from unittest import mock
 
 import engines
 import servers
+import torture
 from servers import psycopg
 from support import LOW, Base, Session, run, sent
 from rigzumal import InvalidRecordError
 from rigzumal.accounts import AsyncAccounts, OutcomeUnknown, Reply, StoreFault, Unavailable
-from rigzumal.accounts import torture
 from rigzumal.accounts.parts import Kind, Request
 from rigzumal.accounts.pools import PerUse
-from rigzumal.accounts.torture import _worker
+from torture import _worker
 
 
 class OnPostgres(engines.OnPostgres, Base):

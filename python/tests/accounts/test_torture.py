@@ -9,12 +9,13 @@ import re
 import sqlite3
 from unittest import mock
 
+import torture
 from support import Base, losing
-from rigzumal.accounts import Reply, StoreFault, cli, torture
+from rigzumal.accounts import Reply, StoreFault
 from rigzumal.accounts._table import Table
 from rigzumal.accounts.parts import Answer, Kind
-from rigzumal.accounts.torture import _torture
-from rigzumal.accounts.torture.logs import Log
+from torture import __main__ as command, _torture
+from torture.logs import Log
 
 
 class Tortures(Base):
@@ -25,9 +26,9 @@ class Tortures(Base):
     def command(self, *words, status=0):
         """What the command prints on both streams."""
         said = io.StringIO()
-        given = ["--database", self.server.url, "torture", "--seconds=1", "--accounts=2"]
+        given = ["--database", self.server.url, "--seconds=1", "--accounts=2"]
         with contextlib.redirect_stdout(said), contextlib.redirect_stderr(said):
-            self.assertEqual(cli.main([*given, *words]), status, said.getvalue())
+            self.assertEqual(command.main([*given, *words]), status, said.getvalue())
         return said.getvalue()
 
     def run_one(self, **given):
@@ -153,6 +154,18 @@ class Tortures(Base):
         self.assertIn("was answered yes", str(torture.verdict(accounts)))
 
     # ---- what is judged
+
+    def test_logs(self):
+        """One of a run alone, and files that are none."""
+        self.command("--processes=2", f"--logs={self.logs}")
+        with contextlib.redirect_stdout(io.StringIO()) as said:
+            self.assertEqual(command.main([*map(str, self.logs.iterdir())]), 0)
+        self.assertTrue(said.getvalue().startswith("legal: "))
+        file = pathlib.Path(f"{self.logs}.none")
+        self.assertEqual(command.main([str(file)]), 2)
+        for line in ("x", "[]", "{}", '{"event": "answer", "id": "1"}', '{"event": "seed"}'):
+            file.write_text(f"{line}\n")
+            self.assertEqual(command.main([str(file)]), 6)
 
     def test_the_end_is_read_where_it_is_said(self):
         """After a failover that is another server than the first."""

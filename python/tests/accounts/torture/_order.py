@@ -40,9 +40,7 @@ class Operation:
     found_out: bool = False
 
     @classmethod
-    def seed(
-        cls, record: Record, password: Optional[str], costs: float = 0
-    ) -> Operation:
+    def seed(cls, record: Record, password: Optional[str], costs: float = 0) -> Operation:
         """What stood at first."""
         first = -math.inf
         made = cls("seed", "seed", password, first, None, costs, first, "seed")

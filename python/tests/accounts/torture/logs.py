@@ -1,6 +1,6 @@
 """The logs of what was asked and answered, as `history` takes them.
 
-    python3 -m rigzumal accounts history LOG..
+    /usr/bin/python3 python/tests/accounts/torture LOG..
 
 The logs are lines of JSON, of any number of processes and of one clock
 (CLOCK_MONOTONIC):
@@ -28,8 +28,8 @@ from collections.abc import Iterable, Iterator
 from typing import Any
 
 from rigzumal.accounts.parts import NO_ROW, Answer, Request, Worked
-from rigzumal.accounts.torture._order import Attempt, Operation
-from rigzumal.accounts.torture.history import Account, verdict
+from torture._order import Attempt, Operation
+from torture.history import Account, verdict
 
 
 class Log:

@@ -29,7 +29,7 @@ from collections.abc import Iterable, Mapping, Sequence
 from dataclasses import dataclass, field
 from typing import Any, Optional
 
-from rigzumal.accounts.torture._order import Operation, Record, conflict, possible
+from torture._order import Operation, Record, conflict, possible
 
 NO_EFFECT = frozenset({"failed", "changed"})
 

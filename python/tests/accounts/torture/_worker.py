@@ -23,10 +23,10 @@ from rigzumal.accounts.parts import Request, Unavailable, Worked
 from rigzumal.accounts.database import Database
 from rigzumal.accounts.dialects._dialect import Verdict, is_of_driver
 from rigzumal.accounts.pools import PerThread, PerUse
-from rigzumal.accounts.torture.logs import Log
+from torture.logs import Log
 
 if TYPE_CHECKING:
-    from rigzumal.accounts.torture._torture import Torture
+    from torture._torture import Torture
 
 LOW, HIGH = 64, 72  # KiB of the two costs between which upgrades go
 PASSWORDS = ("one", "two")

@@ -21,8 +21,8 @@ from rigzumal.accounts.database import Database
 from rigzumal.accounts.dialects import Dialect
 from rigzumal.accounts.parts import Kind, Request
 from rigzumal.accounts.pools import PerThread
-from rigzumal.accounts.torture import history, logs
-from rigzumal.accounts.torture._worker import LOW, Worker, hasher
+from torture import history, logs
+from torture._worker import LOW, Worker, hasher
 
 MIX = {
     **{"enrol": 2, "verify": 6, "login": 4, "change": 4},
@@ -146,9 +146,7 @@ class Torture:
                     faults += 1
         return faults
 
-    def _start(
-        self, number: int, names: list[str], end: float, risk: float
-    ) -> BaseProcess:
+    def _start(self, number: int, names: list[str], end: float, risk: float) -> BaseProcess:
         """A process by fork, so that it begins at once; no connection is open here."""
 
         def work() -> None:
