@@ -22,6 +22,7 @@ RANGE: Final = 5
 MEMORY: Final = 8
 MISMATCH: Final = 10
 INPUT_SIZE: Final = 18
+COPY: Final = 24
 NO_RANDOM: Final = 26
 
 

@@ -9,7 +9,6 @@ import sys
 import time
 from collections import Counter
 from collections.abc import Callable, Iterable, Iterator, Sequence
-from contextlib import closing
 from dataclasses import dataclass
 from typing import Any, Final, Optional
 
@@ -20,12 +19,13 @@ from rigzumal._commands import Refusal, Status, say
 from rigzumal.accounts._accounts import Accounts
 from rigzumal.accounts._report import numbers_of
 from rigzumal.accounts._session import Session, run
-from rigzumal.accounts.parts import Key, Reply
-from rigzumal.accounts.dialects._dialect import Dialect
-from rigzumal.accounts.parts import Kind, Request, Ticket, Worked
+from rigzumal.accounts.dialects._dialect import ANOTHER_RECORD, Dialect
+from rigzumal.accounts.parts import Key, Kind, Reply, Request, StoreFault, Ticket
+from rigzumal.accounts.parts import Worked
 from rigzumal.accounts.pools import Pool
 
-BATCH = 500  # lines of an import that are committed together
+BATCH = 5000  # lines of an import that are committed together
+SHARE = 200  # of them that one statement puts
 Line = tuple[Key, str]
 _NO_UTF8: Final = re.compile("[\udc80-\udcff]")
 
@@ -80,7 +80,7 @@ class Import:
 
     def _record(self, line: str, key_of: Callable[[str], Key]) -> Line:
         name, _, record = line.rpartition(" ")
-        if _NO_UTF8.search(line):
+        if not line.isascii() and _NO_UTF8.search(line):
             raise Refusal("it is not in UTF-8")
         if line.startswith("\ufeff"):
             raise Refusal("it begins with a byte order mark")
@@ -103,43 +103,39 @@ class Import:
     def put(self, batch: Sequence[Line]) -> list[str]:
         """Puts a batch in one transaction: "added", "there" or "another" for each."""
         with self.pool() as conn:
-            session = Session(conn)
+            session, words = Session(conn), list[str]()
             run(self.dialect.start(session))
-            words = self._put_at_once(session, batch)
-            if words is None:
+            try:
+                for start in range(0, len(batch), SHARE):
+                    words += self._put_at_once(session, batch[start : start + SHARE])
+            except Exception:
+                # Line by line it is done, or shows at which account it isn't.
                 run(self.dialect.undo(session))
                 run(self.dialect.start(session))
                 words = [self._named(session, *line) for line in batch]
             run(self.dialect.commit(session))
         return words
 
-    def _put_at_once(
-        self, session: Session, batch: Sequence[Line]
-    ) -> Optional[list[str]]:
-        """Puts a batch by a few statements; None if other records stand then."""
-        stands, new = (
-            self._standing(session, [key for key, _ in batch]),
-            dict[Key, str](),
-        )
-        for key, record in batch:
+    def _put_at_once(self, session: Session, share: Sequence[Line]) -> list[str]:
+        """Puts some lines by a few statements; StoreFault if other records stand then."""
+        stands = self._standing(session, [key for key, _ in share])
+        new: dict[Key, str] = {}
+        for key, record in share:
             if stands.get(key) is None:
                 new.setdefault(key, record)
         added = [(key, new[key]) for key in new if key not in stands]
-        enrolled = [(new[key], key, None) for key in new if key in stands]
-        try:
-            if added:
-                sql = self.dialect.add(len(added))
-                run(session.execute(sql, *itertools.chain.from_iterable(added)))
-            with closing(session.conn.cursor()) as cursor:
-                if enrolled:
-                    cursor.executemany(self.dialect.update, enrolled)
-        except Exception:
-            return None
+        enrolled = [(key, new[key]) for key in new if key in stands]
+        if added:
+            sql = self.dialect.add(len(added))
+            run(session.execute(sql, *itertools.chain(*added)))
+        if enrolled:
+            sql, keys = self.dialect.enrol(len(enrolled)), [key for key, _ in enrolled]
+            run(session.execute(sql, *itertools.chain(*enrolled), *keys))
         # A trigger, a collation or another program may have come between.
         if self._standing(session, [*new]) != new:
-            return None
+            raise StoreFault(ANOTHER_RECORD)
         words = []
-        for key, record in batch:
+        for key, record in share:
             if key in new:
                 words.append("added")
                 stands[key] = new.pop(key)

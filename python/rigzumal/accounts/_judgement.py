@@ -57,7 +57,7 @@ class Judge:
         self._hasher, self.foreign = hasher, foreign
         self._upgraded: dict[str, bool] = {}
         # b"" among older secrets stands for records without one.
-        self._secrets = [it or None for it in hasher._secrets()]
+        self._secrets = tuple(it or None for it in hasher._secrets())
         self._secret = self._secrets[0]
         self.sample = f"{self._setting()}${_base64(os.urandom(_TAG_SIZE))}"
         self._parts = parts(self.sample)
@@ -78,12 +78,7 @@ class Judge:
             return None
         if request.kind in (Kind.ENROL, Kind.RESET) or not request.can_be_right:
             return None
-        try:
-            parts(copy)
-        except InvalidRecordError:
-            assert isinstance(request.password, bytes)
-            return self.foreign, copy, request.password
-        return None
+        return None if _is_ours(copy) else (self.foreign, copy, request.password)
 
     def work(self, ticket: Ticket, right: Optional[bool] = None) -> Worked:
         """The effect of the whole operation at the ticket's copy.
@@ -101,33 +96,40 @@ class Judge:
         request, copy = ticket.request, ticket.copy
         if copy is not None and not isinstance(copy, str):
             return Reply.NO_ACCOUNT, copy
-        password = request.password
         if request.kind is Kind.RESET:
             reply = Reply.ENROLLED if copy is None else Reply.REPLACED
             return reply, self._made(request.new_password)
-        if copy is not None and request.kind is Kind.ENROL:
+        if copy is None:
+            return self._stepped(request, copy)
+        if request.kind is Kind.ENROL:
             # Whatever text stands: an enrolment doesn't read it, and a step would.
             return Reply.EXISTS, copy
-        if copy is not None:
-            try:
-                _library.check_text(copy)
-            except InvalidRecordError:
-                if self.foreign is None:
-                    raise
-                return self._judged_by_hook(ticket, copy, right)
-            secrets = self._secrets_of(copy)
-            if not request.can_be_right:
-                self._spend(copy, b"", secrets)  # whoever was wrong waits for a hash
-                return _wrong(request), copy
-            if secrets[0] == self._secret:
-                reply, after = self._stepped(request, copy)
-                if reply is not _wrong(request):
-                    return reply, after
-                del secrets[0]
-            if any(is_right(copy, password, it) for it in secrets):
-                return self._at_right(request, copy)
+        try:
+            return self._at_record(request, copy)
+        except InvalidRecordError:
+            if self.foreign is None or _is_ours(copy):
+                raise
+        # A text of another scheme, which any upgrade replaces.
+        if right is None:
+            self._spend(self.sample, request.password, self._secrets)
+        return self._at_right(request, copy) if right else (_wrong(request), copy)
+
+    def _at_record(self, request: Request, copy: str) -> tuple[Reply, Copy]:
+        """The same at a record of ours, of any of the secrets."""
+        secrets = self._secrets
+        if None in secrets and copy.startswith("$scrypt$"):
+            secrets = (None,)
+        if not request.can_be_right:
+            self._spend(copy, b"", secrets)  # whoever was wrong waits for a hash
             return _wrong(request), copy
-        return self._stepped(request, copy)
+        if secrets[0] == self._secret:
+            reply, after = self._stepped(request, copy)
+            if reply is not _wrong(request):
+                return reply, after
+            secrets = secrets[1:]
+        if any(is_right(copy, request.password, it) for it in secrets):
+            return self._at_right(request, copy)
+        return _wrong(request), copy
 
     def _stepped(self, request: Request, copy: Optional[str]) -> tuple[Reply, Copy]:
         """The step's answer under the first secret, and the record after it."""
@@ -139,23 +141,6 @@ class Judge:
             return step(kind, copy, password, b"", "", secret)
         new, setting = request.new_password, self._setting()
         return step(kind, copy, password, new, setting, secret)
-
-    def _judged_by_hook(
-        self, ticket: Ticket, copy: str, right: Optional[bool]
-    ) -> tuple[Reply, Copy]:
-        """The same at a text of another scheme, which any upgrade replaces."""
-        request = ticket.request
-        if right is None:
-            self._spend(self.sample, request.password, self._secrets)
-        if right is not True:
-            return _wrong(request), copy
-        return self._at_right(request, copy)
-
-    def _secrets_of(self, record: str) -> list[Optional[bytes]]:
-        """The secrets that a record may be of: one of scrypt has none, if that is known."""
-        if record.startswith("$scrypt$") and None in self._secrets:
-            return [None]
-        return [*self._secrets]
 
     def _spend(
         self, record: str, password: Secret, secrets: Iterable[Optional[bytes]]
@@ -216,6 +201,15 @@ def verdict_of(answer: object) -> Optional[bool]:
     raise TypeError(f"`foreign` answers True, False or None, and not a {kind}")
 
 
+def _is_ours(text: str) -> bool:
+    """Whether a text is a record, and none of another scheme."""
+    try:
+        _library.check_text(text)
+    except InvalidRecordError:
+        return False
+    return True
+
+
 def _wrong(request: Request) -> Reply:
     return Reply.NO if request.kind is Kind.VERIFY else Reply.WRONG
 
@@ -274,6 +268,8 @@ def step(
     else:
         inputs = ctypes.byref(_StepInputs(*words, secret, len(secret), 1))
         fault = _library._library.rigzumal_step_from(*made, inputs)
+    if fault == _library.COPY and copy is not None:
+        _library.check_text(copy)  # raises the record's own fault
     _library.raise_fault(fault)
     reply = _REPLIES[answer.value]
     if not reply.makes_change:

@@ -122,7 +122,6 @@ class Operations(Generic[AnyPool]):
         """The whole operation, done again if another record stands at its commit."""
         request = self._passwords.of(request)
         copy, is_settled = await self._first_copy(request, patience)
-        answer = Answer(Reply.CHANGED, copy, copy)
         for _ in range(self._tries):
             worked = await self._work(Ticket(request, copy))
             if is_settled and also is None and not self._table.writes(worked):

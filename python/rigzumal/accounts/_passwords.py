@@ -53,13 +53,14 @@ class Passwords:
             changed["password"] = self.new(request.password)
         elif request.kind in (Kind.CHANGE, Kind.RESET):
             changed["new_password"] = self.new(request.new_password)
-        if request.kind not in (Kind.ENROL, Kind.RESET) and request.can_be_right:
+        is_present = request.kind not in (Kind.ENROL, Kind.RESET)
+        if self.prepare is not None and is_present and request.can_be_right:
             try:
-                changed["password"] = self._prepared(
-                    bytes_of_password(request.password)
-                )
+                changed["password"] = self._prepared(request.password)
             except ValueError:  # anybody may try a password, and gets an answer
                 changed.update(password=b"", can_be_right=False)
+        if not changed:
+            return request
         made = copy.copy(request)
         vars(made).update(changed)
         return made

@@ -13,7 +13,7 @@ import time
 from collections.abc import AsyncGenerator, Awaitable, Callable, Coroutine, Generator
 from collections.abc import Iterable, Mapping
 from concurrent.futures import ThreadPoolExecutor
-from typing import Any, Generic, NamedTuple, Optional, TypeVar
+from typing import Any, NamedTuple, Optional, TypeVar, cast
 
 from rigzumal.accounts.parts import Reply, StoreFault
 from rigzumal.accounts.pools import lent
@@ -105,30 +105,13 @@ Job = Callable[[Session], Coroutine[Any, Any, T]]
 """What is done on one connection."""
 
 
-class Ending(Generic[T]):
-    """How a job ended, whatever its pool raises or swallows afterwards.
-
-    A pool that rolls back a broken connection raises in place of what the job raised,
-    and "COMMIT had no answer" would be taken for "nothing was done".
-    """
-
-    has_begun = False  # the pool gave a connection
-    _value: T
-    _error: Optional[BaseException] = None
-
-    async def note(self, job: Job[T], session: Session) -> None:
-        self.has_begun = True
-        try:
-            self._value = await job(session)
-        except BaseException as error:
-            self._error = error
-            raise
-
-    def answer(self) -> T:
-        """What the job answered; raises what it raised."""
-        if self._error is not None:
-            raise self._error
-        return self._value
+async def _note(job: Job[T], session: Session, ends: list[Any]) -> None:
+    """Does a job, and notes what it answered or raised."""
+    try:
+        ends.append(await job(session))
+    except BaseException as error:
+        ends.append(error)
+        raise
 
 
 def run(coroutine: Coroutine[Any, Any, T]) -> T:
@@ -165,18 +148,25 @@ class Runtime:
         return self._session(conn, self._options)
 
     async def use(self, pool: Any, job: Job[T]) -> T:
-        """Does a job on a connection of a pool."""
-        ending: Ending[T] = Ending()
-        try:
-            await self._enter(pool, job, ending)
-        except Exception:
-            if not ending.has_begun:
-                raise
-        return ending.answer()
+        """Does a job on a connection of a pool, whatever the pool raises or swallows after it.
 
-    async def _enter(self, pool: Any, job: Job[T], ending: Ending[T]) -> None:
+        A pool that rolls back a broken connection raises in place of what the job raised,
+        and "COMMIT had no answer" would be taken for "nothing was done".
+        """
+        ends: list[Any] = []
+        try:
+            await self._enter(pool, job, ends)
+        except Exception:
+            if not ends:
+                raise  # the pool gave no connection
+        (answer,) = ends
+        if isinstance(answer, BaseException):
+            raise answer
+        return cast(T, answer)
+
+    async def _enter(self, pool: Any, job: Job[T], ends: list[Any]) -> None:
         with lent(pool, "__enter__") as conn:
-            await ending.note(job, self.session(conn))
+            await _note(job, self.session(conn), ends)
 
     async def pause(self, seconds: float) -> None:
         """Waits so long."""
@@ -197,9 +187,9 @@ class AsyncRuntime(Runtime):
     _session = AsyncSession
     _executors = (ThreadPoolExecutor,)
 
-    async def _enter(self, pool: Any, job: Job[T], ending: Ending[T]) -> None:
+    async def _enter(self, pool: Any, job: Job[T], ends: list[Any]) -> None:
         async with lent(pool, "__aenter__") as conn:
-            await ending.note(job, self.session(conn))
+            await _note(job, self.session(conn), ends)
 
     async def pause(self, seconds: float) -> None:
         await asyncio.sleep(seconds)

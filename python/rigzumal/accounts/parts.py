@@ -49,7 +49,8 @@ class Reply(enum.Enum):
     @property
     def makes_change(self) -> bool:
         """Whether the operation replaced, added or removed the record."""
-        return self.value in ("enrolled", "replaced", "upgraded", "removed")
+        # Before Python 3.12 `value` is a slow property.
+        return self._value_ in ("enrolled", "replaced", "upgraded", "removed")
 
 
 class Kind(enum.Enum):
@@ -83,7 +84,7 @@ def bytes_of_password(password: Secret) -> bytes:
     return given
 
 
-@dataclass(frozen=True)
+@dataclass(frozen=True, init=False)
 class Request:
     """An operation to be done on an account.
 
@@ -94,26 +95,27 @@ class Request:
 
     kind: Kind
     key: Key
-    password: Secret = field(default=b"", repr=False)  # not of a reset
-    new_password: Secret = field(default=b"", repr=False)  # of a change and of a reset
+    password: bytes = field(repr=False)  # not of a reset
+    new_password: bytes = field(repr=False)  # of a change and of a reset
     # False of what no account can have; the password is then empty, and a wrong one.
-    can_be_right: bool = field(default=True, init=False, repr=False)
+    can_be_right: bool = field(init=False, repr=False)
 
-    def __post_init__(self) -> None:
-        new_password, password = bytes_of_password(self.new_password), b""
-        can_be_right, key = True, self.key
+    def __init__(
+        self, kind: Kind, key: Key, password: Secret = b"", new_password: Secret = b""
+    ) -> None:
+        new, can_be_right = bytes_of_password(new_password), True
         try:
-            password = bytes_of_password(self.password)
+            present = bytes_of_password(password)
         except ValueError:
             # Anybody may try a password, and gets an answer.
-            if self.kind is Kind.ENROL:
+            if kind is Kind.ENROL:
                 raise
-            can_be_right = False
+            present, can_be_right = b"", False
         if isinstance(key, str):
             # As a driver sees it, whatever its class makes of it.
             key = str.__str__(key)
-        given = {"password": password, "new_password": new_password}
-        self.__dict__.update(given, key=key, can_be_right=can_be_right)
+        vars(self).update(kind=kind, key=key, password=present, new_password=new)
+        vars(self).update(can_be_right=can_be_right)
 
 
 @dataclass(frozen=True)

@@ -102,13 +102,12 @@ class PerThread:
         return held.conn
 
     def __exit__(self, kind: Any, *error: object) -> None:
-        held = self._mine()
+        held = getattr(self._local, "held", None)
         if held is None:
             return  # closed meanwhile
         held.is_lent = False
         if kind is not None:
-            self._local.held = None
-            held.close()
+            self.close()
 
     def close(self) -> None:
         """Closes this thread's connection, if it has one."""

@@ -15,7 +15,7 @@ from unittest import mock
 import support
 from support import HIGH, LOW, Base, sent
 from rigzumal import parts
-from rigzumal.accounts import cli
+from rigzumal.accounts import _import, cli
 from rigzumal.accounts.database import Database
 
 COSTS = "--memory 64 --passes 1 --lanes 1".split()
@@ -341,6 +341,7 @@ class Commands(Base):
 
     def test_imports(self):
         """Whole batches, by lines of any end; of few statements, however many lines."""
+        self.enterContext(mock.patch.object(_import, "BATCH", 400))
         self.run_command("init")
         self.conn.executemany(
             "INSERT INTO accounts VALUES (?, NULL)", [(f"user{it}@x",) for it in range(300)]
@@ -349,7 +350,9 @@ class Commands(Base):
         with sent() as found:
             said = self.run_command("import", self.file(*lines))
         self.assertEqual(said, "1200 added, 0 there already\n")
-        self.assertEqual(found, ["BEGIN", "SELECT", "INSERT", "SELECT", "COMMIT"] * 3)
+        share, mixed = ["SELECT", "INSERT", "SELECT"], ["SELECT", "INSERT", "UPDATE", "SELECT"]
+        first = ["BEGIN", "SELECT", "UPDATE", "SELECT", *mixed, "COMMIT"]
+        self.assertEqual(found, first + ["BEGIN", *share, *share, "COMMIT"] * 2)
         two = LOW.hash("two")
         lines[7] = lines[901] = f"user7@x {two}"
         file = pathlib.Path(self.file())
@@ -364,6 +367,7 @@ class Commands(Base):
 
     def test_an_import_that_fails(self):
         """Its batch is undone, the ones before it stay, and the lines are named."""
+        self.enterContext(mock.patch.object(_import, "BATCH", 500))
         self.run_command("init")
         self.conn.execute(
             "CREATE TRIGGER tr BEFORE INSERT ON accounts WHEN NEW.name = 'user700'"
@@ -437,6 +441,7 @@ class Commands(Base):
         self.assertEqual(self.count(), 3)
 
     def test_a_long_import_shows_how_far_it_is(self):
+        self.enterContext(mock.patch.object(_import, "BATCH", 500))
         self.run_command("init")
         file = self.file(*(f"user{it} {RECORD}" for it in range(1200)))
         said, shown = self.streams("import", file, shows=True)

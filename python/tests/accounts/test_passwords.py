@@ -104,8 +104,7 @@ class Rules(Base):
 
     def test_both_kinds_of_accounts_take_the_same(self):
         of = [{*inspect.signature(it).parameters} for it in (Accounts, AsyncAccounts)]
-        self.assertEqual(of[1] - of[0], {"executor"})
-        self.assertEqual(of[0] - of[1], set())
+        self.assertEqual(of[0], of[1])
 
 
 def _is_right(record, password):

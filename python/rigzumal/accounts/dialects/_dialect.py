@@ -163,6 +163,13 @@ class Dialect:
         unless = self._unless_exists.format(k=k)
         return f"INSERT INTO {self.table} ({k}, {r}) VALUES {rows}{unless}"
 
+    def enrol(self, count: int) -> str:
+        """The statement that puts records where none stand: of keys with theirs, and the keys."""
+        k, r, m = self.quoted(self.key_name), self.quoted(self.record_name), self.mark
+        record = f"CASE {k}{f' WHEN {m} THEN {m}' * count} END"
+        keys = ", ".join([m] * count)
+        return f"UPDATE {self.table} SET {r} = {record} WHERE {k} IN ({keys}) AND {r} IS NULL"
+
     def quoted(self, name: str) -> str:
         """A name of a table or a column, as a statement has it."""
         doubled = name.replace(self.quote, self.quote * 2)
