@@ -50,7 +50,7 @@ def parser(description: str, texts: Mapping[str, str]) -> argparse.ArgumentParse
     )
     made = {
         name: commands.add_parser(
-            name, help=text, description=f"{text}.".capitalize(), parents=[_options()]
+            name, help=text, description=f"{text}.", parents=[_options()]
         )
         for name, text in texts.items()
     }
@@ -68,10 +68,10 @@ def parser(description: str, texts: Mapping[str, str]) -> argparse.ArgumentParse
     return words
 
 
-def accounts_hasher(given: argparse.Namespace) -> Union[PasswordHasher, ScryptHasher]:
+def accounts_hasher(args: argparse.Namespace) -> Union[PasswordHasher, ScryptHasher]:
     """The hasher of the costs, with the pepper of --secret."""
-    hasher = hasher_of(given)
-    secrets = [pathlib.Path(it).read_bytes() for it in getattr(given, "secret", ())]
+    hasher = hasher_of(args)
+    secrets = [pathlib.Path(it).read_bytes() for it in getattr(args, "secret", ())]
     if not secrets:
         return hasher
     if not isinstance(hasher, PasswordHasher):

@@ -13,9 +13,10 @@ input was refused.
 from __future__ import annotations
 
 import argparse
+import contextlib
 import functools
 import json
-from collections.abc import Callable, Sequence
+from collections.abc import Callable, Iterator, Sequence
 from typing import Final, Optional
 
 from rigzumal import RigzumalError, opaque_string
@@ -28,10 +29,10 @@ from rigzumal.accounts._rows import Rows, line_of
 from rigzumal.accounts._session import Session, run
 from rigzumal.accounts._words import accounts_hasher, old_and_new, parser
 from rigzumal.accounts._words import password_of
-from rigzumal.accounts.parts import LONGEST_PASSWORD, NO_ROW, AccountsError, Key, Reply
 from rigzumal.accounts.database import Database
 from rigzumal.accounts.dialects import Dialect
-from rigzumal.accounts.parts import Kind, Request, Ticket, Worked
+from rigzumal.accounts.parts import LONGEST_PASSWORD, NO_ROW, AccountsError, Copy, Key
+from rigzumal.accounts.parts import Kind, Reply, Request, Ticket, Worked
 from rigzumal.accounts.pools import PerThread
 
 DRIVERS = ("sqlite3", "psycopg", "pymysql")
@@ -39,11 +40,10 @@ DRIVERS = ("sqlite3", "psycopg", "pymysql")
 
 def main(words: Optional[Sequence[str]] = None) -> int:
     """Runs the command, and answers its exit status."""
-    commands = {name: text for name, (_, text) in _COMMANDS.items()}
-    given = parser(__doc__.partition("\n\n")[2], commands).parse_args(words)
+    texts = {name: act.__doc__ or "" for name, act in _COMMANDS.items()}
+    args = parser(__doc__.partition("\n\n")[2], texts).parse_args(words)
     try:
-        run, _ = _COMMANDS[given.command]
-        return run(_Command(given))
+        return _COMMANDS[args.command](_Command(args))
     except BrokenPipeError:
         return Status.STREAM
     except Refusal as refusal:
@@ -70,20 +70,31 @@ def main(words: Optional[Sequence[str]] = None) -> int:
     return Status.DATABASE
 
 
-class _Command:
-    """The commands over one table."""
+@contextlib.contextmanager
+def _password_judged() -> Iterator[None]:
+    """What accounts refuse within is the password: it is the input."""
+    try:
+        yield
+    except RigzumalError:
+        raise
+    except ValueError as fault:
+        raise Refusal(str(fault)) from None
 
-    def __init__(self, given: argparse.Namespace) -> None:
-        self.given = given
+
+class _Command:
+    """The commands over one table: each answers its exit status."""
+
+    def __init__(self, args: argparse.Namespace) -> None:
+        self.args = args
 
     @functools.cached_property
     def database(self) -> Database:
-        url = self.given.database
+        url = self.args.database
         if not url:
             fault = "no database: --database URL, or RIGZUMAL_DATABASE"
             raise Refusal(fault, Status.WORDS)
         database = Database(url)
-        if database.is_missing and self.given.command != "init":
+        if database.is_missing and self.args.command != "init":
             fault = f"{url}: no such file; init makes one"
             raise Refusal(fault, Status.DATABASE)
         return database
@@ -94,40 +105,34 @@ class _Command:
 
     @functools.cached_property
     def dialect(self) -> Dialect:
-        given = self.given
-        kind = int if given.numbers else str
-        return self.database.dialect_kind()(given.table, given.key, given.record, kind)
+        args, kind = self.args, int if self.args.numbers else str
+        return self.database.dialect_kind()(args.table, args.key, args.record, kind)
+
+    @functools.cached_property
+    def accounts(self) -> Accounts:
+        return Accounts(
+            self.pool,
+            self.dialect,
+            accounts_hasher(self.args),
+            confirm=self.args.confirm,
+            prepare=opaque_string if self.args.opaque else None,
+        )
 
     @property
     def rows(self) -> Rows:
         return Rows(self.pool, self.dialect)
 
-    def accounts(self) -> Accounts:
-        return Accounts(
-            self.pool,
-            self.dialect,
-            accounts_hasher(self.given),
-            confirm=self.given.confirm,
-            prepare=opaque_string if self.given.opaque else None,
-        )
+    @property
+    def name(self) -> Key:
+        return self.key(self.args.name)
 
     def key(self, name: str) -> Key:
-        if not self.given.numbers:
+        if not self.args.numbers:
             return name
         try:
             return int(name)
         except ValueError:
             raise Refusal(f"{name!r} is no whole number", Status.WORDS) from None
-
-    def execute(self, sql: str) -> None:
-        with self.pool() as conn:
-            run(Session(conn).execute(sql))
-
-    def init(self) -> int:
-        if self.database.kind == "sqlite":
-            self.execute("PRAGMA journal_mode = WAL")
-        self.execute(self.dialect.create())
-        return self.examine()
 
     def new_key(self, name: str) -> Key:
         """A name that an account may get."""
@@ -136,75 +141,9 @@ class _Command:
             raise Refusal("the column can't hold this name", Status.WORDS)
         return key
 
-    def add(self) -> int:
-        """The account and its record, in one transaction."""
-        accounts, key = self.accounts(), self.new_key(self.given.name)
-        password = password_of(is_new=True)
-        if isinstance(accounts.begin(Request(Kind.VERIFY, key)).copy, str):
-            return self.say(Reply.EXISTS)
-        record = accounts.new_record(password)
-        (word,) = Import(accounts, self.dialect, self.pool).put([(key, record)])
-        reply = Reply.ENROLLED if word == "added" else Reply.EXISTS
-        return self.say(reply, Reply.ENROLLED)
-
-    def check(self) -> int:
-        accounts, password = self.accounts(), password_of()
-        key = self.key(self.given.name)
-        try:
-            reply = accounts.verify(key, password)
-        except InvalidRecordError as fault:
-            copy = accounts.begin(Request(Kind.VERIFY, key)).copy
-            raise Refusal(why(copy, fault), Status.DATABASE) from None
-        if reply is Reply.NO and len(password) < LONGEST_PASSWORD:
-            said = hint(password, lambda it: accounts.verify(key, it) is Reply.YES)
-            if said:
-                say(said)
-        return self.say(reply, Reply.YES)
-
-    def reset(self) -> int:
-        accounts, key = self.accounts(), self.key(self.given.name)
-        if accounts.begin(Request(Kind.VERIFY, key)).copy is NO_ROW:
-            return self.say(Reply.NO_ACCOUNT)
-        reply = accounts.reset(key, password_of(is_new=True))
-        return self.say(reply, Reply.REPLACED, Reply.ENROLLED)
-
-    def change(self) -> int:
-        accounts, key = self.accounts(), self.key(self.given.name)
-        return self.say(accounts.change(key, *old_and_new()), Reply.REPLACED)
-
-    def disable(self) -> int:
-        """Takes the record away, and with --show writes it as a line for an import."""
-        accounts, key = self.accounts(), self.key(self.given.name)
-        copy = accounts.begin(Request(Kind.REMOVE, key)).copy
-        while isinstance(copy, str):
-            ticket = Ticket(Request(Kind.REMOVE, key), copy)
-            answer = accounts.commit(Worked(ticket, Reply.REMOVED, None))
-            if answer.reply is Reply.REMOVED:
-                text = f"{self.given.name} {copy}" if self.given.show else "disabled"
-                fields = {"record": copy} if self.given.show else {}
-                return self.answer("disabled", True, text, **fields)
-            copy = answer.after
-        return self.say(Reply.NO_ACCOUNT if copy is NO_ROW else Reply.ABSENT)
-
-    def delete(self) -> int:
-        is_done = self.rows.delete(self.new_key(self.given.name))
-        return self.answer("deleted", True) if is_done else self.say(Reply.NO_ACCOUNT)
-
-    def rename(self) -> int:
-        key, new = self.new_key(self.given.name), self.new_key(self.given.new)
-        accounts = self.accounts()
-        try:
-            is_done = self.rows.rename(key, new)
-        except Exception:
-            if accounts.begin(Request(Kind.VERIFY, new)).copy is NO_ROW:
-                raise
-            return self.say(Reply.EXISTS)
-        return self.answer("renamed", True) if is_done else self.say(Reply.NO_ACCOUNT)
-
-    def answer(self, word: str, is_good: bool, text: str = "", **fields: str) -> int:
-        """Writes an answer that isn't one of an operation."""
-        self.write(text or word, reply=word, **fields)
-        return Status.DONE if is_good else Status.NO
+    def copy(self, key: Key) -> Copy:
+        """What stands: a record, None, or NO_ROW."""
+        return self.accounts.begin(Request(Kind.VERIFY, key)).copy
 
     def say(self, reply: Reply, *good: Reply) -> int:
         """Writes a reply, with the status of a no unless it is one of the good ones."""
@@ -212,20 +151,121 @@ class _Command:
         self.write(words.get(reply, reply.value), reply=reply.value)
         return Status.DONE if reply in good else Status.NO
 
-    def write(self, text: str, /, **fields: object) -> None:
+    def write(self, text: str, /, **fields: object) -> int:
         """Writes a line: the text, or the fields with --json."""
-        print(json.dumps(fields, default=str) if self.given.json else text)
+        print(json.dumps(fields, default=str) if self.args.json else text)
+        return Status.DONE
 
-    def examine(self) -> int:
-        """Writes all faults; the status tells of errors."""
-        faults = self.accounts().examine()
-        for it in faults:
-            severity = it.severity.value
-            fields = {"severity": severity, "code": it.code, "text": it.text}
-            self.write(f"{severity}: {it}", **fields)
-        return Status.DATABASE if any(it.is_error for it in faults) else Status.DONE
+    def init(self) -> int:
+        """Create the table"""
+        with self.pool() as conn:
+            if self.database.kind == "sqlite":
+                run(Session(conn).execute("PRAGMA journal_mode = WAL"))
+            run(Session(conn).execute(self.dialect.create()))
+        return self.examine()
+
+    def add(self) -> int:
+        """Add an account with a password"""
+        accounts, key = self.accounts, self.new_key(self.args.name)
+        password = password_of(is_new=True)
+        if isinstance(self.copy(key), str):
+            return self.say(Reply.EXISTS)
+        with _password_judged():
+            record = accounts.new_record(password)
+        # The account and its record are put in one transaction.
+        (word,) = Import(accounts, self.dialect, self.pool).put([(key, record)])
+        reply = Reply.ENROLLED if word == "added" else Reply.EXISTS
+        return self.say(reply, Reply.ENROLLED)
+
+    def check(self) -> int:
+        """Write yes, or no with status 4"""
+        accounts, key, password = self.accounts, self.name, password_of()
+        try:
+            reply = accounts.verify(key, password)
+        except InvalidRecordError as fault:
+            raise Refusal(why(self.copy(key), fault), Status.DATABASE) from None
+        if reply is Reply.NO and len(password) < LONGEST_PASSWORD:
+            text = hint(password, lambda it: accounts.verify(key, it) is Reply.YES)
+            if text:
+                say(text)
+        return self.say(reply, Reply.YES)
+
+    def change(self) -> int:
+        """Replace a password by one who knows it"""
+        accounts, key, (old, new) = self.accounts, self.name, old_and_new()
+        with _password_judged():
+            reply = accounts.change(key, old, new)
+        return self.say(reply, Reply.REPLACED)
+
+    def reset(self) -> int:
+        """Give an account another password"""
+        if self.copy(self.name) is NO_ROW:
+            return self.say(Reply.NO_ACCOUNT)
+        password = password_of(is_new=True)
+        with _password_judged():
+            reply = self.accounts.reset(self.name, password)
+        return self.say(reply, Reply.REPLACED, Reply.ENROLLED)
+
+    def disable(self) -> int:
+        """Take an account's record away: no password is right"""
+        key = self.name
+        copy = self.copy(key)
+        while isinstance(copy, str):
+            ticket = Ticket(Request(Kind.REMOVE, key), copy)
+            answer = self.accounts.commit(Worked(ticket, Reply.REMOVED, None))
+            if answer.reply is Reply.REMOVED:
+                shown = {"record": copy} if self.args.show else {}
+                text = f"{self.args.name} {copy}" if shown else "disabled"
+                return self.write(text, reply="disabled", **shown)
+            copy = answer.after
+        return self.say(Reply.NO_ACCOUNT if copy is NO_ROW else Reply.ABSENT)
+
+    def delete(self) -> int:
+        """Delete an account with its row"""
+        if not self.rows.delete(self.new_key(self.args.name)):
+            return self.say(Reply.NO_ACCOUNT)
+        return self.write("deleted", reply="deleted")
+
+    def rename(self) -> int:
+        """Give an account another name"""
+        key, new = self.new_key(self.args.name), self.new_key(self.args.new)
+        try:
+            is_done = self.rows.rename(key, new)
+        except Exception:
+            if self.copy(new) is NO_ROW:
+                raise
+            return self.say(Reply.EXISTS)
+        if not is_done:
+            return self.say(Reply.NO_ACCOUNT)
+        return self.write("renamed", reply="renamed")
+
+    def take(self) -> int:
+        """Add a file's new accounts, of a bad file none"""
+        args = self.args
+        importing = Import(self.accounts, self.dialect, self.pool, args.foreign)
+        counts = importing.take(args.file, self.key)
+        text = f"{counts['added']} added, {counts['there']} there already"
+        another = counts["another"]
+        if another:
+            text += f", {another} with another record, which stays"
+        self.write(text, **counts)
+        return Status.NO if another else Status.DONE
+
+    def export(self) -> int:
+        """Write each account with its record, as lines for an import"""
+        left_out = 0
+        for name, record in self.rows.every():
+            line = line_of(name, record)
+            if line or self.args.json:
+                self.write(line, name=name, record=record)
+            elif record is not None:
+                left_out += 1
+        if left_out:
+            say(f"{left_out} accounts fit no line, and are left out: see --json")
+        return Status.DATABASE if left_out else Status.DONE
 
     def show(self) -> int:
+        """Write each account, and the costs of its record"""
         for name, record in self.rows.every():
             costs = costs_of(record)
             fields = {"name": name, "costs": costs}
@@ -235,23 +275,10 @@ class _Command:
             self.write(f"{shown(name)} {text}", **fields)
         return Status.DONE
 
-    def export(self) -> int:
-        """Lines for an import; the status tells that a row was left out."""
-        left_out = 0
-        for name, record in self.rows.every():
-            line = line_of(name, record)
-            if line or self.given.json:
-                self.write(line, name=name, record=record)
-            elif record is not None:
-                left_out += 1
-        if left_out:
-            say(f"{left_out} accounts fit no line, and are left out: see --json")
-        return Status.DATABASE if left_out else Status.DONE
-
     def report(self) -> int:
-        """How many records are of which scheme and costs, and what a login makes of them."""
-        counts = report(self.rows.every(), self.accounts()._judge.goes_up)
-        if self.given.prometheus:
+        """Count records by scheme and costs, and those to rehash"""
+        counts = report(self.rows.every(), self.accounts._judge.goes_up)
+        if self.args.prometheus:
             print(*as_prometheus(counts), sep="\n")
             return Status.DONE
         for (state, scheme, costs), count in counts:
@@ -259,37 +286,30 @@ class _Command:
             self.write(text, state=state.value, scheme=scheme, costs=costs, count=count)
         return Status.DONE
 
-    def take(self) -> int:
-        """The import: whole batches are committed, and existing accounts stay."""
-        given = self.given
-        importing = Import(self.accounts(), self.dialect, self.pool, given.foreign)
-        counts = importing.take(given.file, self.key)
-        said = f"{counts['added']} added, {counts['there']} there already"
-        another = counts["another"]
-        if another:
-            said += f", {another} with another record, which stays"
-        self.write(said, **counts)
-        return Status.NO if another else Status.DONE
+    def examine(self) -> int:
+        """Name faults of the table and the server"""
+        faults = self.accounts.examine()
+        for fault in faults:
+            severity = fault.severity.value
+            fields = {"severity": severity, "code": fault.code, "text": fault.text}
+            self.write(f"{severity}: {fault}", **fields)
+        is_error = any(it.is_error for it in faults)
+        return Status.DATABASE if is_error else Status.DONE
 
 
-_COMMANDS: Final[dict[str, tuple[Callable[[_Command], int], str]]] = {
-    "init": (_Command.init, "create the table"),
-    "add": (_Command.add, "add an account with a password"),
-    "check": (_Command.check, "write yes, or no with status 4"),
-    "change": (_Command.change, "replace a password by one who knows it"),
-    "reset": (_Command.reset, "give an account another password"),
-    "disable": (
-        _Command.disable,
-        "take an account's record away: no password is right",
-    ),
-    "delete": (_Command.delete, "delete an account with its row"),
-    "rename": (_Command.rename, "give an account another name"),
-    "import": (_Command.take, "add a file's new accounts, of a bad file none"),
-    "export": (_Command.export, 'write each account with its record, as "NAME RECORD"'),
-    "list": (_Command.show, "write each account, and the costs of its record"),
-    "report": (
-        _Command.report,
-        "count records by scheme and costs, and those to rehash",
-    ),
-    "examine": (_Command.examine, "name faults of the table and the server"),
+# The first line of each text is its command's help.
+_COMMANDS: Final[dict[str, Callable[[_Command], int]]] = {
+    "init": _Command.init,
+    "add": _Command.add,
+    "check": _Command.check,
+    "change": _Command.change,
+    "reset": _Command.reset,
+    "disable": _Command.disable,
+    "delete": _Command.delete,
+    "rename": _Command.rename,
+    "import": _Command.take,
+    "export": _Command.export,
+    "list": _Command.show,
+    "report": _Command.report,
+    "examine": _Command.examine,
 }

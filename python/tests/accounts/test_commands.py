@@ -7,9 +7,11 @@ import os
 import pathlib
 import re
 import shlex
+import shutil
 import sqlite3
 import subprocess
 import sys
+import unittest
 from unittest import mock
 
 import support
@@ -70,6 +72,9 @@ class Commands(Base):
             (["add", "ann"], b"two", 4, "exists"),
             (["add", "eve"], b"", 6, ""),
             (["add", "eve"], b"\n", 6, ""),
+            (["add", "eve"], b"x" * 257, 6, ""),
+            (["reset", "ann"], b"x" * 257, 6, ""),
+            (["change", "ann"], b"one\n" + b"x" * 257, 6, ""),
             (["add", "eve\udcff"], b"one", 1, ""),
             (["--numbers", "add", str(2**63)], b"one", 1, ""),
             (["check", "ann"], b"one\n", 0, "yes"),
@@ -296,13 +301,32 @@ class Commands(Base):
             done = subprocess.run(["bash", "--norc", "-c", code], capture_output=True, text=True)
             self.assertEqual((done.stdout.strip(), done.stderr), (offered, ""), line)
 
+    def test_what_fish_completes(self):
+        if shutil.which("fish") is None:
+            raise unittest.SkipTest("fish is not there")
+        script = support.PACKAGE.parent / "completions/rigzumal/fish"
+        for line, offered in (
+            ("rigzumal ", {"hash", "verify", "calibrate", "accounts"}),
+            ("rigzumal --v", {"--version"}),
+            ("rigzumal hash --e", {"--empty"}),
+            ("rigzumal accounts re", {"reset", "rename", "report"}),
+            ("rigzumal accounts --database x re", {"reset", "rename", "report"}),
+            ("rigzumal accounts --json report --pro", {"--prometheus"}),
+            ("rigzumal accounts check --pro", set()),
+            ("rigzumal accounts --table ", set()),
+        ):
+            code = f"source {script}; complete -C {shlex.quote(line)}"
+            done = subprocess.run(["fish", "-N", "-c", code], capture_output=True, text=True)
+            found = {it.partition("\t")[0] for it in done.stdout.splitlines()}
+            self.assertEqual((found, done.stderr), (offered, ""), line)
+
     def test_one_form_of_a_password(self):
         self.run_command("init")
         self.run_command("add", "--opaque", "ann", given="cafe\u0301".encode())
         typed = "caf\u00e9".encode()
         self.assertEqual(self.run_command("check", "--opaque", "ann", given=typed), "yes\n")
         self.assertEqual(self.run_command("check", "ann", given=typed), "yes\n")
-        self.run_command("reset", "--opaque", "ann", given=b"one\ttwo", status=1)
+        self.run_command("reset", "--opaque", "ann", given=b"one\ttwo", status=6)
 
     def test_a_pepper_in_a_file(self):
         self.run_command("init")
