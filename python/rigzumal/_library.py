@@ -157,7 +157,7 @@ class ScryptNumbers(ctypes.Structure):
     _fields_ = _numbers("ln", "r", "p")
 
 
-class Parts(ctypes.Structure):
+class RecordNumbers(ctypes.Structure):
     """struct rigzumal_parts."""
 
     _fields_ = _numbers(
@@ -210,7 +210,7 @@ def _load() -> Any:
     library.rigzumal_step.argtypes = [*data, *answer, pointer, *data, *data, pointer]
     library.rigzumal_record_fault.argtypes = [pointer]
     library.rigzumal_setting_fault.argtypes = [pointer]
-    library.rigzumal_parts.argtypes = [ctypes.POINTER(Parts), pointer]
+    library.rigzumal_parts.argtypes = [ctypes.POINTER(RecordNumbers), pointer]
     argon2, scrypt = ctypes.POINTER(Argon2Numbers), ctypes.POINTER(ScryptNumbers)
     library.rigzumal_argon2_threads.argtypes = [*data, argon2, *data * 4, threads]
     library.rigzumal_argon2_write.argtypes = [*data, argon2, *data * 2]
@@ -290,9 +290,9 @@ def check(
     return int(call(*known, *pair(secret), checked(threads)))
 
 
-def parts(text: Secret) -> Parts:
+def parts(text: Secret) -> RecordNumbers:
     """rigzumal_parts of a record; costs, which have no tag, are refused."""
-    found = Parts()
+    found = RecordNumbers()
     raise_fault(_library.rigzumal_parts(ctypes.byref(found), text_bytes(text)), text)
     if found.tag_size == 0:
         raise InvalidRecordError(1)

@@ -13,15 +13,15 @@ by then, the operation begins again. So whatever overlaps, the replies are those
 legal history.
 
 It runs on SQLite (sqlite3), PostgreSQL (psycopg 3), MariaDB and MySQL (PyMySQL), and
-imports no driver. `AsyncAccounts` is the same for asyncio. `rigzumal.accounts.parts` is
+imports no driver. `AsyncAccounts` is the same for asyncio. `rigzumal.accounts.types` is
 for an operation in three parts, `rigzumal.accounts.dialects` for your own engine.
 `python3 -m rigzumal accounts` is the command.
 """
 
 from rigzumal.accounts._accounts import Accounts, AsyncAccounts
 from rigzumal.accounts.dialects import MariaDB, MySQL, Postgres, Sqlite
-from rigzumal.accounts.parts import AccountsError, OutcomeUnknown, Reply, StoreFault
-from rigzumal.accounts.parts import Unavailable
+from rigzumal.accounts.types import AccountsError, OutcomeUnknown, Reply, StoreFault
+from rigzumal.accounts.types import Unavailable
 from rigzumal.accounts.pools import PerThread, of_engine
 
 __all__ = [

@@ -9,7 +9,7 @@ from typing import TYPE_CHECKING, Any, TypeVar
 from rigzumal._library import Secret
 from rigzumal.accounts._operations import Operations
 from rigzumal.accounts._session import AsyncRuntime, Hook, HookFailed, Runtime, run
-from rigzumal.accounts.parts import Answer, Key, Kind, Reply, Request, Ticket, Worked
+from rigzumal.accounts.types import Answer, Key, Kind, Reply, Request, Ticket, Worked
 from rigzumal.accounts.dialects._dialect import Fault
 from rigzumal.accounts.pools import AsyncPool, Pool
 
@@ -153,7 +153,7 @@ class Accounts(Operations[Pool]):
         """
         return self._done(self._examined(used))
 
-    # ---- in parts: see rigzumal.accounts.parts
+    # ---- in parts: see rigzumal.accounts.types
 
     def perform(self, request: Request, *, also: Hook = None) -> Answer:
         """The whole operation, with the records before and after it."""
@@ -200,8 +200,8 @@ def _awaited(
     """The same operation as a coroutine."""
 
     @functools.wraps(method)
-    async def operation(accounts: Any, /, *given: P.args, **named: P.kwargs) -> T:
-        doing: Any = method(accounts, *given, **named)
+    async def operation(accounts: Any, /, *args: P.args, **kwargs: P.kwargs) -> T:
+        doing: Any = method(accounts, *args, **kwargs)
         try:
             answer: T = await doing
             return answer

@@ -11,7 +11,7 @@ from typing import Any, Final, Optional
 
 from rigzumal.accounts._session import Job, Runtime
 from rigzumal.accounts._table import Lost, Table, Undone
-from rigzumal.accounts.parts import AccountsError, Unavailable
+from rigzumal.accounts.types import AccountsError, Unavailable
 from rigzumal.accounts.dialects._dialect import Fault, Verdict, error as fault_of
 from rigzumal.accounts.dialects._dialect import is_of_driver, warning
 
@@ -88,8 +88,8 @@ class Connections:
                 cause, is_dead = cause.__cause__, waits.age < _AT_ONCE
             name = self.table.name(cause)
             if waits.are_over:
-                said = f"no server did it in time: {name}{done.reason}"
-                raise Unavailable(said) from cause
+                text = f"no server did it in time: {name}{done.reason}"
+                raise Unavailable(text) from cause
             if waits.is_first:
                 LOGGER.warning("an operation is tried again: %s", name)
             await self.runtime.pause(waits.next(is_dead))

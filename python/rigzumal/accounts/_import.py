@@ -20,8 +20,8 @@ from rigzumal.accounts._accounts import Accounts
 from rigzumal.accounts._report import numbers_of
 from rigzumal.accounts._session import Session, run
 from rigzumal.accounts.dialects._dialect import ANOTHER_RECORD, Dialect
-from rigzumal.accounts.parts import Key, Kind, Reply, Request, StoreFault, Ticket
-from rigzumal.accounts.parts import Worked
+from rigzumal.accounts.types import Key, Kind, Reply, Request, StoreFault, Ticket
+from rigzumal.accounts.types import Worked
 from rigzumal.accounts.pools import Pool
 
 BATCH = 5000  # lines of an import that are committed together

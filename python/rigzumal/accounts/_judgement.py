@@ -12,8 +12,8 @@ from rigzumal import _library
 from rigzumal._hashers import PasswordHasher, ScryptHasher
 from rigzumal._library import InvalidRecordError, Secret, bytes_of, text_bytes
 from rigzumal._parts import Parts, parts
-from rigzumal.accounts.parts import Copy, Kind, Reply, Request, Ticket, Worked
-from rigzumal.accounts.parts import bytes_of_password
+from rigzumal.accounts.types import Copy, Kind, Reply, Request, Ticket, Worked
+from rigzumal.accounts.types import bytes_of_password
 
 Hasher = Union[PasswordHasher, ScryptHasher]
 
@@ -259,9 +259,9 @@ def step(
     size = _library.TEXT_SIZE if setting else 0
     text = ctypes.create_string_buffer(size) if setting else None
     answer, number = ctypes.c_uint32(), _OPERATIONS[kind]
-    given, new = bytes_of(password), bytes_of(new_password)
+    present, new = bytes_of(password), bytes_of(new_password)
     record = None if copy is None else text_bytes(copy)
-    words = (number, record, given, len(given), new, len(new), text_bytes(setting))
+    words = (number, record, present, len(present), new, len(new), text_bytes(setting))
     made = (text, ctypes.c_size_t(size), ctypes.byref(answer))
     if secret is None:
         fault = _library._library.rigzumal_step(*made, *words)

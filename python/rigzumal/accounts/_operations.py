@@ -20,9 +20,9 @@ from rigzumal.accounts._judgement import Foreign, Hasher, Judge, verdict_of
 from rigzumal.accounts._passwords import Passwords, Prepare
 from rigzumal.accounts._session import Hook, Job, Runtime
 from rigzumal.accounts._table import Broken, Table, Undone, judged, unused_key
-from rigzumal.accounts.parts import NO_ROW, Answer, Copy, Key, Kind, OutcomeUnknown
-from rigzumal.accounts.parts import Reply, Request, StoreFault, Ticket, Unavailable
-from rigzumal.accounts.parts import Worked
+from rigzumal.accounts.types import NO_ROW, Answer, Copy, Key, Kind, OutcomeUnknown
+from rigzumal.accounts.types import Reply, Request, StoreFault, Ticket, Unavailable
+from rigzumal.accounts.types import Worked
 from rigzumal.accounts.dialects._dialect import Dialect, Fault
 from rigzumal.accounts.pools import check_pool
 
@@ -61,8 +61,8 @@ class Operations(Generic[AnyPool]):
         whole_number("tries", tries)
         if tries < 1 or not patience >= 0:
             raise ValueError("tries is 1 or more, and patience 0 or more")
-        for it in (pool, *([] if replica is None else [replica])):
-            check_pool(it)
+        for one in (pool, *([] if replica is None else [replica])):
+            check_pool(one)
         if not isinstance(dialect, Dialect):
             wanted = 'a dialect is wanted, such as Postgres("users", "id", "record")'
             raise TypeError(f"{wanted}, not a {type(dialect).__name__}")
@@ -106,8 +106,8 @@ class Operations(Generic[AnyPool]):
         return faults + await self._connections.replica_faults(self._looking(key))
 
     async def _new_record(self, password: Secret) -> str:
-        given = self._passwords.new(password)
-        return await self._runtime.call(self._judge.new_record, given)
+        prepared = self._passwords.new(password)
+        return await self._runtime.call(self._judge.new_record, prepared)
 
     async def _begin(self, request: Request) -> Ticket:
         request = self._passwords.of(request)

@@ -8,7 +8,7 @@ from dataclasses import dataclass
 from typing import Any, Optional
 
 from rigzumal._library import Secret, whole_number
-from rigzumal.accounts.parts import LONGEST_PASSWORD, Kind, Request, bytes_of_password
+from rigzumal.accounts.types import LONGEST_PASSWORD, Kind, Request, bytes_of_password
 
 Prepare = Callable[[str], str]
 """The form of a password that is hashed, such as `rigzumal.opaque_string`.

@@ -61,7 +61,8 @@ def report(
     counts = Counter(group_of(record, is_old) for _, record in rows)
     order = list(State)
     return sorted(
-        counts.items(), key=lambda it: (order.index(it[0].state), -it[1], it[0][1:])
+        counts.items(),
+        key=lambda item: (order.index(item[0].state), -item[1], item[0][1:]),
     )
 
 

@@ -8,7 +8,7 @@ from typing import Any, Optional
 
 from rigzumal.accounts._session import Session, run
 from rigzumal.accounts.dialects import Dialect
-from rigzumal.accounts.parts import Key
+from rigzumal.accounts.types import Key
 from rigzumal.accounts.pools import Pool
 
 

@@ -15,7 +15,7 @@ from collections.abc import Iterable, Mapping
 from concurrent.futures import ThreadPoolExecutor
 from typing import Any, NamedTuple, Optional, TypeVar, cast
 
-from rigzumal.accounts.parts import Reply, StoreFault
+from rigzumal.accounts.types import Reply, StoreFault
 from rigzumal.accounts.pools import lent
 
 T = TypeVar("T")
@@ -65,8 +65,8 @@ class Session:
         cursor = self.conn.cursor()
         try:
             # Without values no driver looks for marks in it.
-            given = (sql, values) if values else (sql,)
-            cursor.execute(*given, **self._options)
+            statement = (sql, values) if values else (sql,)
+            cursor.execute(*statement, **self._options)
             return _result(cursor, cursor.fetchall() if cursor.description else ())
         finally:
             cursor.close()
@@ -172,13 +172,13 @@ class Runtime:
         """Waits so long."""
         time.sleep(seconds)
 
-    async def call(self, work: Callable[..., T], *given: Any) -> T:
+    async def call(self, work: Callable[..., T], *args: Any) -> T:
         """Does work that needs a processor for a while."""
-        return work(*given)
+        return work(*args)
 
-    async def ask(self, name: str, hook: Callable[..., Any], *given: Any) -> Any:
+    async def ask(self, name: str, hook: Callable[..., Any], *args: Any) -> Any:
         """What a caller's hook answers, which may hash too."""
-        return at_once(name, hook(*given))
+        return at_once(name, hook(*args))
 
 
 class AsyncRuntime(Runtime):
@@ -194,13 +194,13 @@ class AsyncRuntime(Runtime):
     async def pause(self, seconds: float) -> None:
         await asyncio.sleep(seconds)
 
-    async def call(self, work: Callable[..., T], *given: Any) -> T:
+    async def call(self, work: Callable[..., T], *args: Any) -> T:
         # As asyncio.to_thread, which has no executor to choose.
         run_in, loop = contextvars.copy_context().run, asyncio.get_running_loop()
-        return await loop.run_in_executor(self._executor, lambda: run_in(work, *given))
+        return await loop.run_in_executor(self._executor, lambda: run_in(work, *args))
 
-    async def ask(self, name: str, hook: Callable[..., Any], *given: Any) -> Any:
+    async def ask(self, name: str, hook: Callable[..., Any], *args: Any) -> Any:
         if inspect.iscoroutinefunction(hook):
-            return await hook(*given)
-        answer = await self.call(hook, *given)
+            return await hook(*args)
+        answer = await self.call(hook, *args)
         return await answer if isinstance(answer, Awaitable) else answer

@@ -16,8 +16,8 @@ from typing import Any, Final, NoReturn, Optional, Union
 from rigzumal.accounts._session import Hook, HookFailed, Session
 from rigzumal.accounts.dialects._dialect import ANOTHER_RECORD, NOT_NULL, Dialect
 from rigzumal.accounts.dialects._dialect import Fault, Severity, Verdict, is_of_driver
-from rigzumal.accounts.parts import NO_ROW, Answer, Copy, Key, Kind, Reply, Request
-from rigzumal.accounts.parts import StoreFault, Ticket, Worked
+from rigzumal.accounts.types import NO_ROW, Answer, Copy, Key, Kind, Reply, Request
+from rigzumal.accounts.types import StoreFault, Ticket, Worked
 
 ENDED: Final = (
     "`also` has ended the operation's transaction, closed its connection, or swallowed an"
@@ -154,17 +154,17 @@ class Table:
         locked, key = self.dialect.locked, worked.ticket.request.key
         can_stand = self.dialect.can_stand(key)
         now = await self.one(session, locked, key) if can_stand else NO_ROW
-        told = judged(worked, now)
-        if told.reply is Reply.CHANGED:
-            return told
+        expected = judged(worked, now)
+        if expected.reply is Reply.CHANGED:
+            return expected
         try:
-            await session.wait(also(session.conn, told.reply))
+            await session.wait(also(session.conn, expected.reply))
         except Exception as error:
             raise HookFailed(error)
         if not self._is_open(session):
             raise HookFailed(TypeError(ENDED))
         answer = await self.compare(session, worked)
-        if answer.reply is not told.reply:
+        if answer.reply is not expected.reply:
             raise HookFailed(TypeError(WROTE))
         return answer
 

@@ -31,8 +31,8 @@ from rigzumal.accounts._words import accounts_hasher, old_and_new, parser
 from rigzumal.accounts._words import password_of
 from rigzumal.accounts.database import Database
 from rigzumal.accounts.dialects import Dialect
-from rigzumal.accounts.parts import LONGEST_PASSWORD, NO_ROW, AccountsError, Copy, Key
-from rigzumal.accounts.parts import Kind, Reply, Request, Ticket, Worked
+from rigzumal.accounts.types import LONGEST_PASSWORD, NO_ROW, AccountsError, Copy, Key
+from rigzumal.accounts.types import Kind, Reply, Request, Ticket, Worked
 from rigzumal.accounts.pools import PerThread
 
 DRIVERS = ("sqlite3", "psycopg", "pymysql")

@@ -27,7 +27,7 @@ from contextlib import AbstractAsyncContextManager, AbstractContextManager
 from contextlib import asynccontextmanager, contextmanager, suppress
 from typing import Any, Final, Optional
 
-from rigzumal.accounts.parts import Unavailable
+from rigzumal.accounts.types import Unavailable
 
 Pool = Callable[[], AbstractContextManager[Any]]
 AsyncPool = Callable[[], AbstractAsyncContextManager[Any]]
@@ -45,12 +45,12 @@ def lent(pool: Any, enter: str) -> Any:
 
     A connection of psycopg or sqlite3 is a context manager too, which doesn't close it.
     """
-    given = pool()
-    kind = type(given)
+    lender = pool()
+    kind = type(lender)
     if hasattr(kind, enter) and not hasattr(kind, "cursor"):
-        return given
-    if inspect.iscoroutine(given):
-        given.close()
+        return lender
+    if inspect.iscoroutine(lender):
+        lender.close()
     wanted = "`with`" if enter == "__enter__" else "`async with`"
     fault = f"a pool gives connections by {wanted}, and this one answers"
     raise TypeError(f"{fault} a {kind.__name__}: {_MAKERS}")

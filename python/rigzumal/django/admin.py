@@ -41,10 +41,10 @@ class UserAdmin(admin.UserAdmin):
         names.remove("password")
         obj.save(update_fields=names)
 
-    def changeform_view(self, request: Any, *given: Any, **named: Any) -> Any:
+    def changeform_view(self, request: Any, *args: Any, **kwargs: Any) -> Any:
         """The page of a user, which is shown again if a password couldn't be written."""
         try:
-            return super().changeform_view(request, *given, **named)
+            return super().changeform_view(request, *args, **kwargs)
         except RecordChanged:
             return self._again(request)
 

@@ -62,9 +62,9 @@ class CompareAndSetBackend(ModelBackend):
         except passwords.RecordChanged:
             return None
 
-    def aauthenticate(self, *given: Any, **credentials: Any) -> Awaitable[Any]:
+    def aauthenticate(self, *args: Any, **credentials: Any) -> Awaitable[Any]:
         """`authenticate`, in a thread; Django calls it from 5.2 on."""
-        return records.in_thread(lambda: self.authenticate(*given, **credentials))
+        return records.in_thread(lambda: self.authenticate(*args, **credentials))
 
 
 @hidden

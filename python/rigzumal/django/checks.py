@@ -47,7 +47,7 @@ def register() -> None:
     checks.register(unlisted_hashers, checks.Tags.database)
 
 
-def _said(number: str, text: str, hint: str) -> checks.CheckMessage:
+def _message(number: str, text: str, hint: str) -> checks.CheckMessage:
     kind = checks.Error if number.startswith("E") else checks.Warning
     return kind(text, hint=hint, id=f"rigzumal.{number}")
 
@@ -72,23 +72,23 @@ def _classes(setting: str, number: str) -> tuple[list[tuple[str, type]], Message
     listed = getattr(settings, setting)
     if isinstance(listed, str):
         text = f"{setting} is a text, where a list is wanted."
-        return [], [_said(number, text, f"Put {listed!r} into a list.")]
+        return [], [_message(number, text, f"Put {listed!r} into a list.")]
     found: list[tuple[str, type]] = []
     amiss: Messages = []
     for path in listed:
         try:
-            it = import_string(path)
+            named = import_string(path)
         except (ImportError, ValueError, AttributeError) as fault:
             text = f"{setting} has {path!r}, which can't be imported."
-            amiss.append(_said(number, text, str(fault)))
+            amiss.append(_message(number, text, str(fault)))
             continue
-        if isinstance(it, type):
-            found.append((path, it))
+        if isinstance(named, type):
+            found.append((path, named))
         else:
             text = f"{setting} has {path!r}, which is no class."
-            amiss.append(_said(number, text, "Name a class by its whole path."))
+            amiss.append(_message(number, text, "Name a class by its whole path."))
     if not listed:
-        amiss.append(_said(number, f"{setting} is empty.", "Nobody can log in."))
+        amiss.append(_message(number, f"{setting} is empty.", "Nobody can log in."))
     return found, amiss
 
 
@@ -116,17 +116,17 @@ def backends(**_: Any) -> Messages:
                 "The only ModelBackend is Django's own: a login that loses to changes is"
                 " an error page, and an inactive user's right password is rehashed."
             )
-            amiss.append(_said("W014", text, hint))
+            amiss.append(_message("W014", text, hint))
         return amiss
     if not is_used:
         text = "No backend is a CompareAndSetBackend: a login may undo a change."
-        amiss.append(_said("W001", text, hint))
+        amiss.append(_message("W001", text, hint))
     judging_none = (CompareAndSetBackend, RemoteUserBackend)
-    for it in found:
-        if issubclass(it, ModelBackend) and not issubclass(it, judging_none):
-            text = f"{_path(it)} upgrades records at login without a comparison."
+    for backend in found:
+        if issubclass(backend, ModelBackend) and not issubclass(backend, judging_none):
+            text = f"{_path(backend)} upgrades records at login without a comparison."
             hint = "Remove it, or derive it from CompareAndSetBackend."
-            amiss.append(_said("W002", text, hint))
+            amiss.append(_message("W002", text, hint))
     return amiss
 
 
@@ -137,7 +137,7 @@ def column(**_: Any) -> Messages:
     if width is None or width >= WIDTH:
         return []
     text = f"The password column has {width} letters, and a record up to {WIDTH}."
-    return [_said("E003", text, f"Give it max_length={WIDTH}.")]
+    return [_message("E003", text, f"Give it max_length={WIDTH}.")]
 
 
 def hashers_listed(**_: Any) -> Messages:
@@ -153,14 +153,14 @@ def hashers_listed(**_: Any) -> Messages:
             "The first of PASSWORD_HASHERS, which makes new records, isn't Rigzumal's."
         )
         hint = "Put 'rigzumal.django.hashers.Argon2PasswordHasher' before the others."
-        amiss.append(_said("W004", text, hint + _misspelt("PASSWORD_HASHERS")))
+        amiss.append(_message("W004", text, hint + _misspelt("PASSWORD_HASHERS")))
     judges = {getattr(it, "algorithm", None): it for _, it in listed}
     for path, ours in listed:
         judge = judges[getattr(ours, "algorithm", None)]
         if issubclass(ours, OURS) and not issubclass(judge, OURS):
             text = f"{_path(judge)} comes after {path}, so Django asks it instead."
             hint = f"Remove {_path(judge)}: Rigzumal's reads its records."
-            amiss.append(_said("E013", text, hint))
+            amiss.append(_message("E013", text, hint))
     return amiss
 
 
@@ -171,7 +171,9 @@ def isolation(**_: Any) -> Messages:
         " password is right, or the request fails."
     )
     return [
-        _said("W005", text.format(alias), "Leave the level out, or set READ COMMITTED.")
+        _message(
+            "W005", text.format(alias), "Leave the level out, or set READ COMMITTED."
+        )
         for alias, database in settings.DATABASES.items()
         if _has_snapshots(database)
     ]
@@ -200,7 +202,7 @@ def own_methods(**_: Any) -> Messages:
     hint = "Give the model the CompareAndSetMixin, behind the class that has it."
     text = "{} would be skipped, so logins are refused."
     return [
-        _said("E006", text.format(name), hint)
+        _message("E006", text.format(name), hint)
         for name in users.unreached_methods(get_user_model())
     ]
 
@@ -212,7 +214,7 @@ def user_model(**_: Any) -> Messages:
     name = get_user_model()._meta.label
     text = f"{name}.save and check_password don't compare: they may undo a change."
     hint = "Set RIGZUMAL_USER_COMPARES = True, or give the model CompareAndSetMixin."
-    return [_said("W007", text, hint + _misspelt("RIGZUMAL_USER_COMPARES"))]
+    return [_message("W007", text, hint + _misspelt("RIGZUMAL_USER_COMPARES"))]
 
 
 def _outcome() -> str:
@@ -234,13 +236,17 @@ def admin_sites(**_: Any) -> Messages:
         registered = site._registry.get(get_user_model())
         if registered is not None and not isinstance(registered, UserAdmin):
             hint = "Register the user model with rigzumal.django.admin.UserAdmin."
-            amiss.append(_said("W008", f"{front} admin of users: {_outcome()}.", hint))
+            amiss.append(
+                _message("W008", f"{front} admin of users: {_outcome()}.", hint)
+            )
         if site._registry and not isinstance(site, AdminSite):
             hint = (
                 "Install 'rigzumal.django.apps.AdminConfig' for 'django.contrib.admin',"
                 " or derive the site from rigzumal.django.site.AdminSite."
             )
-            amiss.append(_said("W008", f"{front} password_change: {_outcome()}.", hint))
+            amiss.append(
+                _message("W008", f"{front} password_change: {_outcome()}.", hint)
+            )
     return amiss
 
 
@@ -250,7 +256,7 @@ def url_views(**_: Any) -> Messages:
         return []
     hint = "Include 'rigzumal.django.urls', or use the views of rigzumal.django.views."
     return [
-        _said("W009", f"The URL {route!r} is Django's {view}: {_outcome()}.", hint)
+        _message("W009", f"The URL {route!r} is Django's {view}: {_outcome()}.", hint)
         for route, view, form in _password_views(get_resolver().url_patterns)
         if not issubclass(form, (forms.PasswordChangeForm, forms.SetPasswordForm))
     ]
@@ -258,14 +264,14 @@ def url_views(**_: Any) -> Messages:
 
 def _password_views(patterns: Any, front: str = "") -> Iterator[tuple[str, str, Any]]:
     kinds = (djangos_views.PasswordChangeView, djangos_views.PasswordResetConfirmView)
-    for it in patterns:
-        route = front + str(it.pattern)
-        if hasattr(it, "url_patterns"):
-            yield from _password_views(it.url_patterns, route)
+    for url in patterns:
+        route = front + str(url.pattern)
+        if hasattr(url, "url_patterns"):
+            yield from _password_views(url.url_patterns, route)
             continue
-        view = getattr(it.callback, "view_class", None)
+        view = getattr(url.callback, "view_class", None)
         if view is not None and issubclass(view, kinds):
-            form = it.callback.view_initkwargs.get("form_class", view.form_class)
+            form = url.callback.view_initkwargs.get("form_class", view.form_class)
             yield route, view.__name__, form
 
 
@@ -276,7 +282,7 @@ def command(**_: Any) -> Messages:
     outcome = "a traceback" if _compares() else "undone"
     text = f"changepassword is Django's own: a change that came meanwhile is {outcome}."
     hint = "Put 'rigzumal.django' before 'django.contrib.auth' in INSTALLED_APPS."
-    return [_said("W010", text, hint)]
+    return [_message("W010", text, hint)]
 
 
 def unlisted_hashers(databases: Any = None, **_: Any) -> Messages:
@@ -294,7 +300,7 @@ def unlisted_hashers(databases: Any = None, **_: Any) -> Messages:
                 " doesn't list: their users can't log in."
             )
             hint = "List the hashers that you had before, behind Rigzumal's."
-            amiss.append(_said("W011", text, hint))
+            amiss.append(_message("W011", text, hint))
     return amiss
 
 

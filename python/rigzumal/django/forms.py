@@ -91,10 +91,10 @@ class AdminPasswordChangeForm(_Comparing, forms.AdminPasswordChangeForm):
     """Sets the password of a user in the admin."""
 
     def _write(self) -> None:
-        given = self.cleaned_data
+        data = self.cleaned_data
         # From Django 5.1 on a button removes the password.
-        is_usable = given.get("set_usable_password", True)
-        passwords.set_password(self.user, given["password1"] if is_usable else None)
+        is_usable = data.get("set_usable_password", True)
+        passwords.set_password(self.user, data["password1"] if is_usable else None)
 
 
 class AdminOwnPasswordChangeForm(PasswordChangeForm):

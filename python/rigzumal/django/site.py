@@ -24,7 +24,7 @@ class AdminSite(sites.AdminSite):
         from rigzumal.django.forms import AdminOwnPasswordChangeForm
         from rigzumal.django.views import PasswordChangeView
 
-        given: dict[str, Any] = {
+        initkwargs: dict[str, Any] = {
             "form_class": AdminOwnPasswordChangeForm,
             "success_url": reverse("admin:password_change_done", current_app=self.name),
             "extra_context": {**self.each_context(request), **(extra_context or {})},
@@ -32,4 +32,4 @@ class AdminSite(sites.AdminSite):
             or "registration/password_change_form.html",
         }
         request.current_app = self.name
-        return PasswordChangeView.as_view(**given)(request)
+        return PasswordChangeView.as_view(**initkwargs)(request)

@@ -19,9 +19,9 @@ _OURS: dict[str, Any] = {
 
 urlpatterns = [
     (
-        path(str(it.pattern), _OURS[it.name].as_view(), name=it.name)
-        if it.name in _OURS
-        else it
+        path(str(url.pattern), _OURS[url.name].as_view(), name=url.name)
+        if url.name in _OURS
+        else url
     )
-    for it in urls.urlpatterns
+    for url in urls.urlpatterns
 ]

@@ -143,21 +143,21 @@ class CompareAndSetMixin(models.Model):
     ) -> Any:
         """Model's UPDATE of one table, which compares if it writes the password."""
         update = super()._do_update
-        given = [it[2] for it in values if it[0].attname == "password"]
+        written = [it[2] for it in values if it[0].attname == "password"]
         copy = records.known_copy(self, using)
-        if not given or copy is None:
+        if not written or copy is None:
             updated = update(rows, using, pk, values, *rest, **more)
-            if given and updated:
-                records.note_put(self, using, records.Copy(given[0]))
+            if written and updated:
+                records.note_put(self, using, records.Copy(written[0]))
             return updated
-        if given[0] == copy.newest and not copy.is_in_doubt(using):
+        if written[0] == copy.newest and not copy.is_in_doubt(using):
             others = [it for it in values if it[0].attname != "password"]
             return update(rows, using, pk, others, *rest, **more)
         # A `bulk_update` of this user may have put the new record already.
-        compared = rows.filter(password__in=[*copy.records, given[0]])
+        compared = rows.filter(password__in=[*copy.records, written[0]])
         updated = update(compared, using, pk, values, *rest, **more)
         if updated:
-            records.note_put(self, using, copy.followed_by(given[0], using))
+            records.note_put(self, using, copy.followed_by(written[0], using))
         elif rows.filter(pk=pk).exists():
             raise RecordChanged
         return updated
@@ -201,8 +201,8 @@ def comparing(model: Any) -> Iterator[None]:
 def own_methods(classes: Any, *names: str) -> list[str]:
     """Those of these methods that are neither Django's nor the mixin's."""
     known = (AbstractBaseUser, CompareAndSetMixin)
-    having = [(it, name) for name in names for it in classes if name in vars(it)]
-    return [f"{it.__qualname__}.{name}" for it, name in having if it not in known]
+    having = [(of, name) for name in names for of in classes if name in vars(of)]
+    return [f"{of.__qualname__}.{name}" for of, name in having if of not in known]
 
 
 def unreached_methods(model: Any) -> list[str]:

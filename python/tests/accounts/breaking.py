@@ -11,7 +11,7 @@ from contextlib import asynccontextmanager, contextmanager, suppress
 import support  # noqa: F401: finds the package
 from rigzumal.accounts import OutcomeUnknown, PerThread, Postgres, Sqlite
 from rigzumal.accounts._session import Session, run
-from rigzumal.accounts.parts import Answer
+from rigzumal.accounts.types import Answer
 
 
 def take_pool(accounts, pool):

@@ -12,7 +12,7 @@ from unittest import mock
 
 from support import HIGH, LOW, after_hash, counted, in_threads, losing, sent
 from rigzumal.accounts import Accounts, OutcomeUnknown, Reply, StoreFault, Unavailable
-from rigzumal.accounts.parts import NO_ROW, Kind, Request, Ticket
+from rigzumal.accounts.types import NO_ROW, Kind, Request, Ticket
 
 # What stands, what is called, and what is answered: under the record's costs, and higher ones.
 EACH = (

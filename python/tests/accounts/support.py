@@ -22,7 +22,7 @@ import tests.helpers  # noqa: F401: unittest as in Python 3.11
 from rigzumal import PasswordHasher, VerifyMismatchError
 from rigzumal.accounts import Accounts, PerThread, Sqlite, _judgement
 from rigzumal.accounts._session import Session, run  # noqa: F401: of each test
-from rigzumal.accounts.parts import Kind, Request
+from rigzumal.accounts.types import Kind, Request
 
 # Of sqlite3's errors, which have their names from Python 3.11 on.
 CHECK_FAILED, FOREIGN_KEY_FAILED = (

@@ -13,7 +13,7 @@ from engines import Awaited
 from support import LOW, module
 from rigzumal.accounts import Accounts, AsyncAccounts, MariaDB, Postgres, Reply, Sqlite, StoreFault
 from rigzumal.accounts import Unavailable, of_engine
-from rigzumal.accounts.parts import Kind, Request, Ticket
+from rigzumal.accounts.types import Kind, Request, Ticket
 
 
 class Refused(unittest.TestCase):

@@ -7,7 +7,7 @@ import engines
 import support
 from support import CHECK_FAILED, LOW
 from rigzumal.accounts import PerThread, Reply, StoreFault
-from rigzumal.accounts.parts import Kind
+from rigzumal.accounts.types import Kind
 
 CASE, BLANKS = "differ in case", "differ by blanks at the end"
 ACCENTS, CUT = "differ by accents", "record-type: record is {}: a record has up to 152 bytes"

@@ -11,7 +11,7 @@ from support import HIGH, LOW, OLDER, READS, Base, counted
 import rigzumal
 from rigzumal import PasswordHasher, ScryptHasher
 from rigzumal.accounts import Accounts, Reply, _judgement
-from rigzumal.accounts.parts import Kind, NO_ROW, Request, Ticket
+from rigzumal.accounts.types import Kind, NO_ROW, Request, Ticket
 
 
 class Upgrades(Base):

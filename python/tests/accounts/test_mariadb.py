@@ -12,7 +12,7 @@ from support import LOW, Base, Scripted, run, sent
 from rigzumal.accounts import AsyncAccounts, MariaDB, Reply, StoreFault, cli
 from rigzumal.accounts._session import Result
 from rigzumal.accounts.dialects import mariadb
-from rigzumal.accounts.parts import Kind
+from rigzumal.accounts.types import Kind
 
 
 class OnMariaDB(engines.OnMariaDB, Base):

@@ -14,7 +14,7 @@ from rigzumal import OutOfMemoryError, ScryptHasher
 from rigzumal.accounts import Accounts, AsyncAccounts, MariaDB, Reply, Sqlite, StoreFault
 from rigzumal.accounts import Unavailable, _connections
 from rigzumal.accounts._session import Result, run
-from rigzumal.accounts.parts import Kind, Request, Ticket, Worked
+from rigzumal.accounts.types import Kind, Request, Ticket, Worked
 
 
 class Operations(Base):

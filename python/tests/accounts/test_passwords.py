@@ -6,7 +6,7 @@ import unicodedata
 from support import HIGH, LOW, Base, counted
 from rigzumal import VerifyMismatchError, opaque_string
 from rigzumal.accounts import Accounts, AsyncAccounts, Reply
-from rigzumal.accounts.parts import Kind, Request
+from rigzumal.accounts.types import Kind, Request
 
 COMPOSED, APART = (unicodedata.normalize(it, "caf\u00e9 au lait") for it in ("NFC", "NFD"))
 

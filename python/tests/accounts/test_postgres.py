@@ -16,7 +16,7 @@ from servers import psycopg
 from support import LOW, Base, Session, run, sent
 from rigzumal import InvalidRecordError
 from rigzumal.accounts import AsyncAccounts, OutcomeUnknown, Reply, StoreFault, Unavailable
-from rigzumal.accounts.parts import Kind, Request
+from rigzumal.accounts.types import Kind, Request
 from rigzumal.accounts.pools import PerUse
 from torture import _worker
 

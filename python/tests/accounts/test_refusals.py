@@ -9,7 +9,7 @@ from engines import Awaited
 from support import HIGH, LOW, Base, counted
 from rigzumal.accounts import Accounts, AsyncAccounts, MariaDB, OutcomeUnknown, Postgres, Reply
 from rigzumal.accounts import PerThread, StoreFault, Unavailable
-from rigzumal.accounts.parts import NO_ROW, Answer, Kind, Request, Ticket, Worked
+from rigzumal.accounts.types import NO_ROW, Answer, Kind, Request, Ticket, Worked
 from rigzumal.accounts._session import Result, run
 from rigzumal.accounts.dialects import MySQL, Verdict
 

@@ -13,7 +13,7 @@ import torture
 from support import Base, losing
 from rigzumal.accounts import Reply, StoreFault
 from rigzumal.accounts._table import Table
-from rigzumal.accounts.parts import Answer, Kind
+from rigzumal.accounts.types import Answer, Kind
 from torture import __main__ as command, _torture
 from torture.logs import Log
 

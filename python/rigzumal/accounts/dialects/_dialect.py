@@ -10,7 +10,7 @@ from dataclasses import dataclass
 from typing import Any, ClassVar, Final, NamedTuple
 
 from rigzumal.accounts._session import Result, Session
-from rigzumal.accounts.parts import Copy, Key, StoreFault
+from rigzumal.accounts.types import Copy, Key, StoreFault
 
 LONGEST_RECORD: Final = 512  # bytes
 LONGEST_WRITTEN: Final = 152  # bytes of a record of accounts, with the longest salt
@@ -318,9 +318,9 @@ class Dialect:
             wanted = self.key_type.__name__
             yield error("key-type", f"{self.key_name} is {kind}, and keys are {wanted}")
 
-    def record_fault(self, said: str) -> Fault:
+    def record_fault(self, text: str) -> Fault:
         """A column that holds no record as it is."""
-        return error("record-type", f"{self.record_name} is {said}")
+        return error("record-type", f"{self.record_name} is {text}")
 
     def length_faults(self, kind: str, length: int) -> Iterator[Fault]:
         """A column that is too short for records of accounts, or of other programs."""

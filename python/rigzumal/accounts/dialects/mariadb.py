@@ -8,7 +8,7 @@ from collections.abc import Iterator
 from typing import Any, Final, Optional
 
 from rigzumal.accounts._session import Result, Session
-from rigzumal.accounts.parts import Copy, Key, StoreFault
+from rigzumal.accounts.types import Copy, Key, StoreFault
 from rigzumal.accounts.dialects._dialect import ANOTHER_RECORD, CRASH_LOSES
 from rigzumal.accounts.dialects._dialect import POWER_CUT_LOSES
 from rigzumal.accounts.dialects._dialect import Dialect, Fault, Findings

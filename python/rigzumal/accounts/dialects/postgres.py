@@ -11,7 +11,7 @@ from rigzumal.accounts.dialects._dialect import CRASH_LOSES
 from rigzumal.accounts.dialects._dialect import Dialect, Fault, Findings, Mode, Verdict
 from rigzumal.accounts.dialects._dialect import error, not_durable, other_driver
 from rigzumal.accounts.dialects._dialect import warning
-from rigzumal.accounts.parts import Copy, Key, StoreFault
+from rigzumal.accounts.types import Copy, Key, StoreFault
 
 # 40001: serialization; 40P01: a deadlock; 55P03: lock_timeout; 57014: statement_timeout.
 _AGAIN: Final = frozenset({"40001", "40P01", "55P03", "57014"})
@@ -61,8 +61,8 @@ class Postgres(Dialect):
         # A change whose snapshot is older than a session's row doesn't see it to end it.
         found = await session.execute("SHOW transaction_isolation")
         if found.rows == [("repeatable read",)]:
-            said = "the transaction is of REPEATABLE READ"
-            raise StoreFault(f"{said}: begin by READ COMMITTED or SERIALIZABLE")
+            fault = "the transaction is of REPEATABLE READ"
+            raise StoreFault(f"{fault}: begin by READ COMMITTED or SERIALIZABLE")
 
     async def start(self, session: Session) -> None:
         try:

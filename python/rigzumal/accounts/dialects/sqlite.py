@@ -7,7 +7,7 @@ from collections.abc import Iterator
 from typing import Any, Final
 
 from rigzumal.accounts._session import Session
-from rigzumal.accounts.parts import StoreFault
+from rigzumal.accounts.types import StoreFault
 from rigzumal.accounts.dialects._dialect import NO_TRANSACTION, POWER_CUT_LOSES, Dialect
 from rigzumal.accounts.dialects._dialect import Fault, Findings, Mode, Verdict, error
 from rigzumal.accounts.dialects._dialect import not_durable, other_driver, warning

@@ -16,10 +16,10 @@ from multiprocessing.process import BaseProcess
 from typing import Any, Optional
 
 from rigzumal.accounts._accounts import Accounts
-from rigzumal.accounts.parts import StoreFault
+from rigzumal.accounts.types import StoreFault
 from rigzumal.accounts.database import Database
 from rigzumal.accounts.dialects import Dialect
-from rigzumal.accounts.parts import Kind, Request
+from rigzumal.accounts.types import Kind, Request
 from rigzumal.accounts.pools import PerThread
 from torture import history, logs
 from torture._worker import LOW, Worker, hasher

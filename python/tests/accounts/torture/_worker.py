@@ -18,8 +18,8 @@ from rigzumal.accounts._accounts import Accounts, AsyncAccounts
 from rigzumal.accounts._connections import LOGGER
 from rigzumal.accounts._operations import Operations
 from rigzumal.accounts._session import Hook, Session, run
-from rigzumal.accounts.parts import AccountsError, Answer, Kind, OutcomeUnknown, Reply
-from rigzumal.accounts.parts import Request, Unavailable, Worked
+from rigzumal.accounts.types import AccountsError, Answer, Kind, OutcomeUnknown, Reply
+from rigzumal.accounts.types import Request, Unavailable, Worked
 from rigzumal.accounts.database import Database
 from rigzumal.accounts.dialects._dialect import Verdict, is_of_driver
 from rigzumal.accounts.pools import PerThread, PerUse

@@ -27,7 +27,7 @@ import time
 from collections.abc import Iterable, Iterator
 from typing import Any
 
-from rigzumal.accounts.parts import NO_ROW, Answer, Request, Worked
+from rigzumal.accounts.types import NO_ROW, Answer, Request, Worked
 from torture._order import Attempt, Operation
 from torture.history import Account, verdict
 

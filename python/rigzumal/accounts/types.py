@@ -1,0 +1,165 @@
+"""The types of the operations: names, requests, answers, faults.
+
+A caller with its own transaction does an operation in three parts:
+
+    ticket = accounts.begin(Request(Kind.CHANGE, user_id, old, new))
+    worked = accounts.work(ticket)             # no connection is held
+    answer = accounts.commit_in(conn, worked)  # within a transaction that is open
+
+For rows that an operation commits with its reply, its `also` is enough.
+"""
+
+from __future__ import annotations
+
+import enum
+import uuid
+from dataclasses import dataclass, field
+from typing import TYPE_CHECKING, Final, Union
+
+from rigzumal._library import Secret, bytes_of
+
+Key = Union[int, str, bytes, uuid.UUID]
+"""The name of an account, of its column's type."""
+
+LONGEST_PASSWORD: Final = 256  # bytes; a longer one is refused, and never cut off
+
+
+class Reply(enum.Enum):
+    """The answer of an operation."""
+
+    ENROLLED = "enrolled"
+    EXISTS = "exists"
+    YES = "yes"
+    NO = "no"
+    ABSENT = "absent"
+    REPLACED = "replaced"
+    WRONG = "wrong"
+    UPGRADED = "upgraded"
+    KEPT = "kept"
+    REMOVED = "removed"
+    CHANGED = "changed"
+    NO_ACCOUNT = "noaccount"
+
+    # Hidden from mypy, whose `truthy-bool` then names each place where it is missing.
+    if not TYPE_CHECKING:
+
+        def __bool__(self) -> bool:
+            """Refuses `if accounts.login(..)`, which would let everybody in."""
+            fault = "a Reply is no truth value: compare with Reply.YES or the like"
+            raise TypeError(fault)
+
+    @property
+    def makes_change(self) -> bool:
+        """Whether the operation replaced, added or removed the record."""
+        # Before Python 3.12 `value` is a slow property.
+        return self._value_ in ("enrolled", "replaced", "upgraded", "removed")
+
+
+class Kind(enum.Enum):
+    """The operations."""
+
+    ENROL = "enrol"
+    VERIFY = "verify"
+    CHANGE = "change"
+    UPGRADE = "upgrade"
+    REMOVE = "remove"
+    RESET = "reset"
+
+
+class NoRow(enum.Enum):
+    """The copy of an account that doesn't exist."""
+
+    NO_ROW = "no row"
+
+
+NO_ROW: Final = NoRow.NO_ROW
+
+Copy = Union[str, None, NoRow]
+"""An account's record as it was read; None for no record, NO_ROW for no account."""
+
+
+def bytes_of_password(password: Secret) -> bytes:
+    """The bytes of a password that an account may have; raises as `new_record` does."""
+    found = bytes_of(password)
+    if len(found) > LONGEST_PASSWORD:
+        raise ValueError(f"a password has up to {LONGEST_PASSWORD} bytes")
+    return found
+
+
+@dataclass(frozen=True, init=False)
+class Request:
+    """An operation to be done on an account.
+
+    Raises:
+        TypeError: a password is neither bytes nor text.
+        ValueError: a new password has over 256 bytes, or is text without UTF-8.
+    """
+
+    kind: Kind
+    key: Key
+    password: bytes = field(repr=False)  # not of a reset
+    new_password: bytes = field(repr=False)  # of a change and of a reset
+    # False of what no account can have; the password is then empty, and a wrong one.
+    can_be_right: bool = field(init=False, repr=False)
+
+    def __init__(
+        self, kind: Kind, key: Key, password: Secret = b"", new_password: Secret = b""
+    ) -> None:
+        new, can_be_right = bytes_of_password(new_password), True
+        try:
+            present = bytes_of_password(password)
+        except ValueError:
+            # Anybody may try a password, and gets an answer.
+            if kind is Kind.ENROL:
+                raise
+            present, can_be_right = b"", False
+        if isinstance(key, str):
+            # As a driver sees it, whatever its class makes of it.
+            key = str.__str__(key)
+        vars(self).update(kind=kind, key=key, password=present, new_password=new)
+        vars(self).update(can_be_right=can_be_right)
+
+
+@dataclass(frozen=True)
+class Ticket:
+    """A request that was begun, with the copy of the account's record."""
+
+    request: Request
+    copy: Copy = field(repr=False)
+
+
+@dataclass(frozen=True)
+class Worked:
+    """The effect of the whole operation at the copy: its reply, and the record after it."""
+
+    ticket: Ticket
+    reply: Reply
+    after: Copy = field(repr=False)
+
+
+@dataclass(frozen=True)
+class Answer:
+    """A reply, the record at which it was judged, and the record after it."""
+
+    reply: Reply
+    before: Copy = field(repr=False)
+    after: Copy = field(repr=False)
+
+
+class AccountsError(Exception):
+    """The base of the operations' own exceptions."""
+
+
+class StoreFault(AccountsError):
+    """The table, the server or a connection has a fault; no change was made."""
+
+
+class Unavailable(AccountsError):
+    """No server did the operation in time; no change was made."""
+
+
+class OutcomeUnknown(AccountsError):
+    """COMMIT was sent, no answer came, and the row doesn't show whether it was done.
+
+    The change may be there, may have been replaced since, or may still come.
+    """
