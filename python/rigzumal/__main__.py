@@ -51,36 +51,18 @@ def _words() -> argparse.ArgumentParser:
     make.add_argument("--empty", action="store_true", help="the password may be empty")
     verify = commands.add_parser("verify", help="writes yes, or no with status 4")
     verify.add_argument("record")
-    calibrate = commands.add_parser(
-        "calibrate", help="writes the costs that fit a time on this machine"
-    )
-    calibrate.add_argument(
-        "--target-ms",
-        type=_target,
-        default=250,
-        help="milliseconds that a hash may take",
-    )
-    calibrate.add_argument(
-        "--memory",
-        type=memory,
-        default=65536,
-        help="at most, as 64M; KiB without a unit",
-    )
-    calibrate.add_argument("--lanes", type=int, default=4)
-    calibrate.add_argument(
-        "--threads",
-        type=positive,
-        default=1,
-        help="how many work the lanes of a hash; 1 for a service with many logins",
-    )
-    calibrate.add_argument(
-        "--below",
-        action="store_true",
-        help="the costs may be below OWASP's least, m=19456 with t=2",
-    )
-    commands.add_parser(
-        "accounts", help="accounts in a service's own database: accounts --help"
-    )
+    calibrate = "writes the costs that fit a time on this machine"
+    add = commands.add_parser("calibrate", help=calibrate).add_argument
+    add("--target-ms", type=_target, default=250, help="milliseconds of a hash")
+    most = "at most, as 64M; KiB without a unit"
+    add("--memory", type=memory, default=65536, help=most)
+    add("--lanes", type=int, default=4)
+    threads = "that work the lanes of a hash; 1 for a service with many logins"
+    add("--threads", type=positive, default=1, help=threads)
+    below = "the costs may be below OWASP's least, m=19456 with t=2"
+    add("--below", action="store_true", help=below)
+    accounts = "accounts in a service's own database: accounts --help"
+    commands.add_parser("accounts", help=accounts)
     return words
 
 

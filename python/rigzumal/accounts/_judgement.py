@@ -120,6 +120,7 @@ class Judge:
         if None in secrets and copy.startswith("$scrypt$"):
             secrets = (None,)
         if not request.can_be_right:
+            _library.check_text(copy)
             self._spend(copy, b"", secrets)  # whoever was wrong waits for a hash
             return _wrong(request), copy
         if secrets[0] == self._secret:

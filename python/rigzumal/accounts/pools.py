@@ -94,10 +94,8 @@ class PerThread:
     def __enter__(self) -> Any:
         held = self._take()
         if held.is_lent:
-            fault = (
-                "this thread's connection is in use: within `also`, use its argument"
-            )
-            raise TypeError(fault)
+            fault = "this thread's connection is in use"
+            raise TypeError(f"{fault}: within `also`, use its argument")
         held.is_lent = True
         return held.conn
 
@@ -128,19 +126,14 @@ class PerThread:
     def _take(self) -> _Held:
         held = self._mine()
         if held is None:
-            held = self._local.held = _Held(self._connected())
-        return held
-
-    def _connected(self) -> Any:
-        conn = self._connect()
-        if inspect.isawaitable(conn):
+            conn = self._connect()
             if inspect.iscoroutine(conn):
                 conn.close()
-            fault = (
-                "`connect` has answered what is awaited: use AsyncAccounts and PerUse"
-            )
-            raise TypeError(fault)
-        return conn
+            if inspect.isawaitable(conn):
+                fault = "`connect` has answered what is awaited"
+                raise TypeError(f"{fault}: use AsyncAccounts and PerUse")
+            held = self._local.held = _Held(conn)
+        return held
 
 
 _CONNECTING: Final = 4  # connections that are opened at a time: each holds up the loop

@@ -70,16 +70,7 @@ _MESSAGES: Final = (
 )
 
 # The number of libargon2 that is nearest to a fault of rigzumal.h.
-_NUMBERS: Final = {
-    8: -22,
-    10: -35,
-    13: -26,
-    14: -17,
-    15: -15,
-    16: -12,
-    17: -3,
-    18: -5,
-}
+_NUMBERS: Final = {8: -22, 10: -35, 13: -26, 14: -17, 15: -15, 16: -12, 17: -3, 18: -5}
 
 
 def error_to_str(error: int) -> str:

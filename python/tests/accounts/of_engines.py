@@ -118,7 +118,7 @@ class Connections:
         self.put(LOW.hash("one"))
         worked = self.worked(self.accounts(), Kind.CHANGE, "one", "two")
         for autocommit, begin, said in (
-            (False, "SELECT 1", "autocommit|transaction is open"),
+            (False, "SELECT 1", "have to be in autocommit"),
             (True, self.dialect.begin, "transaction is open"),
         ):
             for act in (

@@ -107,7 +107,7 @@ class Engines:
     def test_pools_that_will_not_do(self):
         """An engine that isn't in autocommit, and its own connections, which are named."""
         for pool, said in (
-            (of_engine(self.engine(isolation_level=None)), "autocommit|transaction is open"),
+            (of_engine(self.engine(isolation_level=None)), "have to be in autocommit"),
             (self.engine().connect, "the driver is sqlalchemy, .* of_engine"),
         ):
             for name in ("verify", "login", "enrol"):

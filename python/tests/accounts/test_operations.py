@@ -12,12 +12,16 @@ from support import FOREIGN_KEY_FAILED, HIGH, LOW, Awaiting, Base, Scripted, aft
 from support import sent
 from rigzumal import OutOfMemoryError, ScryptHasher
 from rigzumal.accounts import Accounts, AsyncAccounts, MariaDB, Reply, Sqlite, StoreFault
-from rigzumal.accounts import Unavailable, _connections
+from rigzumal.accounts import Unavailable, _connections, parts, types
 from rigzumal.accounts._session import Result, run
 from rigzumal.accounts.types import Kind, Request, Ticket, Worked
 
 
 class Operations(Base):
+    def test_the_old_name_of_the_types(self):
+        for name in ("Request", "Kind", "Reply", "NO_ROW", "StoreFault"):
+            self.assertIs(getattr(parts, name), getattr(types, name))
+
     def test_scrypt(self):
         self.put(None)
         accounts = self.accounts(ScryptHasher(log2_n=4))

@@ -279,6 +279,9 @@ class Errors(Base):
         for (autocommit, level), wanted in cases.items():
             conn = mock.Mock(in_transaction=False, autocommit=autocommit, isolation_level=level)
             self.assertEqual(self.dialect.mode(conn).is_autocommit, wanted)
+        # There a transaction is open at all times, which isn't what is wrong.
+        conn = mock.Mock(in_transaction=True, autocommit=False)
+        self.assertRaisesRegex(StoreFault, "have to be in autocommit", self.dialect.fresh, conn)
 
     def test_a_warning_in_the_servers_language(self):
         """It is known by its severity as no language changes it."""

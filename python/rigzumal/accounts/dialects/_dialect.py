@@ -107,7 +107,8 @@ class Dialect:
         table: its name, with its schema in front if it isn't on the search path.
         key: the column that names an account; it is unique.
         record: the column of the records; it may be NULL.
-        key_type: Python's type of the key column: str, int, bytes or uuid.UUID.
+        key_type: Python's type of the key column: str, int, bytes; of PostgreSQL uuid.UUID
+            too.
 
     Attributes:
         select: the statement that reads the record of a key.
@@ -206,10 +207,10 @@ class Dialect:
     def fresh(self, conn: Any) -> None:
         """Refuses a connection that isn't in autocommit or has a transaction open."""
         mode = self.mode(conn)
-        if mode.has_transaction:
-            raise StoreFault(LEFT_OPEN)
         if not mode.is_autocommit:
             raise StoreFault("the connections of the pool have to be in autocommit")
+        if mode.has_transaction:
+            raise StoreFault(LEFT_OPEN)
 
     async def within(self, session: Session) -> None:
         """Refuses a caller's connection on which each statement would be by itself, and a
