@@ -8,6 +8,7 @@ import itertools
 import os
 import sqlite3
 import threading
+from unittest import mock
 
 import engines
 import of_engines
@@ -286,36 +287,54 @@ class Openings(Base):
         self.assertEqual((len(most), max(most)), (30, 4))
 
     def test_aiosqlite(self):
-        """With timeouts at each moment, no thread and no file is left."""
+        """Cancelled at each request to the driver's thread, no thread and no file is left."""
         aiosqlite = module("aiosqlite")
         self.put(LOW.hash("one"))
+        execute, requests, stop = aiosqlite.core.Connection._execute, [], {}
 
         def files():
             links = glob.glob("/proc/self/fd/*")
             return sum(os.path.realpath(it).startswith(self.server.path) for it in links)
 
+        def threads():
+            return {it for it in threading.enumerate() if "asyncio" not in it.name}
+
         def connect():
             return aiosqlite.connect(self.server.path, isolation_level=None, timeout=20)
 
-        async def act():
-            accounts, done = AsyncAccounts(PerUse(connect), self.dialect, LOW), 0
-            for number in range(60):
-                with contextlib.suppress(asyncio.TimeoutError):
-                    doing = accounts.change("ann", "one", "one")
-                    await asyncio.wait_for(doing, number * 0.0002)
-                    done += 1
-            for _ in range(500):
-                await asyncio.sleep(0.01)
-                if (threads(), files()) == before:
-                    return
-            self.assertEqual((threads(), files()), before)
+        async def counted(conn, *args, **more):
+            requests.append(1)
+            if len(requests) == stop.get("at"):
+                stop["task"].cancel()
+            return await execute(conn, *args, **more)
 
-        def threads():
-            return sum("asyncio" not in it.name for it in threading.enumerate())
+        async def is_done(accounts, turns=0):
+            """Whether a change ends by itself; else it is cancelled there, or after these turns."""
+            requests.clear()
+            task = stop["task"] = asyncio.create_task(accounts.change("ann", "one", "one"))
+            for _ in range(turns):
+                await asyncio.sleep(0)
+            if turns:
+                task.cancel()
+            with contextlib.suppress(asyncio.CancelledError):
+                return (await task) is Reply.REPLACED
+
+        async def act():
+            accounts = AsyncAccounts(PerUse(connect), self.dialect, LOW)
+            for turns in range(1, 5):  # while it is opened
+                await is_done(accounts, turns)
+            stop["at"] = 1
+            while not await is_done(accounts):
+                stop["at"] += 1
+            for thread in threads() - before[0]:
+                await asyncio.to_thread(thread.join, 60)
+            self.assertEqual((threads(), files()), before)
+            self.assertGreater(stop["at"], 10)
 
         self.conn.close()  # while another is open, SQLite keeps the files of closed ones
         before = threads(), files()
-        asyncio.run(act())
+        with mock.patch.object(aiosqlite.core.Connection, "_execute", counted):
+            asyncio.run(act())
         self.conn = self.another()
         self.assertTrue(self.is_right("one"))
 
