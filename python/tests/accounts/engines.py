@@ -210,6 +210,14 @@ class OnMySQL(OnMariaDB):
     statement_timeout = OnMariaDB.lock_timeout  # max_execution_time is of SELECT alone
 
 
+class OnPgBouncer(OnPostgres):
+    kind = servers.PooledPostgres
+
+
+class OnGalera(OnMariaDB):
+    kind = servers.GaleraPair
+
+
 def made(suite, *bases, **more):
     """The name and the class of a suite's tests over an engine, for a module's globals."""
     name = "".join(it.__name__ for it in (suite, *bases, *more.values()))

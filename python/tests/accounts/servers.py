@@ -247,6 +247,23 @@ class PgBouncer(OfPostgres):
         return [self.program, self.file]
 
 
+class PooledPostgres(PgBouncer):
+    """A PostgreSQL of its own behind a pooler."""
+
+    def __init__(self, name):
+        super().__init__(name, PostgresServer(f"{name}-behind"))
+
+    def start(self, *more, wait=120.0):
+        self.of.start()
+        return super().start(*more, wait=wait)
+
+    def connect(self, **more):
+        """The tests' own statements aren't prepared either."""
+        conn = super().connect(**more)
+        conn.prepare_threshold = None
+        return conn
+
+
 class OfMySql(Server):
     """What speaks MySQL's protocol on `port`; the user `store` has all of the database `store`."""
 
@@ -402,6 +419,24 @@ def galera(count=3):
     for node in nodes[1:]:
         node.start(wait=120)
     return nodes
+
+
+class GaleraPair:
+    """Two nodes of a cluster, whose connections are of each by turns and read what was committed."""
+
+    def __init__(self, name):
+        self.nodes, self.url = [], ""
+
+    def start(self):
+        self.nodes = galera(2)
+        self.turns, self.url = itertools.cycle(self.nodes), cluster_url(self.nodes)
+        return self
+
+    def connect(self, **more):
+        conn = next(self.turns).connect(**more)
+        with conn.cursor() as cursor:
+            cursor.execute("SET SESSION wsrep_sync_wait = 1")
+        return conn
 
 
 def cluster_url(nodes):

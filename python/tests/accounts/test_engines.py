@@ -13,16 +13,18 @@ from torture import __main__ as torture
 SERVERS = (engines.OnPostgres, engines.OnMariaDB, engines.OnMySQL)
 ENGINES = (engines.OnSqlite, *SERVERS)
 TASKS = (engines.OnSqliteTasks, engines.OnPostgresTasks)
+# Where a connection isn't one session, or a lock isn't seen at the other node.
+SHARED = (engines.OnPgBouncer, engines.OnGalera)
 
 
 globals().update(
     engines.made(suite, engine)
     for suite, on in (
-        (of_engines.Operations, (*ENGINES, *TASKS)),
-        (of_engines.LostAnswers, (*ENGINES, *TASKS)),
+        (of_engines.Operations, (*ENGINES, *TASKS, *SHARED)),
+        (of_engines.LostAnswers, (*ENGINES, *TASKS, *SHARED)),
         (of_engines.Connections, ENGINES),
-        (of_engines.Confirmed, ENGINES),
-        (of_hooks.RowsOfOnesOwn, ENGINES),
+        (of_engines.Confirmed, (*ENGINES, *SHARED)),
+        (of_hooks.RowsOfOnesOwn, (*ENGINES, *SHARED)),
         (of_engines.OnServers, SERVERS),
         (of_engines.AtOnce, SERVERS[:2]),
     )

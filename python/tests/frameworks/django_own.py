@@ -2,7 +2,8 @@
 
     python3 django_own.py FOLDER-OF-DJANGO'S-SOURCE
 
-Its stock User compares, as by RIGZUMAL_USER_COMPARES.
+Its stock User compares, as by RIGZUMAL_USER_COMPARES. FRAMEWORKS_POSTGRES=PORT takes PostgreSQL in
+the place of SQLite.
 """
 
 import os
@@ -17,7 +18,7 @@ import django
 from django.conf import global_settings, settings
 from django.test.runner import DiscoverRunner
 from django.utils import deprecation
-from settings import ROOM, TEMPLATES
+from settings import DATABASES, PORT, ROOM, TEMPLATES
 
 BACKEND = "rigzumal.django.backends.CompareAndSetBackend"
 # What fails by these settings, and why.
@@ -43,15 +44,13 @@ for name, kind in vars(deprecation).items():
 if (4, 1) <= django.VERSION < (5, 0):
     global_settings.FORM_RENDERER = "django.forms.renderers.DjangoDivFormRenderer"
 
+if not PORT:
+    for name, database in DATABASES.items():
+        database["TEST"] = {"NAME": f"file:{name}?mode=memory&cache=shared"}
+
 # The settings of Django's own runner (tests/runtests.py).
 settings.configure(
-    DATABASES={
-        name: {
-            "ENGINE": "django.db.backends.sqlite3",
-            "TEST": {"NAME": f"file:{name}?mode=memory&cache=shared"},
-        }
-        for name in ("default", "other")
-    },
+    DATABASES=DATABASES,
     INSTALLED_APPS=[
         "django.contrib.contenttypes",
         "django.contrib.auth",

@@ -70,10 +70,17 @@ class Runs(unittest.TestCase):
         for said in self.histories("--broken"):
             self.assertIn("refused", said)
 
-    def test_djangos_own(self):
-        """Those of auth, over this backend and these hashers."""
+    def djangos_own(self, **env):
+        """Django's tests of auth, over this backend and these hashers."""
         need_module("django")
         source = os.environ.get("DJANGO_SOURCE")
         if source is None:
             self.skipTest("DJANGO_SOURCE names no folder of Django's source")
-        self.run_python("django_own.py", source)
+        self.run_python("django_own.py", source, **env)
+
+    def test_djangos_own(self):
+        self.djangos_own()
+
+    def test_djangos_own_on_postgres(self):
+        need_module("psycopg2")
+        self.djangos_own(FRAMEWORKS_POSTGRES=postgres())
