@@ -104,13 +104,15 @@ def bytes_of(secret: Secret) -> bytes:
         TypeError: the secret is neither bytes nor str.
         ValueError: the text has no form in UTF-8; no exception shows it.
     """
-    if isinstance(secret, str):
-        try:
-            return secret.encode()
-        except UnicodeEncodeError:
-            pass
-        raise ValueError("the text has no form in UTF-8")
-    return data_of(secret, "bytes or str is")
+    if isinstance(secret, bytes):
+        return secret
+    if not isinstance(secret, str):
+        return data_of(secret, "bytes or str is")
+    try:
+        return secret.encode()
+    except UnicodeEncodeError:
+        pass
+    raise ValueError("the text has no form in UTF-8")
 
 
 def data_of(data: object, wanted: str = "bytes are") -> bytes:

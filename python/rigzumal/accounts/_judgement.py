@@ -10,7 +10,7 @@ from typing import Final, Optional, Union
 
 from rigzumal import _library
 from rigzumal._hashers import PasswordHasher, ScryptHasher
-from rigzumal._library import InvalidRecordError, Secret, bytes_of, text_bytes
+from rigzumal._library import InvalidRecordError, Secret, text_bytes
 from rigzumal._parts import Parts, parts
 from rigzumal.accounts.types import Copy, Kind, Reply, Request, Ticket, Worked
 from rigzumal.accounts.types import bytes_of_password
@@ -160,7 +160,7 @@ class Judge:
             return Reply.REPLACED, self._made(request.new_password)
         return Reply.UPGRADED, self._made(request.password)
 
-    def _made(self, password: Secret) -> str:
+    def _made(self, password: bytes) -> str:
         setting = self._setting()
         _, made = step(Kind.ENROL, None, password, b"", setting, self._secret)
         assert made is not None
@@ -247,8 +247,8 @@ class _StepInputs(ctypes.Structure):
 def step(
     kind: Kind,
     copy: Optional[str],
-    password: Secret,
-    new_password: Secret = b"",
+    password: bytes,
+    new_password: bytes = b"",
     setting: str = "",
     secret: Optional[bytes] = None,
 ) -> tuple[Reply, Optional[str]]:
@@ -260,18 +260,19 @@ def step(
     size = _library.TEXT_SIZE if setting else 0
     text = ctypes.create_string_buffer(size) if setting else None
     answer, number = ctypes.c_uint32(), _OPERATIONS[kind]
-    present, new = bytes_of(password), bytes_of(new_password)
     record = None if copy is None else text_bytes(copy)
-    words = (number, record, present, len(present), new, len(new), text_bytes(setting))
+    passwords = (password, len(password), new_password, len(new_password))
+    words = (number, record, *passwords, setting.encode())
     made = (text, ctypes.c_size_t(size), ctypes.byref(answer))
     if secret is None:
         fault = _library._library.rigzumal_step(*made, *words)
     else:
         inputs = ctypes.byref(_StepInputs(*words, secret, len(secret), 1))
         fault = _library._library.rigzumal_step_from(*made, inputs)
-    if fault == _library.COPY and copy is not None:
-        _library.check_text(copy)  # raises the record's own fault
-    _library.raise_fault(fault)
+    if fault != _library.OK:
+        if copy is not None:
+            _library.check_text(copy)  # raises the record's own fault
+        _library.raise_fault(fault)
     reply = _REPLIES[answer.value]
     if not reply.makes_change:
         return reply, copy

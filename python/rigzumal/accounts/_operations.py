@@ -10,7 +10,7 @@ is looked at once more at the primary.
 from __future__ import annotations
 
 import time
-from collections.abc import Container, Iterable
+from collections.abc import Callable, Container, Iterable
 from concurrent.futures import ThreadPoolExecutor
 from typing import Any, ClassVar, Final, Generic, Optional, TypeVar
 
@@ -85,7 +85,8 @@ class Operations(Generic[AnyPool]):
         patience: Optional[float] = None
         try:
             request = Request(Kind.UPGRADE, key, password)
-            reply = (await self._perform(request, _as_a_verify(also))).reply
+            hook = None if also is None else _as_a_verify(also)
+            reply = (await self._perform(request, hook)).reply
             return AS_A_VERIFY.get(reply, reply)
         except OutcomeUnknown:
             if also is not None:
@@ -135,7 +136,7 @@ class Operations(Generic[AnyPool]):
 
     async def _work(self, ticket: Ticket) -> Worked:
         judge, call = self._judge, self._runtime.call
-        asked = judge.question(ticket)
+        asked = None if judge.foreign is None else judge.question(ticket)
         if asked is None:
             return await call(judge.work, ticket)
         answer = await self._runtime.ask("foreign", *asked)
@@ -236,11 +237,8 @@ class Operations(Generic[AnyPool]):
         return sent.reply is worked.reply
 
 
-def _as_a_verify(also: Hook) -> Hook:
-    if also is None:
-        return None
-    hook = also
-    return lambda conn, reply: hook(conn, AS_A_VERIFY.get(reply, reply))
+def _as_a_verify(also: Callable[[Any, Reply], Any]) -> Hook:
+    return lambda conn, reply: also(conn, AS_A_VERIFY.get(reply, reply))
 
 
 def _unknown(worked: Worked, why: str = "") -> OutcomeUnknown:

@@ -13,7 +13,7 @@ import time
 from collections.abc import AsyncGenerator, Awaitable, Callable, Coroutine, Generator
 from collections.abc import Iterable, Mapping
 from concurrent.futures import ThreadPoolExecutor
-from typing import Any, NamedTuple, Optional, TypeVar, cast
+from typing import Any, NamedTuple, Optional, TypeVar
 
 from rigzumal.accounts.types import Reply, StoreFault
 from rigzumal.accounts.pools import lent
@@ -90,7 +90,9 @@ class AsyncSession(Session):
 
 
 def _result(cursor: Any, fetched: Any) -> Result:
-    rows = [row if type(row) is tuple else _values(row) for row in fetched]
+    rows = list(fetched)
+    if rows and type(rows[0]) is not tuple:
+        rows = [_values(row) for row in rows]
     return Result(rows, cursor.rowcount, getattr(cursor, "statusmessage", None))
 
 
@@ -159,10 +161,11 @@ class Runtime:
         except Exception:
             if not ends:
                 raise  # the pool gave no connection
-        (answer,) = ends
-        if isinstance(answer, BaseException):
-            raise answer
-        return cast(T, answer)
+        (end,) = ends
+        if isinstance(end, BaseException):
+            raise end
+        answer: T = end
+        return answer
 
     async def _enter(self, pool: Any, job: Job[T], ends: list[Any]) -> None:
         with lent(pool, "__enter__") as conn:

@@ -62,17 +62,14 @@ class _Held:
     is_lent = False
 
     def __init__(self, conn: Any) -> None:
-        self.conn, self._pid = conn, os.getpid()
-
-    def is_mine(self) -> bool:
-        return self._pid == os.getpid()
+        self.conn, self.pid = conn, os.getpid()
 
     def close(self) -> None:
         with suppress(Exception):
             self.conn.close()
 
     def __del__(self) -> None:
-        if self.is_mine():
+        if self.pid == os.getpid():
             self.close()
 
 
@@ -92,7 +89,7 @@ class PerThread:
         return self
 
     def __enter__(self) -> Any:
-        held = self._take()
+        held = self._mine() or self._made()
         if held.is_lent:
             fault = "this thread's connection is in use"
             raise TypeError(f"{fault}: within `also`, use its argument")
@@ -117,22 +114,20 @@ class PerThread:
     def _mine(self) -> Optional[_Held]:
         """This thread's connection, if this process made it."""
         held: Optional[_Held] = getattr(self._local, "held", None)
-        if held is not None and not held.is_mine():
+        if held is not None and held.pid != os.getpid():
             # Closing it here, or dropping it, would end the parent's session at the server.
             self._parents.append(held)
             return None
         return held
 
-    def _take(self) -> _Held:
-        held = self._mine()
-        if held is None:
-            conn = self._connect()
-            if inspect.iscoroutine(conn):
-                conn.close()
-            if inspect.isawaitable(conn):
-                fault = "`connect` has answered what is awaited"
-                raise TypeError(f"{fault}: use AsyncAccounts and PerUse")
-            held = self._local.held = _Held(conn)
+    def _made(self) -> _Held:
+        conn = self._connect()
+        if inspect.iscoroutine(conn):
+            conn.close()
+        if inspect.isawaitable(conn):
+            fault = "`connect` has answered what is awaited"
+            raise TypeError(f"{fault}: use AsyncAccounts and PerUse")
+        held = self._local.held = _Held(conn)
         return held
 
 

@@ -40,6 +40,8 @@ class Reply(enum.Enum):
     CHANGED = "changed"
     NO_ACCOUNT = "noaccount"
 
+    __hash__ = object.__hash__  # Enum's own is one of Python's, and slow
+
     # Hidden from mypy, whose `truthy-bool` then names each place where it is missing.
     if not TYPE_CHECKING:
 
@@ -64,6 +66,8 @@ class Kind(enum.Enum):
     UPGRADE = "upgrade"
     REMOVE = "remove"
     RESET = "reset"
+
+    __hash__ = object.__hash__
 
 
 class NoRow(enum.Enum):
@@ -116,8 +120,8 @@ class Request:
         if isinstance(key, str):
             # As a driver sees it, whatever its class makes of it.
             key = str.__str__(key)
-        vars(self).update(kind=kind, key=key, password=present, new_password=new)
-        vars(self).update(can_be_right=can_be_right)
+        passwords = {"password": present, "new_password": new}
+        vars(self).update(passwords, kind=kind, key=key, can_be_right=can_be_right)
 
 
 @dataclass(frozen=True)
