@@ -231,16 +231,18 @@ list | | bob 0
 """
 # Words that aren't meant, before anything is asked.
 MISTAKES = {
-    "": "such a command isn't known",
-    "add": "such a command isn't known",
-    "add ada bob": "such a command isn't known",
-    "frob ada": "such a command isn't known",
+    "": "no such command",
+    "add": "add takes 1 name",
+    "add ada bob": "add takes 1 name",
+    "rename ada": "rename takes 2 names",
+    "list ada": "list takes no names",
+    "frob ada": "no such command",
     "add 'a b'": "a name has no spaces",
     "add ''": "a name has no spaces",
     "add 'a\nb delete'": "a name has no spaces",
     "list": "/run/rigzumal/users/admin.sock: No such file or directory",
     "users list": "/run/rigzumal/users/admin.sock: No such file or directory",
-    "users": "such a command isn't known",
+    "users": "no such command",
     "/nonexistent list": "No such file or directory",
     "nosuchbook list": "/run/rigzumal/nosuchbook/admin.sock: No such file or directory",
 }
@@ -302,6 +304,17 @@ class AskServer(Case):
             shown, status = self.asked(shlex.split(words))
             self.assertIn(said, shown, words)
             self.assertEqual(status, 5 if "No such file" in said else 1, words)
+
+    def test_help(self) -> None:
+        """It has a line for each command, and its page has each."""
+        page = (TOP / "man/credkeep-ask.1").read_text()
+        for words in ([], ["--help"], ["-h"], ["--server", "--help"], ["--server", "add", "-h"]):
+            status, said, faults = ended([str(ASK), *words])
+            self.assertEqual((status, faults), (0, ""))
+        commands = re.findall(r"(?:^  |, )([a-z]+)(?= NAME|,|  | \[)", said, re.M)
+        self.assertEqual(len(commands), 17, commands)
+        for command in commands:
+            self.assertRegex(page, rf"(?m)^\.B.*[ ,]{command}\b", "the page lacks it")
 
     def test_refused_passwords(self) -> None:
         """An empty password, or one of over 256 bytes, changes nothing."""
