@@ -3,14 +3,17 @@
 import os
 import pathlib
 import sys
+import time
 import types
 
 sys.path.insert(0, str(pathlib.Path(__file__).parents[2] / "python/rigzumal/server"))
 import daemon  # noqa: E402
-from daemon import limits  # noqa: E402
+from daemon import tries  # noqa: E402
 
 CLOCK = pathlib.Path(os.environ["CLOCK"])
-limits.time = types.SimpleNamespace(monotonic=lambda: float(CLOCK.read_text()))  # type: ignore
+tries.time = types.SimpleNamespace(  # type: ignore
+    time=time.time, monotonic=lambda: float(CLOCK.read_text())
+)
 
 if __name__ == "__main__":
     sys.exit(daemon.main())

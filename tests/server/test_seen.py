@@ -13,7 +13,7 @@ from unittest import mock
 
 from machine import is_open
 from served import SECRET, TOP, WRONG, Case, Client, Service, field_of, need, ran, until
-from daemon import tally
+from daemon import tries
 from daemon.options import OPERATIONS, Options
 from tests.helpers import Peer
 
@@ -170,10 +170,10 @@ class Seen(Case):
     def test_last_logins_are_bounded(self) -> None:
         """Of too many right logins the oldest is forgotten."""
         verify = OPERATIONS[b"verify"]
-        with mock.patch.object(tally, "REMEMBERED", 2):
-            counted = tally.Tally(Options())
+        with mock.patch.object(tries, "REMEMBERED", 2):
+            counted = tries.Tally(Options())
             for name in "abac":
-                counted.note(verify, name, 0, "yes")
+                counted.count(verify, name, 0, "yes")
         self.assertEqual([counted.last(name)[:4] for name in "abc"], ["last", "none", "last"])
 
 

@@ -13,11 +13,12 @@ from typing import Any
 from unittest import mock
 
 from served import PYTHON, Case, Client, need_root
-from daemon import shares
+from daemon import clients, turns
+from daemon.clients import share_of
 from daemon.doors import FEW, Door
 from daemon.options import Options
 from daemon.service import Service
-from daemon.shares import Rota, share
+from daemon.turns import Rota
 
 # What a client may send that costs the book nothing, and the end of each answer.
 IDLE_LINES = {
@@ -87,7 +88,7 @@ class Floods(Case):
             service = Service(Options())
             door = Door("a", str(self.room() / "s"), 0o600, "-", frozenset())
             door.open(service)
-            self.assertIsNotNone(door.listening)
+            assert door.listener
             clients = [socket.socket(socket.AF_UNIX) for _ in range(count)]
             for client in clients:
                 client.connect(door.path)
@@ -97,7 +98,7 @@ class Floods(Case):
             with mock.patch.object(time, "monotonic", lambda: float(len(came))):
                 with mock.patch("daemon.doors.ACCEPTING", count):
                     with mock.patch.object(door, "client", self.noted(door, came)):
-                        door.accept(door.listening, service)
+                        door.accept(door.listener, service)
             self.assertEqual(len(door.clients), 0 if is_flooded else count)
             more = [socket.socket(socket.AF_UNIX) for _ in range(2 * FEW)]
             for client in more:
@@ -160,11 +161,11 @@ class Shares(Case):
             "5:memory:/a/b\n0::/\n": "uid 0",
             "": "uid 0",
         }.items():
-            shares.group_of.cache_clear()
+            clients.group_of.cache_clear()
             with mock.patch.object(builtins, "open", lambda *_, **__: io.BytesIO(text.encode())):
-                self.assertEqual(share(0, 1), ought, text)
-                self.assertEqual(share(33, 1), "uid 33")
-        self.assertEqual(share(0, 2**22 + 1), "uid 0")  # which is no process
+                self.assertEqual(share_of(0, 1), ought, text)
+                self.assertEqual(share_of(33, 1), "uid 33")
+        self.assertEqual(share_of(0, 2**22 + 1), "uid 0")  # which is no process
 
 
 class Step:
@@ -203,7 +204,7 @@ class Rotas(Case):
                 found.append(self.said)
                 self.said = ""
 
-        with mock.patch.object(shares, "SLICE", slice_):
+        with mock.patch.object(turns, "SLICE", slice_):
             asyncio.run(run())
         return found
 

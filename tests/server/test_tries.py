@@ -5,8 +5,8 @@ import time
 from unittest import mock
 
 from served import SECRET, WRONG, Case, Client, as_user, need_root
-from daemon import limits
-from daemon.limits import Limiter
+from daemon import tries
+from daemon.tries import Limiter
 from daemon.log import log
 
 
@@ -171,7 +171,7 @@ class Limiters(Case):
         self.enterContext(mock.patch.object(time, "monotonic", lambda: self.clock))
 
     def remembering(self, count: int) -> None:
-        self.enterContext(mock.patch.object(limits, "REMEMBERED", count))
+        self.enterContext(mock.patch.object(tries, "REMEMBERED", count))
         self.enterContext(mock.patch.object(log, "info"))
 
     def tried(self, limiter: Limiter, *keys: str) -> None:
@@ -180,10 +180,10 @@ class Limiters(Case):
 
     def test_others_dont_free_a_victim(self) -> None:
         """What is remembered has a bound: those who needn't wait are forgotten first, the oldest first."""
-        limiter, last = Limiter(10), limits.REMEMBERED + 999
+        limiter, last = Limiter(10), tries.REMEMBERED + 999
         self.tried(limiter, *["victim"] * 12, *(f"n{at}" for at in range(last + 1)))
-        self.assertTrue(limiter.is_early("victim"))
-        self.assertEqual(len(limiter.few) + len(limiter.many), limits.REMEMBERED)
+        self.assertTrue(limiter.rest("victim"))
+        self.assertEqual(len(limiter.few) + len(limiter.many), tries.REMEMBERED)
         self.assertTrue(f"n{last}" in limiter.few and "n0" not in limiter.few)
 
     def test_all_may_wait(self) -> None:
@@ -241,11 +241,11 @@ class Limiters(Case):
         self.tried(limiter, "x", "x", "x")
         for is_early in (True, False):
             limiter.lower("x")
-            self.assertEqual(limiter.is_early("x"), is_early)
+            self.assertEqual(limiter.rest("x") > 0, is_early)
             self.assertEqual((len(limiter.many), len(limiter.few)), (is_early, not is_early))
         limiter.fail("x")
-        self.assertTrue(limiter.is_early("x"), "the other try was forgotten")
+        self.assertTrue(limiter.rest("x"), "the other try was forgotten")
         for _ in range(5):
             limiter.lower("x")
         limiter.fail("x")
-        self.assertFalse(limiter.is_early("x"), "tries are below none")
+        self.assertFalse(limiter.rest("x"), "tries are below none")

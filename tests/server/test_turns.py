@@ -6,10 +6,10 @@ from collections.abc import Callable
 from unittest import mock
 
 from served import Case
-from daemon.turns import Rounds, Turns
+from daemon.turns import Places, Rounds
 
 
-class Places(Case):
+class Waiting(Case):
     """Each line is a letter, and what was started is noted."""
 
     def setUp(self) -> None:
@@ -19,42 +19,42 @@ class Places(Case):
     def start(self, line: str) -> None:
         self.started += line
 
-    def take(self, turns: Turns[str], user: int, client: str, lines: str) -> str:
+    def take(self, places: Places[str], user: int, client: str, lines: str) -> str:
         """What is started as so many lines of a client come."""
         for line in lines:
             self.users[line] = user
-            turns.take(user, client, line)
-        return self.ended(turns, "")
+            places.submit(user, client, line)
+        return self.ended(places, "")
 
-    def ended(self, turns: Turns[str], lines: str) -> str:
+    def ended(self, places: Places[str], lines: str) -> str:
         """What is started once these have ended."""
         for line in lines:
-            turns.give_back(self.users[line])
+            places.release(self.users[line])
         found, self.started = self.started, ""
         return found
 
     def test_places(self) -> None:
         """A user's lines start while there are places, but for the last, and then as one comes back."""
-        turns = Turns(3, self.start)
-        self.assertEqual(self.take(turns, 1, "one", "abcd"), "ab")
-        self.assertEqual([self.ended(turns, it) for it in "abcd"], ["c", "d", "", ""])
-        self.assertEqual(self.take(turns, 1, "one", "efg"), "ef")
+        places = Places(3, self.start)
+        self.assertEqual(self.take(places, 1, "one", "abcd"), "ab")
+        self.assertEqual([self.ended(places, it) for it in "abcd"], ["c", "d", "", ""])
+        self.assertEqual(self.take(places, 1, "one", "efg"), "ef")
 
     def test_the_last_place(self) -> None:
         """A user of whom none runs has it at once, and whoever has fewest running the next."""
-        turns = Turns(4, self.start)
-        self.assertEqual(self.take(turns, 1, "one", "abcdefg"), "abc")
-        self.assertEqual(self.take(turns, 2, "two", "xyz"), "x")
-        self.assertEqual(self.take(turns, 3, "three", "mn"), "")
-        self.assertEqual([self.ended(turns, it) for it in "abcxy"], ["m", "", "d", "y", "z"])
+        places = Places(4, self.start)
+        self.assertEqual(self.take(places, 1, "one", "abcdefg"), "abc")
+        self.assertEqual(self.take(places, 2, "two", "xyz"), "x")
+        self.assertEqual(self.take(places, 3, "three", "mn"), "")
+        self.assertEqual([self.ended(places, it) for it in "abcxy"], ["m", "", "d", "y", "z"])
 
     def test_turns(self) -> None:
         """Users take turns, then the clients of each; a client's lines come in their order."""
-        turns, said = Turns(1, self.start), "-"
-        self.assertEqual(self.take(turns, 1, "one", "-"), "-")
+        places, said = Places(1, self.start), "-"
+        self.assertEqual(self.take(places, 1, "one", "-"), "-")
         for user, client, lines in ((2, "a", "ABC"), (2, "b", "mn"), (3, "c", "xy"), (4, "d", "!")):
-            self.take(turns, user, client, lines)
-        while more := self.ended(turns, said[-1]):
+            self.take(places, user, client, lines)
+        while more := self.ended(places, said[-1]):
             said += more
         self.assertEqual(said, "-Ax!myBnC")
 

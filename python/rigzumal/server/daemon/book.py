@@ -20,7 +20,7 @@ class Book:
     """`credkeep FILE serve --tagged`, which answers in any order."""
 
     def __init__(self) -> None:
-        self.asked = dict[bytes, asyncio.Future[bytes]]()
+        self.pending = dict[bytes, asyncio.Future[bytes]]()  # answers, by their tags
         self.lines = list[bytes]()  # that are written together
         self.last = self.strays = 0
 
@@ -40,17 +40,17 @@ class Book:
     def ask(self, *words: bytes) -> asyncio.Future[bytes]:
         """The answer to a line; UNAVAILABLE if the book ends before it has one."""
         loop = asyncio.get_running_loop()
-        said: asyncio.Future[bytes] = loop.create_future()
+        answer: asyncio.Future[bytes] = loop.create_future()
         if self.ended.done():
-            said.set_result(UNAVAILABLE)
-            return said
+            answer.set_result(UNAVAILABLE)
+            return answer
         self.last += 1
         tag = b"%d" % self.last
-        self.asked[tag] = said
+        self.pending[tag] = answer
         if not self.lines:
             loop.call_soon(self.write)
         self.lines.append(b"%b %b\n" % (tag, b" ".join(words)))
-        return said
+        return answer
 
     def write(self) -> None:
         self.stdin.write(b"".join(self.lines))
@@ -60,10 +60,10 @@ class Book:
         """Hands over its answers until it ends, and returns its status."""
         try:
             while (line := await self.stdout.readline()).endswith(b"\n"):
-                tag, _, said = line[:-1].partition(b" ")
-                if asked := self.asked.pop(tag, None):
-                    is_text = re.fullmatch(rb"[ -~]+", said)
-                    asked.set_result(said if is_text else UNAVAILABLE)
+                tag, _, text = line[:-1].partition(b" ")
+                if answer := self.pending.pop(tag, None):
+                    is_text = re.fullmatch(rb"[ -~]+", text)
+                    answer.set_result(text if is_text else UNAVAILABLE)
                 else:
                     self.strays += 1
         except ValueError:  # an answer that has no end
@@ -73,8 +73,8 @@ class Book:
         status = await self.process.wait()
         with suppress(OSError):  # of lines that it didn't read
             await self.stdin.wait_closed()
-        for asked in self.asked.values():
-            asked.set_result(UNAVAILABLE)
+        for answer in self.pending.values():
+            answer.set_result(UNAVAILABLE)
         return status if status >= 0 else 128 - status
 
     def kill(self) -> None:

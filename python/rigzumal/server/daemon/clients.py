@@ -8,9 +8,8 @@ import select
 import socket
 import struct
 import time
+from functools import lru_cache
 from typing import TYPE_CHECKING
-
-from .shares import share
 
 if TYPE_CHECKING:
     from .doors import Door
@@ -22,6 +21,29 @@ READ, WRITTEN = 4096, 16384  # bytes of a step
 # Seconds until a connection goes on behind an answer that took no work of the book, times
 # its user's connections: all of a user's get a thousand such answers a second.
 PAUSE = 0.001
+# The first two names of a control group: /system.slice/ssh.service,
+# /user.slice/user-1000.slice.
+GROUP = re.compile(rb"^\d+:(?:name=systemd)?:((?:/[^/\n]+){1,2})", re.M)
+
+
+def share_of(uid: int, pid: int) -> str:
+    """Whose share a process has: its uid's, and of root's processes the service's.
+
+    Most servers that log users in ask as root; none of them shuts the others out.
+    """
+    group = group_of(pid, int(time.monotonic())) if uid == 0 else ""
+    return f"uid {uid} in {group}" if group else f"uid {uid}"
+
+
+@lru_cache(maxsize=1024)
+def group_of(pid: int, second: int) -> str:
+    """The group of a process; nothing if it has gone, or is hidden. It is kept for a second."""
+    try:
+        with open(f"/proc/{pid}/cgroup", "rb", buffering=0) as file:
+            found = GROUP.search(file.read(4096))
+    except OSError:
+        return ""
+    return found[1].decode(errors="replace") if found else ""
 
 
 class Connection:
@@ -36,31 +58,46 @@ class Connection:
         self.service, self.door, self.socket = service, door, sock
         peer = sock.getsockopt(socket.SOL_SOCKET, socket.SO_PEERCRED, 12)
         self.pid, self.uid, _ = struct.unpack("3i", peer)
-        self.user = (door.name, share(self.uid, self.pid))  # whose turn it is
-        self.came, self.rest = (
-            bytearray(),
-            bytearray(),
-        )  # what is to be taken, to be sent
+        self.user = (door.name, share_of(self.uid, self.pid))  # whose turn it is
+        self.input, self.output = bytearray(), bytearray()  # to be taken, to be sent
         self.running, self.active = 0, time.monotonic()
         self.file, self.loop = sock.fileno(), asyncio.get_running_loop()
         self.is_watched = self.is_due = self.is_paused = False
         self.is_ending = self.is_gone = False
 
+    # ---- what the kinds of clients have of their own
+
     def has_request(self) -> bool:
-        """Whether what came may be one."""
+        """Whether the input may have one."""
         raise NotImplementedError
 
-    def take(self) -> None:
-        """Takes a request from what came."""
+    def take_request(self) -> None:
+        """Takes one off the input, and submits it."""
         raise NotImplementedError
 
-    def answer(self, tag: bytes, said: bytes) -> None:
+    def reply(self, tag: bytes, answer: bytes) -> None:
+        """Writes the answer to a request."""
+        raise NotImplementedError
+
+    # ---- steps
+
+    def answer(self, tag: bytes, answer: bytes) -> None:
         """Answers a request that was running."""
-        raise NotImplementedError
+        self.running -= 1
+        self.active = time.monotonic()
+        self.reply(tag, answer)
+        self.go_on()
 
-    def refuse(self, tag: bytes, said: bytes) -> None:
-        """Answers a request for which the book isn't asked, and pauses."""
-        raise NotImplementedError
+    def refuse(self, tag: bytes, answer: bytes) -> None:
+        """Answers a request with which the book had no work, and pauses."""
+        self.reply(tag, answer)
+        self.is_paused = True
+        seconds = PAUSE * self.door.counts[self.user]
+        self.loop.call_later(seconds, self.end_pause)
+
+    def end_pause(self) -> None:
+        self.is_paused = False
+        self.go_on()
 
     def wake(self) -> None:
         """Has its step now, or once it is its user's turn: there is something to read."""
@@ -74,25 +111,22 @@ class Connection:
         if not (self.is_gone or self.has_request() or self.is_ending):
             self.read()
         if not self.is_gone and not self.is_full() and self.has_request():
-            self.take()
+            self.take_request()
         self.go_on()
 
     def is_full(self) -> bool:
-        return self.running >= self.most or self.is_paused or bool(self.rest)
+        return self.running >= self.most or self.is_paused or bool(self.output)
 
     def go_on(self) -> None:
         """Has the next step come once there is something to do."""
         if self.is_gone:
             return
-        has_request = self.has_request()
-        if self.is_ending and not (self.running or self.rest or has_request):
-            self.close()
-        elif self.is_full() or has_request or self.is_ending:
-            self.watch(False)
-            if has_request and not self.is_full():
-                self.service.rota.add(self)
-        else:
-            self.watch(True)
+        has_request, is_full = self.has_request(), self.is_full()
+        if self.is_ending and not (self.running or self.output or has_request):
+            return self.close()
+        self.watch(not (is_full or has_request or self.is_ending))
+        if has_request and not is_full:
+            self.service.rota.add(self)
 
     def watch(self, is_watched: bool) -> None:
         """Looks at the socket for something to read, or doesn't."""
@@ -102,16 +136,18 @@ class Connection:
             self.loop.remove_reader(self.file)
         self.is_watched = is_watched
 
+    # ---- input and output
+
     def read(self) -> None:
         """Reads what is there; at its end the client still gets its answers, if it can."""
         try:
-            came = self.socket.recv(READ)
+            more = self.socket.recv(READ)
         except (BlockingIOError, InterruptedError):
             return
         except OSError:
             return self.close()
-        self.came += came
-        if not came:
+        self.input += more
+        if not more:
             self.is_ending = True
             poll = select.poll()
             poll.register(self.socket, 0)
@@ -120,54 +156,37 @@ class Connection:
 
     def write(self, text: bytes) -> None:
         """Sends it, and what the client doesn't take now once it does."""
-        if self.is_gone:
-            return
-        if not self.rest:
-            text = text[self.send(text) :]
-            if text and not self.is_gone:
-                self.loop.add_writer(self.file, self.send_rest)
-        if not self.is_gone:
-            self.rest += text
+        is_waiting = bool(self.output)
+        self.output += text
+        if not self.is_gone and not is_waiting and self.send():
+            self.loop.add_writer(self.file, self.write_more)
 
-    def send(self, text: bytes | bytearray) -> int:
-        """How many bytes the client took."""
-        try:
-            return self.socket.send(text)
-        except (BlockingIOError, InterruptedError):
-            return 0
-        except OSError:
-            self.close()
-            return 0
-
-    def send_rest(self) -> None:
-        sent = self.send(self.rest[:WRITTEN])
-        if self.is_gone:
-            return
-        del self.rest[:sent]
-        if not self.rest:
+    def write_more(self) -> None:
+        if not self.send() and not self.is_gone:
             self.loop.remove_writer(self.file)
             self.active = time.monotonic()
             self.go_on()
 
-    def pause(self) -> None:
-        """Goes on later: the book had no work with the last request."""
+    def send(self) -> bool:
+        """Sends a piece of the output; whether some is left, and a client to take it."""
+        try:
+            del self.output[: self.socket.send(self.output[:WRITTEN])]
+        except (BlockingIOError, InterruptedError):
+            pass
+        except OSError:
+            self.close()
+        return bool(self.output) and not self.is_gone
 
-        def resume() -> None:
-            self.is_paused = False
-            self.go_on()
-
-        self.is_paused = True
-        seconds = PAUSE * self.door.counts[self.user]
-        self.loop.call_later(seconds, resume)
+    # ---- its end
 
     def end(self) -> None:
         """Takes no more requests, and closes once those that run are answered."""
         self.is_ending = True
-        self.came.clear()
+        self.input.clear()
         self.go_on()
 
     def end_if_idle(self, since: float) -> None:
-        if self.active < since and (self.rest or self.is_ending):
+        if self.active < since and (self.output or self.is_ending):
             self.close()  # it doesn't read
         elif self.active < since and not self.running:
             self.end()
@@ -178,8 +197,7 @@ class Connection:
             return
         self.is_gone = True
         self.watch(False)
-        if self.rest:
-            self.loop.remove_writer(self.file)
+        self.loop.remove_writer(self.file)
         self.socket.close()
         self.door.forget(self)
 
@@ -191,27 +209,20 @@ class Client(Connection):
     is_cutting = False  # the rest of a line that is too long
 
     def has_request(self) -> bool:
-        return b"\n" in self.came or len(self.came) > LONGEST
+        return b"\n" in self.input or len(self.input) > LONGEST
 
-    def take(self) -> None:
-        """Hands over a line; a long one is answered, and its rest passed over."""
-        size = self.came.find(b"\n")
-        line = bytes(self.came[: size if size >= 0 else None])
-        del self.came[: len(line) + 1]
+    def take_request(self) -> None:
+        """Submits a line; a long one is refused, and its rest passed over."""
+        size = self.input.find(b"\n")
+        line = bytes(self.input[: size if size >= 0 else None])
+        del self.input[: len(line) + 1]
         if len(line) > LONGEST and not self.is_cutting:
             tag = re.match(rb"[a-z0-9]{1,20}(?= )", line)
             self.refuse(tag[0] if tag else b"*", b"bad 16 long")
         elif not self.is_cutting:
             self.active = time.monotonic()
-            self.service.take(self, line)
+            self.service.submit(self, line)
         self.is_cutting = size < 0
 
-    def refuse(self, tag: bytes, said: bytes) -> None:
-        self.write(b"%b %b\n" % (tag, said))
-        self.pause()
-
-    def answer(self, tag: bytes, said: bytes) -> None:
-        self.running -= 1
-        self.active = time.monotonic()
-        self.write(b"%b %b\n" % (tag, said))
-        self.go_on()
+    def reply(self, tag: bytes, answer: bytes) -> None:
+        self.write(b"%b %b\n" % (tag, answer))

@@ -32,10 +32,9 @@ class Door:
     mode: int
     group: str
     operations: frozenset[bytes]
-    handed: Optional[socket.socket] = None  # by systemd
+    listener: Optional[socket.socket] = None  # systemd's, or the server's own
     clients: set[Connection] = field(default_factory=set)
     counts: Counter[Hashable] = field(default_factory=Counter)  # clients of each user
-    listening: Optional[socket.socket] = None
     no_room, family = b"* unavailable\n", socket.AF_UNIX
 
     def prepare(self) -> None:
@@ -46,8 +45,8 @@ class Door:
         names = os.environ.get("LISTEN_FDNAMES", "").split(":")
         if self.name not in names:
             raise Problem(f"systemd handed over no socket with the name {self.name}")
-        it = self.handed = socket.socket(fileno=3 + names.index(self.name))
-        if it.type != socket.SOCK_STREAM or it.family != self.family:
+        it = self.listener = socket.socket(fileno=3 + names.index(self.name))
+        if (it.type, it.family) != (socket.SOCK_STREAM, self.family):
             what = f"the socket {self.name} that systemd handed over"
             raise Problem(f"{what} is no stream")
 
@@ -75,34 +74,33 @@ class Door:
     def bound(self) -> socket.socket:
         """A socket whose mode is set before it listens."""
         made = socket.socket(socket.AF_UNIX)
-        with problems_at(self.path):
-            if pathlib.Path(self.path).is_socket():
-                if made.connect_ex(self.path) == 0:
-                    raise Problem(f"another server listens at {self.path}")
-                os.unlink(self.path)
-            made.bind(self.path)
-            os.chown(self.path, -1, self.group_id())
-            os.chmod(self.path, self.mode)
+        if pathlib.Path(self.path).is_socket():
+            if made.connect_ex(self.path) == 0:
+                raise Problem(f"another server listens at {self.path}")
+            os.unlink(self.path)
+        made.bind(self.path)
+        os.chown(self.path, -1, self.group_id())
+        os.chmod(self.path, self.mode)
         return made
 
     def open(self, service: Service) -> None:
         """Lets clients in. At the server's end the path stays: it may be systemd's."""
-        self.listening = self.handed or self.bound()
-        self.listening.setblocking(False)
         with problems_at(self.path):
-            self.listening.listen(CLIENTS)
+            self.listener = self.listener or self.bound()
+            self.listener.setblocking(False)
+            self.listener.listen(CLIENTS)
         self.watch(service)
 
     def watch(self, service: Service) -> None:
-        if it := self.listening:
+        if it := self.listener:
             asyncio.get_running_loop().add_reader(it, self.accept, it, service)
 
     def close(self) -> None:
         """Lets nobody in any more."""
-        if it := self.listening:
+        if it := self.listener:
             asyncio.get_running_loop().remove_reader(it)
             it.close()
-            self.listening = None
+            self.listener = None
 
     def accept(self, listening: socket.socket, service: Service) -> None:
         """Lets in those who came, for so long in a pass of the loop: others have steps too."""
@@ -136,7 +134,7 @@ class Door:
         if has_room:
             client.read()  # it may have gone already
             return client.go_on()
-        client.send(self.no_room)
+        client.write(self.no_room)
         client.close()
         if not is_ending:
             text = "no more connections at %s for %s, which has %d"

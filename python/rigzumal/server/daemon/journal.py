@@ -4,19 +4,39 @@ from __future__ import annotations
 
 import asyncio
 import errno
+import json
 import os
+import re
 import stat
 from contextlib import suppress
+from typing import TYPE_CHECKING, Union
 
-from .log import log_seldom, problems_at
+from .log import log_seldom, problems_at, utc
+
+if TYPE_CHECKING:
+    from .service import Request
+
+MARKED = re.compile(rb"([^ \n]+)(?: ([a-z]+))? \d{4}-\d\d-\d\dT\d\d:\d\d:\d\dZ")
+# Answers to tries; and to lines that change nothing, whose name may be a password.
+RIGHT = frozenset((b"yes", b"expired"))
+FAILED = frozenset((b"no", b"wrong", b"absent", b"noaccount"))
+REFUSED = (b"noaccount", b"bad ", b"later")
+UNDOES = {b"unlock": b"lock", b"renew": b"expire"}  # a mark of these takes one back
+
+
+def check_regular(found: os.stat_result) -> None:
+    if not stat.S_ISREG(found.st_mode):
+        raise OSError(errno.EINVAL, "it isn't a regular file")
 
 
 def private(path: str, flags: int) -> int:
     """Opens a regular file for its owner alone; no link, and no pipe that has no reader."""
     made = os.open(path, flags | os.O_NOFOLLOW | os.O_NONBLOCK, 0o600)
-    if not stat.S_ISREG(os.fstat(made).st_mode):
+    try:
+        check_regular(os.fstat(made))
+    except OSError:
         os.close(made)
-        raise OSError(errno.EINVAL, "it isn't a regular file")
+        raise
     return made
 
 
@@ -35,13 +55,6 @@ class Journal:
         """
         with problems_at(self.path):
             self.append(b"")
-
-    def read(self) -> list[bytes]:
-        """Its lines, if there are any; the last one may be torn."""
-        with problems_at(self.path), suppress(FileNotFoundError):
-            with open(self.path, "rb", opener=private) as file:
-                return file.read().split(b"\n")
-        return []
 
     def add(self, line: bytes) -> asyncio.Future[bool]:
         """Appends a line with those that come meanwhile: whether it is on the disk."""
@@ -73,6 +86,63 @@ class Journal:
         if self.named != it.st_ino:
             sync_folder(os.path.dirname(os.path.abspath(self.path)))
             self.named = it.st_ino
+
+
+class Marks(Journal):
+    """Names, and what each is marked by: lines of NAME [MARK] TIME."""
+
+    def __init__(self, path: str) -> None:
+        super().__init__(path)
+        self.of = dict[bytes, set[bytes]]()
+        with problems_at(path), suppress(FileNotFoundError):
+            with open(path, "rb", opener=private) as file:
+                for found in filter(
+                    None, map(MARKED.fullmatch, file.read().split(b"\n"))
+                ):
+                    self.apply(found[1], found[2] or b"")
+
+    def apply(self, name: bytes, mark: bytes) -> None:
+        marks, undone = self.of.pop(name, set()), UNDOES.get(mark)
+        marks = marks - {undone} if undone else marks | {mark}
+        if marks:
+            self.of[name] = marks
+
+    def has(self, name: bytes, mark: bytes) -> bool:
+        return mark in self.of.get(name, ())
+
+    async def put(self, name: bytes, mark: bytes = b"") -> bool:
+        """Has a mark on the disk, and then counts it; false if it can't."""
+        line = b" ".join(filter(None, (name, mark, utc().encode())))
+        is_kept = await self.add(line)
+        if is_kept:
+            self.apply(name, mark)
+        return is_kept
+
+
+class Audit(Journal):
+    """Who did what, in JSON: answered changes, right passwords, and wrong ones if asked."""
+
+    def __init__(self, path: str, has_tries: bool) -> None:
+        super().__init__(path)
+        self.noted_tries = RIGHT | FAILED if has_tries else RIGHT
+        if path:
+            self.begin()
+
+    async def record(self, request: Request, answer: bytes) -> bool:
+        """Adds a request and its answer, if it is one to be kept; false if it can't."""
+        is_refused, kind = answer.startswith(REFUSED), request.kind
+        is_change = kind.changes and not is_refused
+        is_noted = is_change or kind.tries and answer in self.noted_tries
+        if not (is_noted and self.path):
+            return True
+        client, (operation, *fields) = request.client, request.words
+        entry: dict[str, Union[str, int, None]] = {"time": utc()}
+        entry.update(door=client.door.name, uid=client.uid, pid=client.pid)
+        entry["operation"] = operation.decode()
+        for key, name in zip(("name", "new_name"), fields[: kind.names]):
+            entry[key] = None if is_refused else name.decode(errors="replace")
+        entry["answer"] = answer.decode()
+        return await self.add(json.dumps(entry).encode())
 
 
 def sync_folder(path: str) -> None:

@@ -1,116 +1,87 @@
-"""Names that are locked, or whose passwords must be changed: a journal beside the book."""
+"""Names that are locked, or whose passwords must be changed."""
 
 from __future__ import annotations
 
-import re
-import time
 from dataclasses import replace
 from typing import TYPE_CHECKING
 
 from .book import UNAVAILABLE
-from .journal import Journal
-from .log import utc
-from .options import OPERATIONS
+from .journal import Marks
 
 if TYPE_CHECKING:
-    from .service import Line, Service
+    from .service import Request, Service
 
-MARKED = re.compile(rb"([^ \n]+) (lock|unlock|expire|renew) \d{4}-[\d-]+T[\d:]+Z")
-# What an administrator asks for, and the answer.
+# What an administrator marks a name by, and the answer.
 MARKS = {b"lock": b"locked", b"unlock": b"unlocked", b"expire": b"expired"}
-OPENS = frozenset((b"verify", b"login"))
+UNDONE = {b"lock": b"unlock", b"expire": b"renew"}
 RENEWS = frozenset((b"replaced", b"enrolled"))
 
 
-class Locks:
-    """Who is locked and who must change; the record of each stays in the book."""
+class Locks(Marks):
+    """The marks of names, in a file beside the book, which has their records."""
 
-    def __init__(self, path: str) -> None:
-        self.journal = Journal(path)
-        self.locked, self.expired = set[bytes](), set[bytes]()
-        for found in filter(None, map(MARKED.fullmatch, self.journal.read())):
-            self.apply(found[1], found[2])
-
-    def apply(self, name: bytes, mark: bytes) -> None:
-        names = self.locked if mark.endswith(b"lock") else self.expired
-        if mark in (b"lock", b"expire"):
-            names.add(name)
-        else:
-            names.discard(name)
-
-    async def put(self, name: bytes, mark: bytes) -> bool:
-        """Has a mark on the disk, and then counts it; false if it can't."""
-        line = b"%b %b %b" % (name, mark, utc(time.time()).encode())
-        is_kept = await self.journal.add(line)
-        if is_kept:
-            self.apply(name, mark)
-        return is_kept
-
-    def marks(self, name: bytes) -> list[bytes]:
-        """The marks of a name."""
-        both = {b"lock": self.locked, b"expire": self.expired}
-        return [mark for mark, names in both.items() if name in names]
-
-    async def clear(self, name: bytes) -> None:
-        undone = {b"lock": b"unlock", b"expire": b"renew"}
-        for mark in self.marks(name):
-            await self.put(name, undone[mark])
+    def __init__(self, service: Service) -> None:
+        super().__init__(f"{service.options.file}-locks")
+        self.service = service
 
     def shown(self, _: str) -> str:
         """Who has which mark."""
-        names = sorted(self.locked | self.expired)
-        words = [
-            f"{it.decode('ascii', 'replace')}:{MARKS[mark].decode()}"
-            for it in names
-            for mark in self.marks(it)
+        pairs = [
+            f"{name.decode('ascii', 'replace')}:{MARKS[mark].decode()}"
+            for name in sorted(self.of)
+            for mark in UNDONE
+            if self.has(name, mark)
         ]
-        return " ".join(["locks", *words])
+        return " ".join(["locks", *pairs])
 
-    async def judged(self, line: Line, service: Service) -> bytes:
-        """The answer to a line: a wrong password's for a locked name."""
-        operation, name = line.words[:2]
+    async def answer(self, request: Request) -> bytes:
+        """The answer to a request: a wrong password's for a locked name."""
+        operation, name = request.words[:2]
         if operation in MARKS:
-            return await self.mark(line, service)
-        if name in self.locked and line.operation.tries:
+            return await self.mark(request)
+        if self.has(name, b"lock") and request.kind.tries:
             # As long as a wrong password takes, and nothing is changed.
-            words = [b"verify", *line.words[1:3]]
-            instead = replace(line, words=words, operation=OPERATIONS[b"verify"])
-            said = await service.judged_by_book(instead)
-            refused = b"no" if operation in OPENS else b"wrong"
-            return refused if said in (b"yes", b"no") else said
-        if operation == b"rename" and self.marks(name):
-            return await self.rename(line, service)
-        said = await service.judged_by_book(line)
-        if name in self.locked and (operation in OPENS or operation == b"known"):
-            return {b"yes": b"no"}.get(said, b"none" if said[:1] == b"$" else said)
-        if name in self.expired:
-            if said == b"yes" or operation == b"known" and said[:1] == b"$":
-                return b"expired"
-            if said in RENEWS and not await self.put(name, b"renew"):
-                return UNAVAILABLE
-        if said == b"deleted":
+            words = [b"verify", *request.words[1:3]]
+            answer = await self.service.answer(replace(request, words=words))
+            return request.wrong if answer in (b"yes", b"no") else answer
+        if operation == b"rename" and name in self.of:
+            return await self.rename(request)
+        answer = await self.service.answer(request)
+        has_record = answer == b"yes" or operation == b"known" and answer[:1] == b"$"
+        if has_record and self.has(name, b"lock"):
+            return b"no" if answer == b"yes" else b"none"
+        if has_record and self.has(name, b"expire"):
+            return b"expired"
+        if answer in RENEWS and self.has(name, b"expire"):
+            return answer if await self.put(name, b"renew") else UNAVAILABLE
+        if answer == b"deleted":
             await self.clear(name)
-        return said
+        return answer
 
-    async def mark(self, line: Line, service: Service) -> bytes:
+    async def mark(self, request: Request) -> bytes:
         """Locks, unlocks or expires a name that the book or an old file has."""
-        mark, name = line.words[:2]
-        if mark == b"unlock" and name not in self.locked:
+        mark, name = request.words[:2]
+        if mark == b"unlock" and not self.has(name, b"lock"):
             return b"none"
-        looked = replace(line, words=[b"known", name], operation=OPERATIONS[b"known"])
-        said = await service.judged_by_book(looked)
-        if said[:1] != b"$" and said != b"none":
-            return b"noaccount" if said == b"bad 5 noaccount" else said
+        known = replace(request, words=[b"known", name])
+        answer = await self.service.answer(known)
+        if answer[:1] != b"$" and answer != b"none":
+            return b"noaccount" if answer == b"bad 5 noaccount" else answer
         return MARKS[mark] if await self.put(name, mark) else UNAVAILABLE
 
-    async def rename(self, line: Line, service: Service) -> bytes:
+    async def rename(self, request: Request) -> bytes:
         """Renames a marked name; the new name has the marks before it has the record."""
-        name, new = line.words[1:3]
-        is_free = await service.book.ask(b"show", new) == b"bad 5 noaccount"
-        for mark in self.marks(name) if is_free else []:
+        name, new = request.words[1:3]
+        is_free = await self.service.book.ask(b"show", new) == b"bad 5 noaccount"
+        for mark in self.of[name] if is_free else ():
             if not await self.put(new, mark):
                 return UNAVAILABLE
-        said = await service.judged_by_book(line)
+        answer = await self.service.answer(request)
         if is_free:
-            await self.clear(name if said == b"renamed" else new)
-        return said
+            await self.clear(name if answer == b"renamed" else new)
+        return answer
+
+    async def clear(self, name: bytes) -> None:
+        """Takes the marks of a name back."""
+        for mark in self.of.get(name, ()):
+            await self.put(name, UNDONE[mark])

@@ -9,11 +9,11 @@ import socket
 import time
 from collections.abc import Iterator
 from contextlib import contextmanager
-from typing import Any
+from typing import Any, Hashable, Optional
 
 log = logging.getLogger("credkeep-server")
 SELDOM = 3600.0  # seconds
-told = dict[object, float]()  # when log_seldom told what
+logged = dict[Hashable, float]()  # when log_seldom logged what
 
 
 class Problem(Exception):
@@ -39,18 +39,16 @@ def log_fault(_: object, context: dict[str, Any]) -> None:
     log.error("a fault: %s", type(context.get("exception")).__name__)
 
 
-def log_seldom(key: object, text: str, *values: object) -> None:
+def log_seldom(key: Hashable, text: str, *values: object) -> None:
     """Logs what has a key once an hour."""
     now = time.monotonic()
-    for old in [it for it, then in told.items() if now >= then + SELDOM]:
-        del told[old]
-    if key not in told:
-        told[key] = now
+    if now >= logged.get(key, -SELDOM) + SELDOM:
+        logged[key] = now
         log.warning(text, *values)
 
 
-def utc(seconds: float) -> str:
-    """A moment as RFC 3339 has it, to the second."""
+def utc(seconds: Optional[float] = None) -> str:
+    """A moment, or this one, as RFC 3339 has it, to the second."""
     return time.strftime("%Y-%m-%dT%H:%M:%SZ", time.gmtime(seconds))
 
 

@@ -7,6 +7,7 @@ import importlib
 import os
 import pathlib
 import re
+from collections import Counter
 from collections.abc import Callable, Sequence
 from dataclasses import dataclass, field, fields
 from typing import Any, NoReturn
@@ -21,7 +22,7 @@ MOST_AT_ONCE = 254  # of a user: credkeep takes 255
 
 
 @dataclass(frozen=True)
-class Operation:
+class Kind:
     """What an operation's line has, and what it costs the book."""
 
     names: int = 1  # how many of its fields are names, from the first on
@@ -31,16 +32,16 @@ class Operation:
 
 
 KINDS = {
-    "verify login": Operation(hashes=True, tries=True),
-    "change upgrade remove": Operation(hashes=True, tries=True, changes=True),
-    "enrol reset": Operation(hashes=True, changes=True),
-    "account load disable delete lock unlock expire": Operation(changes=True),
-    "rename": Operation(changes=True, names=2),
-    "known show": Operation(),
-    "list": Operation(names=0),
+    "verify login": Kind(hashes=True, tries=True),
+    "change upgrade remove": Kind(hashes=True, tries=True, changes=True),
+    "enrol reset": Kind(hashes=True, changes=True),
+    "account load disable delete lock unlock expire": Kind(changes=True),
+    "rename": Kind(changes=True, names=2),
+    "known show": Kind(),
+    "list": Kind(names=0),
     # These are answered by the server, and not by the book.
-    "stats waits locks": Operation(names=0),
-    "forgive last": Operation(),
+    "stats waits locks": Kind(names=0),
+    "forgive last": Kind(),
 }
 WEB = frozenset([b"verify"])  # what --http takes
 OPERATIONS = {word.encode(): it for key, it in KINDS.items() for word in key.split()}
@@ -230,8 +231,7 @@ def parse(words: Sequence[str]) -> Options:
     options.doors = [door(*it) for it in given]
     if options.http:
         options.doors.append(web_door(options.http, options.doors[0]))
-    for what in ([it.name for it in options.doors], [it.path for it in options.doors]):
-        for word in what:
-            if what.count(word) > 1:
-                raise Problem(f"two sockets are called {word}")
+    named = Counter(word for it in options.doors for word in (it.name, it.path))
+    if twice := [word for word, count in named.items() if count > 1]:
+        raise Problem(f"two sockets are called {twice[0]}")
     return options

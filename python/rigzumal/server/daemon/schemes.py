@@ -7,7 +7,7 @@ import ctypes
 import functools
 import hashlib
 import hmac
-from typing import Any
+from typing import Any, Optional
 
 from .log import Problem
 
@@ -23,11 +23,12 @@ DIGITS = "./0123456789ABCDEFGHIJKLMNOPQRSTUVWXYZabcdefghijklmnopqrstuvwxyz"
 THREES = (0, 6, 12), (1, 7, 13), (2, 8, 14), (3, 9, 15), (4, 10, 5)
 
 
-def is_right(record: bytes, password: bytes) -> bool:
+def is_right(record: bytes, password: Optional[bytes]) -> bool:
     """Whether a record is of a password; false for a scheme that isn't one of SCHEMES."""
     scheme = next(filter(record.startswith, SCHEMES), b"")
-    is_cut = scheme in BCRYPT and len(password) > LONGEST_BCRYPT
-    if not scheme or is_cut or b"\0" in password:
+    if not scheme or password is None or b"\0" in password:
+        return False
+    if scheme in BCRYPT and len(password) > LONGEST_BCRYPT:
         return False
     if scheme == APACHE:
         made = apache(password, record.split(b"$")[2][:8])
@@ -35,28 +36,27 @@ def is_right(record: bytes, password: bytes) -> bool:
         data = ctypes.create_string_buffer(CRYPT_DATA)
         made = crypt_r()(password, record, data) or b""
     else:
-        kept = base64.b64decode(record[len(scheme) :])
-        salt = kept[20:] if scheme == SALTED_SHA else b""
-        made, record = hashlib.sha1(password + salt).digest() + salt, kept
+        record = decoded(record[len(scheme) :]) or b""
+        salt = record[20:] if scheme == SALTED_SHA else b""
+        made = hashlib.sha1(password + salt).digest() + salt
     return hmac.compare_digest(made, record)
 
 
-def password_of(field: bytes) -> bytes:
-    """The password that a field of a line has.
-
-    Raises:
-        ValueError: the field isn't base64.
-    """
+def decoded(field: bytes) -> Optional[bytes]:
+    """What a field of a line has; none if it isn't base64."""
     padded = field + b"=" * (-len(field) % 4)
-    return b"" if field == b"-" else base64.b64decode(padded, validate=True)
+    try:
+        return b"" if field == b"-" else base64.b64decode(padded, validate=True)
+    except ValueError:
+        return None
 
 
 def is_short(field: bytes, least: int) -> bool:
     """Whether a field's password has fewer characters; a byte that isn't UTF-8 is one."""
-    try:
-        return len(password_of(field).decode(errors="surrogateescape")) < least
-    except ValueError:
-        return False  # the book refuses it
+    password = decoded(field)  # if it is none, the book refuses it
+    return (
+        password is not None and len(password.decode(errors="surrogateescape")) < least
+    )
 
 
 @functools.lru_cache(1)

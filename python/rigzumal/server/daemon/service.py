@@ -11,49 +11,56 @@ import time
 from collections import deque
 from dataclasses import dataclass, replace
 
-from .audit import Audit
+from .journal import Audit
 from .book import UNAVAILABLE, Book
 from .clients import LONGEST, Connection
 from .foreign import Foreign
 from .locks import Locks
 from .log import log_seldom
-from .options import OPERATIONS, Operation, Options
+from .options import OPERATIONS, Kind, Options
 from .schemes import is_short
-from .shares import Rota
-from .tally import Tally
-from .turns import Rounds, Turns
+from .tries import Tally
+from .turns import Places, Rota, Rounds
 
 NEW = {b"enrol": 2, b"reset": 2, b"change": 3}  # where a line has a new password
-NO_MEMORY = b"bad 4 memory"
 TAG = re.compile(rb"[a-z0-9]{1,20}")
+LATER, NO_MEMORY = b"later", b"bad 4 memory"
 # What `known` says where `show` has no record.
 KNOWN = {b"none": b"absent", b"bad 5 noaccount": b"noaccount"}
 # Answers to a try that took a hash; of these, to one that took the costs of new records.
 HASHED = frozenset(b"yes no expired absent noaccount".split())
 HASHED_ANEW = (b"absent", b"noaccount")
-LATER = b"later"
 LOOKS, CHANGES = 16, 128  # places for lines that change nothing, and for quick changes
 SYNC = 0.01  # seconds that a change waits for the disk, more or less
 
 
 @dataclass(eq=False)
-class Line:
-    """A line that waits for its turn, or for the book."""
+class Request:
+    """A line that waits for its place, or for the book."""
 
     client: Connection
     tag: bytes
-    words: list[bytes]
-    operation: Operation
-    turns: Turns[Line]
-    came: float  # when it began to wait for its turn
+    words: list[bytes]  # the operation and its fields
+    places: Places[Request]
+    came: float
+
+    @property
+    def kind(self) -> Kind:
+        return OPERATIONS[self.words[0]]
 
     @property
     def name(self) -> str:
         return self.words[1].decode(errors="replace")
 
-    def told(self, said: bytes) -> bytes:
+    @property
+    def wrong(self) -> bytes:
+        """The answer to a wrong password."""
+        return b"wrong" if self.kind.changes else b"no"
+
+    def without_record(self, answer: bytes) -> bytes:
         """An answer without the record that `disable NAME show` takes away, and says."""
-        return b"disabled" if self.words[0] == b"disable" and b":" in said else said
+        is_shown = self.words[0] == b"disable" and b":" in answer
+        return b"disabled" if is_shown else answer
 
 
 class Service:
@@ -61,62 +68,63 @@ class Service:
 
     def __init__(self, options: Options) -> None:
         self.options, self.book, self.tally = options, Book(), Tally(options)
-        self.hashes = Turns(options.workers(), self.start)
-        self.changes, self.looks = Turns(CHANGES, self.start), Turns(LOOKS, self.start)
+        self.hashes = Places(options.workers(), self.dispatch)
+        self.changes = Places(CHANGES, self.dispatch)
+        self.looks = Places(LOOKS, self.dispatch)
         self.logins, self.rounds = 0, Rounds(lambda: self.logins > 0)
         self.hash_seconds = 1.0  # what a hash takes if nothing else waits
         self.login_seconds = deque[float](maxlen=16)  # what the last logins took
-        self.tasks = set[asyncio.Task[None]]()
-        self.rota = Rota()
+        self.tasks, self.rota = set[asyncio.Task[None]](), Rota()
         self.is_upgrading = self.is_ending = False
-        old = options.foreign
-        log_file, has_tries = options.audit, options.audit_tries
-        self.audit = Audit(log_file, has_tries) if log_file else None
-        self.foreign = Foreign(old, self.in_book) if old else None
-        self.locks = Locks(f"{options.file}-locks")
+        self.audit = Audit(options.audit, options.audit_tries)
+        self.answer = self.ask  # or an old file's, where the book lacks the name
+        if options.foreign:
+            self.answer = Foreign(self, options.foreign).answer
+        self.locks = Locks(self)
         self.tally.own[b"locks"] = self.locks.shown
 
-    def take(self, client: Connection, line: bytes) -> None:
-        """Answers a line, now or once it had its turn."""
+    def clients(self) -> list[Connection]:
+        return [client for door in self.options.doors for client in door.clients]
+
+    # ---- before a line has a place
+
+    def submit(self, client: Connection, line: bytes) -> None:
+        """Has a line answered, now or once it had a place."""
         tag, *words = line.split(b" ")
         words += [b"", b""][len(words) :]  # an operation, and one field at least
         if not TAG.fullmatch(tag):
-            client.refuse(b"*", b"bad 11 line")
-        elif (said := self.own_answer(client, words)) == LATER:
+            return client.refuse(b"*", b"bad 11 line")
+        answer = self.own_answer(client, words)
+        if answer and answer != LATER:
+            return client.refuse(tag, answer)
+        client.running += 1
+        if answer:
             # After the time of a hash: names that the book lacks take that too.
-            client.running += 1
+            self.tally.counts["later"] += 1
             seconds = random.choice(self.login_seconds or [self.hash_seconds])
-            asyncio.get_running_loop().call_later(seconds, client.answer, tag, said)
-        elif said:
-            client.refuse(tag, said)
+            client.loop.call_later(seconds, client.answer, tag, answer)
         else:
-            client.running += 1
-            operation = OPERATIONS[words[0]]
-            is_quick = operation.changes and self.hash_seconds <= SYNC
-            if operation.hashes and not is_quick:
-                turns = self.hashes
-            else:
-                turns = self.changes if operation.changes else self.looks
-            made = Line(client, tag, words, operation, turns, time.monotonic())
-            turns.take(client.user, client, made)
+            places = self.places(OPERATIONS[words[0]])
+            request = Request(client, tag, words, places, time.monotonic())
+            places.submit(client.user, client, request)
 
     def own_answer(self, client: Connection, words: list[bytes]) -> bytes:
         """The server's answer to a line that the book needn't be asked for, or nothing."""
-        operation = OPERATIONS.get(words[0])
-        if operation is None or words[0] not in client.door.operations:
-            what = "an unknown operation" if operation is None else words[0].decode()
+        kind = OPERATIONS.get(words[0])
+        if kind is None or words[0] not in client.door.operations:
+            what = words[0].decode() if kind else "an unknown operation"
             values = (client.door.name, client.uid, what)
             log_seldom(values, "denied at %s to uid %d: %s", *values)
             self.tally.counts["denied"] += 1
             return b"denied"
-        names = slice(1, 1 + operation.names)
+        names = slice(1, 1 + kind.names)
         words[names] = map(self.in_book, words[names])
         name = words[1].decode(errors="replace")
         if sum(map(len, words)) + len(words) > LONGEST:  # with names that became longer
             return b"bad 16 long"
         if own := self.tally.own.get(words[0]):
             return own(name).encode()
-        if self.tally.is_early(self.tally.limits(operation, name, client.uid)):
+        if kind.tries and self.tally.seconds_to_wait(name, client.uid):
             return LATER
         new, least = words[NEW.get(words[0], LONGEST) :][:1], self.options.least_length
         return b"short" if any(is_short(it, least) for it in new) else b""
@@ -134,104 +142,98 @@ class Service:
         digest = hashlib.blake2b(local + b"@" + domain.lower(), digest_size=20).digest()
         return b"e." + base64.b32encode(digest)[:30].lower()
 
-    def start(self, line: Line) -> None:
-        task = asyncio.ensure_future(self.carry_out(line))
+    def places(self, kind: Kind) -> Places[Request]:
+        """Where a line waits: for a hash, for the disk, or for neither."""
+        is_quick = kind.changes and self.hash_seconds <= SYNC
+        if kind.hashes and not is_quick:
+            return self.hashes
+        return self.changes if kind.changes else self.looks
+
+    # ---- once it has one
+
+    def dispatch(self, request: Request) -> None:
+        task = asyncio.ensure_future(self.process(request))
         self.tasks.add(task)
         task.add_done_callback(self.tasks.discard)
 
-    async def carry_out(self, line: Line) -> None:
-        """Has a line answered whose turn it is, unless it needn't be any more."""
-        client, operation, said = line.client, line.operation, LATER
-        self.tally.waited += time.monotonic() - line.came
+    async def process(self, request: Request) -> None:
+        """Has a request answered, unless it needn't be any more."""
+        client, kind, answer = request.client, request.kind, LATER
+        self.tally.waited += time.monotonic() - request.came
         try:
-            if operation.changes or not client.is_gone:
-                said = await self.attempt(line)
+            if kind.changes or not client.is_gone:
+                answer = await self.attempt(request)
         finally:
-            line.turns.give_back(client.user)
-        is_noted = said != LATER and operation.changes
-        if is_noted and not await self.note(line, line.told(said)):
-            said = UNAVAILABLE  # nobody says that a change was made that isn't noted
-        client.answer(line.tag, said)
-        if operation.tries and not operation.changes and said != LATER:
-            await self.note(line, said)
-        if said == b"yes" and self.options.upgrade and line.words[0] == b"verify":
-            await self.upgrade(line)
+            request.places.release(client.user)
+        recorded = request.without_record(answer)
+        if kind.changes and not await self.audit.record(request, recorded):
+            answer = UNAVAILABLE  # nobody says that a change was made that isn't noted
+        client.answer(request.tag, answer)
+        if not kind.changes:
+            await self.audit.record(request, answer)
+        if answer == b"yes" and self.options.upgrade and request.words[0] == b"verify":
+            await self.upgrade(request)
 
-    async def attempt(self, line: Line) -> bytes:
-        """The answer to a line, which is counted. Guesses at a name wait for one another."""
-        who = (line.operation, line.name, line.client.uid)
+    async def attempt(self, request: Request) -> bytes:
+        """The answer, which is counted. Guesses at a name wait for one another."""
+        who = (request.kind, request.name, request.client.uid)
         limits = self.tally.limits(*who)
         if not await self.tally.begin(limits):
+            self.tally.counts["later"] += 1
             return LATER
         try:
-            said = await self.locks.judged(line, self)
-            if line.words[0] == b"known":
-                said = b"yes" if said[:1] == b"$" else KNOWN.get(said, said)
-            elif said in HASHED:
-                self.login_seconds.append(time.monotonic() - line.came)
-            elif said == NO_MEMORY:
-                text = "no memory for a hash: see --memory, and the machine's"
-                log_seldom(said, text)
-            self.tally.note(*who, line.told(said).decode())
-            return said
+            answer = await self.locks.answer(request)
         finally:
-            for limiter, key in limits:
-                limiter.end(key)
+            self.tally.end(limits)
+        if request.words[0] == b"known":
+            answer = b"yes" if answer[:1] == b"$" else KNOWN.get(answer, answer)
+        elif answer in HASHED:
+            self.login_seconds.append(time.monotonic() - request.came)
+        elif answer == NO_MEMORY:
+            text = "no memory for a hash: see --memory, and the machine's"
+            log_seldom(answer, text)
+        self.tally.count(*who, request.without_record(answer).decode())
+        return answer
 
-    async def judged_by_book(self, line: Line) -> bytes:
-        """The book's answer, or an old file's where the book lacks the name."""
-        if self.foreign:
-            return await self.foreign.judged(line, self)
-        return await self.asked(line)
-
-    async def ask_for(self, line: Line, *words: bytes) -> bytes:
-        """The book's answer to what a client's line needs besides, which is audited."""
-        said = await self.book.ask(*words)
-        operation = OPERATIONS[words[0]]
-        await self.note(replace(line, words=list(words), operation=operation), said)
-        return said
-
-    async def asked(self, line: Line) -> bytes:
+    async def ask(self, request: Request) -> bytes:
         """The book's answer."""
-        operation, *fields = line.words
+        operation, *fields = request.words
         words = [b"show" if operation == b"known" else operation, *fields]
-        if line.turns == self.changes:
-            await self.rounds.begin(is_alone=not line.operation.hashes)
-            said = await self.book.ask(*words)
-            self.rounds.end()
-        elif line.operation.hashes and not line.operation.changes:
-            self.logins += 1
-            said = await self.hashed(*words)
-            self.logins -= 1
-        else:
-            said = await self.book.ask(*words)
-        return said
+        if request.kind.hashes and not request.kind.changes:
+            return await self.log_in(*words)
+        if request.places is not self.changes:
+            return await self.book.ask(*words)
+        await self.rounds.begin(is_alone=not request.kind.hashes)
+        answer = await self.book.ask(*words)
+        self.rounds.end()
+        return answer
 
-    async def hashed(self, *words: bytes) -> bytes:
+    async def log_in(self, *words: bytes) -> bytes:
         """The answer to a login; the quickest of late tells what a hash of new costs takes."""
         began = time.monotonic()
-        said = await self.book.ask(*words)
-        if said in HASHED_ANEW:
+        self.logins += 1
+        answer = await self.book.ask(*words)
+        self.logins -= 1
+        if answer in HASHED_ANEW:
             seconds = time.monotonic() - began
             self.hash_seconds = min(seconds, 1.01 * self.hash_seconds)
-        return said
+        return answer
 
-    async def note(self, line: Line, said: bytes) -> bool:
-        """Has the audit log say who did what; false if it couldn't."""
-        return self.audit is None or await self.audit.note(line, said)
+    async def ask_besides(self, request: Request, *words: bytes) -> bytes:
+        """The book's answer to what a request needs besides, which is audited too."""
+        answer = await self.book.ask(*words)
+        await self.audit.record(replace(request, words=list(words)), answer)
+        return answer
 
-    async def upgrade(self, line: Line) -> None:
+    async def upgrade(self, request: Request) -> None:
         """Upgrades a record of other costs, after its password was right; one at a time."""
         if self.is_upgrading:
             return
         self.is_upgrading = True
-        words = [b"upgrade", *line.words[1:]]
-        record = await self.book.ask(b"show", words[1])
+        name, password = request.words[1:3]
+        record = await self.book.ask(b"show", name)
         costs = f"{self.options.upgrade}$".encode()
         if record[:1] == b"$" and not record.startswith(costs):
-            said = await self.ask_for(line, *words)
-            self.tally.counts["upgraded"] += said == b"upgraded"
+            answer = await self.ask_besides(request, b"upgrade", name, password)
+            self.tally.counts["upgraded"] += answer == b"upgraded"
         self.is_upgrading = False
-
-    def clients(self) -> list[Connection]:
-        return [client for door in self.options.doors for client in door.clients]

@@ -1,4 +1,4 @@
-"""Places at the book, whose turn it is for the next one, and when changes go there."""
+"""Whose turn it is: to be read, to have a place at the book, to change it."""
 
 from __future__ import annotations
 
@@ -6,57 +6,112 @@ import asyncio
 import time
 from collections import Counter, OrderedDict, deque
 from collections.abc import Callable
-from typing import Generic, Hashable, TypeVar
+from typing import TYPE_CHECKING, Generic, Hashable, TypeVar
 
+if TYPE_CHECKING:
+    from .clients import Connection
+
+SLICE = 0.0005  # seconds of steps in a pass of the loop: then it looks at the sockets
 REST, LONGEST_REST = 1.5, 0.1  # of the time that a round took, and seconds
-Line = TypeVar("Line")
+Item = TypeVar("Item")
 
 
-class Turns(Generic[Line]):
-    """Lines that wait for a place.
+class Queue(Generic[Item]):
+    """What waits: users take turns, then the clients of each, an item each."""
 
-    The user of whom fewest run has the next turn, then the clients of each, a line each.
-    The last place is for a user of whom none runs: so one who floods leaves it free.
+    def __init__(self) -> None:
+        self.users = OrderedDict[Hashable, OrderedDict[Hashable, deque[Item]]]()
+
+    def put(self, user: Hashable, client: Hashable, item: Item) -> None:
+        clients = self.users.setdefault(user, OrderedDict())
+        clients.setdefault(client, deque()).append(item)
+
+    def pop(self, user: Hashable) -> Item:
+        """The next item of a user, whose next turn is behind the others'."""
+        clients = self.users[user]
+        client, items = next(iter(clients.items()))
+        item = items.popleft()
+        clients.move_to_end(client)
+        self.users.move_to_end(user)
+        if not items:
+            del clients[client]
+        if not clients:
+            del self.users[user]
+        return item
+
+
+class Places(Queue[Item]):
+    """Places at the book, and what waits for one.
+
+    The user of whom fewest run has the next. The last place is for a user of whom none
+    runs: so one who floods leaves it free.
     """
 
-    def __init__(self, places: int, start: Callable[[Line], object]) -> None:
-        self.free, self.start = places, start
-        self.users = OrderedDict[Hashable, OrderedDict[Hashable, deque[Line]]]()
+    def __init__(self, count: int, start: Callable[[Item], object]) -> None:
+        super().__init__()
+        self.free, self.start = count, start
         self.running = Counter[Hashable]()
 
-    def take(self, user: Hashable, client: Hashable, line: Line) -> None:
-        """Starts a line once it is its turn, which may be now."""
-        clients = self.users.setdefault(user, OrderedDict())
-        clients.setdefault(client, deque()).append(line)
+    def submit(self, user: Hashable, client: Hashable, item: Item) -> None:
+        """Starts an item once it has a place, which may be now."""
+        self.put(user, client, item)
         self.start_next()
 
-    def give_back(self, user: Hashable) -> None:
-        """Frees the place of a user's line."""
+    def release(self, user: Hashable) -> None:
+        """Frees the place of a user's item."""
         self.free += 1
         self.running[user] -= 1
         self.start_next()
-
-    def drop(self) -> None:
-        """Forgets the lines that wait."""
-        self.users.clear()
 
     def start_next(self) -> None:
         while self.free and self.users:
             user = min(self.users, key=self.running.__getitem__)
             if self.free == 1 and self.running[user]:
                 return
-            clients = self.users[user]
-            client, lines = next(iter(clients.items()))
-            line = lines.popleft()
-            clients.move_to_end(client)
-            self.users.move_to_end(user)
-            if not lines:
-                del clients[client]
-            if not clients:
-                del self.users[user]
             self.free -= 1
             self.running[user] += 1
-            self.start(line)
+            self.start(self.pop(user))
+
+
+class Rota(Queue["Connection"]):
+    """Connections that are due. A step of one reads little and takes one request.
+
+    So whoever comes waits for a slice, and for a step of each other user, whatever these
+    send.
+    """
+
+    def __init__(self) -> None:
+        super().__init__()
+        self.end, self.is_begun = 0.0, False
+
+    def is_free(self) -> bool:
+        """Whether a connection may have its step at once, in this pass of the loop."""
+        if not self.is_begun:
+            self.begin()
+        return not self.users and time.monotonic() < self.end
+
+    def begin(self) -> None:
+        """Begins a slice, which ends with this pass of the loop or before."""
+        self.is_begun, self.end = True, time.monotonic() + SLICE
+        asyncio.get_running_loop().call_soon(self.run)
+
+    def add(self, connection: Connection) -> None:
+        """Has a connection wait for its step."""
+        if not connection.is_due:
+            connection.is_due = True
+            self.put(connection.user, connection, connection)
+            if not self.is_begun:
+                self.begin()
+
+    def run(self) -> None:
+        """Goes on with those that wait, for a slice."""
+        self.is_begun = False
+        if self.users:
+            self.begin()
+        while self.users and time.monotonic() < self.end:
+            connection = self.pop(next(iter(self.users)))
+            connection.is_due = False
+            connection.step()
 
 
 class Rounds:
@@ -94,6 +149,6 @@ class Rounds:
             asyncio.get_running_loop().call_later(rest, self.open_gate)
 
     def open_gate(self) -> None:
-        """Lets the next round begin, unless one has begun meanwhile, whose end will do so."""
+        """Lets the next round begin, unless one has begun, whose end will do so."""
         if not self.running:
             self.gate.set()

@@ -4,6 +4,7 @@ from __future__ import annotations
 
 import base64
 import importlib
+import math
 import re
 import socket
 import time
@@ -22,10 +23,10 @@ except ImportError:
     raise Problem("--http needs h11: python3-h11") from None
 
 MOST_HEAD = 8192  # bytes of a request
-# A right password that must be changed is `expired`.
+# A right password that must be changed is `expired`; what is in none of these is 503.
 STATUSES = {b"yes": 200, b"expired": 403, b"denied": 403, b"later": 429}
 STATUSES.update(dict.fromkeys((b"no", b"absent", b"noaccount"), 401))
-# Of a name or a password that no book has, or a line that is too long.
+# Of a name or a password that no book has, or a line that is too long: 401.
 NOBODY = (b"bad 3 ", b"bad 13 ", b"bad 16 ")
 HEADERS = {
     401: [("WWW-Authenticate", 'Basic realm="book", charset="UTF-8"')],
@@ -58,12 +59,12 @@ class WebClient(Connection):
         self.name, self.has_more = b"", False
 
     def has_request(self) -> bool:
-        return bool(self.came) or self.has_more
+        return bool(self.input) or self.has_more
 
-    def take(self) -> None:
-        if self.came:
-            self.http.receive_data(bytes(self.came))
-            self.came.clear()
+    def take_request(self) -> None:
+        if self.input:
+            self.http.receive_data(bytes(self.input))
+            self.input.clear()
         try:
             request = self.http.next_event()
             self.has_more = isinstance(request, h11.Request)
@@ -71,30 +72,23 @@ class WebClient(Connection):
                 return
             has_body = not isinstance(self.http.next_event(), h11.EndOfMessage)
         except h11.RemoteProtocolError as fault:
-            return self.reply(fault.error_status_hint)
+            return self.respond(fault.error_status_hint)
         self.active = time.monotonic()
         fields = credentials(request.headers)
         if has_body:
-            self.reply(413)
+            self.respond(413)
         elif request.method not in (b"GET", b"HEAD"):
-            self.reply(405)
+            self.respond(405)
         elif fields is None:
-            self.reply(401)
+            self.respond(401)
         else:
             self.name = fields.split(b" ")[0]
-            self.service.take(self, b"1 verify " + fields)
+            self.service.submit(self, b"1 verify " + fields)
 
-    def refuse(self, tag: bytes, said: bytes) -> None:
-        self.reply(503 if said == b"unavailable" else STATUSES.get(said, 401))
-        self.pause()
+    def reply(self, tag: bytes, answer: bytes) -> None:
+        self.respond(401 if answer.startswith(NOBODY) else STATUSES.get(answer, 503))
 
-    def answer(self, tag: bytes, said: bytes) -> None:
-        self.running -= 1
-        self.active = time.monotonic()
-        status = 401 if said.startswith(NOBODY) else STATUSES.get(said, 503)
-        self.reply(status)
-
-    def reply(self, status: int) -> None:
+    def respond(self, status: int) -> None:
         """Sends a status, and goes on with the next request if there may be one."""
         if self.is_gone:
             return
@@ -102,7 +96,7 @@ class WebClient(Connection):
         if status == 429:
             name = self.service.in_book(self.name).decode(errors="replace")
             seconds = self.service.tally.seconds_to_wait(name, self.uid)
-            headers.append(("Retry-After", str(seconds)))
+            headers.append(("Retry-After", str(max(1, math.ceil(seconds)))))
         head = h11.Response(status_code=status, headers=headers)
         self.write(self.http.send(head) + self.http.send(h11.EndOfMessage()))
         if self.http.our_state is self.http.their_state is h11.DONE:
