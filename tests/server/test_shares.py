@@ -218,17 +218,3 @@ class Rotas(Case):
         given = (("one", "a", 5), ("two", "x", 2))
         self.assertEqual(self.passes(0.25, *given), ["axa", "xaa", "a"])
         self.assertEqual(self.passes(0.05, *given), list("axaxaaa"))
-
-    def test_at_once(self) -> None:
-        """A step may be at once while none waits, and for as long as the slice of this pass lasts."""
-
-        async def run() -> None:
-            self.assertTrue(self.rota.is_free())
-            self.clock += 1
-            self.assertFalse(self.rota.is_free())
-            await asyncio.sleep(0)
-            self.assertTrue(self.rota.is_free())
-            self.rota.add(Step(self, "one", "a", 1))  # type: ignore[arg-type]
-            self.assertFalse(self.rota.is_free())
-
-        asyncio.run(run())

@@ -47,7 +47,7 @@ def group_of(pid: int, second: int) -> str:
 
 
 class Connection:
-    """A client's socket: a step reads little of it and takes one request.
+    """A client's socket, of which little is read at a time; a step takes one request.
 
     No more is read while the client doesn't read its answers.
     """
@@ -100,16 +100,13 @@ class Connection:
         self.go_on()
 
     def wake(self) -> None:
-        """Has its step now, or once it is its user's turn: there is something to read."""
-        if self.service.rota.is_free():
-            self.step()
-        else:
-            self.watch(False)
-            self.service.rota.add(self)
+        """Reads a little, and has a step once it is its user's turn."""
+        if self.is_due:
+            return self.watch(False)  # it has enough
+        self.read()
+        self.service.rota.add(self)
 
     def step(self) -> None:
-        if not (self.is_gone or self.has_request() or self.is_ending):
-            self.read()
         if not self.is_gone and not self.is_full() and self.has_request():
             self.take_request()
         self.go_on()

@@ -74,44 +74,36 @@ class Places(Queue[Item]):
 
 
 class Rota(Queue["Connection"]):
-    """Connections that are due. A step of one reads little and takes one request.
+    """Connections that are due. A step of one takes one request.
 
     So whoever comes waits for a slice, and for a step of each other user, whatever these
     send.
     """
 
-    def __init__(self) -> None:
-        super().__init__()
-        self.end, self.is_begun = 0.0, False
-
-    def is_free(self) -> bool:
-        """Whether a connection may have its step at once, in this pass of the loop."""
-        if not self.is_begun:
-            self.begin()
-        return not self.users and time.monotonic() < self.end
-
-    def begin(self) -> None:
-        """Begins a slice, which ends with this pass of the loop or before."""
-        self.is_begun, self.end = True, time.monotonic() + SLICE
-        asyncio.get_running_loop().call_soon(self.run)
+    is_begun = False
 
     def add(self, connection: Connection) -> None:
         """Has a connection wait for its step."""
         if not connection.is_due:
             connection.is_due = True
             self.put(connection.user, connection, connection)
-            if not self.is_begun:
-                self.begin()
+            self.begin()
+
+    def begin(self) -> None:
+        """Has a slice run in the next pass of the loop."""
+        if not self.is_begun:
+            self.is_begun = True
+            asyncio.get_running_loop().call_soon(self.run)
 
     def run(self) -> None:
         """Goes on with those that wait, for a slice."""
-        self.is_begun = False
-        if self.users:
-            self.begin()
-        while self.users and time.monotonic() < self.end:
+        end, self.is_begun = time.monotonic() + SLICE, False
+        while self.users and time.monotonic() < end:
             connection = self.pop(next(iter(self.users)))
             connection.is_due = False
             connection.step()
+        if self.users:
+            self.begin()
 
 
 class Rounds:
