@@ -8,8 +8,9 @@ import os
 import pathlib
 import re
 from collections import Counter
-from collections.abc import Callable, Sequence
+from collections.abc import Sequence
 from dataclasses import dataclass, field, fields
+from functools import partial
 from typing import Any, NoReturn
 
 from .doors import Door
@@ -47,16 +48,14 @@ WEB = frozenset([b"verify"])  # what --http takes
 OPERATIONS = {word.encode(): it for key, it in KINDS.items() for word in key.split()}
 
 
-def number(most: int) -> Callable[[str], int]:
-    """The type of numbers up to one."""
+def number(word: str, most: int = 10**9 - 1) -> int:
+    if not re.fullmatch("[0-9]{1,9}", word) or int(word) > most:
+        raise argparse.ArgumentTypeError(f"{word!r} is no number from 0 to {most}")
+    return int(word)
 
-    def parsed(word: str) -> int:
-        if not re.fullmatch("[0-9]{1,9}", word) or int(word) > most:
-            text = f"{word!r} is no number from 0 to {most}"
-            raise argparse.ArgumentTypeError(text)
-        return int(word)
 
-    return parsed
+places = partial(number, most=MOST_AT_ONCE)
+seconds = partial(number, most=3600)
 
 
 def costs(word: str) -> str:
@@ -69,7 +68,7 @@ def costs(word: str) -> str:
 def option(text: str, metavar: str, default: object = "", kind: object = None) -> Any:
     """An option with a value."""
     text += f" ({default})" if default != "" else ""
-    kind = kind or (str if default == "" else number(10**9 - 1))
+    kind = kind or (str if default == "" else number)
     shown = {"help": text, "metavar": metavar, "type": kind}
     return field(default=default, metadata=shown)
 
@@ -85,9 +84,7 @@ class Options:
     file: str = ""
     doors: list[Door] = field(default_factory=list)
     socket: list[list[str]] = field(default_factory=list)
-    http: str = option(
-        "answer nginx's auth_request at a socket, or at 127.0.0.1:PORT", "ADDRESS"
-    )
+    http: str = option("answer HTTP at a socket, or at 127.0.0.1:PORT", "ADDRESS")
     tries: int = option("failed tries until a name has to wait; 0: no limit", "N", 10)
     uid_tries: int = option("the same for a person's uid at any names", "N", 0)
     idle: int = option("until a client that asks nothing is closed", "SECONDS", 600)
@@ -95,20 +92,14 @@ class Options:
     audit_tries: bool = flag("have it say which tries failed too")
     metrics: str = option("print what the server of an admin socket counts", "SOCKET")
     foreign: str = option("an old file, whose users move into the book", "HTPASSWD")
-    upgrade: str = option(
-        "new costs, by which a right verify upgrades", "COSTS", kind=costs
-    )
+    upgrade: str = option("new costs, to which a verify upgrades", "COSTS", "", costs)
     least_length: int = option("characters of a new password at least", "N", 0)
     setting: str = option("for credkeep: the costs of new records", "TEXT")
-    at_once: int = option(
-        "lines of one user hashed at once; 0: one a processor", "N", 0, number(MOST_AT_ONCE)
-    )
+    at_once: int = option("lines of a user hashed at once; 0: processors", "N", 0, places)
     memory: str = option("for credkeep: memory for hashes, as 512M", "SIZE")
     most_memory: str = option("for credkeep: the bound of a record's memory", "SIZE")
     most_work: str = option("for credkeep: that of its memory times passes", "N")
-    wait: int = option(
-        "for credkeep: how long it waits for FILE", "SECONDS", 30, number(3600)
-    )
+    wait: int = option("for credkeep: the wait for FILE", "SECONDS", 30, seconds)
     credkeep: str = option("another program than credkeep", "PROGRAM", "credkeep", str)
     mail_names: bool = flag("names may be e-mail addresses")
     fold_local_part: bool = flag("fold the part before the @ too")

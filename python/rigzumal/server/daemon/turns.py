@@ -11,7 +11,7 @@ from typing import TYPE_CHECKING, Generic, Hashable, TypeVar
 if TYPE_CHECKING:
     from .clients import Connection
 
-SLICE = 0.0005  # seconds of steps in a pass of the loop: then it looks at the sockets
+SLICE = 0.001  # seconds of steps in a pass of the loop: then it looks at the sockets
 REST, LONGEST_REST = 1.5, 0.1  # of the time that a round took, and seconds
 Item = TypeVar("Item")
 
