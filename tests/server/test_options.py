@@ -1,11 +1,13 @@
 """Tests of bin/credkeep-server: what its own mistakes say, and what the book gets of its options."""
 
+import contextlib
 import os
 import pathlib
 import re
 import shlex
+import signal
 
-from served import FAST_BOOK, TOP, Case, ran, until
+from served import FAST_BOOK, TOP, Case, Service, ran, until
 
 # In place of credkeep: notes its words, and ends.
 NOTES = '#!/bin/sh\nprintf "%s\\n" "$@" > "$NOTED"\nexit 3\n'
@@ -48,6 +50,13 @@ MISTAKES = {
 }
 
 
+def has_book(service: Service) -> bool:
+    """Whether the server's book has begun."""
+    with contextlib.suppress(OSError, IndexError):
+        return service.book_pid() > 0
+    return False
+
+
 class Mistakes(Case):
     def test_options(self) -> None:
         """Options that can't be meant are refused before anything starts, in a user's words, with status 1."""
@@ -84,7 +93,8 @@ class Mistakes(Case):
         """While the first one's book is still opening, a second one neither takes its sockets nor waits."""
         folder = self.room()
         first = self.serving(folder=folder, faults="opens=3", waits=False)
-        until(lambda: (folder / "login.sock.lock").exists(), "the first begins")
+        until(lambda: has_book(first), "the first begins")
+        os.kill(first.book_pid(), signal.SIGSTOP)
         words = (
             f"--credkeep {FAST_BOOK} --socket login {folder}/login.sock 0660 - all {folder}/u.db"
         )
@@ -92,6 +102,7 @@ class Mistakes(Case):
         self.assertEqual(ran(*words.split()), (1, "", said))
         self.assertNotIn("start:", first.log())
         self.assertFalse(first.path().exists(), "the socket is there before the book answers")
+        os.kill(first.book_pid(), signal.SIGCONT)
         until(lambda: "start:" in first.log(), "the first starts")
         first.client().talk("known ada -> noaccount")
 
