@@ -200,7 +200,8 @@ class Calls(Generic[Replied, Listed]):
     def verify(self, name: str, password: Secret) -> Replied:
         """YES or NO; ABSENT if the account has no record; NO_ACCOUNT.
 
-        EXPIRED is a right password that must be changed, by `change`, before a login. A name or a password that no book can have, such as a name with a space, is NO.
+        EXPIRED is a right password that must be changed, by `change`, before a login. A
+        name or a password that no book can have, such as a name with a space, is NO.
         """
         no = Reply.NO
         return self._reply(Question("verify", (name,), (password,), no, no))
