@@ -96,10 +96,9 @@ class Marks(Journal):
         self.of = dict[bytes, set[bytes]]()
         with problems_at(path), suppress(FileNotFoundError):
             with open(path, "rb", opener=private) as file:
-                for found in filter(
-                    None, map(MARKED.fullmatch, file.read().split(b"\n"))
-                ):
-                    self.apply(found[1], found[2] or b"")
+                found = map(MARKED.fullmatch, file.read().split(b"\n"))
+            for it in filter(None, found):
+                self.apply(it[1], it[2] or b"")
 
     def apply(self, name: bytes, mark: bytes) -> None:
         marks, undone = self.of.pop(name, set()), UNDOES.get(mark)
