@@ -16,7 +16,7 @@ import subprocess
 import sys
 
 import promises
-from tree import CRATES, TOP, has_edit, has_test, listed, report, source
+from tree import CRATES, TOP, has_edit, has_test, is_test_or_example, listed, report, source
 
 PAGES = [
     *sorted(TOP.glob("*.md")),
@@ -167,7 +167,7 @@ def rooms():
     picture = (TOP / "docs/pictures/crates.svg").read_text()
     for name in sorted(listed()):
         yield None if (CRATES / name / "README.md").is_file() else f"crates/{name}/README.md isn't there"
-        if not re.match(r"(test|bench|example|hello)_|\w+_tests$", name):
+        if not is_test_or_example(name):
             yield None if f">{name}</text>" in picture else f"docs/pictures/crates.svg lacks {name}: run tools/pictures.py"
 
 

@@ -5,12 +5,17 @@
 
 Each call is named by its path, `cred_argon::argon::argon2` (`input_len`, `err`): the function has to stand in that file, and its
 contract has to have the clauses in brackets. Each test `CRATE::TEST`, each file, and each definition that a file "has" has to be
-there. No cell of a table has over 120 characters. The last line is `N passed, M failed`, and the status is 1 if anything failed."""
+there. The list of what is trusted has each crate of the toolchain that ours stand on, and no others. No cell of a table has over 120
+characters. The last line is `N passed, M failed`, and the status is 1 if anything failed."""
 
+import fnmatch
+import os
+import pathlib
 import re
+import subprocess
 import sys
 
-from tree import CRATES, TOP, has_test, listed, report, source
+from tree import CRATES, TOP, has_test, is_test_or_example, listed, report, source
 
 PAGE = TOP / "docs/PROMISES.md"
 FILES = re.compile(r"(?<![\w/.-])((?:crates|tools|tests|c|docs|bench)/[\w/.-]*\.(?:txt|rt|antt|py|c|md|h))")
@@ -78,10 +83,29 @@ def cells(text):
         yield from (f"a cell of over 120 characters: {it.strip()[:60]}.." for it in row.split("|") if len(it.strip()) > 120)
 
 
+def reached(libraries):
+    """The toolchain's crates that ours stand on: those of crates.txt, and what each of these libraries is built on."""
+    found, more = set(), {"std", *(it for name in listed() if not is_test_or_example(name) for it in listed()[name][1] if it not in listed())}
+    while more:
+        found |= more
+        more = {low.name for it in more for low in (libraries / f"{it}.rlib/below").glob("*")} - found
+    return found
+
+
+def trusted(text, crates):
+    """What is wrong with the list of what is trusted: a line that begins with names of crates, or `NAME_*` for several, trusts these."""
+    heads = re.findall(r"^- ((?:`[^`]+`(?:, )?)+):", text.partition("\n## What is trusted\n")[2], re.M)
+    named = [it for head in heads for it in re.findall(r"`([^`]+)`", head)]
+    yield from (None if any(fnmatch.fnmatch(it, name) for name in named) else f"the list of what is trusted lacks `{it}`" for it in sorted(crates))
+    yield from (None if fnmatch.filter(crates, it) else f"the list of what is trusted has `{it}`, on which no crate stands" for it in named)
+
+
 def check():
     """What is wrong with each name of the page."""
     text = PAGE.read_text()
-    return [it and f"docs/PROMISES.md: {it}" for it in (*calls(text), *words(text), *files(text), *cells(text))]
+    told = subprocess.run([os.environ.get("RT", "rt"), "doc"], capture_output=True, text=True, check=True).stdout
+    crates = reached(pathlib.Path(told.strip()).parent / "rlibs")
+    return [it and f"docs/PROMISES.md: {it}" for it in (*calls(text), *words(text), *files(text), *cells(text), *trusted(text, crates))]
 
 
 if __name__ == "__main__":

@@ -25,6 +25,11 @@ def all_below(name):
     return [*dict.fromkeys(low for it in below(name) for low in [*all_below(it), it])]
 
 
+def is_test_or_example(name):
+    """Whether a crate has tests of others, or is an example."""
+    return re.match(r"(test|example|hello)_|\w+_tests$", name) is not None
+
+
 @functools.cache
 def source(path):
     return path.read_text() if path.is_file() else ""
