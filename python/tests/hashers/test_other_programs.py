@@ -9,6 +9,7 @@ import itertools
 import re
 import subprocess
 import unittest
+import warnings
 
 from records import SMALL, python, verdict
 
@@ -188,6 +189,8 @@ class OfTheProgram(Judged):
 class OfPasslib(Judged):
     def setUp(self):
         need_module("argon2", "passlib")
+        self.enterContext(warnings.catch_warnings())
+        warnings.simplefilter("ignore")  # what these modules say of themselves
 
     def test_read(self):
         self.check_argon2(argon2_by_passlib, PASSWORDS + LONGER)
@@ -260,9 +263,10 @@ class Further(Judged):
             bare = text[text.index("$") :]
             self.check_read(bare, b"correct horse")
             self.check_refused(bare + "\r", "tag")
-            scheme, _, memory, passes, lanes, salt_size, tag_size = rigzumal.parts(bare)
-            kind = Type[scheme.removeprefix("argon2").upper()]
-            hasher = PasswordHasher(passes, memory, lanes, tag_size, salt_size, type=kind)
+            it = rigzumal.parts(bare)
+            sizes = {"hash_len": it.tag_size, "salt_len": it.salt_size}
+            kind = Type[it.scheme.removeprefix("argon2").upper()]
+            hasher = PasswordHasher(it.passes, it.memory, it.lanes, **sizes, type=kind)
             self.check_judged(says, hasher.hash(b"correct horse"), b"correct horse")
 
     def test_libsodium(self):
