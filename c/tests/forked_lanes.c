@@ -14,6 +14,9 @@
 
 enum { LANES = 4, SEGMENT = 64, TURNS = 10 };
 
+/* It stands at a stack's top, so that calls begin at other places of a page. */
+static _Thread_local volatile char local[THREAD_LOCAL];
+
 static pthread_t caller;
 static _Atomic(int) marked, is_forked;
 
@@ -40,6 +43,7 @@ static uint8_t work_segment(const struct given_segment *it) {
         CHECK(is_hidden(&here));
         check_stack();
         leave_marks();
+        local[0] = 1;
         it->own->words[5] = *mark;
         marked++;
     }

@@ -19,12 +19,8 @@ GETRANDOM = ctypes.CFUNCTYPE(
     ctypes.c_ssize_t, ctypes.c_void_p, ctypes.c_size_t, ctypes.c_uint, use_errno=True
 )
 # An input that failed to load has a size and no bytes: its fault.
-LOST = {
-    "password": N.NULL_PASSWORD,
-    "salt": N.NULL_SALT,
-    "secret": N.NULL_SECRET,
-    "associated": N.NULL_ASSOCIATED,
-}
+INPUTS = ("password", "salt", "secret", "associated")
+LOST = {name: getattr(N, f"NULL_{name.upper()}") for name in INPUTS}
 
 
 def lost(name, **others):
@@ -149,9 +145,8 @@ class Records(unittest.TestCase):
 
     def test_long_inputs(self):
         """An input of 2^32 bytes, which are never read."""
-        names = ("password", "salt", "secret", "associated")
-        plain = {name: "somebyte" for name in names}
-        for name in names:
+        plain = {name: "somebyte" for name in INPUTS}
+        for name in INPUTS:
             given = inputs(**plain, **{f"{name}_size": LONG}, threads=2)
             found, _ = written("argon2_from", 32, numbers(2, 19, 64, 1, 2), given)
             self.assertEqual(found, N.INPUT_SIZE, name)

@@ -26,7 +26,10 @@ PROGRAMS = (
     ("lanes", FAST, LANES, "150", "marks"),
     ("lanes", SANITIZED, LANES, "60"),
     ("lanes", RACES, LANES, "60"),
-    ("forked_lanes", FAST, [*LANES, "src/heap.c"]),
+    *(
+        ("forked_lanes", [*FAST, f"-DTHREAD_LOCAL={size}"], [*LANES, "src/heap.c"])
+        for size in (1, 56 << 10)
+    ),
     ("with_threads", [*FAST, IN_THREADS], SOURCES, *LARGE_NUMBERS),
     ("with_threads", [*SANITIZED, IN_THREADS], SOURCES),
     ("with_threads", [*RACES, IN_THREADS], SOURCES),
