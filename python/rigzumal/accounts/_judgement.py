@@ -112,7 +112,9 @@ class Judge:
         # A text of another scheme, which any upgrade replaces.
         if right is None:
             self._spend(self.sample, request.password, self._secrets)
-        return self._at_right(request, copy) if right else (_wrong(request), copy)
+        if right is not True:
+            return _wrong(request), copy
+        return self._at_right(request, copy)
 
     def _at_record(self, request: Request, copy: str) -> tuple[Reply, Copy]:
         """The same at a record of ours, of any of the secrets."""
