@@ -349,6 +349,7 @@ class MariaServer(OfMySql):
         nodes = ",".join(f"127.0.0.1:{it.port + 1}" for it in self.cluster)
         return [
             *("binlog_format=ROW", "innodb_autoinc_lock_mode=2"),
+            "log_bin_trust_function_creators=1",
             *("wsrep_on=ON", "wsrep_provider=/usr/lib/galera/libgalera_smm.so"),
             *("wsrep_cluster_name=rigzumal", f"wsrep_cluster_address=gcomm://{nodes}"),
             f"wsrep_node_name={self.folder.name}",
