@@ -31,14 +31,13 @@ import threading
 import time
 
 from tree import CRATES, TOP, all_below, below, listed, source
+from wrong_body import Edit, groups
 
 RT = os.environ.get("RT", "rt")
 SUMS = TOP / "tools/wrong_bodies.sums"
 EVERY = 30
 BYTES_OF_A_CHECK = 3 << 30
 PROVED = re.compile(r"rt: (\w+) (?:proved|is kept)\b")
-# Errors of a proof that names what the edit took away, or rests on what isn't proved.
-OF_NAMES = re.compile(r"has no field|is not in scope|has no `|was not admitted")
 
 
 def say(line):
@@ -47,72 +46,11 @@ def say(line):
     sys.stdout.flush()
 
 
-class Edit:
-    """A wrong body, as its file has it."""
-
-    def __init__(self, path):
-        self.crate, self.name, self.function, self.pairs = path.parts[-3], path.stem, "", []
-        for line in path.read_text().splitlines():
-            word, _, text = line.partition(":")
-            text = text.removeprefix(" ")
-            if word == "fn":
-                self.function = text.strip()
-            elif word == "file":
-                file = text.strip()
-            elif word == "old":
-                old = text
-            elif word == "new":
-                self.pairs.append((file, old, text))
-
-    def __str__(self):
-        return f"{self.crate}/{self.name}"
-
-    def planted(self, texts):
-        """The texts of a crate's files with this edit in them, or None if it doesn't apply."""
-        found = dict(texts)
-        for file, old, new in self.pairs:
-            if found.get(file, "").count(old) != 1:
-                return None
-            found[file] = found[file].replace(old, new)
-        return found if found != texts else None
-
-    def is_local(self, texts):
-        """Whether it changes its function alone, and so nothing of those that are planted beside it."""
-        heads = [re.findall(r"^\s*(?:pub(?:\(\w+\))? )?(?:const )?fn (\w+)|^\}", texts[file].partition(old)[0], re.M) for file, old, _ in self.pairs]
-        return all(it and it[-1] == self.function.split("::")[-1] for it in heads)
-
-    def judge(self, said):
-        """The goal at which a check refuses its function. False: the function is proved. None: that waits for another's proof."""
-        line = re.search(rf"((?:^(?!fn ).*\n)*)^fn {re.escape(f'{self.crate}::{self.function}')}: (.*)", said, re.M)
-        if not line or line[2].startswith("proved"):
-            return False if line else None
-        goal = re.search(r"did not prove (`[^`]*`)|could not tell", line[2]) or re.search(r"it is not proved that .*\((`[^`]*`)\)", line[1])
-        if goal:
-            return goal[1] or "a limit of the prover, which says less"
-        errors = re.findall(rf"^\./proofs/{self.function.replace('::', '/')}/\w+\.antt:\d+:\d+: error: (.*)", said, re.M)
-        if wrong := [it for it in errors if not OF_NAMES.search(it)]:
-            return (re.match(r"`[^`]*`", wrong[0]) or [wrong[0][:80]])[0] + ", at its written answer"
-        return None if "it calls" in line[2] else "a name that the edit took away, which says less"
-
-
-def groups(edits, texts):
-    """Edits that can be planted together, each in a function of its own, with the texts in which they are."""
-    while edits:
-        group, planted, later = [], texts, []
-        for it in edits:
-            is_alone = group and not (it.is_local(texts) and group[0].is_local(texts))
-            more = None if is_alone or it.function in [other.function for other in group] else it.planted(planted)
-            (later if more is None else group).append(it)
-            planted = more or planted
-        yield group, planted
-        edits = later
-
-
 class Bench:
     """Where the wrong bodies of one crate are tried: a copy of its files, over libraries that are built."""
 
-    def __init__(self, crate, libraries):
-        self.crate, self.libraries, at = crate, libraries, CRATES / crate
+    def __init__(self, crate, libraries, places):
+        self.crate, self.libraries, self.places, at = crate, libraries, places, CRATES / crate
         self.edits = [Edit(it) for it in sorted(at.glob("wrong-bodies/*.edit"))]
         files = {str(it.relative_to(at)): it for part in ("src", "specs", "proofs", "wrong-bodies") for it in (at / part).rglob("*") if it.is_file()}
         self.texts = {name: it.read_text() for name, it in files.items() if not name.startswith("wrong-bodies")}
@@ -140,7 +78,7 @@ class Bench:
 
     def check(self, texts, kept, functions):
         """What a check of these functions says of a copy with these texts, over what is kept."""
-        with tempfile.TemporaryDirectory(prefix="wrong-bodies-") as room:
+        with self.places, tempfile.TemporaryDirectory(prefix="wrong-bodies-") as room:
             for name, text in texts.items():
                 path = pathlib.Path(room) / name
                 path.parent.mkdir(parents=True, exist_ok=True)
@@ -179,37 +117,33 @@ class Trial:
         if name not in self.crates and any(CRATES.glob(f"{name}/wrong-bodies/*.edit")):
             self.crates[name] = self.pool.submit(self.try_crate, name)
 
-    def check(self, bench, *given):
-        with self.places:
-            return bench.check(*given)
-
-    def settle(self, edit, verdict, said):
+    def settle(self, edit, verdict, output):
         """Says what came of an edit."""
         (self.refused if verdict else self.failed).append(str(edit))
         self.left[edit.crate] -= 1
-        why = next((line for line in said.splitlines() if re.search(r"\berror[:\[]", line)), "it is proved with it")
+        why = next((line for line in output.splitlines() if re.search(r"\berror[:\[]", line)), "it is proved with it")
         say(f"{edit}: {'refused' if verdict else 'NOT REFUSED'}, in {edit.function}: {verdict or why}")
 
     def try_group(self, bench, seed, group, planted):
         """Judges the edits of a group; one of whom nothing is known then is tried alone."""
         with tempfile.TemporaryDirectory(prefix="wrong-bodies-") as room:
             link(seed, f"{room}/kept")
-            _, said = self.check(bench, planted, f"{room}/kept", [it.function for it in group if bench.has(it.function)])
+            _, output = bench.check(planted, f"{room}/kept", [it.function for it in group if bench.has(it.function)])
             for it in group:
-                verdict = it.judge(said)
+                verdict = it.judge(output)
                 if not verdict and len(group) > 1:
                     self.try_group(bench, seed, [it], it.planted(bench.texts))
                 else:
-                    self.settle(it, verdict or self.refused_elsewhere(bench, planted, f"{room}/kept"), said)
+                    self.settle(it, verdict or self.refused_elsewhere(bench, planted, f"{room}/kept"), output)
 
     def refused_elsewhere(self, bench, planted, kept):
         """What is refused if a body is planted whose own function isn't, in the whole crate."""
-        status, said = self.check(bench, planted, kept, [])
-        found = re.search(r"^((?:fn|impl) \S+): (?:no|could)", said, re.M)
+        status, output = bench.check(planted, kept, [])
+        found = re.search(r"^((?:fn|impl) \S+): (?:no|could)", output, re.M)
         return status == 1 and found and f"not there, but {found[1]}, which says less"
 
     def try_crate(self, name):
-        bench = Bench(name, self.libraries)
+        bench = Bench(name, self.libraries, self.places)
         is_whole = self.asked.all or name in self.asked.crates or self.sums.get(name) != bench.sum
         edits = [it for it in bench.edits if is_whole or str(it) in self.named]
         self.left[name] = len(edits)
@@ -223,9 +157,9 @@ class Trial:
                 link(kept, f"{seed}/kept")
             else:
                 os.mkdir(f"{seed}/kept")
-            status, said = self.check(bench, bench.texts, f"{seed}/kept", sorted({it.function for it in edits if bench.has(it.function)}))
+            status, output = bench.check(bench.texts, f"{seed}/kept", sorted({it.function for it in edits if bench.has(it.function)}))
             if status:
-                raise RuntimeError(f"its functions aren't proved as they stand: {said[-2000:]}")
+                raise RuntimeError(f"its functions aren't proved as they stand: {output[-2000:]}")
             list(pool.map(lambda it: self.try_group(bench, f"{seed}/kept", *it), groups(edits, bench.texts)))
         if is_whole and not any(it.startswith(f"{name}/") for it in self.failed):
             with self.alone:

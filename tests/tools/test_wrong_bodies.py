@@ -56,7 +56,7 @@ class WrongBodies(unittest.TestCase):
             (self.top / "crates" / name).mkdir(parents=True)
         for name in ("tools", "docs", ".git", "kit/bin"):
             (self.top / name).mkdir(parents=True)
-        for tool in ("wrong_bodies.py", "tree.py"):
+        for tool in ("wrong_bodies.py", "wrong_body.py", "tree.py"):
             shutil.copy(TOOLS / tool, self.top / "tools")
         for name, text in {"rt": RT, "kit/bin/rattle": RATTLE}.items():
             (self.top / name).write_text(text)
