@@ -131,6 +131,8 @@ class Page(Case):
 class Served(Case):
     """The program that is started, in a folder of its own."""
 
+    seconds = 900
+
     def setUp(self):
         super().setUp()
         self.folder = self.room()

@@ -193,7 +193,7 @@ class Package(unittest.TestCase):
             *black, "88", PYTHON / "rigzumal", PYTHON / "build_backend.py", REPOSITORY / "packaging"
         )
         parts = ("python/tests", "docs/tests", "rust/tests", "c/tests", "examples/login_page")
-        parts += ("tests/helpers.py", "tests/credbook", "tests/credkeep")
+        parts += ("tests/helpers.py", "tests/operations.py", "tests/credbook", "tests/credkeep")
         run(*black, "100", *(REPOSITORY / it for it in parts))
 
     def test_types(self):
