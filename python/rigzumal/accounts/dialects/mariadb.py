@@ -234,7 +234,7 @@ def of_server(seen: dict[str, str]) -> Iterator[Fault]:
             f"sync_binlog is {seen.get('sync_binlog')}: {POWER_CUT_LOSES}"
         )
     if seen.get("wsrep_on") == "ON" and not int(seen["wsrep_sync_wait"]) & 1:
-        text = "wsrep_sync_wait has no 1: a node may read what was replaced"
+        text = "wsrep_sync_wait has no 1: a node may read replaced records"
         yield error("no-sync-wait", text)
 
 

@@ -86,7 +86,7 @@ class Options:
     socket: list[list[str]] = field(default_factory=list)
     http: str = option("answer HTTP at a socket, or at 127.0.0.1:PORT", "ADDRESS")
     tries: int = option("failed tries until a name has to wait; 0: no limit", "N", 10)
-    uid_tries: int = option("the same for a person's uid at any names", "N", 0)
+    uid_tries: int = option("the same for each person's uid, over all names", "N", 0)
     idle: int = option("until a client that asks nothing is closed", "SECONDS", 600)
     audit: str = option("append a JSON line to this file for each change", "LOG")
     audit_tries: bool = flag("have it say which tries failed too")
