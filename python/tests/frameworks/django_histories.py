@@ -30,11 +30,13 @@ from django.db import connections
 from django.db.models import Model
 from users_app.models import Person
 
-from rigzumal.accounts.torture._order import Operation
-from rigzumal.accounts.torture.history import Account, Illegal, check
 from rigzumal.django import backends, passwords, records
 from rigzumal.django.hashers import Argon2PasswordHasher
 from rigzumal.django.users import CompareAndSetMixin
+
+sys.path.append(os.path.join(os.path.dirname(os.path.dirname(__file__)), "accounts"))
+from torture._order import Operation
+from torture.history import Account, Illegal, check
 
 OLD, NEW, THREADS = 64, 72, 6
 Argon2PasswordHasher.time_cost = Argon2PasswordHasher.parallelism = 1
