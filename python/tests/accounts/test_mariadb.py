@@ -101,7 +101,7 @@ class OnMariaDB(engines.OnMariaDB, Base):
             file.flush()
             for words in (("add", "m" * 300), ("import", file.name)):
                 said, stdin = io.StringIO(), mock.Mock(buffer=io.BytesIO(b"pw"), isatty=lambda: 0)
-                with contextlib.redirect_stderr(said), mock.patch.object(cli.sys, "stdin", stdin):
+                with contextlib.redirect_stderr(said), mock.patch("sys.stdin", stdin):
                     self.assertEqual(cli.main(["--database", self.server.url, *words]), 5)
                 self.assertIn("the server keeps another name", said.getvalue())
                 self.assertEqual(self.execute("SELECT * FROM accounts"), [])
