@@ -44,7 +44,7 @@ class RefusedCallsTest(BookTest):
         super().setUp()
         (self.room / "base").mkdir()
 
-    def each(
+    def refuse_each(
         self,
         change: Change,
         calls: list[str],
@@ -67,7 +67,7 @@ class RefusedCallsTest(BookTest):
         """Each refusal leaves the book before the change or after it."""
         self.begun(change.before, "base/users.db").log.unlink(missing_ok=True)
         judge = functools.partial(self.assertStopped, change)
-        self.each(change, WRITES, "error=EIO", Book.accounts, judge)
+        self.refuse_each(change, WRITES, "error=EIO", Book.accounts, judge)
 
     def test_scripts(self) -> None:
         """What was answered is kept, and at most the line after it."""
@@ -79,7 +79,7 @@ class RefusedCallsTest(BookTest):
 
         self.begun(name="base/users.db")
         script = Change({}, ["run"], {}, "account a\naccount b\naccount c\n")
-        self.each(script, WRITES, "error=EIO", Book.names, judge)
+        self.refuse_each(script, WRITES, "error=EIO", Book.names, judge)
 
     def test_init(self) -> None:
         """It leaves an empty book, or no file, and the next one goes on from there; status 0 says
@@ -94,7 +94,7 @@ class RefusedCallsTest(BookTest):
 
         judge = lambda done, is_there: self.assertTrue(is_there or done.status)
         for how in ("error=EIO", "error=ENOSPC"):
-            self.each(Change({}, ["init"], {}), CHANGES, how, look, judge)
+            self.refuse_each(Change({}, ["init"], {}), CHANGES, how, look, judge)
 
     def test_sync_at_an_opening(self) -> None:
         """A sync that fails as a file is opened isn't called a missing permission."""
@@ -126,7 +126,7 @@ class RefusedCallsTest(BookTest):
             ("error=ENOSPC", CHANGES),
             ("signal=KILL", CALLS),
         ):
-            self.each(change, calls, how, look, judge)
+            self.refuse_each(change, calls, how, look, judge)
 
     def test_backup(self) -> None:
         self.copies("backup", "copy.db", OLD, NEW)

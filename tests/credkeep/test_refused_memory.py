@@ -26,7 +26,7 @@ class RefusedMemoryTest(BookTest):
         (self.room / "base").mkdir()
         self.book = self.begun(name="base/users.db")
 
-    def each(
+    def refuse_each(
         self, words: list[str], given: str, judge: Callable[[Ended, list[str]], None]
     ) -> list[Ended]:
         """The ends of the order. The judge sees the names that are there afterwards."""
@@ -45,7 +45,7 @@ class RefusedMemoryTest(BookTest):
             self.assertIn((done.status, answered == 2), STATUSES)
             self.assertKept(answered, NAMES, {*names} - {*large})
 
-        found = self.each(["run"], "account a\naccount b\n", judge)
+        found = self.refuse_each(["run"], "account a\naccount b\n", judge)
         self.assertLessEqual({3, 5}, {it.status for it in found})
 
     def test_services(self) -> None:
@@ -60,7 +60,7 @@ class RefusedMemoryTest(BookTest):
             self.assertIn((done.status, len(written) == len(SERVED)), STATUSES)
             self.assertKept(written[:1].count("ok") + written[4:5].count("ok"), NAMES, names)
 
-        found = self.each(["serve"], lined(line for line, _ in SERVED), judge)
+        found = self.refuse_each(["serve"], lined(line for line, _ in SERVED), judge)
         self.assertLessEqual({3, 5}, {it.status for it in found})
         self.assertIn(starved, [it.written.splitlines() for it in found])
 
@@ -72,7 +72,7 @@ class RefusedMemoryTest(BookTest):
             self.assertIn(names, (["ann"], ["a", "ann", "b", "c"]))
             self.assertIn((done.status, len(names) == 4), STATUSES)
 
-        found = self.each(["import"], f"a:{RECORD}\nb:\nc:{RECORD}\n", judge)
+        found = self.refuse_each(["import"], f"a:{RECORD}\nb:\nc:{RECORD}\n", judge)
         self.assertLessEqual({3, 5}, {it.status for it in found})
 
     def test_services_of_tagged_lines(self) -> None:
@@ -91,6 +91,6 @@ class RefusedMemoryTest(BookTest):
             self.assertEqual(names, ["ann"])
 
         words = ["serve", "--tagged", "--setting", CHEAP, "--at-once", "2"]
-        statuses = {it.status for it in self.each(words, given, judge)}
+        statuses = {it.status for it in self.refuse_each(words, given, judge)}
         self.assertIn(0, statuses)
         self.assertGreater(len(statuses), 1)
