@@ -64,7 +64,16 @@ static int leaves_a_copy(struct vault *from) {
     return RIGZUMAL_OK;
 }
 
+/* So many bytes, and none beside them. */
+static void try_clearing(void) {
+    unsigned char bytes[64];
+    memset(bytes, 0x5a, sizeof bytes);
+    processor_clear_bytes(bytes + 16, 32);
+    CHECK(is_all(bytes, 0x5a, 16) && is_all(bytes + 16, 0, 32) && is_all(bytes + 48, 0x5a, 16));
+}
+
 int main(void) {
+    try_clearing();
     vectors = vectors_here();
     vault = map_apart(sizeof *vault);
     fill_vault(vault);

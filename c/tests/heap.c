@@ -340,8 +340,7 @@ int main(void) {
     test_grown_areas();
     test_bounds();
     test_little_room();
-    CHECK(mapped <= KEPT && held == 0);
     test_refusals();
-    CHECK(held == 0);
+    CHECK(mapped <= KEPT && held == 0);
     return 0;
 }

@@ -23,13 +23,6 @@ INPUTS = ("password", "salt", "secret", "associated")
 LOST = {name: getattr(N, f"NULL_{name.upper()}") for name in INPUTS}
 
 
-def lost(name, **others):
-    """Good inputs but for one that is lost."""
-    return inputs(
-        **{"password": "password", "salt": "somesalt", name: None, f"{name}_size": 32}, **others
-    )
-
-
 class Records(unittest.TestCase):
     def test_room(self):
         """A record into each room up to one that it fits into: nothing is written, or all of it."""
@@ -110,7 +103,8 @@ class Records(unittest.TestCase):
         lost makes no tag; a new record has a random one, and a check reads none."""
         for (name, fault), threads in itertools.product(LOST.items(), (1, 2)):
             with self.subTest(name, threads=threads):
-                given = lost(name, threads=threads)
+                good = {"password": "password", "salt": "somesalt", "threads": threads}
+                given = inputs(**{**good, name: None, f"{name}_size": 32})
                 tag = (numbers(2, 19, 64, 1, 2), given)
                 self.assertEqual(written("argon2_from", 32, *tag)[0], fault)
                 for costs, record, verdict in (

@@ -114,8 +114,7 @@ class Calls(unittest.TestCase):
         need_host()
         need("c++")
         source, program = ROOM / "header.cc", ROOM / "header"
-        main = "int main() { return rigzumal_strerror(0) == nullptr; }"
-        source.write_text(f'#include "rigzumal.h"\n{main}\n')
+        source.write_text('#include "rigzumal.h"\nint main() { return !rigzumal_strerror(0); }\n')
         run("c++", *ALL_WARNINGS.split(), "-Iinclude", source, "out/librigzumal.a", "-o", program)
         run(program)
 
