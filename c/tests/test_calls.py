@@ -5,8 +5,8 @@ import re
 import shutil
 import unittest
 
-from harness import ALL_WARNINGS, BUILDS, IS_NATIVE, JOBS, LIBARGON2, ORIGINAL, OUT, ROOM, SANITIZED
-from harness import SOURCES, TOP, WITHOUT_BUILDS, built, need, need_host, run, sources_for
+from harness import ALL_WARNINGS, BUILDS, JOBS, LIBARGON2, ORIGINAL, OUT, ROOM, SANITIZED, SOURCES
+from harness import TOP, WITHOUT_BUILDS, built, need, need_host, run, sources_for
 
 
 # The build that processors are to run, as qemu calls them.
@@ -22,7 +22,7 @@ INSTRUCTIONS = {"v1": "%xmm", "v2": "pshufb", "v3": "%ymm", "v4": r"mm(1[6-9]|2\
 # Bits of leaf 7 and of XCR0: qemu has no such processor.
 LEVEL_4 = {"avx512f": 16, "avx512dq": 17, "avx512cd": 28, "avx512bw": 30, "avx512vl": 31}
 STATES = {"sse": 1, "avx": 2, "k0 to k7": 5, "zmm0 to zmm15": 6, "zmm16 to zmm31": 7}
-LOADER = pathlib.Path("/lib64/ld-linux-x86-64.so.2")
+LOADER = "/lib64/ld-linux-x86-64.so.2"
 
 
 def processor(*flags, kept=None):
@@ -75,8 +75,7 @@ class Calls(unittest.TestCase):
     def test_instructions_of_builds(self):
         """Each build has instructions of its level, where no older one has any. The newest is left
         out only if the toolchain has no clang for it."""
-        if not IS_NATIVE:
-            self.skipTest("there is one build")
+        need_host()
         code = {build: run("objdump", "-d", OUT / f"{build}.o") for build in BUILDS}
         kit = pathlib.Path(run("rt", "doc").strip()).parent if shutil.which("rt") else TOP
         if not (kit / "toolchain/bin/clang").exists() and "xmm" not in code["v4"]:
@@ -89,8 +88,7 @@ class Calls(unittest.TestCase):
     def test_this_processor(self):
         """The build that is chosen here is of the highest level that the loader sees."""
         need_host()
-        if not LOADER.exists():
-            self.skipTest(f"{LOADER} is not there")
+        need(LOADER)
         levels = re.findall(r"x86-64-(v\d) \(supported", run(LOADER, "--help"))
         self.assertEqual(run(processor()).strip(), max(levels, default="v1"))
 
@@ -152,6 +150,8 @@ class Calls(unittest.TestCase):
         declared = set(re.findall(form, header, re.MULTILINE))
         added = {it for it in declared if it.startswith("rigzumal_libargon2_")}
         self.assertEqual(shown(OUT / "librigzumal.so.1") - {"RIGZUMAL_1"}, declared - added)
+        said = run("nm", "-g", "--defined-only", OUT / "librigzumal.a")
+        self.assertEqual({*re.findall(r" [A-Z] (\w+)$", said, re.M)}, declared - added)
         for name in ("librigzumal.so.1", "libargon2.so.1"):
             self.assertIn(f"[{name}]", run("readelf", "-d", OUT / name))
         ours = shown(OUT / "libargon2.so.1")
