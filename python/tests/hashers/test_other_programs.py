@@ -229,7 +229,7 @@ class OfPasslib(Judged):
                 return False
 
         def openssl_says(text, password):
-            costs = {"n": 1 << ln, "r": r, "p": p, "maxmem": 1 << 30, "dklen": tag}
+            costs = {"n": 1 << ln, "r": r, "p": p, "maxmem": 1 << 30, "dklen": 32}
             key = hashlib.scrypt(password, salt=salt_of(salt), **costs)
             return unpadded(key) == text.rpartition("$")[2]
 
@@ -243,11 +243,10 @@ class OfPasslib(Judged):
             self.check_judged(cffi_says, made, password)
             says = passlib.hash.argon2
             self.check_judged(lambda text, it, says=says: says.verify(it, text), made, password)
-        for ln, r, p, salt, tag in SCRYPT:
+        for ln, r, p, salt, _ in SCRYPT:  # of a tag of 32 bytes, the one that passlib reads
             password = next(passwords)
-            hasher = ScryptHasher(ln, r, p, hash_len=tag, salt_len=salt)
-            made = hasher.hash(password, salt=salt_of(salt))
-            self.assertEqual(made, scrypt_by_passlib((ln, r, p, salt, tag), password))
+            made = ScryptHasher(ln, r, p, salt_len=salt).hash(password, salt=salt_of(salt))
+            self.assertEqual(made, scrypt_by_passlib((ln, r, p, salt, 32), password))
             self.check_judged(openssl_says, made, password)
             says = passlib.hash.scrypt
             self.check_judged(lambda text, it, says=says: says.verify(it, text), made, password)
