@@ -70,7 +70,10 @@ BEFORE = {"ann": RECORD, "bob": "", "cat": OTHER, "dan": RECORD}
 BAD = lined([f"new:{RECORD}", *(it for it, _ in BAD_LINES), f"last:{OTHER}", "# x", "none:"])
 BAD_NAMED = {at: why for at, (_, why) in enumerate(BAD_LINES, 2)}
 TWICE = f"ann:{OTHER}\neve:\nann:\neve:{RECORD}\n"
-WORKED = lined(f"n{at}:{it}" for at, it in enumerate(WORK))
+TWICE_NAMED = {3: "1 exists", 4: "1 exists"}
+NO_RECORDS = f"Eve:!\neve:{{ARGON2ID}}!{RECORD}\n"
+WORKED = {f"n{at}": it for at, it in enumerate(WORK)}
+COSTLY = {2: "18 costly", 3: "18 costly"}
 
 # Options, lines, the counts that are told or none if nothing is changed, the lines that are named
 # as bad, and what the book before has otherwise afterwards.
@@ -91,38 +94,20 @@ IMPORTS: list[tuple[str, str, tuple[int, ...] | None, dict[int, str], Accounts]]
     ("--skip-existing", "ann:\nx\n", None, {2: "11 line"}, {}),
     # An account that is there gets the record of its line, or none.
     *(("--update", lines_of(it), (len(it) - there, there), {}, it) for it, there in UPDATES),
-    ("--update", TWICE, None, {3: "1 exists", 4: "1 exists"}, {}),
-    (
-        "--update --skip-bad",
-        TWICE,
-        (1, 1, 0, 2),
-        {3: "1 exists", 4: "1 exists"},
-        {"ann": OTHER, "eve": ""},
-    ),
+    ("--update", TWICE, None, TWICE_NAMED, {}),
+    ("--update --skip-bad", TWICE, (1, 1, 0, 2), TWICE_NAMED, {"ann": OTHER, "eve": ""}),
     # A record behind ! or * is a fault of its own; by choice its account has no record.
     *(("", f"eve:{it}\n", None, {1: "17 locked"}, {}) for it in LOCKED),
     *(("--disable-locked", f"eve:{it}\n", (1,), {}, {"eve": ""}) for it in LOCKED),
-    (
-        "--disable-locked",
-        f"Eve:!\neve:{{ARGON2ID}}!{RECORD}\n",
-        None,
-        {1: "3 name", 2: "1 shape"},
-        {},
-    ),
+    ("--disable-locked", NO_RECORDS, None, {1: "3 name", 2: "1 shape"}, {}),
     ("--disable-locked", f"ann:!{RECORD}\n", None, {1: "1 exists"}, {}),
     ("--disable-locked --skip-existing", f"ann:!{RECORD}\n", (0, 0, 1), {}, {}),
     ("--disable-locked --update", f"ann:!{RECORD}\n", (0, 1), {}, {"ann": ""}),
     # A record that takes more passes over its memory than that is bad.
-    (
-        "--skip-bad --most-work 64",
-        WORKED,
-        (1, 0, 0, 2),
-        {2: "18 costly", 3: "18 costly"},
-        {"n0": WORK[0]},
-    ),
+    ("--skip-bad --most-work 64", lines_of(WORKED), (1, 0, 0, 2), COSTLY, {"n0": WORK[0]}),
     (
         "--skip-bad --most-work 4G",
-        WORKED,
+        lines_of(WORKED),
         (2, 0, 0, 1),
         {3: "18 costly"},
         {"n0": WORK[0], "n1": WORK[1]},
