@@ -24,8 +24,9 @@ from rigzumal.accounts.types import Key, Kind, Reply, Request, StoreFault, Ticke
 from rigzumal.accounts.types import Worked
 from rigzumal.accounts.pools import Pool
 
-BATCH = 5000  # lines of an import that are committed together
-SHARE = 200  # of them that one statement puts
+BATCH = 20_000  # lines of an import that are committed together
+SHARE = 1000  # of them that one statement adds
+FEW = 200  # that one puts into rows without a record: each key is compared with all
 Line = tuple[Key, str]
 _NO_UTF8: Final = re.compile("[\udc80-\udcff]")
 
@@ -128,9 +129,10 @@ class Import:
         if added:
             sql = self.dialect.add(len(added))
             run(session.execute(sql, *itertools.chain(*added)))
-        if enrolled:
-            sql, keys = self.dialect.enrol(len(enrolled)), [key for key, _ in enrolled]
-            run(session.execute(sql, *itertools.chain(*enrolled), *keys))
+        for start in range(0, len(enrolled), FEW):
+            few = enrolled[start : start + FEW]
+            sql, keys = self.dialect.enrol(len(few)), [key for key, _ in few]
+            run(session.execute(sql, *itertools.chain(*few), *keys))
         # A trigger, a collation or another program may have come between.
         if self._standing(session, [*new]) != new:
             raise StoreFault(ANOTHER_RECORD)

@@ -365,7 +365,7 @@ class Commands(Base):
 
     def test_imports(self):
         """Whole batches, by lines of any end; of few statements, however many lines."""
-        self.enterContext(mock.patch.object(_import, "BATCH", 400))
+        self.enterContext(mock.patch.multiple(_import, BATCH=400, SHARE=200, FEW=150))
         self.run_command("init")
         self.conn.executemany(
             "INSERT INTO accounts VALUES (?, NULL)", [(f"user{it}@x",) for it in range(300)]
@@ -375,7 +375,7 @@ class Commands(Base):
             said = self.run_command("import", self.file(*lines))
         self.assertEqual(said, "1200 added, 0 there already\n")
         share, mixed = ["SELECT", "INSERT", "SELECT"], ["SELECT", "INSERT", "UPDATE", "SELECT"]
-        first = ["BEGIN", "SELECT", "UPDATE", "SELECT", *mixed, "COMMIT"]
+        first = ["BEGIN", "SELECT", "UPDATE", "UPDATE", "SELECT", *mixed, "COMMIT"]
         self.assertEqual(found, first + ["BEGIN", *share, *share, "COMMIT"] * 2)
         two = LOW.hash("two")
         lines[7] = lines[901] = f"user7@x {two}"
