@@ -1,6 +1,6 @@
 """Compares out/libargon2.so.1 with Debian's over random calls, good and bad.
 
-    /usr/bin/python3 tests/against_libargon2.py OURS THEIRS SEED
+    /usr/bin/python3 tests/against_libargon2.py OURS THEIRS SEED [TURNS]
 
 Each of the 22 calls is made on both. Their answers, and all bytes that they could write, are the
 same, as is the memory that they ask of a context's callbacks. What the original takes and ours
@@ -18,7 +18,6 @@ import sys
 from libargon2_calls import ARENA, KINDS, Callbacks, Inputs
 from libargon2_calls import by_context, by_hash, context_at, encoded_by_kind, library, zeros
 
-TURNS = 200
 MISMATCH = -35
 HASHED = (0, -31, MISMATCH)  # the answers that the original gives after it has hashed
 
@@ -326,7 +325,7 @@ def main():
     compare_large_numbers(comparison)
     compare_long_password(ours, theirs)
     compare_long_sizes(comparison)
-    for _ in range(TURNS):
+    for _ in range(int(sys.argv[4]) if len(sys.argv) > 4 else 200):
         compare(draw, comparison)
     numbers = sorted(it for it in comparison.answers if isinstance(it, int) and it <= 0)
     refused = ", ".join(f"{count} by {it}" for it, count in sorted(comparison.refused.items()))
