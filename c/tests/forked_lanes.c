@@ -30,7 +30,7 @@ static void check_stack(void) {
     CHECK(pthread_getattr_np(pthread_self(), &attributes) == 0);
     CHECK(pthread_attr_getstack(&attributes, &start, &size) == 0);
     pthread_attr_destroy(&attributes);
-    unsigned char *top = (unsigned char *)start + size - page_size;
+    unsigned char *top = (void *)(((uintptr_t)start + size - 1) / page_size * page_size);
     for (unsigned char *page = start; page < top; page += size / 16 / page_size * page_size)
         CHECK(has_flag(page, " dd"));
     CHECK(has_flag(top - 1, " dd") && !has_flag(top, " dd"));
