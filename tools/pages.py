@@ -46,7 +46,7 @@ VERSIONED = {
     "CHANGELOG.md": r"^## (\d+\.\d+\.\d+)",
     "python/rigzumal/server/daemon/options.py": r'^VERSION = "(.*)"',
     "crates/cred_cli/src/arguments.rt": r'\.version\("(.*)"\)',
-    "crates/credkeep/src/arguments.rt": r'\.version\("(.*)"\)',
+    "crates/credkeep_words/src/arguments.rt": r'\.version\("(.*)"\)',
 }
 
 

@@ -13,10 +13,11 @@ NO_PASSWORD = fails(6, "no password on standard input")
 NO_NEW_ONE = fails(6, "the new password is missing")
 EMPTY = fails(6, "the password is empty: --empty-password accepts it")
 LONG = fails(6, "the password has over 256 bytes")
-HINT = (
-    "credkeep: hint: the password that was read ends in a carriage return, which counts: "
-    "tr -d '\\r' removes it\n"
-)
+TWO_LINES = fails(6, "more than one line on standard input")
+THREE_LINES = fails(6, "more than two lines on standard input")
+COUNTS = "ends in a carriage return, which counts: tr -d '\\r' removes it\n"
+HINT = f"credkeep: hint: the password that was read {COUNTS}"
+NEW_HINT = f"credkeep: hint: the new password {COUNTS}"
 MAKING = ("add", "change", "reset")
 READING = ("add", "check", "change", "reset", "upgrade", "remove")
 
@@ -24,8 +25,17 @@ READING = ("add", "check", "change", "reset", "upgrade", "remove")
 # and bob, whose password is that with a carriage return.
 PASSWORDS = [
     # A password is a line without its end, which may be missing.
-    *(("check ann", given, says("yes")) for given in ("first\n", "first", "first\nmore\n")),
-    *(("check ann", given, says("no")) for given in ("first \n", "\nfirst\n")),
+    *(("check ann", given, says("yes")) for given in ("first\n", "first")),
+    *(("check ann", given, says("no")) for given in ("first \n", "\n")),
+    # Nothing may stand behind it, or behind the second one of change.
+    *(
+        (f"{order} {name}", given, TWO_LINES)
+        for order in READING
+        for name in ("ann", "zoe")
+        for given in ("first\nmore\n", "first\nmore", "first\n\n", "\nfirst", "\n" * 9000)
+        if order != "change"
+    ),
+    *(("change ann", given, THREE_LINES) for given in ("first\nx\ny\n", "first\nx\ny", "\n\n\n")),
     # Where the input has none, or no second one, nothing is changed.
     *((f"{order} {name}", "", NO_PASSWORD) for order in READING for name in ("ann", "zoe")),
     *(("change ann", given, NO_NEW_ONE) for given in ("first", "first\n", "\n")),
@@ -46,16 +56,26 @@ PASSWORDS = [
     # It has 256 bytes at most.
     ("reset zoe", "x" * 256, says("replaced")),
     ("check zoe", "x" * 256 + "\n", says("yes")),
-    ("check zoe", "x" * 257, LONG),
+    *(("check zoe", "x" * 257 + end, LONG) for end in ("", "\n", "\nmore\n", "x" * 100_000)),
     ("add kim", "x" * 257, LONG),
+    *(("change ann", given, LONG) for given in ("x" * 257 + "\nnew\n", "first\n" + "x" * 257)),
     ("check kim", "x", says("noaccount")),
-    # One that ends in a carriage return has a hint if the book says no to it.
+    # One that ends in a carriage return has a hint if the book says no to it, or takes it.
     ("check ann", "first\r\n", Ended(4, "no\n", HINT)),
+    ("change ann", "first\r\nnew\n", Ended(4, "wrong\n", HINT)),
+    *((f"{it} ann", "first\r\n", Ended(4, "wrong\n", HINT)) for it in ("upgrade", "remove")),
+    ("change ann", "other\nnew\n", says("wrong")),
+    *((f"{it} ann", "other\n", says("wrong")) for it in ("upgrade", "remove")),
+    ("add ann", "other\r\n", says("exists")),
     *(
-        (f"{it} ann", "first\r\nnew\n", Ended(4, "wrong\n", HINT))
-        for it in ("change", "upgrade", "remove")
+        (f"add {it}", "new\r" + end, Ended(0, "enrolled\n", NEW_HINT))
+        for it, end in (("x", ""), ("y", "\n"))
     ),
-    *((f"{it} ann", "other\nnew\n", says("wrong")) for it in ("change", "upgrade", "remove")),
+    ("change x", "new\r\nnew\n", says("replaced")),
+    ("change x", "new\nnew\r\n", Ended(0, "replaced\n", NEW_HINT)),
+    ("reset y", "new\r\n", Ended(0, "replaced\n", NEW_HINT)),
+    ("upgrade y", "new\r\n", says("upgraded")),
+    ("remove y", "new\r\n", says("removed")),
     ("check nobody", "first\r\n", says("noaccount")),
     ("check bob", "first\r\n", says("yes")),
 ]
@@ -64,9 +84,10 @@ PASSWORDS = [
 class PasswordsTest(BookTest):
     def test_passwords(self) -> None:
         self.book.add("ann", "first\n")
-        self.book.add("bob", "first\r\n")
+        added = self.book("add", "bob", "--setting", CHEAP, given="first\r\n")
+        self.assertEqual(added, Ended(0, "enrolled\n", NEW_HINT))
         for text, given, wanted in PASSWORDS:
-            with self.subTest(text=text, given=given):
+            with self.subTest(text=text, given=given[:20]):
                 words = text.split()
                 words += ["--setting", CHEAP] if words[0] in MAKING else []
                 self.assertEqual(self.book(*words, given=given), wanted)

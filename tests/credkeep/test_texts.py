@@ -36,7 +36,8 @@ NAMES = [
     ("", "has 0"),
     ("a" * 33, "has 33"),
     ("a b", "has ' '"),
-    ("\u00e4", "has the byte 195"),
+    ("\u00e4", "has a letter that isn't ASCII"),
+    ("a\tb", "has the byte 9"),
 ]
 
 # A bad setting, and how its fault ends.
@@ -67,6 +68,40 @@ SETTINGS = [
     ("$argon2id$v=19$m=8,t=1,p=1$c29t-ZXNhbHQ", "(6 salt)"),
 ]
 
+# What hashes may take together, costs that take more, and how many KiB those are.
+CROWDED = [
+    ("65535", "", 65536),
+    ("0", "", 65536),
+    ("7", f" --setting {CHEAP}", 8),
+    ("1M", " --setting $scrypt$ln=10,r=9,p=4", 1152),
+]
+MEMORY = "--memory: it is less than a hash under --setting takes:"
+
+# A slip in the words behind the file, or before it, and what is named of it.
+UNNAMED = "a word or an option too many, which isn't shown: it may be a password"
+NEAR = "an option that it doesn't have, which isn't shown;"
+SLIPS = [
+    ("list --wait 5", "list: --wait stands before FILE"),
+    ("list --wait=5", "list: --wait stands before FILE"),
+    ("list --waitt 5", f"list: {NEAR} --wait is near"),
+    ("list --cost", f"list: {NEAR} --costs is near"),
+    ("serve --most-memroy=5", f"serve: {NEAR} --most-memory is near"),
+    ("serve --most-wrok 5", f"serve: {NEAR} --most-work is near"),
+    ("add ann --memory 256", "add: it has no option --memory"),
+    ("list --quiet --setting x", "list: it has no option --setting"),
+    ("check ann secret", f"check: {UNNAMED}\nA password is read from standard input."),
+    ("check ann --secret", f"check: {UNNAMED}\nA password is read from standard input."),
+    *(
+        (f"{it} passwd.txt", f"{it}: {UNNAMED}\nIt reads standard input: write < FILE")
+        for it in ("import", "run", "serve")
+    ),
+]
+EARLY = [
+    (["--waitt", "5"], f"list: {NEAR} --wait is near"),
+    (["--costs"], "list: --costs stands behind list"),
+    (["--update"], "list: it has no option --update"),
+]
+
 # An option of numbers, with the least and the most.
 NUMBERS = [
     ("serve --workers", 1, 64),
@@ -92,7 +127,7 @@ REFUSED = [
             f"credkeep: {words.split()[-1]}: it is a number from {low} to {high}",
         )
         for words, low, high in NUMBERS
-        for it in (*range(low), high + 1, "forever")
+        for it in (-1, *range(low), high + 1, "forever")
     ),
     *(
         ([*f"{it}={size}".split(" ")], f"credkeep: {it.split()[-1]}: {SIZE}")
@@ -100,6 +135,13 @@ REFUSED = [
         for size in NO_SIZES
     ),
     ("import --update --skip-existing".split(), "credkeep: --skip-existing and --update: .*"),
+    *(
+        (
+            f"serve --tagged --memory {memory}{setting}".split(),
+            re.escape(f"credkeep: {MEMORY} {needed} KiB (4 memory)"),
+        )
+        for memory, setting, needed in CROWDED
+    ),
 ]
 
 
@@ -145,6 +187,19 @@ class WordsTest(BookTest):
                     self.assertFails(done, 1)
                     self.assertNotIn("Secret", done.faults)
 
+    def test_slips(self) -> None:
+        """Of a word that isn't taken what is safe to name is named: an option, and never the
+        word."""
+        command = program("credkeep")
+        told = [(self.book.command(*words.split()), text) for words, text in SLIPS]
+        early = [([command, *words, "u.db", "list"], text) for words, text in EARLY]
+        for words, text in [*told, *early]:
+            with self.subTest(words=words[1:]):
+                done = ended(words)
+                self.assertFails(done, 1)
+                head = done.faults.split("\n\nUsage: credkeep ")[0]
+                self.assertEqual(head, f"credkeep: {text}")
+
     def test_manual(self) -> None:
         """credkeep(1) has each command and each option of the help, and no other."""
         page = manual("credkeep.1")
@@ -163,7 +218,7 @@ class WordsTest(BookTest):
                 done = book(*words, given="secret\n")
                 self.assertEqual(done[:2], (1, ""))
                 self.assertRegex(done.faults, rf"\A{form}\n\Z")
-        for seconds in (3601, "forever"):
+        for seconds in (-1, 3601, "forever"):
             why = "--wait: it is a number from 0 to 3600"
             self.assertEqual(book("list", wait=seconds), fails(1, why))
         self.assertFalse(book.path.exists())

@@ -4,21 +4,20 @@
 ghost use Rattle.std.specs.Prelude.{◌≡◌, false};
 
 use crate::draft::{Draft, OldLog};
-use crate::fault::{BookFault, FileFault};
+use crate::fault::{BookFault, accept, refuse_file};
 use crate::files::{
-    DamagedLog, PAUSE, is_busy, look, look_at, look_at_old, open_database, open_file, see_whole,
-    tries_in,
+    DamagedLog, PAUSE, fold, is_busy, look, look_at, look_at_old, open_database, open_file,
+    see_whole, tries_in,
 };
 use crate::log::LogLook;
-use crate::progress::Progress;
-use crate::refusal::{accept, refuse_file, say};
-use crate::request::{Remarks, Request};
 use crate::sidecar::{len_of, look_at_its_log, real_path, sidecar};
 use crate::snapshot::take_snapshot;
 use cred_admin::Status;
 use cred_file::OpenFault;
 use cred_keep::{CopyFault, Counts, copy_book, count_accounts};
+use credkeep_words::{FileFault, Progress, Remarks, Request, say};
 use sqlite::{Alter, Connection, Error, ErrorCode};
+use std::alloc::Global;
 use std::io;
 use std::io::Write;
 use std::thread::sleep;
@@ -130,7 +129,7 @@ pub(crate) fn verify(host: &HostRuntime, request: &Request<'_>) -> Result<Status
     let read = make_draft(host, place.as_str(), READ)?;
     let log = read_book(host, file, &read, request.remarks)?;
     let conn = open_database(host, file, read.path(), 0, DamagedLog::Cut)?;
-    let (conn, counted) = count_accounts(host.alloc(), conn);
+    let (conn, counted) = count_in(host.alloc(), conn);
     drop(conn);
     let accounts = accept(host, file, counted)?;
     let status = Contents { accounts, log }.tell(host, request.counts);
@@ -170,7 +169,7 @@ fn copy(
 ) -> Result<usize, Status> {
     let target = open_database(host, new.path(), new.path(), 0, DamagedLog::Refused)?;
     let (target, copied) = copy_into(host, file, read, new, target);
-    match (copied, target.close()) {
+    match (copied, fold(target)) {
         (Ok(_), Err(error)) => Err(refuse_file(host, new.path(), OpenFault::Database(error))),
         (copied, _) => copied,
     }
@@ -191,13 +190,35 @@ fn copy_into<D: Alter>(
         Ok(source) => source,
         Err(status) => return (target, Err(status)),
     };
-    let (source, target, copied) = copy_book(host.alloc(), source, target);
+    let (source, target, copied) = copy_between(host.alloc(), source, target);
     drop(source);
     match copied {
         Ok(accounts) => (target, Ok(accounts)),
         Err(CopyFault::Source(why)) => (target, Err(refuse_file(host, file, why))),
         Err(CopyFault::Target(why)) => (target, Err(refuse_file(host, new.path(), why))),
     }
+}
+
+/// The same as `copy_book`, and below as `count_accounts`, over any databases: where a call with
+/// clauses names a file's, a proof takes too long.
+fn copy_between<S: Alter, D: Alter>(
+    alloc: Global,
+    source: Connection<S>,
+    target: Connection<D>,
+) -> (Connection<S>, Connection<D>, Result<usize, CopyFault>)
+    requires source { source.in_transaction ≡ false }
+    requires target { target.in_transaction ≡ false }
+{
+    copy_book(alloc, source, target)
+}
+
+fn count_in<S: Alter>(
+    alloc: Global,
+    conn: Connection<S>,
+) -> (Connection<S>, Result<usize, OpenFault>)
+    requires autocommit { conn.in_transaction ≡ false }
+{
+    count_accounts(alloc, conn)
 }
 
 /// Puts the new file in the book's place, and tries for so many seconds if another process has it.
@@ -232,11 +253,11 @@ fn fold_log(host: &HostRuntime, place: &str) -> Result<OldLog, BookFault> {
         ) => return Ok(OldLog::Removed),
         Err(why) => return Err(why),
     };
-    let (conn, counted) = count_accounts(host.alloc(), conn);
+    let (conn, counted) = count_in(host.alloc(), conn);
     if let Err(OpenFault::NoBook) = counted {
         return Err(OpenFault::NoBook.into());
     }
-    match conn.close() {
+    match fold(conn) {
         Ok(()) => Ok(OldLog::Kept),
         Err(error) => Err(OpenFault::Database(error).into()),
     }

@@ -1,10 +1,10 @@
 //! Files that are made whole beside a place, and then put there.
 
-use crate::fault::FileFault;
 use crate::files::{OWNER_ALONE, own_user};
 use crate::sidecar::{
     JOURNAL, LOG, has_changes_in_log, hold, if_there, is_at, remove_sidecar, sidecar, sync_folder,
 };
+use credkeep_words::FileFault;
 use std::fs::{File, OpenOptions, Permissions};
 use std::io::ErrorKind;
 use std::os::unix::fs::{MetadataExt, OpenOptionsExt, PermissionsExt, fchown};

@@ -1,85 +1,12 @@
-//! Why the file of a book is refused.
+//! Why a book isn't opened, and what is said of it.
 
 use cred_admin::Status;
 use cred_file::OpenFault;
+use cred_keep::refuse;
+use credkeep_words::FileFault;
 use sqlite::{Error, ErrorCode};
-use std::io::ErrorKind;
-use std::{fmt, io};
-
-/// Why a file isn't opened, found before anything is written into it. Its text says what each is.
-#[derive(Clone, Copy)]
-pub(crate) enum FileFault {
-    NoFile,
-    Absent,
-    Irregular,
-    Empty,
-    NoDatabase,
-    Journal,
-    Owner,
-    Mode,
-    Linked,
-    /// Another process has it open, or writes it.
-    Busy,
-    Same,
-    /// There is a log with changes in it: of a book in use, or of a file that is gone.
-    OldLog,
-    /// So many changes stand before the damage, and so many are lost.
-    DamagedLog { before: u64, lost: u64 },
-    /// It can be read and written, but a sync of it failed.
-    Unsynced,
-    System(io::Error),
-}
-
-impl FileFault {
-    /// The exit status that tells of it.
-    pub(crate) fn status(&self) -> Status {
-        match self {
-            FileFault::NoFile => Status::Usage,
-            FileFault::System(error) if error.kind() == ErrorKind::OutOfMemory => Status::Memory,
-            _ => Status::Database,
-        }
-    }
-}
-
-impl fmt::Display for FileFault {
-    fn fmt<W: fmt::Write>(&self, f: &mut fmt::Formatter<W>) -> fmt::Result {
-        match self {
-            FileFault::NoFile => f.write_str("it is no file; ./:memory: names one"),
-            FileFault::Absent => f.write_str("there is no such file; init makes one"),
-            FileFault::Irregular => f.write_str("it is a folder, a link or a device"),
-            FileFault::Empty => f.write_str("it is empty; init begins a book in it"),
-            FileFault::NoDatabase => f.write_str("it is no database"),
-            FileFault::Journal => f.write_str(
-                "another program was stopped in a change of it; open it with sqlite3 first",
-            ),
-            FileFault::Owner => f.write_str("another user owns it"),
-            FileFault::Mode => f.write_str("others can read or write it; chmod 600 first"),
-            FileFault::Linked => f.write_str("it has another name, by a hard link; remove one"),
-            FileFault::Busy => f.write_str("busy: another process has it open"),
-            FileFault::Same => f.write_str("it is the database itself"),
-            FileFault::OldLog => f.write_str(
-                "a log with changes lies beside it, at its name with -wal: it is in use, or it was \
-                 removed without its log; restore puts a copy there, and takes the log away",
-            ),
-            FileFault::DamagedLog { before, lost } => write!(
-                f,
-                "its log is damaged: {before} changes in it can be read, and {lost} can't; keep a \
-                 copy of both files, and then restore it from itself, with the first ones alone",
-            ),
-            FileFault::Unsynced => f.write_str(
-                "it wasn't opened, as the system didn't sync it, its log or its folder: look at \
-                 the disk",
-            ),
-            FileFault::System(error) => write!(f, "{error}"),
-        }
-    }
-}
-
-impl From<io::Error> for FileFault {
-    fn from(error: io::Error) -> Self {
-        FileFault::System(error)
-    }
-}
+use std::io;
+use std::io::Write;
 
 /// Why a book isn't opened or read, or a copy isn't put in its place.
 #[derive(Clone, Copy)]
@@ -123,5 +50,33 @@ impl From<io::Error> for BookFault {
 impl From<OpenFault> for BookFault {
     fn from(why: OpenFault) -> Self {
         BookFault::Book(why)
+    }
+}
+
+/// The value, if there is one; otherwise it says why the file was refused.
+pub(crate) fn accept<T, E: Into<BookFault>>(
+    host: &HostRuntime,
+    path: &str,
+    found: Result<T, E>,
+) -> Result<T, Status> {
+    match found {
+        Ok(value) => Ok(value),
+        Err(why) => Err(refuse_file(host, path, why)),
+    }
+}
+
+/// Says why a file was refused, and gives the exit status that tells of it.
+pub(crate) fn refuse_file<E: Into<BookFault>>(host: &HostRuntime, path: &str, why: E) -> Status {
+    match why.into() {
+        BookFault::File(why) => {
+            let _ = writeln!(host.stderr(), "credkeep: {path}: {why}");
+            why.status()
+        }
+        BookFault::Database(error) => refuse(&mut host.stderr(), &OpenFault::Database(error)),
+        BookFault::Book(why) => {
+            let status = refuse(&mut host.stderr(), &why);
+            let _ = writeln!(host.stderr(), "credkeep: that is said of {path}");
+            status
+        }
     }
 }

@@ -2,15 +2,14 @@
 
 ghost use Rattle.std.specs.Prelude.{◌≡◌, IfOk, false};
 
-use crate::fault::{BookFault, FileFault};
+use crate::fault::{BookFault, accept, refuse_file};
 use crate::log::{LogLook, fills};
-use crate::refusal::{accept, refuse_file};
-use crate::request::Remarks;
 use crate::sidecar::{
     JOURNAL, LOG, has_changes_in_log, hold, if_there, len_of, look_at_its_log, real_path, sidecar,
 };
 use cred_admin::Status;
-use sqlite::{Connection, Error, ErrorCode, FileFrom, FileStore, Wary};
+use credkeep_words::{FileFault, Remarks};
+use sqlite::{Connection, Error, ErrorCode, FileFrom, FileStore, Start, Wary};
 use std::fs::{File, Metadata, OpenOptions};
 use std::io::Write;
 use std::os::unix::fs::{MetadataExt, OpenOptionsExt};
@@ -213,7 +212,7 @@ pub(crate) fn open_database(
 
 /// Copies the log into the file and closes both. If that fails nothing is lost: the log stays.
 pub(crate) fn close(host: &HostRuntime, conn: Database, status: Status) -> Status {
-    if let Err(error) = conn.close() {
+    if let Err(error) = fold(conn) {
         let _ = writeln!(
             host.stderr(),
             "credkeep: the log stays beside the file: {error}"
@@ -244,10 +243,30 @@ fn open_once(rt: &HostRuntime, path: &str, damaged: DamagedLog) -> Result<Databa
     if damaged == DamagedLog::Refused {
         see_log_whole(rt, path)?;
     }
-    match Connection::open_from(rt, path, false, Wary) {
+    match open_as(rt, path, Wary) {
         Ok(conn) => Ok(conn),
-        Err((error, _)) => Err(why_unopened(rt, path, error)),
+        Err(error) => Err(why_unopened(rt, path, error)),
     }
+}
+
+/// Opens a file of which this is supposed. A call with clauses is proved in seconds over any such
+/// `S`, and in a minute over one: so it stands alone, as the next ones do.
+fn open_as<S: Start>(
+    rt: &HostRuntime,
+    path: &str,
+    start: S,
+) -> Result<Connection<FileStore<FileFrom<S>>>, Error>
+    ensures { IfOk result (λ conn. conn.in_transaction ≡ false) }
+{
+    match Connection::open_from(rt, path, false, start) {
+        Ok(conn) => Ok(conn),
+        Err((error, _)) => Err(error),
+    }
+}
+
+/// Copies the log into the file, and closes both.
+pub(crate) fn fold<S: Start>(conn: Connection<FileStore<FileFrom<S>>>) -> Result<(), Error> {
+    conn.close()
 }
 
 /// Sees that no change in the log is damaged: such a one and all behind it would be given up by

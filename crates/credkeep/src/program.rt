@@ -4,16 +4,16 @@ ghost use Rattle.std.specs.Prelude.{◌≡◌, false};
 
 use crate::copies::{NEW, back_up, restore, verify};
 use crate::draft::{Draft, OldLog};
-use crate::files::{Beginning, DamagedLog, close, look, look_before_init, open_database};
-use crate::progress::{Counted, Progress};
-use crate::refusal::{accept, say};
-use crate::request::{Act, Remarks, Request, request_of};
-use crate::tagged::serve_tagged;
-use crate::terminal::ask_passwords;
+use crate::fault::accept;
+use crate::files::{Beginning, DamagedLog, close, fold, look, look_before_init, open_database};
+use crate::tagged::{Tagged, serve_tagged};
 use cred_admin::Status;
 use cred_cli::{Tools, Watched};
 use cred_file::{FileBook, OpenFault};
 use cred_keep::{Order, refuse, serve_in};
+use credkeep_words::{
+    Act, Counted, Progress, Remarks, Request, advise, read_passwords, request_of, say,
+};
 use sqlite::{Alter, Connection};
 use std::alloc::Global;
 use std::io::{ErrorKind, Read, Write};
@@ -44,7 +44,7 @@ fn run_words<T: Threads + Wait + Sync + Copy + Send + 'static>(
         Ok(request) => match answer(host, rt, &request) {
             Ok(status) | Err(status) => Ok(status),
         },
-        Err(refusal) => Ok(refusal.tell(host)),
+        Err(status) => Ok(status),
     }
 }
 
@@ -59,7 +59,7 @@ fn answer<T: Threads + Wait + Sync + Copy + Send + 'static>(
         Act::Backup(to) => Ok(back_up(host, request, to)?.tell(host, request.counts)),
         Act::Restore(from) => Ok(restore(host, request, from)?.tell(host, request.counts)),
         Act::Verify => verify(host, request),
-        Act::Tagged(tagged) => serve_tagged(host, rt, request, tagged),
+        Act::Tagged(service) => serve_tagged(host, rt, request, &Tagged::of(service)),
         Act::Perform {
             order,
             workers,
@@ -71,8 +71,8 @@ fn answer<T: Threads + Wait + Sync + Copy + Send + 'static>(
                 workers: *workers,
             };
             look(host, request.file, request.remarks)?;
-            let typed = ask_passwords(host, request.file, order, *echo)?;
-            on_file(host, &tools, request, order, typed)
+            let lines = read_passwords(host, request.file, order, *echo)?;
+            on_file(host, &tools, request, order, lines)
         }
     }
 }
@@ -96,7 +96,7 @@ fn begin_beside(host: &HostRuntime, file: &str) -> Result<Status, Status> {
     let conn = open_database(host, file, new.path(), 0, DamagedLog::Refused)?;
     let (conn, status) = begin_in(host.alloc(), conn, host.stderr());
     // It goes to its place without its log: if that can't be copied into it nothing was begun.
-    let status = match conn.close() {
+    let status = match fold(conn) {
         Err(error) if status == Status::Done => {
             refuse(&mut host.stderr(), &OpenFault::Database(error))
         }
@@ -108,18 +108,17 @@ fn begin_beside(host: &HostRuntime, file: &str) -> Result<Status, Status> {
     Ok(status)
 }
 
-/// Opens the file, does what is asked in its database, and closes it.
+/// Opens the file, does what is asked in its database, and closes it. Passwords were read before.
 fn on_file<T: Threads + Sync>(
     host: &HostRuntime,
     tools: &Tools<'_, T>,
     request: &Request<'_>,
     order: &Order,
-    typed: Option<Vec<u8>>,
+    passwords: Option<Vec<u8>>,
 ) -> Result<Status, Status> {
     let file = request.file;
     let conn = open_database(host, file, file, request.wait, DamagedLog::Refused)?;
-    // Behind what was typed nothing is read.
-    let (lines, rest) = match &typed {
+    let (lines, rest) = match &passwords {
         Some(lines) => (&lines[..], 0),
         None => (&[][..], u64::MAX),
     };
@@ -129,11 +128,28 @@ fn on_file<T: Threads + Sync>(
         _ => Remarks::Hidden,
     };
     let counted = Counted::new(input, Progress::new(host, remarks));
-    let mut reader = Watched::new(counted);
-    let mut writer = Watched::new(host.stdout());
-    let mut faults = host.stderr();
-    let (conn, status) = serve_in(tools, conn, order, &mut reader, &mut writer, &mut faults);
+    let (conn, status) = obey(tools, conn, order, counted, host.stdout(), host.stderr());
+    if status == Status::Done {
+        advise(host, order, lines);
+    }
     Ok(close(host, conn, status))
+}
+
+/// Does what is asked in a database, which comes back. It is over any database: of a file's a proof
+/// takes too long.
+fn obey<T: Threads + Sync, S: Alter, R: Read + Drop, W: Write + Drop, F: Write + Drop>(
+    tools: &Tools<'_, T>,
+    conn: Connection<S>,
+    order: &Order,
+    reader: R,
+    writer: W,
+    mut faults: F,
+) -> (Connection<S>, Status)
+    requires autocommit { conn.in_transaction ≡ false }
+{
+    let mut reader = Watched::new(reader);
+    let mut writer = Watched::new(writer);
+    serve_in(tools, conn, order, &mut reader, &mut writer, &mut faults)
 }
 
 /// Begins a book in the database, which comes back, or says whose the tables are that stand in the

@@ -1,8 +1,8 @@
 //! The files that lie beside a database: its log, its journal, its folder.
 
-use crate::fault::FileFault;
 use crate::log::{LogLook, look_at_log};
-use sqlite::{FileFrom, Files, Wary};
+use credkeep_words::FileFault;
+use sqlite::{FileFrom, Files, Start, Wary};
 use sqlite_std_file::OpenError;
 use std::fs::File;
 use std::io::ErrorKind;
@@ -91,7 +91,7 @@ pub(crate) type Held = Files<FileFrom<Wary>>;
 /// `Journal`; `System`.
 pub(crate) fn hold(rt: &HostRuntime, path: &str) -> Result<Held, FileFault> {
     let file = File::open(rt, path)?;
-    let held = match sqlite_std_file::open(rt, path, Wary) {
+    let held = match open_as(rt, path, Wary) {
         Ok(held) => held,
         Err(OpenError::Busy) => return Err(FileFault::Busy),
         Err(OpenError::HotJournal) => return Err(FileFault::Journal),
@@ -105,6 +105,15 @@ pub(crate) fn hold(rt: &HostRuntime, path: &str) -> Result<Held, FileFault> {
     } else {
         Err(FileFault::Busy)
     }
+}
+
+/// Opens the two where this is supposed of them; over any `S`, as a proof over one takes a minute.
+fn open_as<S: Start>(
+    rt: &HostRuntime,
+    path: &str,
+    start: S,
+) -> Result<Files<FileFrom<S>>, OpenError> {
+    sqlite_std_file::open(rt, path, start)
 }
 
 /// Whether the path names this file and no other.

@@ -6,11 +6,10 @@
 //! anew meanwhile.
 
 use crate::draft::Draft;
-use crate::fault::FileFault;
 use crate::files::OWNER_ALONE;
 use crate::log::{LOG_HEADER, fills};
-use crate::progress::Progress;
 use crate::sidecar::{LOG, if_there, sidecar};
+use credkeep_words::{FileFault, Progress};
 use std::fs::{File, OpenOptions};
 use std::io::{Read, Write};
 use std::os::unix::fs::{MetadataExt, OpenOptionsExt};

@@ -8,15 +8,14 @@ ghost use Rattle.cred_many.specs.{Served.StandsAtEnd, Served.left_of, Service.se
 ghost use Rattle.credkeep.specs.Service.{ServesBook, status_of_end, status_of_fault};
 
 use crate::files::{DamagedLog, close, look, open_database};
-use crate::refusal::say;
-use crate::request::Request;
 use cred_admin::Status;
 use cred_cli::{Tools, Watched};
 use cred_file::{FileBook, Lost};
 use cred_keep::{Failure, explain, refuse};
 use cred_many::{
-    LineReader, Scribe, Served, ServiceConfig, ServiceFault, ServiceId, Source, serve_file,
+    Costs, LineReader, Scribe, Served, ServiceConfig, ServiceFault, ServiceId, Source, serve_file,
 };
+use credkeep_words::{Request, Service, say};
 use rand::make_rng;
 use rand::rngs::StdRng;
 use rand_core::Rng;
@@ -34,6 +33,25 @@ pub(crate) struct Tagged {
     pub(crate) at_once: Option<u8>,
     /// What hashes together may take, the costs of new records, and what lines may ask for.
     pub(crate) config: ServiceConfig,
+}
+
+impl Tagged {
+    /// What the words ask for.
+    pub(crate) fn of(service: &Service) -> Tagged {
+        let setting = service.setting.setting();
+        let costs = match Costs::of(&setting) {
+            Some(costs) => costs,
+            None => unreachable!(),
+        };
+        Tagged {
+            at_once: service.at_once,
+            config: ServiceConfig {
+                costs,
+                memory: service.memory,
+                most: service.most,
+            },
+        }
+    }
 }
 
 /// Opens the file, answers tagged lines from standard input, and closes it.

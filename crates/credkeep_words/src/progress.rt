@@ -17,7 +17,7 @@ const LINES: &str = "lines read, which are taken in together";
 
 /// A line on standard error that is written over as an order goes on.
 #[derive(Drop)]
-pub(crate) struct Progress<'a> {
+pub struct Progress<'a> {
     host: &'a HostRuntime,
     /// When the line was written, or the order begun; nothing if nobody sees it.
     last: Option<Instant>,
@@ -25,7 +25,7 @@ pub(crate) struct Progress<'a> {
 }
 
 impl<'a> Progress<'a> {
-    pub(crate) fn new(host: &'a HostRuntime, remarks: Remarks) -> Progress<'a> {
+    pub fn new(host: &'a HostRuntime, remarks: Remarks) -> Progress<'a> {
         let mut last = None;
         if remarks == Remarks::Told && host.stderr().is_terminal() {
             last = Instant::now(host).ok();
@@ -38,7 +38,7 @@ impl<'a> Progress<'a> {
     }
 
     /// Says how much of something is done, if the last time was a second ago.
-    pub(crate) fn tell(&mut self, done: u64, what: &str) {
+    pub fn tell(&mut self, done: u64, what: &str) {
         let Some(last) = self.last else {
             return;
         };
@@ -49,7 +49,7 @@ impl<'a> Progress<'a> {
     }
 
     /// Says so at once.
-    pub(crate) fn write(&mut self, done: u64, what: &str) {
+    pub fn write(&mut self, done: u64, what: &str) {
         if self.last.is_none() {
             return;
         }
@@ -59,7 +59,7 @@ impl<'a> Progress<'a> {
     }
 
     /// Ends the line.
-    pub(crate) fn end(&mut self) {
+    pub fn end(&mut self) {
         if self.shown {
             let _ = writeln!(self.host.stderr());
         }
@@ -69,14 +69,14 @@ impl<'a> Progress<'a> {
 
 /// A reader whose lines are counted as it is read.
 #[derive(Drop)]
-pub(crate) struct Counted<'a, R> {
+pub struct Counted<'a, R> {
     inner: R,
     lines: u64,
     progress: Progress<'a>,
 }
 
 impl<'a, R> Counted<'a, R> {
-    pub(crate) fn new(inner: R, progress: Progress<'a>) -> Counted<'a, R> {
+    pub fn new(inner: R, progress: Progress<'a>) -> Counted<'a, R> {
         Counted {
             inner,
             lines: 0,

@@ -1,15 +1,15 @@
-//! What is said of words and files that are refused, and the exit status that goes with it.
+//! What is said of words that are refused, and the exit status that goes with it.
 
-use crate::commands::{CommandText, command_in, write_commands};
+use crate::commands::{CommandText, Verb, command_in, write_commands};
 use crate::costs::write_range;
-use crate::fault::BookFault;
+use crate::slip::{Slip, slip_in};
 use clap::Error;
 use clap::error::ErrorKind;
 use cred_admin::Status;
 use cred_book::BookError;
-use cred_file::OpenFault;
-use cred_keep::{NAME_RULE, refuse};
+use cred_keep::NAME_RULE;
 use cred_phc::PhcError;
+use std::alloc::Global;
 use std::io;
 use std::io::Write;
 
@@ -18,8 +18,10 @@ use std::io::Write;
 pub(crate) enum Refusal<'a> {
     /// They don't parse, or ask for help or the version.
     Words(Error),
-    /// There is a word or an option too many for this command, or for any.
-    Unknown(Option<&'static CommandText>),
+    /// No word is a command.
+    NoCommand,
+    /// There is a word or an option too many for this command.
+    Unknown(&'static CommandText, Slip),
     /// No account can have this name.
     Name { text: &'a str, why: BookError },
     /// The text of the setting has this fault.
@@ -30,6 +32,8 @@ pub(crate) enum Refusal<'a> {
     Number(&'static str, u16, u16),
     /// The setting asks for more memory than the bound on the lines.
     Costly,
+    /// A hash under the setting takes so many KiB, more than all hashes may take together.
+    Crowded(u64),
     /// Existing accounts can't both stay as they are and be updated.
     Existing,
     /// The system has no random bytes for a salt.
@@ -40,11 +44,12 @@ pub(crate) enum Refusal<'a> {
 
 impl<'a> Refusal<'a> {
     /// Why the words don't parse. A word too many isn't repeated: it may be a password.
-    pub(crate) fn of_words(words: &[String], error: Error) -> Refusal<'a> {
+    pub(crate) fn of_words(alloc: Global, words: &[String], error: Error) -> Refusal<'a> {
         match error.kind() {
-            ErrorKind::UnknownArgument | ErrorKind::InvalidSubcommand => {
-                Refusal::Unknown(command_in(words))
-            }
+            ErrorKind::UnknownArgument | ErrorKind::InvalidSubcommand => match command_in(words) {
+                Some(command) => Refusal::Unknown(command, slip_in(alloc, words, command)),
+                None => Refusal::NoCommand,
+            },
             ErrorKind::OutOfMemory => Refusal::Memory,
             _ => Refusal::Words(error),
         }
@@ -64,7 +69,8 @@ impl<'a> Refusal<'a> {
 
     fn write<W: Write>(&self, out: &mut W) -> io::Result<()> {
         match self {
-            Refusal::Unknown(command) => write_unknown(out, *command),
+            Refusal::NoCommand => write_no_command(out),
+            Refusal::Unknown(command, slip) => write_unknown(out, command, *slip),
             Refusal::Name { text, why } => write_name(out, text, *why),
             Refusal::Setting { text, why } => write_setting(out, text, *why),
             Refusal::Size(option) => writeln!(
@@ -80,11 +86,16 @@ impl<'a> Refusal<'a> {
                 "credkeep: --setting: it asks for more than --most-memory or --most-work \
                  (18 costly)"
             ),
+            Refusal::Crowded(kib) => writeln!(
+                out,
+                "credkeep: --memory: it is less than a hash under --setting takes: {kib} KiB \
+                 (4 memory)"
+            ),
             Refusal::Existing => writeln!(
                 out,
                 "credkeep: --skip-existing and --update: an account that exists is left, or updated"
             ),
-            _ => Ok(()),
+            Refusal::Words(_) | Refusal::Salt | Refusal::Memory => Ok(()),
         }
     }
 }
@@ -100,86 +111,93 @@ fn tell_words(host: &HostRuntime, error: &Error) -> Status {
     }
 }
 
-fn write_unknown<W: Write>(out: &mut W, command: Option<&'static CommandText>) -> io::Result<()> {
-    match command {
-        Some(text) => {
-            writeln!(
-                out,
-                "credkeep: {}: a word or an option too many, which isn't shown: it may be a \
-                 password\nA password is read from standard input.\n\nUsage: {}",
-                text.word, text.usage
-            )?;
-        }
-        None => {
-            writeln!(out, "credkeep: no word is a command")?;
-            write_commands(out)?;
-        }
-    }
+fn write_no_command<W: Write>(out: &mut W) -> io::Result<()> {
+    writeln!(out, "credkeep: no word is a command")?;
+    write_commands(out)?;
     writeln!(out, "\nFor more information, try '--help'.")
+}
+
+fn write_unknown<W: Write>(out: &mut W, command: &CommandText, slip: Slip) -> io::Result<()> {
+    write_slip(out, command.verb, slip)?;
+    writeln!(
+        out,
+        "\nUsage: {}\n\nFor more information, try '--help'.",
+        command.usage
+    )
+}
+
+/// Names what is safe to name: options, and never a word that was given.
+fn write_slip<W: Write>(out: &mut W, verb: Verb, slip: Slip) -> io::Result<()> {
+    let word = verb.word();
+    write!(out, "credkeep: {word}: ")?;
+    match slip {
+        Slip::Unnamed => write_unnamed(out, verb),
+        Slip::Late(option) => writeln!(out, "--{option} stands before FILE"),
+        Slip::Early(option) => writeln!(out, "--{option} stands behind {word}"),
+        Slip::Elsewhere(option) => writeln!(out, "it has no option --{option}"),
+        Slip::Misspelt(option) => writeln!(
+            out,
+            "an option that it doesn't have, which isn't shown; --{option} is near"
+        ),
+    }
+}
+
+fn write_unnamed<W: Write>(out: &mut W, verb: Verb) -> io::Result<()> {
+    writeln!(
+        out,
+        "a word or an option too many, which isn't shown: it may be a password"
+    )?;
+    match verb {
+        Verb::Run | Verb::Serve | Verb::Import => {
+            writeln!(out, "It reads standard input: write < FILE")
+        }
+        _ => writeln!(out, "A password is read from standard input."),
+    }
 }
 
 fn write_name<W: Write>(out: &mut W, text: &str, why: BookError) -> io::Result<()> {
     let (number, word) = (why.number(), why.word());
     write!(out, "credkeep: {NAME_RULE}; this ")?;
-    let bad = text.as_bytes().iter().find(|byte| !is_name_byte(**byte));
-    match bad {
-        Some(b'\r') => write!(out, "has a carriage return")?,
-        Some(b'A'..=b'Z') => write!(out, "has a capital letter")?,
-        Some(byte @ 32..=126) => write!(out, "has '{}'", char::from(*byte))?,
-        Some(byte) => write!(out, "has the byte {byte}")?,
-        None => write!(out, "has {}", text.len())?,
-    }
+    write_bad_byte(out, text)?;
     writeln!(out, " ({number} {word})")
+}
+
+fn write_bad_byte<W: Write>(out: &mut W, text: &str) -> io::Result<()> {
+    match text.as_bytes().iter().find(|byte| !is_name_byte(**byte)) {
+        Some(b'\r') => write!(out, "has a carriage return"),
+        Some(b'A'..=b'Z') => write!(out, "has a capital letter"),
+        Some(byte @ 32..=126) => write!(out, "has '{}'", char::from(*byte)),
+        Some(128..=255) => write!(out, "has a letter that isn't ASCII"),
+        Some(byte) => write!(out, "has the byte {byte}"),
+        None => write!(out, "has {}", text.len()),
+    }
 }
 
 fn is_name_byte(byte: u8) -> bool {
     matches!(byte, b'a'..=b'z' | b'0'..=b'9' | b'.' | b'_' | b'-')
 }
 
-/// Names the number that is outside its range.
 fn write_setting<W: Write>(out: &mut W, text: &str, why: PhcError) -> io::Result<()> {
     let (number, word) = (why.number(), why.word());
     write!(out, "credkeep: --setting: ")?;
-    match why {
-        PhcError::Range => write_range(out, text)?,
-        PhcError::Params => write!(
-            out,
-            "the costs are written as m=65536,t=3,p=4, or ln=17,r=8,p=1 for scrypt"
-        )?,
-        _ => write!(out, "{why}")?,
-    }
+    write_fault(out, text, why)?;
     writeln!(out, " ({number} {word})")
 }
 
-/// The value, if there is one; otherwise it says why the file was refused.
-pub(crate) fn accept<T, E: Into<BookFault>>(
-    host: &HostRuntime,
-    path: &str,
-    found: Result<T, E>,
-) -> Result<T, Status> {
-    match found {
-        Ok(value) => Ok(value),
-        Err(why) => Err(refuse_file(host, path, why)),
+/// Names the number that is outside its range, or the fault.
+fn write_fault<W: Write>(out: &mut W, text: &str, why: PhcError) -> io::Result<()> {
+    match why {
+        PhcError::Range => write_range(out, text),
+        PhcError::Params => write!(
+            out,
+            "the costs are written as m=65536,t=3,p=4, or ln=17,r=8,p=1 for scrypt"
+        ),
+        _ => write!(out, "{why}"),
     }
 }
 
-/// Says why a file was refused, and gives the exit status that tells of it.
-pub(crate) fn refuse_file<E: Into<BookFault>>(host: &HostRuntime, path: &str, why: E) -> Status {
-    match why.into() {
-        BookFault::File(why) => {
-            let _ = writeln!(host.stderr(), "credkeep: {path}: {why}");
-            why.status()
-        }
-        BookFault::Database(error) => refuse(&mut host.stderr(), &OpenFault::Database(error)),
-        BookFault::Book(why) => {
-            let status = refuse(&mut host.stderr(), &why);
-            let _ = writeln!(host.stderr(), "credkeep: that is said of {path}");
-            status
-        }
-    }
-}
-
-pub(crate) fn say(host: &HostRuntime, text: &str, status: Status) -> Status {
+/// Says why nothing was done, and gives the exit status that tells of it.
+pub fn say(host: &HostRuntime, text: &str, status: Status) -> Status {
     let _ = writeln!(host.stderr(), "credkeep: {text}");
     status
 }

@@ -35,8 +35,8 @@ Exit statuses:
   3  out of memory
   4  no: another password, no such account, no record, or one already
   5  the database failed, is busy, is missing, or holds no book
-  6  what was read was refused: no password, one that is empty or has over 256
-     bytes, a line, an account too many
+  6  what was read was refused: no password, a line too many, a password that is
+     empty or has over 256 bytes, a line of an import, an account too many
 
 If the database failed in a change, that change is named, and may be kept or
 not. Every change that was answered before is kept. docs/ERRORS.md says what to
@@ -131,79 +131,144 @@ pub(crate) enum Word {
     Json,
 }
 
+/// What a word looks like.
+#[derive(Clone, Copy)]
+enum Form {
+    /// A word at its place, which help calls so.
+    Operand(&'static str),
+    /// An option with a value, which help calls so.
+    Valued(&'static str),
+    /// The same, which is this if it isn't given.
+    Defaulted(&'static str, &'static str),
+    Flag,
+}
+
+/// The words that may stand before the command.
+pub(crate) static PROGRAM: [Word; 3] = [Word::Wait, Word::Quiet, Word::File];
+
+impl Word {
+    /// Its name, how it looks, and what help says of it.
+    fn text(self) -> (&'static str, Form, &'static str) {
+        match self {
+            Word::File => ("file", Form::Operand("FILE"), FILE_HELP),
+            Word::Wait => ("wait", Form::Defaulted("SECONDS", "0"), WAIT_HELP),
+            Word::Quiet => ("quiet", Form::Flag, QUIET_HELP),
+            Word::To => ("to", Form::Operand("TO"), TO_HELP),
+            Word::From => ("from", Form::Operand("FROM"), FROM_HELP),
+            Word::Name => ("name", Form::Operand("NAME"), NAME_HELP),
+            Word::NewName => ("new", Form::Operand("NEW"), NEW_NAME_HELP),
+            Word::Setting => ("setting", Form::Valued("TEXT"), SETTING_HELP),
+            Word::Workers => ("workers", Form::Defaulted("N", "1"), WORKERS_HELP),
+            Word::Tagged => ("tagged", Form::Flag, TAGGED_HELP),
+            Word::AtOnce => ("at-once", Form::Valued("N"), AT_ONCE_HELP),
+            Word::Memory => ("memory", Form::Valued("SIZE"), MEMORY_HELP),
+            Word::MostMemory => ("most-memory", Form::Valued("SIZE"), MOST_MEMORY_HELP),
+            Word::MostWork => ("most-work", Form::Valued("SIZE"), MOST_WORK_HELP),
+            Word::EmptyPassword => ("empty-password", Form::Flag, EMPTY_HELP),
+            Word::Echo => ("echo", Form::Flag, ECHO_HELP),
+            Word::Show => ("show", Form::Flag, SHOW_HELP),
+            Word::Record => ("record", Form::Flag, RECORD_HELP),
+            Word::SkipExisting => ("skip-existing", Form::Flag, SKIP_HELP),
+            Word::Update => ("update", Form::Flag, UPDATE_HELP),
+            Word::SkipBad => ("skip-bad", Form::Flag, SKIP_BAD_HELP),
+            Word::DisableLocked => ("disable-locked", Form::Flag, DISABLE_LOCKED_HELP),
+            Word::DryRun => ("dry-run", Form::Flag, DRY_RUN_HELP),
+            Word::Costs => ("costs", Form::Flag, COSTS_HELP),
+            Word::Json => ("json", Form::Flag, JSON_HELP),
+        }
+    }
+
+    /// Its name, if it is an option.
+    pub(crate) fn option(self) -> Option<&'static str> {
+        match self.text() {
+            (_, Form::Operand(_), _) => None,
+            (name, _, _) => Some(name),
+        }
+    }
+}
+
 /// The program, with all its commands.
 pub(crate) fn credkeep<'a>(alloc: Global) -> Result<Command<'a>, AllocError> {
-    let mut command = Command::new(alloc, "credkeep")
+    let mut command = without_commands(alloc)?;
+    for text in &COMMANDS {
+        command = with_command(alloc, command, text)?;
+    }
+    Ok(command)
+}
+
+fn without_commands<'a>(alloc: Global) -> Result<Command<'a>, AllocError> {
+    let command = Command::new(alloc, "credkeep")
         .version("0.2.0")
         .about(ABOUT)
         .after_help(AFTER_HELP)
         .subcommand_required(true)
         .disable_help_subcommand(true)
-        .override_usage("credkeep [--wait <SECONDS>] <FILE> <COMMAND>")
-        .arg(arg_of(alloc, Word::Wait))?
-        .arg(arg_of(alloc, Word::Quiet).global(true))?
-        .arg(arg_of(alloc, Word::File))?;
-    for text in &COMMANDS {
-        let below = command_of(alloc, text)?;
-        command = command.subcommand(below)?;
-    }
-    Ok(command)
+        .override_usage("credkeep [--wait <SECONDS>] <FILE> <COMMAND>");
+    with_words(alloc, command, &PROGRAM)
+}
+
+/// The same with a command. It is made here, so that no second one lives while the caller may end
+/// early.
+fn with_command<'a>(
+    alloc: Global,
+    command: Command<'a>,
+    text: &CommandText,
+) -> Result<Command<'a>, AllocError> {
+    command.subcommand(command_of(alloc, text)?)
 }
 
 fn command_of<'a>(alloc: Global, text: &CommandText) -> Result<Command<'a>, AllocError> {
-    let mut command = Command::new(alloc, text.word)
+    let command = Command::new(alloc, text.verb.word())
         .about(text.about)
         .long_about(text.long)
         .override_usage(text.usage);
-    for word in text.words {
+    with_words(alloc, command, text.words)
+}
+
+fn with_words<'a>(
+    alloc: Global,
+    command: Command<'a>,
+    words: &[Word],
+) -> Result<Command<'a>, AllocError> {
+    let mut command = command;
+    for word in words {
         command = command.arg(arg_of(alloc, *word))?;
     }
     Ok(command)
 }
 
 fn arg_of<'a>(alloc: Global, word: Word) -> Arg<'a> {
-    let (arg, help) = match word {
-        Word::File => (operand(alloc, "file", "FILE"), FILE_HELP),
-        Word::Wait => (
-            option(alloc, "wait", "SECONDS").default_value("0"),
-            WAIT_HELP,
-        ),
-        Word::Quiet => (flag(alloc, "quiet"), QUIET_HELP),
-        Word::To => (operand(alloc, "to", "TO"), TO_HELP),
-        Word::From => (operand(alloc, "from", "FROM"), FROM_HELP),
-        Word::Name => (operand(alloc, "name", "NAME"), NAME_HELP),
-        Word::NewName => (operand(alloc, "new", "NEW"), NEW_NAME_HELP),
-        Word::Setting => (option(alloc, "setting", "TEXT"), SETTING_HELP),
-        Word::Workers => (
-            option(alloc, "workers", "N").default_value("1"),
-            WORKERS_HELP,
-        ),
-        Word::Tagged => (flag(alloc, "tagged"), TAGGED_HELP),
-        Word::AtOnce => (option(alloc, "at-once", "N"), AT_ONCE_HELP),
-        Word::Memory => (option(alloc, "memory", "SIZE"), MEMORY_HELP),
-        Word::MostMemory => (option(alloc, "most-memory", "SIZE"), MOST_MEMORY_HELP),
-        Word::MostWork => (option(alloc, "most-work", "SIZE"), MOST_WORK_HELP),
-        Word::EmptyPassword => (flag(alloc, "empty-password"), EMPTY_HELP),
-        Word::Echo => (flag(alloc, "echo"), ECHO_HELP),
-        Word::Show => (flag(alloc, "show"), SHOW_HELP),
-        Word::Record => (flag(alloc, "record"), RECORD_HELP),
-        Word::SkipExisting => (flag(alloc, "skip-existing"), SKIP_HELP),
-        Word::Update => (flag(alloc, "update"), UPDATE_HELP),
-        Word::SkipBad => (flag(alloc, "skip-bad"), SKIP_BAD_HELP),
-        Word::DisableLocked => (flag(alloc, "disable-locked"), DISABLE_LOCKED_HELP),
-        Word::DryRun => (flag(alloc, "dry-run"), DRY_RUN_HELP),
-        Word::Costs => (flag(alloc, "costs"), COSTS_HELP),
-        Word::Json => (flag(alloc, "json"), JSON_HELP),
+    let (name, form, help) = word.text();
+    let arg = match form {
+        Form::Operand(value) => operand(alloc, name, value),
+        Form::Valued(value) => option(alloc, name, value),
+        Form::Defaulted(value, default) => defaulted(alloc, name, value, default),
+        Form::Flag => flag(alloc, name),
     };
-    arg.help(help).next_line_help(true)
+    arg.help(help)
+        .next_line_help(true)
+        .global(matches!(word, Word::Quiet))
 }
 
 fn operand<'a>(alloc: Global, id: &'static str, value: &'static str) -> Arg<'a> {
     Arg::new(alloc, id).value_name(value).required(true)
 }
 
+/// An option with a value. A negative number is one, which is refused as what it is.
 fn option<'a>(alloc: Global, id: &'static str, value: &'static str) -> Arg<'a> {
-    Arg::new(alloc, id).long(id).value_name(value)
+    Arg::new(alloc, id)
+        .long(id)
+        .value_name(value)
+        .allow_negative_numbers(true)
+}
+
+fn defaulted<'a>(
+    alloc: Global,
+    id: &'static str,
+    value: &'static str,
+    default: &'static str,
+) -> Arg<'a> {
+    option(alloc, id, value).default_value(default)
 }
 
 fn flag<'a>(alloc: Global, id: &'static str) -> Arg<'a> {

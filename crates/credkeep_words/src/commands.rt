@@ -4,9 +4,60 @@ use crate::arguments::Word;
 use std::io;
 use std::io::Write;
 
+/// What a command is.
+#[derive(Clone, Copy)]
+pub(crate) enum Verb {
+    Init,
+    Run,
+    Serve,
+    Add,
+    Check,
+    Change,
+    Reset,
+    Upgrade,
+    Remove,
+    Disable,
+    Delete,
+    Rename,
+    Show,
+    List,
+    Export,
+    Import,
+    Backup,
+    Restore,
+    Verify,
+}
+
+impl Verb {
+    /// The word that asks for it.
+    pub(crate) fn word(self) -> &'static str {
+        match self {
+            Verb::Init => "init",
+            Verb::Run => "run",
+            Verb::Serve => "serve",
+            Verb::Add => "add",
+            Verb::Check => "check",
+            Verb::Change => "change",
+            Verb::Reset => "reset",
+            Verb::Upgrade => "upgrade",
+            Verb::Remove => "remove",
+            Verb::Disable => "disable",
+            Verb::Delete => "delete",
+            Verb::Rename => "rename",
+            Verb::Show => "show",
+            Verb::List => "list",
+            Verb::Export => "export",
+            Verb::Import => "import",
+            Verb::Backup => "backup",
+            Verb::Restore => "restore",
+            Verb::Verify => "verify",
+        }
+    }
+}
+
 /// A command, its help with lines of at most 80 columns, and its words.
 pub(crate) struct CommandText {
-    pub(crate) word: &'static str,
+    pub(crate) verb: Verb,
     pub(crate) about: &'static str,
     pub(crate) long: &'static str,
     pub(crate) usage: &'static str,
@@ -15,14 +66,14 @@ pub(crate) struct CommandText {
 
 pub(crate) static COMMANDS: [CommandText; 19] = [
     CommandText {
-        word: "init",
+        verb: Verb::Init,
         about: "Begins an empty book in a new file",
         long: "Begins an empty book in a new file, which only its owner may read and write.",
         usage: "credkeep <FILE> init",
         words: &[],
     },
     CommandText {
-        word: "run",
+        verb: Verb::Run,
         about: "Answers a script from standard input",
         long: "Answers a script from standard input. Each change is on the disk before its line\n\
             is answered. rigzumal-script(5) has the language.",
@@ -30,7 +81,7 @@ pub(crate) static COMMANDS: [CommandText; 19] = [
         words: &[Word::Workers],
     },
     CommandText {
-        word: "serve",
+        verb: Verb::Serve,
         about: "Answers lines for as long as they come",
         long: "Answers lines for as long as they come. Each change is on the disk before its\n\
             line is answered. The lines are those of a script; with --tagged they come from\n\
@@ -47,7 +98,7 @@ pub(crate) static COMMANDS: [CommandText; 19] = [
         ],
     },
     CommandText {
-        word: "add",
+        verb: Verb::Add,
         about: "Makes the first record of an account",
         long: "Makes the first record of an account, and the account if it is new. The new\n\
             password is one line of standard input.\n\
@@ -56,7 +107,7 @@ pub(crate) static COMMANDS: [CommandText; 19] = [
         words: &[Word::Name, Word::Setting, Word::EmptyPassword, Word::Echo],
     },
     CommandText {
-        word: "check",
+        verb: Verb::Check,
         about: "Says whether a password is right",
         long: "Says whether a password, one line of standard input, is right.\n\
             Answers yes; or no, absent (no record) or noaccount with status 4.",
@@ -64,7 +115,7 @@ pub(crate) static COMMANDS: [CommandText; 19] = [
         words: &[Word::Name, Word::Echo],
     },
     CommandText {
-        word: "change",
+        verb: Verb::Change,
         about: "Replaces a password by a new one",
         long: "Replaces a password, the first line of standard input, by a new one, the second.\n\
             Answers replaced; or wrong, absent or noaccount with status 4.",
@@ -72,7 +123,7 @@ pub(crate) static COMMANDS: [CommandText; 19] = [
         words: &[Word::Name, Word::Setting, Word::EmptyPassword, Word::Echo],
     },
     CommandText {
-        word: "reset",
+        verb: Verb::Reset,
         about: "Gives an account a new password, without the old one",
         long: "Gives an account a new password, one line of standard input, without the old\n\
             one.\n\
@@ -81,7 +132,7 @@ pub(crate) static COMMANDS: [CommandText; 19] = [
         words: &[Word::Name, Word::Setting, Word::EmptyPassword, Word::Echo],
     },
     CommandText {
-        word: "upgrade",
+        verb: Verb::Upgrade,
         about: "Rehashes a password by another scheme or costs",
         long: "Rehashes a password, one line of standard input, if its record has another\n\
             scheme or other costs than --setting.\n\
@@ -90,7 +141,7 @@ pub(crate) static COMMANDS: [CommandText; 19] = [
         words: &[Word::Name, Word::Setting, Word::Echo],
     },
     CommandText {
-        word: "remove",
+        verb: Verb::Remove,
         about: "Removes the record of an account, with its password",
         long: "Removes the record of an account if the password, one line of standard input, is\n\
             right. The name stays.\n\
@@ -99,7 +150,7 @@ pub(crate) static COMMANDS: [CommandText; 19] = [
         words: &[Word::Name, Word::Echo],
     },
     CommandText {
-        word: "disable",
+        verb: Verb::Disable,
         about: "Removes the record of an account, without its password",
         long: "Removes the record of an account without its password. The name stays, and no\n\
             password is right for it.\n\
@@ -109,7 +160,7 @@ pub(crate) static COMMANDS: [CommandText; 19] = [
         words: &[Word::Name, Word::Show],
     },
     CommandText {
-        word: "delete",
+        verb: Verb::Delete,
         about: "Deletes an account, name and record",
         long: "Deletes an account, name and record, without its password.\n\
             Answers deleted; or noaccount with status 4.",
@@ -117,7 +168,7 @@ pub(crate) static COMMANDS: [CommandText; 19] = [
         words: &[Word::Name],
     },
     CommandText {
-        word: "rename",
+        verb: Verb::Rename,
         about: "Gives an account another name",
         long: "Gives an account another name, which no account has yet.\n\
             Answers renamed; or exists or noaccount with status 4.",
@@ -125,7 +176,7 @@ pub(crate) static COMMANDS: [CommandText; 19] = [
         words: &[Word::Name, Word::NewName],
     },
     CommandText {
-        word: "show",
+        verb: Verb::Show,
         about: "Shows the costs of a record, or the record",
         long: "Shows the scheme and the costs of an account's record, or the whole record.\n\
             Answers absent or noaccount with status 4 if there is none.",
@@ -133,21 +184,21 @@ pub(crate) static COMMANDS: [CommandText; 19] = [
         words: &[Word::Name, Word::Record, Word::Json],
     },
     CommandText {
-        word: "list",
+        verb: Verb::List,
         about: "Lists the names, a line each",
         long: "Lists the names, a line each, in their order.",
         usage: "credkeep <FILE> list [OPTIONS]",
         words: &[Word::Costs, Word::Json],
     },
     CommandText {
-        word: "export",
+        verb: Verb::Export,
         about: "Writes the accounts, a line NAME:RECORD each",
         long: "Writes the accounts, a line NAME:RECORD each, or NAME: if there is no record.",
         usage: "credkeep <FILE> export",
         words: &[],
     },
     CommandText {
-        word: "import",
+        verb: Verb::Import,
         about: "Adds the accounts of lines NAME:RECORD",
         long: "Adds the accounts of lines NAME:RECORD from standard input. Lines in the form of\n\
             htpasswd's, Dovecot's or Django's are read too, if their records are of Argon2\n\
@@ -168,7 +219,7 @@ pub(crate) static COMMANDS: [CommandText; 19] = [
         ],
     },
     CommandText {
-        word: "backup",
+        verb: Verb::Backup,
         about: "Copies the book into another file, also while it is served",
         long: "Copies the book into another file, also while it is served. The copy is whole\n\
             and has no log.\n\
@@ -177,7 +228,7 @@ pub(crate) static COMMANDS: [CommandText; 19] = [
         words: &[Word::To],
     },
     CommandText {
-        word: "restore",
+        verb: Verb::Restore,
         about: "Puts a copy in the book's place",
         long: "Puts a copy in the place of the book, which no process may have open, and\n\
             removes the old log.\n\
@@ -186,7 +237,7 @@ pub(crate) static COMMANDS: [CommandText; 19] = [
         words: &[Word::From],
     },
     CommandText {
-        word: "verify",
+        verb: Verb::Verify,
         about: "Reads all of the book, also while it is served",
         long: "Reads all of the book and its log, also while it is served.\n\
             Answers how many accounts it has, and how many changes are in the log; or says\n\
@@ -196,13 +247,21 @@ pub(crate) static COMMANDS: [CommandText; 19] = [
     },
 ];
 
+/// The command that a word asks for, if it is one's.
+pub(crate) fn command_named(word: &str) -> Option<&'static CommandText> {
+    for text in &COMMANDS {
+        if text.verb.word() == word {
+            return Some(text);
+        }
+    }
+    None
+}
+
 /// The command of the first word that is one, if any is.
 pub(crate) fn command_in(words: &[String]) -> Option<&'static CommandText> {
     for word in words {
-        for text in &COMMANDS {
-            if text.word == word.as_str() {
-                return Some(text);
-            }
+        if let Some(text) = command_named(word.as_str()) {
+            return Some(text);
         }
     }
     None
@@ -212,7 +271,7 @@ pub(crate) fn command_in(words: &[String]) -> Option<&'static CommandText> {
 pub(crate) fn write_commands<W: Write>(out: &mut W) -> io::Result<()> {
     write!(out, "The commands:")?;
     for text in &COMMANDS {
-        write!(out, " {}", text.word)?;
+        write!(out, " {}", text.verb.word())?;
     }
     writeln!(out)
 }

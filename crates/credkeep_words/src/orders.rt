@@ -1,0 +1,164 @@
+//! What each command asks for.
+
+use crate::commands::Verb;
+use crate::options::{
+    either, importing_in, line_in, most_in, name_in, size_in, text_in, threads_in,
+};
+use crate::refusal::Refusal;
+use crate::request::{Act, Echo, Service};
+use clap::ArgMatches;
+use cred_admin::{Command, Detail, Edit, EmptyPassword, Line, NewPassword, NewSetting, setting_of};
+use cred_book::Name;
+use cred_cli::{exceeds, memory_alone};
+use cred_keep::Order;
+use cred_phc::{PhcError, draw_salt};
+use rand::rngs::StdRng;
+use rand::{Rng, make_rng};
+use std::alloc::Global;
+use std::random::RandomSource;
+
+/// RFC 9106's second recommended choice: Argon2id, 64 MiB, three passes, four lanes.
+const DEFAULT_SETTING: &str = "$argon2id$v=19$m=65536,t=3,p=4";
+
+/// How many KiB hashes of tagged lines may need together.
+const DEFAULT_MEMORY: u64 = 2097152;
+
+/// At most as many threads hash for a command on one account as the default setting has lanes.
+const LANES: u8 = 4;
+
+/// What a command asks for with these options.
+pub(crate) fn act_of<'a, R: RandomSource + AllocGlobal>(
+    rt: &R,
+    verb: Verb,
+    values: &ArgMatches<'a>,
+) -> Result<Act<'a>, Refusal<'a>> {
+    match verb {
+        Verb::Init => Ok(Act::Init),
+        Verb::Backup => Ok(Act::Backup(text_in(values, "to"))),
+        Verb::Restore => Ok(Act::Restore(text_in(values, "from"))),
+        Verb::Verify => Ok(Act::Verify),
+        Verb::Serve if values.get_flag("tagged") => Ok(Act::Tagged(service_in(rt, values)?)),
+        Verb::Serve => {
+            let most = most_in(values)?;
+            perform(values, Order::Serve { most })
+        }
+        Verb::Run => perform(values, Order::Run),
+        Verb::List => list(values, line_in(values)),
+        Verb::Export => list(values, Line::Passwd(Detail::Record)),
+        Verb::Import => {
+            let how = importing_in(values)?;
+            perform(values, Order::Import { how })
+        }
+        Verb::Show => show(values, name_in(values, "name")?),
+        Verb::Disable => disable(values, name_in(values, "name")?),
+        Verb::Delete => edit(values, Edit::Delete(name_in(values, "name")?)),
+        Verb::Rename => rename(values, name_in(values, "name")?),
+        Verb::Check => account(values, Command::Check),
+        Verb::Remove => account(values, Command::Remove),
+        Verb::Add => account(values, Command::Add(new_password_in(rt, values)?)),
+        Verb::Change => account(values, Command::Change(new_password_in(rt, values)?)),
+        Verb::Reset => account(values, Command::Reset(new_password_in(rt, values)?)),
+        Verb::Upgrade => account(values, Command::Upgrade(setting_in(rt, values)?)),
+    }
+}
+
+fn perform<'a>(values: &ArgMatches<'a>, order: Order) -> Result<Act<'a>, Refusal<'a>> {
+    Ok(Act::Perform {
+        order,
+        workers: threads_in(values, "workers", 64)?.unwrap_or(LANES),
+        echo: either(values, "echo", Echo::Taken, Echo::Refused),
+    })
+}
+
+fn list<'a>(values: &ArgMatches<'a>, line: Line) -> Result<Act<'a>, Refusal<'a>> {
+    perform(values, Order::List { line })
+}
+
+fn edit<'a>(values: &ArgMatches<'a>, edit: Edit) -> Result<Act<'a>, Refusal<'a>> {
+    perform(values, Order::Edit { edit })
+}
+
+fn account<'a>(values: &ArgMatches<'a>, command: Command) -> Result<Act<'a>, Refusal<'a>> {
+    let name = name_in(values, "name")?;
+    perform(values, Order::Account { name, command })
+}
+
+fn show<'a>(values: &ArgMatches<'a>, name: Name) -> Result<Act<'a>, Refusal<'a>> {
+    let detail = either(values, "record", Detail::Record, Detail::Costs);
+    if values.get_flag("json") {
+        perform(values, Order::ShowJson { name, detail })
+    } else {
+        perform(values, Order::Show { name, detail })
+    }
+}
+
+fn disable<'a>(values: &ArgMatches<'a>, name: Name) -> Result<Act<'a>, Refusal<'a>> {
+    if values.get_flag("show") {
+        perform(values, Order::DisableShown { name })
+    } else {
+        edit(values, Edit::Disable(name))
+    }
+}
+
+fn rename<'a>(values: &ArgMatches<'a>, name: Name) -> Result<Act<'a>, Refusal<'a>> {
+    edit(values, Edit::Rename(name, name_in(values, "new")?))
+}
+
+/// How tagged lines are answered. New records are within the bounds, and have room.
+fn service_in<'a, R: RandomSource + AllocGlobal>(
+    rt: &R,
+    values: &ArgMatches<'a>,
+) -> Result<Service, Refusal<'a>> {
+    let memory = size_in(values, "memory")?.unwrap_or(DEFAULT_MEMORY);
+    let most = most_in(values)?;
+    let setting = setting_in(rt, values)?;
+    if exceeds(&most, &setting.setting()) {
+        return Err(Refusal::Costly);
+    }
+    let least = memory_alone(&setting.setting());
+    if memory < least {
+        return Err(Refusal::Crowded(least));
+    }
+    Ok(Service {
+        at_once: threads_in(values, "at-once", 255)?,
+        memory,
+        setting,
+        most,
+    })
+}
+
+fn new_password_in<'a, R: RandomSource + AllocGlobal>(
+    rt: &R,
+    values: &ArgMatches<'a>,
+) -> Result<NewPassword, Refusal<'a>> {
+    Ok(NewPassword {
+        setting: setting_in(rt, values)?,
+        empty: either(
+            values,
+            "empty-password",
+            EmptyPassword::Taken,
+            EmptyPassword::Refused,
+        ),
+    })
+}
+
+/// The setting of new records, with a salt of its own or one that is drawn.
+fn setting_in<'a, R: RandomSource + AllocGlobal>(
+    rt: &R,
+    values: &ArgMatches<'a>,
+) -> Result<NewSetting, Refusal<'a>> {
+    let text = values.get_str("setting").unwrap_or(DEFAULT_SETTING);
+    let Ok(mut source) = make_rng::<StdRng, R>(rt) else {
+        return Err(Refusal::Salt);
+    };
+    match salted(rt.alloc(), text, &mut source) {
+        Ok(setting) => Ok(setting),
+        Err(PhcError::Memory) => Err(Refusal::Memory),
+        Err(why) => Err(Refusal::Setting { text, why }),
+    }
+}
+
+/// The setting of a text, with the source's next salt if the text has none.
+fn salted<G: Rng>(alloc: Global, text: &str, source: &mut G) -> Result<NewSetting, PhcError> {
+    setting_of(alloc, text.as_bytes(), &draw_salt(source))
+}

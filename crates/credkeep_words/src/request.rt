@@ -1,0 +1,125 @@
+//! What the words of the command line ask for.
+
+use crate::arguments::credkeep;
+use crate::commands::command_named;
+use crate::options::{counts_in, either, number_in, text_in};
+use crate::orders::act_of;
+use crate::refusal::Refusal;
+use clap::{ArgMatches, Error};
+use cred_admin::{NewSetting, Status};
+use cred_cli::CostBounds;
+use cred_keep::{Counts, Order};
+use std::alloc::Global;
+use std::random::RandomSource;
+
+/// A file, and what is to be done with it.
+#[derive(Drop)]
+pub struct Request<'a> {
+    pub file: &'a str,
+    /// For how many seconds a busy file is tried.
+    pub wait: u16,
+    pub remarks: Remarks,
+    pub counts: Counts,
+    pub act: Act<'a>,
+}
+
+/// Whether passwords may be typed at a terminal, which shows them.
+#[derive(Clone, Copy, PartialEq, Eq)]
+pub enum Echo {
+    Refused,
+    Taken,
+}
+
+/// Whether warnings and progress are told.
+#[derive(Clone, Copy, PartialEq, Eq)]
+pub enum Remarks {
+    Told,
+    Hidden,
+}
+
+/// What is to be done with a file.
+#[derive(Drop)]
+pub enum Act<'a> {
+    /// Begins a book.
+    Init,
+    /// Writes a copy of the book to this place.
+    Backup(&'a str),
+    /// Puts this copy in the book's place.
+    Restore(&'a str),
+    /// Reads all of the book, and its log.
+    Verify,
+    /// Answers tagged lines of many clients.
+    Tagged(Service),
+    /// Does what is asked of a book, with at most so many threads.
+    Perform {
+        order: Order,
+        workers: u8,
+        echo: Echo,
+    },
+}
+
+/// How tagged lines are answered.
+#[derive(Clone, Copy)]
+pub struct Service {
+    /// How many lines are hashed at once, if it was said.
+    pub at_once: Option<u8>,
+    /// How many KiB all hashes together may take. A hash under the setting takes no more.
+    pub memory: u64,
+    /// The costs of new records, which are within the bounds.
+    pub setting: NewSetting,
+    /// What the setting or the record of a line may ask for.
+    pub most: CostBounds,
+}
+
+/// What the process's words ask for. If they are refused it says why, and gives the exit status;
+/// so it does if they ask for help.
+pub fn request_of<'a>(host: &HostRuntime, words: &'a [String]) -> Result<Request<'a>, Status> {
+    match read_words(host, words) {
+        Ok(request) => Ok(request),
+        Err(refusal) => Err(refusal.tell(host)),
+    }
+}
+
+fn read_words<'a, R: RandomSource + AllocGlobal>(
+    rt: &R,
+    words: &'a [String],
+) -> Result<Request<'a>, Refusal<'a>> {
+    let matches = match parse(rt.alloc(), words) {
+        Ok(matches) => matches,
+        Err(error) => return Err(Refusal::of_words(rt.alloc(), words, error)),
+    };
+    let Some((word, values)) = matches.subcommand() else {
+        return Err(Refusal::NoCommand);
+    };
+    let Some(text) = command_named(word) else {
+        return Err(Refusal::NoCommand);
+    };
+    Ok(Request {
+        file: text_in(&matches, "file"),
+        wait: number_in(&matches, "wait", 0, 3600)?.unwrap_or(0),
+        remarks: either(&matches, "quiet", Remarks::Hidden, Remarks::Told),
+        counts: counts_in(values),
+        act: act_of(rt, text.verb, values)?,
+    })
+}
+
+static HELP: [&str; 2] = ["credkeep", "--help"];
+
+static VERSION: [&str; 2] = ["credkeep", "--version"];
+
+fn parse<'a>(alloc: Global, words: &'a [String]) -> Result<ArgMatches<'a>, Error> {
+    let command = credkeep(alloc)?;
+    match meant_by(words) {
+        Some(others) => command.try_get_matches_from(others),
+        None => command.try_get_matches_from(words),
+    }
+}
+
+/// A single word may ask for help or the version as a command does elsewhere.
+fn meant_by(words: &[String]) -> Option<&'static [&'static str]> {
+    match words {
+        [_, word] if word.as_str() == "help" => Some(&HELP),
+        [_, word] if word.as_str() == "version" => Some(&VERSION),
+        _ => None,
+    }
+}

@@ -1,0 +1,107 @@
+//! What was meant by a word that isn't taken, as far as that can be said without repeating it: it
+//! may be a password.
+
+use crate::arguments::{PROGRAM, Word};
+use crate::commands::{COMMANDS, CommandText};
+use std::alloc::Global;
+use strsim::osa_distance;
+
+/// A name that differs from an option's in so many letters is none.
+const FAR: usize = 3;
+
+/// What is wrong with a word, and the option that it is or is near to.
+#[derive(Clone, Copy)]
+pub(crate) enum Slip {
+    /// Nothing but that it is one too many.
+    Unnamed,
+    /// An option of the program stands behind the command.
+    Late(&'static str),
+    /// An option of the command stands before it.
+    Early(&'static str),
+    /// An option of other commands.
+    Elsewhere(&'static str),
+    /// No option, and nearly this one.
+    Misspelt(&'static str),
+}
+
+/// What is wrong with the first option that isn't taken where it stands, beside this command.
+pub(crate) fn slip_in(alloc: Global, words: &[String], command: &CommandText) -> Slip {
+    let mut is_behind = false;
+    for word in words {
+        if word.as_str() == command.verb.word() {
+            is_behind = true;
+        }
+        if let Some(text) = word.as_str().strip_prefix("--") {
+            match slip_of(alloc, name_in(text), command, is_behind) {
+                Slip::Unnamed => {}
+                slip => return slip,
+            }
+        }
+    }
+    Slip::Unnamed
+}
+
+/// The name of an option, without a value that stands behind it.
+fn name_in(text: &str) -> &str {
+    match text.split_once('=') {
+        Some((name, _)) => name,
+        None => text,
+    }
+}
+
+fn slip_of(alloc: Global, name: &str, command: &CommandText, is_behind: bool) -> Slip {
+    let Some(option) = option_like(alloc, name) else {
+        return Slip::Unnamed;
+    };
+    if option != name {
+        return Slip::Misspelt(option);
+    }
+    let is_programs = has(&PROGRAM, option);
+    let is_commands = has(command.words, option) || has(&[Word::Quiet], option);
+    match (is_behind, is_programs, is_commands) {
+        (false, true, _) | (true, _, true) => Slip::Unnamed,
+        (true, true, false) => Slip::Late(option),
+        (false, false, true) => Slip::Early(option),
+        (_, false, false) => Slip::Elsewhere(option),
+    }
+}
+
+/// Whether one of the words is this option.
+fn has(words: &[Word], option: &str) -> bool {
+    for word in words {
+        if word.option() == Some(option) {
+            return true;
+        }
+    }
+    false
+}
+
+/// The option whose name is nearest, if one is near.
+fn option_like(alloc: Global, name: &str) -> Option<&'static str> {
+    let mut best = nearer(alloc, &PROGRAM, name, (FAR, None));
+    for command in &COMMANDS {
+        best = nearer(alloc, command.words, name, best);
+    }
+    best.1
+}
+
+/// The nearest option of these words, if it is nearer than the best that was found.
+fn nearer(
+    alloc: Global,
+    words: &[Word],
+    name: &str,
+    best: (usize, Option<&'static str>),
+) -> (usize, Option<&'static str>) {
+    let (mut least, mut found) = best;
+    for word in words {
+        let Some(option) = word.option() else {
+            continue;
+        };
+        let distance = osa_distance(alloc, option, name).unwrap_or(FAR);
+        if distance < least {
+            least = distance;
+            found = Some(option);
+        }
+    }
+    (least, found)
+}
