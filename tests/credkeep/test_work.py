@@ -70,6 +70,25 @@ class SyncsTest(BookTest):
         """An import syncs as often for a thousand lines as for ten."""
         self.assertEqual(self.syncs("import", 1000), self.syncs("import", 10))
 
+    def test_syncs_of_a_reading(self) -> None:
+        """What only reads syncs the file, its log, and their folder for each, as they are opened;
+        and no more if nothing is in the log."""
+        self.book.add("ann", "first")
+        for words, given in (
+            ("show ann", ""),
+            ("show ann --record", ""),
+            ("list", ""),
+            ("export", ""),
+            ("check ann", "first\n"),
+            ("check ann", "other\n"),
+            ("import --dry-run", "bob:\n"),
+            ("run", "show ann\n"),
+        ):
+            with self.subTest(words=words):
+                _, found = counts(self.book.command(*words.split()), given)
+                self.assertEqual(found["SYNCS"], 4)
+        self.assertEqual(self.book("check", "ann", given="first"), says("yes"))
+
 
 class HashesTest(BookTest):
     def test_no_hash_in_vain(self) -> None:

@@ -5,7 +5,8 @@ ghost use Rattle.std.specs.Prelude.{◌≡◌, IfOk, false};
 use crate::fault::{BookFault, accept, refuse_file};
 use crate::log::{LogLook, fills};
 use crate::sidecar::{
-    JOURNAL, LOG, has_changes_in_log, hold, if_there, len_of, look_at_its_log, real_path, sidecar,
+    EMPTY_LOG, JOURNAL, LOG, has_changes_in_log, hold, if_there, len_of, len_of_log,
+    look_at_its_log, real_path, sidecar,
 };
 use cred_admin::Status;
 use credkeep_words::{FileFault, Remarks};
@@ -210,9 +211,17 @@ pub(crate) fn open_database(
     }
 }
 
-/// Copies the log into the file and closes both. If that fails nothing is lost: the log stays.
-pub(crate) fn close(host: &HostRuntime, conn: Database, status: Status) -> Status {
-    if let Err(error) = fold(conn) {
+/// Copies the log into the file and closes both. If that fails nothing is lost: the log stays. It
+/// isn't copied if it has no change, since that would sync the disk twelve times.
+pub(crate) fn close(host: &HostRuntime, path: &str, conn: Database, status: Status) -> Status {
+    let closed = match len_of_log(host, path) {
+        Ok(Some(len)) if len <= EMPTY_LOG => {
+            drop(conn);
+            Ok(())
+        }
+        _ => fold(conn),
+    };
+    if let Err(error) = closed {
         let _ = writeln!(
             host.stderr(),
             "credkeep: the log stays beside the file: {error}"
@@ -249,8 +258,8 @@ fn open_once(rt: &HostRuntime, path: &str, damaged: DamagedLog) -> Result<Databa
     }
 }
 
-/// Opens a file of which this is supposed. A call with clauses is proved in seconds over any such
-/// `S`, and in a minute over one: so it stands alone, as the next ones do.
+/// Opens a file of which this is supposed. It is over any `S`, since a proof takes a minute where a
+/// call with clauses names one.
 fn open_as<S: Start>(
     rt: &HostRuntime,
     path: &str,
@@ -264,7 +273,7 @@ fn open_as<S: Start>(
     }
 }
 
-/// Copies the log into the file, and closes both.
+/// Copies the log into the file, and closes both; over any `S` for the same reason.
 pub(crate) fn fold<S: Start>(conn: Connection<FileStore<FileFrom<S>>>) -> Result<(), Error> {
     conn.close()
 }
@@ -272,10 +281,10 @@ pub(crate) fn fold<S: Start>(conn: Connection<FileStore<FileFrom<S>>>) -> Result
 /// Sees that no change in the log is damaged: such a one and all behind it would be given up by
 /// the opening, without a word. The file is held meanwhile; if it can't be, the opening says why.
 fn see_log_whole(rt: &HostRuntime, path: &str) -> Result<(), BookFault> {
-    let real = real_path(rt, path)?;
-    if len_of(rt, real.as_str())?.is_none() {
+    if len_of_log(rt, path)?.unwrap_or(0) <= EMPTY_LOG {
         return Ok(());
     }
+    let real = real_path(rt, path)?;
     let _held = match hold(rt, real.as_str()) {
         Err(FileFault::System(_)) => return Ok(()),
         Err(FileFault::Busy) => return Err(BookFault::BUSY),

@@ -16,7 +16,7 @@ pub(crate) const LOG: &str = "-wal";
 pub(crate) const JOURNAL: &str = "-journal";
 
 /// A log of no more bytes holds no change: the header, and the start of one frame.
-const EMPTY_LOG: u64 = 41;
+pub(crate) const EMPTY_LOG: u64 = 41;
 
 /// What was found at a name, or nothing if nothing has it.
 pub(crate) fn if_there<T>(found: io::Result<T>) -> io::Result<Option<T>> {
@@ -44,6 +44,13 @@ pub(crate) fn real_path(rt: &HostRuntime, path: &str) -> io::Result<String> {
 /// The length of a file, or nothing if nothing has the name.
 pub(crate) fn len_of(rt: &HostRuntime, path: &str) -> io::Result<Option<u64>> {
     Ok(if_there(fs::symlink_metadata(rt, path))?.map(|found| found.len()))
+}
+
+/// The length of the log of the database at this path, or where a link leads from there.
+pub(crate) fn len_of_log(rt: &HostRuntime, path: &str) -> io::Result<Option<u64>> {
+    let real = real_path(rt, path)?;
+    let log = sidecar(rt, real.as_str(), LOG)?;
+    len_of(rt, log.as_str())
 }
 
 /// What the log of the database at this path holds; nothing if there is none.
