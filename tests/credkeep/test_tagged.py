@@ -214,6 +214,31 @@ class HashesTest(BookTest):
             self.assertEqual(ends, {0, 3})
 
 
+ACCOUNTS = [f"n{at}" for at in range(1000)]
+
+
+class TurnsTest(BookTest):
+    def test_turns_of_accounts(self) -> None:
+        """A thousand accounts ask again and again, and each is let in, in its turn: its answer comes
+        within a round of where its line did. Some have records that take all memory."""
+        cheap, costly = (self.record_of(memory) for memory in (8, 1024))
+        self.begun({it: costly if it.endswith("7") else cheap for it in ACCOUNTS})
+        lines = [f"verify {it} {ONE}" for _ in range(4) for it in ACCOUNTS]
+        with self.book.tagged("--at-once", "4", "--memory", "1M") as service:
+            done = service.end(lined(f"t{at} {line}" for at, line in enumerate(lines)))
+        self.assertEqual((done.status, done.faults), (0, ""))
+        told = [re.fullmatch(r"t(\d+) yes", it) for it in done.written.splitlines()]
+        came = [int(it[1]) if it else -1 for it in told]
+        self.assertEqual(sorted(came), [*range(len(lines))])
+        late = max(abs(place - at) for place, at in enumerate(came))
+        self.assertLess(late, len(ACCOUNTS))
+
+    def record_of(self, memory: int) -> str:
+        """A record of so many KiB of the password one."""
+        setting = f"$argon2id$v=19$m={memory},t=1,p=1${SALT}"
+        return self.begun().answers("t account a", f"t enrol a {ONE} {setting}", "t show a")[2][2:]
+
+
 MEMBERS = [f"n{at}" for at in range(64)]
 
 

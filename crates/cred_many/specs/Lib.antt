@@ -6,5 +6,6 @@ pub mod Reading
 pub mod Scribe
 pub mod Served
 pub mod Service
+pub mod Telling
 pub use Rattle.cred_book.specs.Accounts
 pub use Rattle.cred_phc.specs.Values

@@ -1,0 +1,62 @@
+-- Of which accounts the answer to a line tells, and what counts of its passwords.
+use Rattle.std.specs.Prelude.{◌≡◌, ℕ, List, [], ◌∷◌, All, nat_lt, Option, Some, None, IfSome, length}
+use Rattle.cred_phc.specs.Values.{SettingValue}
+use Rattle.cred_book.specs.{Accounts.Accounts, Passwords.KeepsTags, Passwords.made_setting, Works.name_of}
+use Rattle.cred_admin.specs.declared.edits.Edit.TheVariants.{Disable, Delete, Rename}
+use Rattle.cred_many.specs.{Asks.hashed_for, Served.name_asked, Served.record_at, declared.ask.Ask.Ask}
+use Rattle.cred_many.specs.declared.ask.Ask.TheVariants.{Quick, Whole, Login, Reset}
+use Rattle.cred_many.specs.declared.ask.QuickAsk.TheVariants.{Account, Load, Show, DisableShown, Bad, Edit as Change, List as Names}
+use Rattle.cred_book.specs.Passwords as book
+use Rattle.std.specs.FinMap as fin
+
+-- ---- accounts
+
+-- the accounts that a line names
+abbrev pub names_in : Ask → List (List ℕ)
+names_in (Quick (Account name)) = name ∷ []
+names_in (Quick (Load name stored)) = name ∷ []
+names_in (Quick (Show name)) = name ∷ []
+names_in (Quick (DisableShown name)) = name ∷ []
+names_in (Quick (Change (Disable name))) = name ∷ []
+names_in (Quick (Change (Delete name))) = name ∷ []
+names_in (Quick (Change (Rename name other))) = name ∷ other ∷ []
+names_in (Quick (Names from most)) = []
+names_in (Quick (Bad why)) = []
+names_in (Whole r) = name_of r ∷ []
+names_in (Login name pw setting) = name ∷ []
+names_in (Reset name pw setting) = name ∷ []
+
+-- both books have room for one more account, or neither
+abbrev pub HaveRoomAlike : ℕ → Accounts → Accounts → Type 0
+HaveRoomAlike capacity one other = nat_lt (fin.len one) capacity ≡ nat_lt (fin.len other) capacity
+
+-- what else the answer tells of: for a new name whether there is room, and for a list the names
+abbrev pub AreAlikeBeside : ℕ → Ask → Accounts → Accounts → Type 0
+AreAlikeBeside capacity (Quick (Account name)) one other = HaveRoomAlike capacity one other
+AreAlikeBeside capacity (Quick (Change (Rename name new))) one other =
+    HaveRoomAlike capacity one other
+AreAlikeBeside capacity (Quick (Names from most)) one other = fin.keys one ≡ fin.keys other
+AreAlikeBeside capacity _ one other = Unit {0}
+
+-- the books are alike in all that the answer tells of
+abbrev pub AreAlikeFor : ℕ → Ask → Accounts → Accounts → Type 0
+AreAlikeFor capacity ask one other =
+    All (λ name. fin.get one name ≡ fin.get other name) (names_in ask)
+    × AreAlikeBeside capacity ask one other
+
+-- ---- passwords
+
+-- the line with another password in the place of each
+abbrev pub with_passwords : (List ℕ → List ℕ) → Ask → Ask
+with_passwords other (Quick ask) = Quick ask
+with_passwords other (Whole r) = Whole (book.with_passwords other r)
+with_passwords other (Login name pw setting) = Login name (other pw) setting
+with_passwords other (Reset name pw setting) = Reset name (other pw) setting
+
+-- Each other password has the tag of the one in whose place it stands: under the setting of the
+-- account's record, and under that of the record that the line may make.
+abbrev pub KeepsTagsFor : (List ℕ → List ℕ) → Accounts → Ask → Type 0
+KeepsTagsFor other accounts ask =
+    IfSome (record_at accounts (name_asked ask))
+    (λ stored. KeepsTags other stored.setting (length stored.tag))
+    × IfSome (hashed_for ask) (λ r. IfSome (made_setting r) (λ setting. KeepsTags other setting 32))

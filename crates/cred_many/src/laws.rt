@@ -1,0 +1,27 @@
+//! Laws about what a tagged line does. A law is a function that does nothing; its contract is what
+//! holds.
+
+ghost use Rattle.std.specs.Prelude.{◌≡◌, ◌≢◌, All, List, ℕ};
+ghost use Rattle.std.specs.FinMap as map;
+ghost use Rattle.cred_book.specs.Accounts.{Accounts};
+ghost use Rattle.cred_many.specs.{Served.done, Telling.AreAlikeFor, Telling.KeepsTagsFor, Telling.names_in, Telling.with_passwords, declared.ask.Ask.Ask};
+
+/// An answer tells of the accounts alone that its line names, and the line leaves every other as it
+/// is. Of a new name it also tells whether there is room, and a list tells the names and no more.
+pub fn an_answer_tells_of_its_accounts()
+    ensures tells { (capacity : ℕ) (one other : Accounts) (ask : Ask)
+        → AreAlikeFor capacity ask one other
+        → (done capacity one ask).0 ≡ (done capacity other ask).0 }
+    ensures keeps { (capacity : ℕ) (book : Accounts) (ask : Ask) (name : List ℕ)
+        → All (λ named. name ≢ named) (names_in ask)
+        → map.get (done capacity book ask).1 name ≡ map.get book name }
+{}
+
+/// A password counts by its tags alone. Others may stand in its place that have the same tag under
+/// the setting of the account's record, and under that of the record that the line may make: the
+/// answer is the same, and so is the book after it.
+pub fn a_password_counts_by_its_tags()
+    ensures { (other : List ℕ → List ℕ) (capacity : ℕ) (book : Accounts) (ask : Ask)
+        → KeepsTagsFor other book ask
+        → done capacity book (with_passwords other ask) ≡ done capacity book ask }
+{}
