@@ -153,8 +153,9 @@ class HashesTest(BookTest):
             ("remove", "password\n"),
         ):
             with self.subTest(order=order, given=given):
-                found = set()
-                for byte in (0, 1, 15, 30, 31):
+                least: dict[int, int] = {}
+                # a busy machine may add some, and takes none away
+                for byte in (0, 1, 15, 30, 31) * 3:
                     other = bytearray(base64.b64decode(f"{tag}="))
                     other[byte] ^= 0x55
                     stored = base64.b64encode(other).decode().rstrip("=")
@@ -162,5 +163,7 @@ class HashesTest(BookTest):
                     words = ["--setting", CHEAP] if order == "change" else []
                     done, count = instructions(book.command(order, *words, "ann"), given)
                     self.assertEqual(done[:2], says("no" if order == "check" else "wrong")[:2])
-                    found.add(count)
-                self.assertEqual(len(found), 1, f"{order}: {sorted(found)} instructions")
+                    least[byte] = min(count, least.get(byte, count))
+                    if len(least) == 5 and len({*least.values()}) == 1:
+                        break
+                self.assertEqual(len({*least.values()}), 1, f"{order}: {least} instructions")
