@@ -219,8 +219,8 @@ ACCOUNTS = [f"n{at}" for at in range(1000)]
 
 class TurnsTest(BookTest):
     def test_turns_of_accounts(self) -> None:
-        """A thousand accounts ask again and again, and each is let in, in its turn: its answer comes
-        within a round of where its line did. Some have records that take all memory."""
+        """A thousand accounts ask again and again, and each is let in, in its turn: its answer
+        comes within a round of where its line did. Some have records that take all memory."""
         cheap, costly = (self.record_of(memory) for memory in (8, 1024))
         self.begun({it: costly if it.endswith("7") else cheap for it in ACCOUNTS})
         lines = [f"verify {it} {ONE}" for _ in range(4) for it in ACCOUNTS]

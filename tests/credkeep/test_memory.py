@@ -1,0 +1,95 @@
+"""What hashes leave in the memory of a service, and in its core."""
+
+import base64
+import hashlib
+import pathlib
+import re
+import shutil
+import signal
+import struct
+import subprocess
+import time
+from collections.abc import Iterator
+
+from tests.credkeep.books import DONE, SALT, BookTest, Service
+from tests.credkeep.doors import in_base64
+
+LOGINS = 100
+
+
+def numbers(*of: int) -> bytes:
+    return struct.pack(f"<{len(of)}I", *of)
+
+
+def long_hash(text: bytes, size: int) -> bytes:
+    """H' of RFC 9106, section 3.3, for over 64 bytes."""
+    value = hashlib.blake2b(numbers(size) + text).digest()
+    found = value[:32]
+    while size - len(found) > 64:
+        value = hashlib.blake2b(value).digest()
+        found += value[:32]
+    return found + hashlib.blake2b(value, digest_size=size - len(found)).digest()
+
+
+def words_of(setting: str, password: bytes) -> list[bytes]:
+    """Words of the first block of Argon2id's memory (RFC 9106, section 3.2), which one pass leaves
+    as they are."""
+    memory, passes, lanes = (int(it) for it in re.findall(r"=(\d+)", setting)[1:])
+    salt = base64.b64decode(f"{SALT}==")
+    first = numbers(lanes, 32, memory, passes, 0x13, 2, len(password)) + password
+    first += numbers(len(salt)) + salt + numbers(0, 0)
+    block = long_hash(hashlib.blake2b(first).digest() + numbers(0, 0), 1024)
+    return [block[:8], block[512:520]]
+
+
+def parts_of(pid: int) -> Iterator[bytes]:
+    """The parts of a process's memory that can be read."""
+    with open(f"/proc/{pid}/mem", "rb", 0) as memory:
+        for line in pathlib.Path(f"/proc/{pid}/maps").read_text().splitlines():
+            found = re.match(r"([0-9a-f]+)-([0-9a-f]+) r", line)
+            if found and not re.search(r"\[v\w+\]$", line):
+                start, end = (int(it, 16) for it in found.groups())
+                memory.seek(start)
+                yield memory.read(end - start)
+
+
+class MemoryTest(BookTest):
+    def left(self, service: Service, words: list[bytes]) -> list[bytes]:
+        """Which words are in the memory of a service, or in its core."""
+        pid, core = service.process.pid, self.room / "core"
+        parts = [*parts_of(pid)]
+        if shutil.which("gcore"):
+            subprocess.run(["gcore", "-o", core, str(pid)], check=True, capture_output=True)
+            parts.append(pathlib.Path(f"{core}.{pid}").read_bytes())
+        return [it for it in words if any(it in part for part in parts)]
+
+    def stop_with(self, service: Service, words: list[bytes]) -> None:
+        """Stops a service once its memory has these words. It is killed if it never has."""
+        pid = service.process.pid
+        while True:
+            service.process.send_signal(signal.SIGSTOP)
+            whole = b"".join(parts_of(pid))
+            if all(it in whole for it in words):
+                return
+            service.process.send_signal(signal.SIGCONT)
+            time.sleep(0.01)
+
+    def test_blocks(self) -> None:
+        """Blocks of Argon2 are in memory while a hash is worked, and no more after it: neither after
+        a hundred logins, whose memory is kept, nor after one whose memory isn't."""
+        kept, costly = "$argon2id$v=19$m=1024,t=1,p=1", "$argon2id$v=19$m=262144,t=1,p=1"
+        for name, setting in (("ann", kept), ("bob", costly)):
+            enrol = f"t enrol {name} {in_base64('right')} {setting}${SALT}"
+            self.book.answers(f"t account {name}", enrol)
+        with self.book.tagged("--at-once", "2", "--setting", kept) as service:
+            for at in range(LOGINS):
+                self.assertEqual(service.ask(f"t login ann {in_base64(f'wrong {at}')}"), "t no")
+            some = [f"wrong {at}".encode() for at in (0, LOGINS // 2, LOGINS - 2, LOGINS - 1)]
+            self.assertEqual(self.left(service, [w for it in some for w in words_of(kept, it)]), [])
+            service.send(f"t login bob {in_base64('wrong')}\n")
+            words = words_of(costly, b"wrong")
+            self.stop_with(service, words)
+            service.process.send_signal(signal.SIGCONT)
+            self.assertEqual(service.answer(), "t no")
+            self.assertEqual(self.left(service, words), [])
+            self.assertEqual(service.end(), DONE)
