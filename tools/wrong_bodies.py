@@ -69,7 +69,8 @@ class Bench:
         head, uses = listed()[self.crate]
         kit = pathlib.Path(subprocess.run([RT, "doc"], capture_output=True, text=True, check=True).stdout.strip()).parent
         root = next(it for it in ("src/lib.rt", "src/main.rt") if it in self.texts)
-        yield from (kit / "bin/rattle", "check", "--crate-name", self.crate, root, "--jobs", "1")
+        # behind COMMAND, whose tests have a minute each
+        yield from ("nice", kit / "bin/rattle", "check", "--crate-name", self.crate, root, "--jobs", "1")
         for name in ("std", *uses):
             yield from ("--extern", f"{name}={self.libraries if name in below(self.crate) else kit / 'rlibs'}/{name}.rlib")
         yield from ("-L", f"dependency={kit / 'rlibs'}", "-L", f"dependency={self.libraries}")
