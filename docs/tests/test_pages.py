@@ -349,7 +349,9 @@ assert hasher.check_needs_rehash(record) is {is_old}
     def test_symfony(self):
         """docs/PHP.md's upgrader for Symfony, on SQLite."""
         self.need_php("Symfony/Component/Security/Http/autoload.php")
-        (code,) = re.findall(r"^```php\n(<.*?)```", (HERE.parent / "PHP.md").read_text(), re.S | re.M)
+        (code,) = re.findall(
+            r"^```php\n(<.*?)```", (HERE.parent / "PHP.md").read_text(), re.S | re.M
+        )
         page = self.room / "CompareAndSetUpgrader.php"
         page.write_text(code)
         self.php(page, "php_symfony.php")

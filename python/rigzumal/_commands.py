@@ -50,7 +50,9 @@ class Words(argparse.ArgumentParser):
         """Ends the program, and hides a word too many, which may be a password."""
         front, _, words = message.partition("unrecognized arguments: ")
         if words and not front:
-            message = "a word too many; a password is never an argument: pipe or type it"
+            message = (
+                "a word too many; a password is never an argument: pipe or type it"
+            )
             first = words.split()[0].partition("=")[0]
             near = difflib.get_close_matches(first, self._option_string_actions, 1, 0.7)
             if near and first.startswith("--"):

@@ -95,7 +95,9 @@ class Options:
     upgrade: str = option("new costs, to which a verify upgrades", "COSTS", "", costs)
     least_length: int = option("characters of a new password at least", "N", 0)
     setting: str = option("for credkeep: the costs of new records", "TEXT")
-    at_once: int = option("lines of a user hashed at once; 0: processors", "N", 0, places)
+    at_once: int = option(
+        "lines of a user hashed at once; 0: processors", "N", 0, places
+    )
     memory: str = option("for credkeep: memory for hashes, as 512M", "SIZE")
     most_memory: str = option("for credkeep: the bound of a record's memory", "SIZE")
     most_work: str = option("for credkeep: that of its memory times passes", "N")
