@@ -6,6 +6,7 @@ import argparse
 import difflib
 import enum
 import getpass
+import re
 import sys
 from collections.abc import Callable
 from typing import NoReturn, Optional, Union
@@ -47,7 +48,7 @@ class Words(argparse.ArgumentParser):
     """A parser whose errors end with the status of refused words."""
 
     def error(self, message: str) -> NoReturn:
-        """Ends the program, and hides a word too many, which may be a password."""
+        """Ends the program, and hides a word that isn't taken: it may be a password."""
         front, _, words = message.partition("unrecognized arguments: ")
         if words and not front:
             message = (
@@ -57,6 +58,8 @@ class Words(argparse.ArgumentParser):
             near = difflib.get_close_matches(first, self._option_string_actions, 1, 0.7)
             if near and first.startswith("--"):
                 message += f"; is {near[0]} meant?"
+        hidden = r"invalid choice: .*(?=\(choose)"
+        message = re.sub(hidden, "there is no such word ", message, flags=re.S)
         self.print_usage(sys.stderr)
         self.exit(Status.WORDS, f"{self.prog}: error: {message}\n")
 

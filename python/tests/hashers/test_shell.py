@@ -139,6 +139,8 @@ class Shell(unittest.TestCase):
 
     @each(
         ("hash hunter2", "a password is never an argument"),
+        ("hunter2", "there is no such word (choose from 'hash'"),
+        ("accounts hunter2", "there is no such word (choose from 'init'"),
         ("accounts --database= list", "no database: --database URL"),
         ("hash --log2-n 10", "rigzumal: --log2-n is of scrypt, and --scrypt is missing\n"),
         ("hash --scrypt --lanes 4", "rigzumal: --lanes is of Argon2, and --scrypt is given\n"),
