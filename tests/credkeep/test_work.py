@@ -71,8 +71,7 @@ class SyncsTest(BookTest):
         self.assertEqual(self.syncs("import", 1000), self.syncs("import", 10))
 
     def test_syncs_of_a_reading(self) -> None:
-        """What only reads syncs the file, its log, and their folder for each, as they are opened;
-        and no more if nothing is in the log."""
+        """What only reads syncs while the file and its log are opened, and not after that."""
         self.book.add("ann", "first")
         for words, given in (
             ("show ann", ""),
@@ -86,7 +85,7 @@ class SyncsTest(BookTest):
         ):
             with self.subTest(words=words):
                 _, found = counts(self.book.command(*words.split()), given)
-                self.assertEqual(found["SYNCS"], 4)
+                self.assertEqual(found["SYNCS"], 4 + 2 * 6)
         self.assertEqual(self.book("check", "ann", given="first"), says("yes"))
 
 
