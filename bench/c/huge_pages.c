@@ -12,3 +12,7 @@ void *mmap(void *at, size_t size, int protection, int flags, int file, off_t off
         madvise(start, size, MADV_HUGEPAGE);
     return start;
 }
+
+/* The same by its other name, which programs call that are built for large files. */
+void *mmap64(void *at, size_t size, int protection, int flags, int file, off_t offset)
+    __attribute__((alias("mmap")));
