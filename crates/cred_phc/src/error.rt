@@ -1,4 +1,4 @@
-//! Why a text is no setting or record, and why one can't be made or written.
+//! Faults of texts that are no setting or record, and of making and writing these.
 
 ghost use Rattle.std.specs.Prelude.{◌≡◌};
 ghost use Rattle.cred_phc.specs.{Errors.error_number, Errors.error_word, declared.error.PhcError.TheVariants.Memory as OutOfMemory};
@@ -15,7 +15,7 @@ pub enum PhcError {
     /// The scheme is none of argon2d, argon2i, argon2id and scrypt.
     #[error("the scheme is none of argon2d, argon2i, argon2id and scrypt")]
     Scheme,
-    /// The version isn't one that can be read here.
+    /// This crate doesn't read the version.
     #[error("the version is not one that can be read here")]
     Version,
     /// The numbers aren't written in the form of the scheme.
@@ -30,7 +30,7 @@ pub enum PhcError {
     /// The tag isn't base64, or has a length outside its range.
     #[error("the tag is not base64, or has a length outside its range")]
     Tag,
-    /// There was no memory for the value or its text.
+    /// No memory for the value or its text.
     #[error("out of memory")]
     Memory,
     /// The text has over 512 bytes.

@@ -18,10 +18,10 @@ use std::marker::Sync;
 use std::thread::Threads;
 use thiserror::Error;
 
-/// Why a password has no tag.
+/// The error of a password's tag.
 #[derive(Clone, Copy, Debug, PartialEq, Eq, Error)]
 pub enum TagError {
-    /// There was no memory for the work or the tag.
+    /// No memory for the work or the tag.
     #[error("out of memory")]
     Memory,
 }
@@ -90,13 +90,13 @@ pub fn tag_of<R: Threads + Sync, G: Gate + Sync>(
     }
 }
 
-/// The same with all work on the caller's thread, so that no runtime is needed, and for a password
-/// of any length that Argon2 takes. The memory is kept from tag to tag, up to the scratch's bound.
-/// So a thread that makes many tags doesn't have the system take it back each time. A tag never
-/// depends on what an earlier one left there.
+/// Makes the same tag on the caller's thread, without a runtime, of a password of any length that
+/// Argon2 accepts. The scratch keeps its memory from tag to tag, up to its bound. So the system
+/// doesn't take the memory back after each of many tags. A tag never depends on what an earlier
+/// tag left in the memory.
 ///
-/// Errors: `Memory` if there is too little for the setting. The scratch is good for the next tag
-/// then, too.
+/// Errors: `Memory` if there is too little for the setting. The scratch can still make the next
+/// tag.
 pub fn tag_in<G: Gate>(
     scratch: &mut Scratch,
     alloc: Global,
@@ -136,8 +136,8 @@ pub fn tag_in<G: Gate>(
     }
 }
 
-/// The parameters of Argon2 for a tag of `len` bytes, 4 to 64, that the setting gives; none if
-/// it is one of scrypt.
+/// The setting's parameters of Argon2 for a tag of `len` bytes, 4 to 64; `None` for a setting of
+/// scrypt.
 pub fn argon2_params(setting: &Setting, len: u8) -> Option<Params>
     requires low { 4 ≤ len }
     requires high { len ≤ 64 }
@@ -163,7 +163,7 @@ enum Function {
 }
 
 impl Function {
-    /// That of the setting, for a tag of `len` bytes.
+    /// The setting's function, for a tag of `len` bytes.
     #[tactic(auto, unfolding(crate::specs::Tags::tag))]
     fn of(setting: &Setting, len: u8) -> Function
         requires low { 4 ≤ len }
@@ -184,8 +184,8 @@ impl Function {
     }
 }
 
-/// The tag of the bytes that a function made. It refuses no input of a setting, so it made none
-/// only because memory ran out.
+/// The tag of the bytes that a function made. A function refuses no input of a setting, so only
+/// want of memory leaves it without bytes.
 fn tag_made<E: Drop>(made: Result<Vec<u8>, E>) -> Result<Tag, TagError>
     requires low { IfOk made (λ v. 4 ≤ length v.items) }
     requires high { IfOk made (λ v. length v.items ≤ 64) }

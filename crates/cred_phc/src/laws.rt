@@ -1,4 +1,4 @@
-//! What holds of `==` and of the definitions that contracts cite. A law about definitions is a
+//! Laws of `==` and of the definitions that contracts cite. A law about definitions is a
 //! function that does nothing.
 
 ghost use Rattle.std.specs.Prelude.{◌≡◌, ◌↔◌, codes, false, replicate, true, IsTrue, List, ℕ};
@@ -67,7 +67,7 @@ pub fn equal_versions(version: Version, other: Version) -> bool
     version == other
 }
 
-/// What is written is read as itself: a record, and a setting that isn't of version 0x10.
+/// Reading a written text gives its value: a record, or a setting that isn't of version 0x10.
 pub fn read_as_written()
     ensures records { (v : RecordValue) → IsRecord v → read_record (record_text v) ≡ Ok v }
     ensures settings { (v : SettingValue) → IsSetting v → is_current v.scheme ≡ true
@@ -83,9 +83,9 @@ pub fn two_old_texts()
         → record_text v ≡ bare_text v → ⊥ }
 {}
 
-/// Reading is the grammar. What is read has the text as one of its texts; each text of a value in
-/// its ranges is read as that value; and a text is refused exactly with its first fault. That what
-/// is read is in its ranges is said by `parse_setting` and `parse_record`.
+/// Reading is the grammar. A value that is read has the text as one of its texts; each text of a
+/// value in its ranges is read as that value; a text is refused exactly with its first fault.
+/// `parse_setting` and `parse_record` say that a value that is read is in its ranges.
 pub fn reading_is_the_grammar()
     ensures setting_found { (text : List ℕ) (v : SettingValue) → IsBytes text
         → read_setting text ≡ Ok v → IsSettingText text v }
@@ -109,7 +109,7 @@ pub fn one_value_each()
         → IsRecordText text v → IsRecordText text w → v ≡ w }
 {}
 
-/// A setting of version 0x10 that is written is not read again.
+/// The written text of a setting of version 0x10 is refused.
 #[tactic(auto, using(crate::proofs::RecordLaws::old_setting))]
 pub fn old_not_read()
     ensures { (v : SettingValue) → IsSetting v → is_current v.scheme ≡ false

@@ -5,7 +5,7 @@ ghost use Rattle.cred_phc.specs.{Fields.labelled_number, Fields.numbers_of, Numb
 
 use crate::pieces::Pieces;
 
-/// Digits, with no zero in front of others.
+/// Digits without a leading zero.
 fn is_numeral(digits: &[u8]) -> bool
     ensures { result ≡ is_numeral digits.now }
 {
@@ -22,8 +22,8 @@ fn all_digits(text: &[u8]) -> bool
     text.iter().all(|byte| byte.is_ascii_digit())
 }
 
-/// The number that decimal digits write, with no zero in front of others; the greatest `u64` in
-/// place of a greater one. None if the bytes write no number so.
+/// The value of a decimal numeral without a leading zero; the greatest `u64` in place of a greater
+/// value. `None` if the bytes aren't such a numeral.
 #[tactic(auto, using(crate::proofs::NumberLaws::push), unfolding(crate::specs::Number::number_of))]
 pub fn decimal(digits: &[u8]) -> Option<u64>
     ensures { result ≡ option_map saturation (number_of digits.now) }

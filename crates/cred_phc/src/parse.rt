@@ -17,10 +17,10 @@ use crate::setting::Setting;
 use crate::tag::Tag;
 use cred_argon::Version;
 
-/// Longer texts are not looked at. No text that stands for a value has even half as many bytes.
+/// A longer text is refused unread. No text of a value has even half as many bytes.
 const MAX_TEXT: usize = 512;
 
-/// What a text is read as.
+/// The kind of value that a text is read as.
 #[derive(Clone, Copy)]
 enum Form {
     Setting,
@@ -39,8 +39,8 @@ impl Form {
     }
 }
 
-/// The setting of a text, as `$argon2id$v=19$m=256,t=2,p=1$c29tZXNhbHQ`. One of
-/// version 0x10 is not read: new records are of version 0x13.
+/// The setting of a text, such as `$argon2id$v=19$m=256,t=2,p=1$c29tZXNhbHQ`. A text of
+/// version 0x10 is refused: new records are of version 0x13.
 ///
 /// Errors: `TooLong` if the text has over 512 bytes; otherwise, by the first field from the left
 /// that is wrong or missing, `Shape`, `Scheme`, `Version`, `Params`, `Range` or `Salt`.

@@ -7,7 +7,7 @@ use crate::short_bytes::ShortBytes;
 use std::fmt;
 use std::marker::Model;
 
-/// How many bytes a password has at most, so that it has a fixed size.
+/// The length of the longest password in bytes, which gives passwords a fixed size.
 pub const MAX_PASSWORD: usize = 256;
 
 /// At most 256 bytes of any value, of which `{:?}` shows none.

@@ -1,4 +1,4 @@
-//! A text cut at each place where a byte stands.
+//! The pieces of a text between its separators.
 
 ghost use Rattle.std.specs.Prelude.{◌≡◌, ◌<◌, ◌==◌, [], ◌∷◌, length, position, slice_get, IfSome, MatchOption};
 ghost use Rattle.std.specs.Option.{option_copied};
@@ -25,7 +25,7 @@ impl<'a> Model for Pieces<'a> {
 }
 
 impl<'a> Pieces<'a> {
-    /// All pieces of the text, cut at each place where the separator stands.
+    /// All pieces of the text, between the separators.
     pub fn new(text: &'a [u8], separator: u8) -> Pieces<'a>
         ensures { result ≡ pieces separator text.now }
     {
@@ -43,7 +43,7 @@ impl<'a> Pieces<'a> {
         Some(piece)
     }
 
-    /// Takes the next piece off.
+    /// Removes the next piece, and returns it.
     pub fn next(&mut self) -> Option<&'a [u8]>
         ensures { MatchOption result ((self.old ≡ []) × (self.new ≡ []))
             (λ piece. self.old ≡ piece.now ∷ self.new) }
@@ -55,7 +55,7 @@ impl<'a> Pieces<'a> {
     }
 }
 
-/// The piece before the first `byte`, and what comes after that byte, if the text has it.
+/// The piece before the first `byte`, and the text after that byte, if it occurs.
 #[tactic(auto, using(crate::proofs::PieceLaws::cut_first, crate::proofs::PieceLaws::cut_none))]
 fn cut(text: &[u8], byte: u8) -> (&[u8], Option<&[u8]>)
     ensures { pieces byte text.now ≡ result.0.now ∷ pieces_left byte (option_copied result.1) }

@@ -1,4 +1,4 @@
-//! What is kept of a password.
+//! The record of a password.
 
 ghost use Rattle.std.specs.Prelude.{◌≡◌, IfOk};
 ghost use Rattle.cred_phc.specs.Values.{IsRecord, made_record, record_of};
@@ -52,7 +52,7 @@ impl Record {
         Record { setting, tag }
     }
 
-    /// How the password was hashed.
+    /// The setting under which the password was hashed.
     pub fn setting(&self) -> Setting
         ensures value { result ≡ self.now.setting }
         ensures ranges { IsRecord self.now }

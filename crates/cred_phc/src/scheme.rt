@@ -1,4 +1,4 @@
-//! Which function makes a record's tag, and with which numbers.
+//! Schemes: the function that makes a record's tag, with its numbers.
 
 ghost use Rattle.std.specs.Prelude.{◌≡◌, IfSome, IsTrue};
 ghost use Rattle.cred_phc.specs.{Names.variant_name, Names.version_text, Reading.argon_of, Reading.scrypt_of};
@@ -56,22 +56,22 @@ pub(crate) enum Name {
 /// The name of scrypt in a text.
 pub(crate) const SCRYPT: &str = "scrypt";
 
-/// What stands before the number of a version in a text.
+/// The label of the version in a text.
 pub(crate) const VERSION_LABEL: &str = "v=";
 
-/// What stands before Argon2's memory in a text.
+/// The label of Argon2's memory in a text.
 pub(crate) const MEMORY_LABEL: &str = "m=";
 
-/// What stands before Argon2's passes.
+/// The label of Argon2's passes.
 pub(crate) const PASSES_LABEL: &str = "t=";
 
-/// What stands before the logarithm of scrypt's cost.
+/// The label of the logarithm of scrypt's cost.
 pub(crate) const COST_LABEL: &str = "ln=";
 
-/// What stands before scrypt's block size.
+/// The label of scrypt's block size.
 pub(crate) const BLOCK_SIZE_LABEL: &str = "r=";
 
-/// What stands before Argon2's lanes, and before scrypt's parallelization.
+/// The label of Argon2's lanes, and of scrypt's parallelization.
 pub(crate) const PARALLELISM_LABEL: &str = "p=";
 
 /// The field that names the version in a text.
@@ -162,7 +162,7 @@ impl Scheme {
         }
     }
 
-    /// Whether new records are made by it: it isn't of version 0x10.
+    /// Whether new records may have this scheme: its version isn't 0x10.
     pub(crate) fn is_current(&self) -> bool
         ensures { result ≡ is_current self.now }
     {
@@ -173,14 +173,14 @@ impl Scheme {
     }
 }
 
-/// Whether Argon2 takes these numbers, as [`Params`] has it.
+/// Whether Argon2 accepts these numbers, as [`Params`] says.
 fn argon_fits(m: u32, t: u32, p: u8) -> bool
     ensures { result ≡ argon_fits m t p }
 {
     Params::new(Kind::Id, m, t, u32::from(p), MIN_TAG).is_ok()
 }
 
-/// Whether scrypt takes these numbers, as [`ScryptParams`] has it.
+/// Whether scrypt accepts these numbers, as [`ScryptParams`] says.
 fn scrypt_fits(ln: u8, r: u8, p: u8) -> bool
     ensures { result ≡ scrypt_fits ln r p }
 {

@@ -7,11 +7,11 @@ use std::alloc::Global;
 use std::marker::Model;
 use std::mem;
 
-/// Memory for tags that are made one after another, by [`tag_in`](crate::tag_in). It is kept from
-/// tag to tag, up to a bound, and what is kept holds zeros alone.
+/// Memory for one tag after another, by [`tag_in`](crate::tag_in). Up to a bound it is kept from
+/// tag to tag, filled with zeros.
 #[derive(Drop)]
 pub struct Scratch {
-    /// How many KiB are kept at most.
+    /// The maximum number of KiB that are kept.
     most: u32,
     memory: Memory,
 }
@@ -35,8 +35,8 @@ impl Model for Scratch {
 }
 
 impl Scratch {
-    /// Memory that is yet to be taken. Between two tags at most so many KiB are kept: what a tag
-    /// takes above them is given back.
+    /// A scratch without memory. Between two tags it keeps at most this many KiB: memory above them
+    /// is freed.
     pub fn new(alloc: Global, most: u32) -> Scratch
         ensures { result ≡ most }
     {
@@ -46,7 +46,7 @@ impl Scratch {
         }
     }
 
-    /// How many KiB are kept now.
+    /// The number of KiB that are kept now.
     pub fn kept(&self) -> usize
         ensures { result ≤ self.now }
     {
@@ -56,7 +56,7 @@ impl Scratch {
         }
     }
 
-    /// The memory of Argon2. That of scrypt is given back.
+    /// The memory of Argon2; memory of scrypt is freed.
     pub(crate) fn take_argon2(&mut self, alloc: Global) -> ArgonScratch
         ensures taken { result ≡ self.old }
         ensures most { self.new ≡ self.old }
@@ -68,7 +68,7 @@ impl Scratch {
         }
     }
 
-    /// The memory of scrypt. That of Argon2 is given back.
+    /// The memory of scrypt; memory of Argon2 is freed.
     pub(crate) fn take_scrypt(&mut self, alloc: Global) -> ScryptScratch
         ensures taken { result ≡ self.old }
         ensures most { self.new ≡ self.old }

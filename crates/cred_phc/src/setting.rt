@@ -1,4 +1,4 @@
-//! How a password is to be hashed.
+//! The setting of a password's hash.
 
 ghost use Rattle.std.specs.{Prelude.◌≡◌, Prelude.IfOk, Prelude.IsTrue, Option.option_map};
 ghost use Rattle.cred_phc.specs.{Base64.bytes_of, Ranges.MAX_SALT, Ranges.is_current, Ranges.salt_low, Ranges.scheme_fits};
@@ -9,7 +9,7 @@ use crate::scheme::Scheme;
 use crate::short_bytes::ShortBytes;
 use std::marker::Model;
 
-/// How many bytes a salt has at most, so that a setting has a fixed size.
+/// The length of the longest salt in bytes, which gives settings a fixed size.
 pub(crate) const MAX_SALT: usize = 48;
 
 /// A scheme with its numbers, all in their ranges, and a salt: 8 to 48 bytes for Argon2, 1 to 48
@@ -76,7 +76,7 @@ impl Setting {
         self.salt.as_slice()
     }
 
-    /// Whether new records may be made under it: it isn't of version 0x10.
+    /// Whether new records may have this setting: its version isn't 0x10.
     pub fn is_current(&self) -> bool
         ensures { result ≡ is_current self.now.scheme }
     {

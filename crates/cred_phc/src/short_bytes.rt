@@ -1,4 +1,4 @@
-//! Bytes that lie in the value itself, so that it is copied without memory.
+//! Bytes within a value, which is copied without an allocation.
 
 ghost use Rattle.std.specs.Prelude.{◌≡◌, ◌≤◌, length, if◌then◌else◌};
 ghost use Rattle.base64.specs.GeneralPurpose.{IsBytes};
@@ -10,7 +10,7 @@ use std::marker::Model;
 /// The longest `CAP` that is read from letters.
 const MOST_BYTES: usize = 256;
 
-/// How many letters so many bytes have.
+/// The number of letters that encode so many bytes.
 const MOST_LETTERS: usize = 342;
 
 /// At most `CAP` bytes. The room after them is zero, so that equal bytes are equal values.
@@ -94,7 +94,7 @@ impl<const CAP: usize> PartialEq for ShortBytes<CAP> {
 
     ghost laws = { partial_equiv_from_equiv nat_list_eq_equiv };
 
-    /// Every byte is read also if an early one differs, so that its time doesn't tell how far two
+    /// Every byte is read even if an early one differs, so that the time doesn't tell how far two
     /// tags agree.
     fn eq(&self, other: &Self) -> bool {
         let (these, those) = (self.as_slice(), other.as_slice());

@@ -9,10 +9,10 @@ use std::marker::Model;
 /// The least tag of Argon2 (RFC 9106, section 3.1), which is the least of scrypt here too.
 const MIN_TAG: usize = cred_argon::MIN_TAG as usize;
 
-/// How many bytes a tag has at most, so that a record has a fixed size.
+/// The length of the longest tag in bytes, which gives records a fixed size.
 pub(crate) const MAX_TAG: usize = cred_argon::MAX_TAG as usize;
 
-/// What a password hashing function answers: 4 to 64 bytes.
+/// The output of a password hashing function: 4 to 64 bytes.
 #[derive(Clone, Copy, Debug, PartialEq, Eq)]
 pub struct Tag {
     bytes: ShortBytes<MAX_TAG>,

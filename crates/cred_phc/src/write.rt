@@ -21,16 +21,16 @@ use std::alloc::{AllocError, Global};
 /// 64 letters of salt.
 const LONGEST_SETTING: usize = 108;
 
-/// The same with `$` and the letters of a tag after it.
+/// The length of the longest text of a record: with `$` and the letters of a tag.
 const LONGEST_RECORD: usize = 195;
 
 /// The letters of the longest tag.
 const LONGEST_LETTERS: usize = 86;
 
-/// The text of a setting, as `$scrypt$ln=10,r=8,p=16$TmFDbA`. That of a setting of version 0x10 is
-/// not read again.
+/// The text of a setting, as `$scrypt$ln=10,r=8,p=16$TmFDbA`. A text of version 0x10 can't be
+/// read again.
 ///
-/// Errors: `Memory` if it runs out for the text.
+/// Errors: `Memory` if memory for the text runs out.
 pub fn write_setting(alloc: Global, setting: &Setting) -> Result<Vec<u8>, PhcError>
     ensures text { IfOk result (λ text. text.items ≡ setting_text setting.now) }
     ensures memory { IfErr result (λ fault. fault ≡ PhcError.Memory) }
@@ -42,7 +42,7 @@ pub fn write_setting(alloc: Global, setting: &Setting) -> Result<Vec<u8>, PhcErr
 /// The text of a record, which is read as this record: its setting's, then `$` and the tag in
 /// base64. One of version 0x10 is written with `$v=16`.
 ///
-/// Errors: `Memory` if it runs out for the text.
+/// Errors: `Memory` if memory for the text runs out.
 #[tactic(auto, using(crate::proofs::WritingLaws::record_written))]
 pub fn write_record(alloc: Global, stored: &Record) -> Result<Vec<u8>, PhcError>
     ensures text { IfOk result (λ text. text.items ≡ record_text stored.now) }
@@ -54,7 +54,7 @@ pub fn write_record(alloc: Global, stored: &Record) -> Result<Vec<u8>, PhcError>
     Ok(text)
 }
 
-/// The text of a setting, in this much room.
+/// The text of a setting, with room for `capacity` bytes.
 fn setting_in(alloc: Global, capacity: usize, setting: &Setting) -> Result<Vec<u8>, AllocError>
     ensures text { IfOk result (λ text. text.items ≡ setting_text setting.now) }
     ensures ranges { OnOk result (IsSetting setting.now) }
@@ -106,7 +106,7 @@ fn push_field(text: &mut String, field: &str) -> Result<(), AllocError>
     text.push_str(field)
 }
 
-/// A number with the label that stands before it.
+/// A number after its label.
 #[derive(Clone, Copy)]
 struct Labelled {
     label: &'static str,
@@ -149,7 +149,7 @@ fn push_number(text: &mut String, number: Labelled) -> Result<(), AllocError>
     text.push_str(Buffer::new().format(number.number))
 }
 
-/// A field with the letters of the bytes, of which there are as many as a tag has at most.
+/// A field with the letters of the bytes, at most as many bytes as a tag has.
 #[tactic(auto, unfolding(crate::specs::Base64::base64, cred_base64::specs::Letters::letters_of))]
 fn push_bytes(text: &mut Vec<u8>, bytes: &[u8]) -> Result<(), AllocError>
     requires { length bytes.now ≤ MAX_TAG }
