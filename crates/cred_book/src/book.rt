@@ -18,12 +18,12 @@ use std::alloc::Global;
 use std::marker::Model;
 use std::slice;
 
-/// How many names a book can hold.
+/// The maximum number of names in a book.
 const MOST_ACCOUNTS: usize = 4096;
 
 /// A map from at most 4096 names to at most one record each.
 ///
-/// All its memory is allocated when it is made, so no later call on it can run out of memory.
+/// A new book allocates all its memory, so no later call on it can run out of memory.
 #[derive(Drop)]
 pub struct Book {
     accounts: Vec<(Name, Option<Record>)>,
@@ -96,7 +96,7 @@ impl Book {
         Ok(())
     }
 
-    /// Whether there is no room for another name.
+    /// Whether the book has no room for another name.
     pub fn is_full(&self) -> bool
         ensures { MatchBool result (most_accounts ≤ map.len self.now)
             (map.len self.now < most_accounts) }
@@ -104,7 +104,7 @@ impl Book {
         self.len() >= MOST_ACCOUNTS
     }
 
-    /// How many names there are, at most 4096.
+    /// The number of names, at most 4096.
     pub fn len(&self) -> usize
         ensures { result ≡ map.len self.now }
     {
@@ -168,8 +168,8 @@ impl Book {
         }
     }
 
-    /// What `commit` would answer, the record that the account would have then (none if the book
-    /// doesn't have the name), and whether that would be a change.
+    /// The reply to a commit of this work now, the record of the account after it (none if the book
+    /// doesn't have the name), and whether the commit would be a change.
     pub fn judge(&self, worked: &Worked) -> (Reply, Option<Record>, bool)
         ensures { result ≡ judgement self.now worked.now }
     {
@@ -194,8 +194,8 @@ impl Book {
         }
     }
 
-    /// Gives the account this record, or none. A new name is added if there is room. It can't
-    /// fail: without room nothing changes.
+    /// Gives the account this record, or none. A new name is added if the book has room; without
+    /// room nothing changes.
     pub fn put(&mut self, name: &Name, now: Option<Record>)
         ensures { self.new ≡ with_entry self.old name.now now }
     {

@@ -1,4 +1,4 @@
-//! What a commit changes.
+//! The change of a commit.
 
 use crate::name::Name;
 use crate::reply::Reply;
@@ -11,6 +11,6 @@ pub struct Change {
     pub name: Name,
     /// The account's record from then on, or none if it was removed.
     pub after: Option<Record>,
-    /// What the commit answers.
+    /// The reply to the commit.
     pub reply: Reply,
 }

@@ -1,4 +1,4 @@
-//! Why a call on a book is refused.
+//! The errors of calls on a book.
 
 ghost use Rattle.std.specs.Prelude.{◌≡◌};
 ghost use Rattle.cred_book.specs.{Errors.error_number, Errors.error_word, declared.error.BookError.TheVariants.Memory as OutOfMemory};
@@ -6,7 +6,7 @@ ghost use Rattle.cred_book.specs.{Errors.error_number, Errors.error_word, declar
 use std::alloc::AllocError;
 use thiserror::Error;
 
-/// Why bytes are not a name, or why a book doesn't do what it is asked.
+/// Why bytes are no name, or why a book refuses a call.
 #[derive(Clone, Copy, Debug, PartialEq, Eq, Error)]
 pub enum BookError {
     /// The book has the name already.

@@ -40,8 +40,8 @@ pub fn yes_is_the_password()
         → IsPasswordAt book name pw }
 {}
 
-/// An answer tells of its own account alone, and leaves every other as it is: it is the same on any
-/// two books that have the same at its name, whatever else they have.
+/// An answer tells of its own account alone, and leaves every other as it is. Any two books that
+/// have the same record at that name give the same answer, whatever else they have.
 pub fn an_answer_tells_of_one_account()
     ensures tells { (one other : Accounts) (request : Request)
         → map.get one (name_of request) ≡ map.get other (name_of request)
@@ -50,10 +50,10 @@ pub fn an_answer_tells_of_one_account()
         → name ≢ name_of request → map.get (seq book request).1 name ≡ map.get book name }
 {}
 
-/// A password counts by its tags alone. Others may stand in its place that have the same tag under
-/// the setting of the record that stands, and under that of the record that the request may make:
-/// the request is answered alike and leaves the same record. So no answer and no record tells more
-/// of a password than such a tag does.
+/// A password counts by its tags alone. Another may replace it that has the same tag under the
+/// setting of the existing record, and under that of the record that the request may make: then the
+/// request has the same answer and leaves the same record. So no answer and no record tells more of
+/// a password than such a tag does.
 pub fn a_password_counts_by_its_tags()
     ensures { (other : List ℕ → List ℕ) (request : Request) (now : Option RecordValue)
         → IfSome now (λ stored. KeepsTags other stored.setting (length stored.tag))
@@ -61,16 +61,16 @@ pub fn a_password_counts_by_its_tags()
         → whole (with_passwords other request) now ≡ whole request now }
 {}
 
-/// For a store of rows, such as a table in a database, whose clients do any operations: each is any
-/// function from the row at its key, or from there being none, to a reply and the row after. The
-/// store does a client's update only if the row still equals the client's copy, and compares and
-/// writes in one step. To make a row is to replace that there is none, and so is a copy of it.
+/// For a store of rows, such as a table in a database, whose clients do any operations. Each is a
+/// function from the row at its key, or from no row, to a reply and the row after. The store does a
+/// client's update only if the row still equals the client's copy, and compares and writes in one
+/// step. A key without a row counts as a row of its own, which a copy may be of.
 ///
-/// The replies to the updates that it does are those of one thread that does the same whole
-/// operations in the same order, and the rows at the end are the same. An update whose row after is
-/// its copy needs only a second look at the row. A store that does every update whose copy still
-/// stands refuses one only if another at the same key was done since the copy was taken: so of
-/// clients that begin again some client always gets on.
+/// The replies to the updates that the store does are those of one thread that does the same whole
+/// operations in the same order, and the rows at the end are the same. An update that leaves its
+/// copy needs only a second look at the row. A store that does every update whose copy still stands
+/// refuses one only after another update at its key since the copy: so of clients that begin again
+/// some client always gets on.
 pub fn updates_are_one_history<V, R>()
     ensures replies { (store : Rows V) (updates : List (Update V R)) → IsLog store updates
         → replies_done updates ≡ seq_replies store (operations_done updates) }

@@ -1,4 +1,4 @@
-//! What a whole operation does at a record: the part of it that hashes.
+//! The effect of a whole operation at a record: the part of it that hashes.
 
 ghost use Rattle.std.specs.Prelude.{◌≡◌, ◌≤◌, IfOk, if◌then◌else◌};
 ghost use Rattle.cred_phc.specs.Tags.{tag};
@@ -20,7 +20,7 @@ const NEW_TAG: u8 = 32;
 /// A reply, and the record after it.
 pub(crate) type Outcome = (Reply, Option<Record>);
 
-/// How passwords are hashed: in at most `workers` threads, with the gate around each lane or
+/// The hashing of passwords, by at most `workers` threads, with the gate around each lane or
 /// piece.
 #[derive(Drop)]
 pub struct Hashing<'a, R, G> {
@@ -32,7 +32,7 @@ pub struct Hashing<'a, R, G> {
 }
 
 impl<R: Threads + Sync, G: Gate + Sync> Hashing<'_, R, G> {
-    /// What the whole operation does at the ticket's copy.
+    /// The effect of the whole operation at the ticket's copy.
     pub(crate) fn outcome(&self, ticket: &Ticket) -> Result<Outcome, TagError>
         ensures { IfOk result (λ outcome. outcome ≡ whole ticket.now.0 ticket.now.1) }
     {
@@ -96,8 +96,8 @@ impl<R: Threads + Sync, G: Gate + Sync> Hashing<'_, R, G> {
     }
 }
 
-/// What makes the tags of passwords: threads, or the caller's thread alone. What an operation does
-/// is written once for both.
+/// A maker of passwords' tags: threads, or the caller's thread alone. The operations are written
+/// once for both.
 pub(crate) trait TagMaker {
     ghost ready: { Self → Type 0 };
 
@@ -158,14 +158,14 @@ impl<G: Gate> TagMaker for HashingIn<'_, G> {
     }
 }
 
-/// What operations do, by the tags that `maker` makes.
+/// The operations, by the tags that `maker` makes.
 #[derive(Drop)]
 pub(crate) struct Operations<M> {
     pub(crate) maker: M,
 }
 
 impl<M: TagMaker> Operations<M> {
-    /// What the whole operation does at the ticket's copy.
+    /// The effect of the whole operation at the ticket's copy.
     pub(crate) fn outcome(&self, ticket: &Ticket) -> Result<Outcome, TagError>
         requires { M.ready self.now.maker }
         ensures { IfOk result (λ outcome. outcome ≡ whole ticket.now.0 ticket.now.1) }

@@ -18,12 +18,12 @@ use std::collections::{BTreeMap, btree_map};
 use std::marker::Model;
 use std::sync::Wait;
 
-/// How many names a register can hold.
+/// The maximum number of names in a register.
 const CAPACITY: usize = 16_777_216;
 
 /// A map from at most 2^24 names to at most one record each.
 ///
-/// It allocates memory for each name as the name is added, and at no other time.
+/// A register allocates memory only as a name is added.
 #[derive(Drop)]
 pub struct Register {
     alloc: Global,
@@ -83,7 +83,7 @@ impl Register {
             }
             return Err(BookError::Memory);
         };
-        // One search of the tree adds a new name. If the name was there, its record is put back.
+        // One search of the tree adds a new name. The record of an existing name is put back.
         match self.accounts.insert(name, slot) {
             Ok(None) => Ok(()),
             Ok(Some(there)) => {
@@ -108,7 +108,7 @@ impl Register {
         self.accounts.contains_key(name)
     }
 
-    /// Whether there is no room for another name.
+    /// Whether the register has no room for another name.
     pub fn is_full(&self) -> bool
         ensures { MatchBool result (register_capacity ≤ map.len self.now)
             (map.len self.now < register_capacity) }
@@ -116,14 +116,14 @@ impl Register {
         self.len() >= CAPACITY
     }
 
-    /// How many more names there is room for.
+    /// The number of names that can still be added.
     pub fn room(&self) -> usize
         ensures { map.len self.now + result ≡ register_capacity }
     {
         CAPACITY - self.len()
     }
 
-    /// How many names there are, at most 2^24.
+    /// The number of names, at most 2^24.
     pub fn len(&self) -> usize
         ensures len { result ≡ map.len self.now }
         ensures few { map.len self.now ≤ register_capacity }
@@ -189,8 +189,8 @@ impl Register {
         }
     }
 
-    /// What `commit` would answer, the record that the account would have then (none if the
-    /// register doesn't have the name), and whether that would be a change.
+    /// The reply to a commit of this work now, the record of the account after it (none if the
+    /// register doesn't have the name), and whether the commit would be a change.
     pub fn judge(&self, worked: &Worked) -> (Reply, Option<Record>, bool)
         ensures { result ≡ judgement self.now worked.now }
     {

@@ -1,4 +1,4 @@
-//! What a commit answers.
+//! The replies to a commit.
 
 use cred_phc::Record;
 

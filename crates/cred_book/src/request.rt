@@ -1,4 +1,4 @@
-//! What can be asked of an account.
+//! The operations on an account.
 
 ghost use Rattle.std.specs.Prelude.{◌≡◌};
 

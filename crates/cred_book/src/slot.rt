@@ -1,4 +1,4 @@
-//! What a register holds for a name.
+//! The record of a name in a register.
 
 ghost use Rattle.std.specs.Prelude.{◌≡◌, IfOk};
 

@@ -1,5 +1,5 @@
 //! An operation between its begin and its commit: the request with a copy of its account's record,
-//! and then what it does at the copy.
+//! and then its effect at the copy.
 
 ghost use Rattle.std.specs.Prelude.{◌≡◌, IfErr, IfOk, true, false};
 ghost use Rattle.cred_book.specs.{Changes.change_of, Commits.judgement_at, Works.is_verify, Works.whole};
@@ -41,7 +41,7 @@ impl Ticket {
         Ticket { request, copy }
     }
 
-    /// What is asked.
+    /// The request.
     pub fn request(&self) -> Request
         ensures { result ≡ self.now.0 }
     {
@@ -78,11 +78,11 @@ impl Ticket {
         self.worked(outcome)
     }
 
-    /// The same on the caller's thread, so that no runtime is needed, in memory that is kept from
+    /// Hashes on the caller's thread, without a runtime, in memory that is kept from hash to
     /// hash to hash.
     ///
-    /// Errors: the ticket comes back if memory runs out. The scratch is good for the next ticket
-    /// then, too.
+    /// Errors: the ticket comes back if memory runs out. The scratch can still serve the next
+    /// ticket.
     pub fn work_in<G: Gate>(
         self,
         scratch: &mut Scratch,
@@ -104,7 +104,7 @@ impl Ticket {
         self.worked(outcome)
     }
 
-    /// The ticket with what its operation does at the copy, if that was worked out.
+    /// The ticket with the effect of its operation at the copy, or alone if hashing failed.
     fn worked(self, outcome: Result<Outcome, TagError>) -> Result<Worked, Ticket>
         requires { IfOk outcome (λ outcome. outcome ≡ whole self.0 self.1) }
         ensures worked { IfOk result (λ worked. worked ≡ self) }
@@ -121,7 +121,7 @@ impl Ticket {
     }
 }
 
-/// A ticket whose hashing is done: what the whole operation does at the copy.
+/// A ticket whose hashing is done: the effect of the whole operation at the copy.
 #[derive(Debug, Drop)]
 pub struct Worked {
     ticket: Ticket,
@@ -141,7 +141,7 @@ impl Model for Worked {
 }
 
 impl Worked {
-    /// What is asked.
+    /// The request.
     pub fn request(&self) -> Request
         ensures { result ≡ self.now.0 }
     {
@@ -169,8 +169,8 @@ impl Worked {
         self.after
     }
 
-    /// What a commit answers if the account's record is `now`, the record after it, and whether
-    /// that is a change.
+    /// The reply to a commit at an account with the record `now`, the record after it, and whether
+    /// the commit is a change.
     pub(crate) fn judgement_at(&self, now: Option<Record>) -> (Reply, Option<Record>, bool)
         ensures { result ≡ judgement_at self.now (Some now) }
     {
@@ -181,8 +181,8 @@ impl Worked {
         (reply, self.after(), reply.makes_change())
     }
 
-    /// The change that a commit of this work makes if it makes one, or `None` if it makes none
-    /// even at the copied record. A commit that finds another record makes no change.
+    /// The change that a commit of this work makes, or `None` if it makes none even at the copied
+    /// record. A commit that finds another record makes no change.
     #[tactic(auto, unfolding(crate::specs::Changes::change_of))]
     pub fn change(&self) -> Option<Change>
         ensures { result ≡ change_of self.now }
