@@ -136,7 +136,7 @@ fn has_account_key(table: &Table) -> bool
     table.key.is_none() && is_name_alone(table.primary.as_slice()) && has_unique && has_order
 }
 
-/// Whether these places are that of the name, and no other.
+/// Whether the name's place is the only one of these.
 fn is_name_alone(places: &[usize]) -> bool
     ensures { MatchBool result (places.now ≡ 1 ∷ []) (places.now ≢ 1 ∷ []) }
 {
@@ -146,7 +146,7 @@ fn is_name_alone(places: &[usize]) -> bool
     }
 }
 
-/// Whether there is no check, no foreign key, no computed default and no counter.
+/// Whether the table has no check, no foreign key, no computed default and no counter.
 fn has_no_rules(alloc: Global, table: &Table) -> Result<bool, AllocError>
     ensures { IfOk result (λ b. MatchBool b (HasNoRules table.now) (HasNoRules table.now → ⊥)) }
 {

@@ -1,4 +1,4 @@
-//! Why a database keeps no book, and what was lost as it failed.
+//! Faults of a database that keeps no book, and the change that is lost as a database fails.
 
 ghost use Rattle.std.specs.Prelude.{◌≡◌};
 ghost use Rattle.cred_file.specs.declared.fault.Attempt.TheVariants as Attempt;
@@ -14,18 +14,18 @@ use std::fmt;
 pub enum OpenFault {
     /// No book is begun: the database has tables already.
     NotEmpty,
-    /// The database holds no book: it hasn't the one table that a book has.
+    /// The database holds no book: it lacks the one table that a book has.
     NoBook,
-    /// In this row there is no name, and one should be.
+    /// This row has no valid name.
     NoName(i64),
-    /// In this row there is neither NULL nor a record's text, and one should be there: a text with
-    /// this fault, or no text.
+    /// This row has neither NULL nor the text of a record: its text has this fault, or its value is
+    /// no text.
     NoRecord { row: i64, why: Option<PhcError> },
     /// This row has a name that another row has.
     Twice(i64),
-    /// There are more than 2^24 rows.
+    /// The table has more than 2^24 rows.
     TooMany,
-    /// There is no memory for a book.
+    /// No memory for a book.
     Memory,
     /// The database failed, or refused, or its row ids aren't those of a table.
     Database(Error),
@@ -34,22 +34,22 @@ pub enum OpenFault {
 /// The change that was under way as the database failed: it may be kept or not.
 #[derive(Debug, Drop)]
 pub struct Lost {
-    /// What the database answered.
+    /// The error of the database.
     pub error: Error,
-    /// The change that was to be made.
+    /// The change that was attempted.
     pub attempt: Attempt,
 }
 
 /// A change of a book that was attempted.
 #[derive(Drop)]
 pub enum Attempt {
-    /// A record, or none, is put at a name.
+    /// The record of a name is set, or removed.
     Put { name: Name, stored: Option<Record> },
     /// Accounts are added, and the records of others are replaced, all together.
     TakeIn { added: Register, changed: Register },
-    /// A name is taken out, with its record.
+    /// A name is removed, with its record.
     Delete(Name),
-    /// A name becomes another, which has its record.
+    /// An account gets another name.
     Rename { name: Name, other: Name },
 }
 
@@ -76,7 +76,7 @@ impl Lost {
         Lost { error, attempt }
     }
 
-    /// What is lost of an entry.
+    /// The loss of one account's new record.
     pub(crate) fn put(error: Error, name: Name, stored: Option<Record>) -> Lost
         ensures { result ≡ record { error = error; attempt = Attempt.Put name stored } }
     {

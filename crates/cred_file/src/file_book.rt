@@ -23,11 +23,11 @@ use std::alloc::Global;
 use std::marker::Model;
 use std::sync::Wait;
 
-/// A book of at most 2^24 accounts, whose table has it. As long as the disk returns what was
-/// written, a crash between calls leaves this book.
+/// A book of at most 2^24 accounts, in a table. As long as the disk returns the written bytes, a
+/// crash between calls leaves this book.
 ///
-/// If the database fails, the change that was under way is lost: it may be kept or not. From then
-/// on no other change is made, and `lost` tells of it.
+/// If the database fails, the change that was under way is lost: it may be kept or not. After that
+/// the book accepts no other change, and `lost` describes the lost one.
 #[derive(Drop)]
 pub struct FileBook<S: Alter> {
     alloc: Global,
@@ -52,7 +52,7 @@ impl<S: Alter> Model for FileBook<S> {
 impl<S: Alter> FileBook<S> {
     /// Begins an empty book in an empty database.
     ///
-    /// Errors: `NotEmpty` if there is a table already; `Database`. The connection comes back.
+    /// Errors: `NotEmpty` if a table exists already; `Database`. The connection comes back.
     pub fn create(
         alloc: Global,
         mut conn: Connection<S>,
@@ -81,8 +81,8 @@ impl<S: Alter> FileBook<S> {
 
     /// Opens the book that a database holds. Nothing is changed.
     ///
-    /// Errors: `NoBook` if the database hasn't the one table of a book; `NoName`, `NoRecord` and
-    /// `Twice` with the id of a row that is at fault; `TooMany` if there are more than 2^24 rows;
+    /// Errors: `NoBook` if the database lacks the one table of a book; `NoName`, `NoRecord` and
+    /// `Twice` with the id of the faulty row; `TooMany` for more than 2^24 rows;
     /// `Memory`; `Database`. The connection comes back.
     pub fn open(
         alloc: Global,
@@ -115,7 +115,7 @@ impl<S: Alter> FileBook<S> {
         }
     }
 
-    /// The book, as the answers so far have told it.
+    /// The book, as the answers so far describe it.
     pub fn book(&self) -> &Register
         ensures { result.now ≡ self.now.book }
     {
@@ -129,15 +129,15 @@ impl<S: Alter> FileBook<S> {
         self.lost.as_ref()
     }
 
-    /// Tells what is kept: the table is the book's until a change is lost, and a crash leaves the
-    /// book, or the book with the lost change.
+    /// A law: the table is the book's until a change is lost, and a crash leaves the book, or the
+    /// book with the lost change.
     pub fn keeps(&self)
         ensures { Keeps S.Store self.now.conn self.now.book self.now.lost }
     {
         let _ = &self.lost;
     }
 
-    /// Gives the connection back, which keeps the book.
+    /// Returns the connection, which keeps the book.
     pub fn close(self) -> Connection<S>
         ensures same { result ≡ self.conn }
         ensures kept { Keeps S.Store result self.book self.lost }

@@ -1,4 +1,4 @@
-//! What holds of a book that is opened from files, and of one in which a name was changed. A law is
+//! Laws of a book that is opened from files, and of one in which a name was changed. A law is
 //! a function that does nothing.
 
 ghost use Rattle.std.specs.Prelude.{◌≡◌, false, List, true, ℕ};
@@ -20,7 +20,7 @@ pub fn files_hold_the_book<S: Alter>()
         → (db : Trees) → HoldsDatabase image db → HoldsBook db book }
 {}
 
-/// If a name became another one there is no account any more: a ticket that was begun at it is
+/// A renamed account no longer exists under its old name: a ticket that was begun there is
 /// answered `NoAccount`.
 pub fn a_renamed_name_is_gone()
     ensures { (book : Accounts) (name other : List ℕ) → fin.contains_key book name ≡ true

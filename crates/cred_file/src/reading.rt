@@ -15,7 +15,7 @@ use sqlite::types::ValueRef;
 use sqlite::{Error, ErrorCode, Row};
 use std::alloc::Global;
 
-/// What a row of the table says.
+/// The content of a row of the table.
 #[derive(Clone, Copy)]
 struct Entry {
     id: i64,
@@ -24,7 +24,7 @@ struct Entry {
 }
 
 /// The book of the rows so far, and the id of the last one. The rows come in the order of their
-/// ids, so an id that isn't above the last is that one again.
+/// ids, so an id that isn't above the last one is a repetition.
 #[derive(Drop)]
 pub(crate) struct Draft {
     book: Register,
@@ -96,7 +96,7 @@ fn read_entry(row: &Row) -> Result<Entry, OpenFault>
     }
 }
 
-/// A column's value; past the last one there is NULL.
+/// The value of a column; NULL past the last one.
 fn value_at(row: &Row, at: usize) -> ValueRef<'_>
     ensures { owned result ≡ column row.now at }
 {
@@ -122,7 +122,7 @@ fn read_name(value: ValueRef<'_>) -> Option<Name>
     }
 }
 
-/// NULL is no record, which is no fault. The fault is the text's; what is no text has none.
+/// NULL means no record, which is no fault. The fault is that of the text; another value has none.
 fn read_stored(value: ValueRef<'_>) -> Result<Option<Record>, Option<PhcError>>
     ensures { MatchResult result (Tells (owned value.entry))
         (λ why. is_no_record why (owned value.entry) ≡ true) }

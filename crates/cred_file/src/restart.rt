@@ -1,4 +1,4 @@
-//! What a run kept is what the next one opens, also after a crash.
+//! The next run opens the book that a run kept, even after a crash.
 
 ghost use Rattle.std.specs.Prelude.{IfErr, IfOk, IfSome};
 ghost use Rattle.cred_file.specs.{Keeps.IsOrWith, Opening.IsForWant};
@@ -10,12 +10,12 @@ use sqlite::{Alter, Connection};
 use sqlite_trees::store::Reopen;
 use std::alloc::Global;
 
-/// Stops the machine and opens the book again, over a disk that can be made to crash: for what is
-/// proved of a restart, and for tests. The book is then the one that was kept, or that with the
-/// lost change.
+/// Stops the machine and opens the book again, over a disk that can be made to crash: for proofs
+/// about restarts, and for tests. The book is then the kept one, or the kept one with the lost
+/// change.
 ///
-/// None if the disk failed, or memory was refused, before the database stood again. After that the
-/// open is never refused for what the tables and rows are.
+/// `None` if the disk failed, or memory was refused, before the database was open. After that the
+/// tables and rows are never a reason to refuse the book.
 pub fn crash_and_open<S: Alter + Reopen + Drop>(
     alloc: Global,
     book: FileBook<S>,

@@ -20,7 +20,7 @@ use sqlite::types::ValueRef;
 use sqlite::{Alter, Connection, Error};
 use std::alloc::Global;
 
-/// The text of a record, for its row; of none, an empty one.
+/// The text of a record, for its row; empty without a record.
 pub(crate) fn text_of(alloc: Global, stored: &Option<Record>) -> Result<Vec<u8>, PhcError>
     ensures { IfOk result (λ text. IsTextOf text.items stored.now) }
 {
@@ -30,7 +30,7 @@ pub(crate) fn text_of(alloc: Global, stored: &Option<Record>) -> Result<Vec<u8>,
     }
 }
 
-/// What stands in the row: the text, or NULL for no record.
+/// The value in the row: the text, or NULL for no record.
 pub(crate) fn value_of<'a>(text: &'a [u8], stored: &Option<Record>) -> ValueRef<'a>
     requires { IsTextOf text.now stored.now }
     ensures { Tells (owned result) stored.now }
@@ -66,7 +66,7 @@ pub(crate) fn insert_row<S: Alter>(
     )
 }
 
-/// Puts a record's text, or NULL, at an existing name.
+/// Writes a record's text, or NULL, in the row of an existing name.
 pub(crate) fn update_row<S: Alter>(
     conn: &mut Connection<S>,
     name: &Name,
@@ -109,7 +109,7 @@ pub(crate) fn delete_row<S: Alter>(conn: &mut Connection<S>, name: &Name) -> Res
     )
 }
 
-/// Puts another name in place of one that is there.
+/// Gives the row of an existing name another name.
 pub(crate) fn rename_row<S: Alter>(
     conn: &mut Connection<S>,
     name: &Name,

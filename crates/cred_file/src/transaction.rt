@@ -1,4 +1,4 @@
-//! Accounts that are added, and others whose records are replaced, in one transaction.
+//! Adding accounts, and replacing the records of others, in one transaction.
 
 ghost use Rattle.std.specs.Prelude.{◌≡◌, ◌⊎◌, ◌≤◌, ◌+◌, cond, false, List, None, ℕ, OnErr, OnOk, Option};
 ghost use Rattle.std.specs.FinMap as fin;
@@ -17,8 +17,8 @@ use sqlite::{Alter, Connection, Error, ErrorCode, Transaction};
 use std::alloc::Global;
 
 /// Adds accounts to the book, and their rows to the table, and replaces the records of others, all
-/// by one transaction. At any error the book has some of the accounts that are added and no other
-/// record, and a crash leaves a table with none of it, or with all.
+/// by one transaction. After an error the book has some of the new accounts and no replaced record,
+/// and a crash leaves a table with none of the changes, or with all.
 pub(crate) fn take_together<S: Alter>(
     alloc: Global,
     conn: &mut Connection<S>,
@@ -45,8 +45,8 @@ pub(crate) fn take_together<S: Alter>(
     Ok(())
 }
 
-/// Writes all of it. The book has the accounts that are added, and the other records aren't
-/// replaced there yet: so nothing is to be put back if the database fails.
+/// Writes all changes. The book has the new accounts, and the records of others aren't replaced
+/// there yet: so nothing needs undoing if the database fails.
 fn write_together<S: Alter>(
     alloc: Global,
     conn: &mut Connection<S>,
@@ -74,7 +74,7 @@ fn write_together<S: Alter>(
     finish(tx)
 }
 
-/// Commits what was done within the transaction.
+/// Commits the changes of the transaction.
 fn finish<S: Alter>(tx: Transaction<'_, S>) -> Result<(), Error>
     ensures shown { HasCleanDisk (state S.Store tx.exit.0.now) → OnOk result
         (Shows (state S.Store tx.entry.conn.now) (state S.Store tx.exit.0.now)
@@ -181,7 +181,7 @@ fn update_each<S: Alter>(
     Ok(())
 }
 
-/// Puts a record, or none, in the row of an existing name.
+/// Writes a record, or none, in the row of an existing name.
 fn update_stored<S: Alter>(
     alloc: Global,
     tx: &mut Transaction<'_, S>,

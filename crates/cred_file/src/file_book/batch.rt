@@ -1,4 +1,4 @@
-//! Many accounts that are added to a kept book at once, and many whose records are replaced.
+//! Adding many accounts to a kept book at once, and replacing the records of many.
 
 ghost use Rattle.std.specs.Prelude.{◌+◌, ◌≤◌, ◌<◌, MatchBool, ⊤};
 ghost use Rattle.std.specs.FinMap as fin;
@@ -14,7 +14,7 @@ use sqlite::Alter;
 
 impl<S: Alter> FileBook<S> {
     /// Adds accounts and replaces the records of others, by one transaction of the database: so a
-    /// crash leaves the book as it was, or with all of it.
+    /// crash leaves the book as it was, or with all these changes.
     ///
     /// Errors: `Exists` if the book has one of the names that are added; `NoAccount` if it lacks
     /// one of the others; `Full` if there would be over 2^24 accounts; `Memory` if it runs out, if
@@ -58,7 +58,7 @@ impl<S: Alter> FileBook<S> {
         self.take_in(Register::new(self.alloc), changed)
     }
 
-    /// Whether there would be at most 2^24 accounts with these.
+    /// Whether the book has room for these accounts, up to 2^24 names.
     pub fn has_room_for(&self, added: &Register) -> bool
         ensures { MatchBool result
             (fin.len self.now.book + fin.len added.now ≤ register_capacity)
@@ -75,7 +75,7 @@ fn has_room(book: &Register, added: &Register) -> bool
     added.len() <= book.room()
 }
 
-/// Whether a name is in both.
+/// Whether both have a name in common.
 fn meets(book: &Register, more: &Register) -> bool
     ensures { MatchBool result (Meet book.now more.now) (AreApart book.now more.now) }
 {

@@ -16,7 +16,7 @@ impl<S: Alter> FileBook<S> {
     /// Begins a book in an empty database, with all accounts of an existing book: they are
     /// written by one transaction.
     ///
-    /// Errors: `NotEmpty` if there is a table already; `Memory`; `Database`. The connection comes
+    /// Errors: `NotEmpty` if a table exists already; `Memory`; `Database`. The connection comes
     /// back, and a crash leaves what it could leave before, an empty book, or all the accounts.
     pub fn create_copy(
         alloc: Global,

@@ -1,4 +1,4 @@
-//! The changes of a kept book. What needs memory is had before the row is written, so nothing can
+//! The changes of a kept book. Each allocates its memory before it writes the row, so nothing can
 //! fail after that; if the database refuses, the book is as it was.
 
 ghost use Rattle.std.specs.Prelude.{◌≡◌, true, false, IfErr, IfSome, None, OnOk, Some, is_ok, not};
@@ -68,7 +68,7 @@ impl<S: Alter> FileBook<S> {
         }
     }
 
-    /// Puts a record, or none, at a name, which is added if it doesn't exist.
+    /// Sets or removes the record of a name, which is added if it doesn't exist.
     ///
     /// Errors: `Full` if the name doesn't exist and there are 2^24 others; `Memory` if it runs out,
     /// if the database fails, and if a change is lost.
@@ -87,10 +87,10 @@ impl<S: Alter> FileBook<S> {
         }
     }
 
-    /// Takes a name out, with its record.
+    /// Removes a name, with its record.
     ///
-    /// Errors: `NoAccount` if the name isn't there; `Memory` if the database fails, and if a change
-    /// is lost.
+    /// Errors: `NoAccount` if the name doesn't exist; `Memory` if the database fails, or a change
+    /// was lost before.
     pub fn delete(&mut self, name: &Name) -> Result<(), BookError>
         ensures done { Deletes self.old.book self.new.book name.now result }
         ensures remembers { Remembers (Attempt.Delete name.now)
@@ -116,10 +116,10 @@ impl<S: Alter> FileBook<S> {
         }
     }
 
-    /// Puts another name in place of one, whose record it has from then on.
+    /// Gives an account another name.
     ///
-    /// Errors: `NoAccount` if the name isn't there; `Exists` if the other one is; `Full` if there
-    /// are 2^24 names, since both are in memory for a moment; `Memory` if it runs out, if the
+    /// Errors: `NoAccount` if the name doesn't exist; `Exists` if the other one does; `Full` at
+    /// 2^24 names, since both are in memory for a moment; `Memory` if memory runs out, if the
     /// database fails, and if a change is lost.
     #[tactic(auto, using(crate::proofs::Keeping::not_entered))]
     pub fn rename(&mut self, name: &Name, other: &Name) -> Result<(), BookError>
@@ -196,7 +196,7 @@ impl<S: Alter> FileBook<S> {
         }
     }
 
-    /// Puts a record, or none, at an existing name.
+    /// Sets or removes the record of an existing name.
     pub(super) fn replace(&mut self, name: &Name, stored: Option<Record>) -> Result<(), BookError>
         requires { fin.contains_key self.old.book name.now ≡ true }
         ensures done { OnOk result (self.new.book ≡ fin.insert self.old.book name.now stored) }
