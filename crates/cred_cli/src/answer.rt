@@ -1,4 +1,4 @@
-//! What an event does, and the line that answers it.
+//! The effect of an event, and the line that answers it.
 
 ghost use Rattle.std.specs.Prelude.{◌≡◌, ◌↔◌, ◌-◌, IfErr, IfOk, IsTrue, List, None, OnOk, OnErr, Option, Some, slice_set, true};
 ghost use Rattle.std.specs.Io.KnownBytes.{Appends};
@@ -23,8 +23,8 @@ use std::alloc::{AllocError, Global};
 use std::io::Write;
 use std::thread::Threads;
 
-/// The bytes of an answer with its line end. Only a record's text is made; all others are fixed, so
-/// that no change that was made and no line that is refused can want memory for its answer.
+/// The bytes of an answer with its line end. Only a record's text is allocated; the others are
+/// fixed, so that no change and no refused line can lack memory for its answer.
 #[derive(Drop)]
 pub enum AnswerLine {
     Fixed(&'static [u8]),
@@ -32,14 +32,14 @@ pub enum AnswerLine {
 }
 
 impl AnswerLine {
-    /// That of a refused line.
+    /// The answer to a refused line.
     pub fn bad(why: Refusal) -> AnswerLine
         ensures { line_bytes result ≡ line_of (Refused why) }
     {
         AnswerLine::Fixed(why.line())
     }
 
-    /// The record's text.
+    /// The text of a record.
     pub fn shown(alloc: Global, stored: &Record) -> Result<AnswerLine, AllocError>
         ensures { IfOk result (λ line. line_bytes line ≡ line_of (Shown (Some stored.now))) }
     {
@@ -56,7 +56,7 @@ impl AnswerLine {
         }
     }
 
-    /// Writes the line whole. If that fails a proper prefix of it is written.
+    /// Writes the whole line, or a proper prefix of it if the writer fails.
     pub(crate) fn write_to<W: Write>(self, writer: &mut Watched<W>) -> Result<(), ScriptFault>
         ensures done { (basis : Basis) → OnOk result
             (Appends (held_on basis W.contents writer.old) (held_on basis W.contents writer.new)
@@ -73,7 +73,7 @@ impl AnswerLine {
     }
 }
 
-/// Does the event on the keeper's book and the open tickets. If memory runs out the book stays.
+/// Applies the event to the keeper's book and the open tickets. Without memory the book stays.
 pub(crate) fn do_event<Way, T: Threads + Sync, K: KeeperBy<Way, T>>(
     engine: &Engine<'_, T>,
     keeper: &mut K,
@@ -146,8 +146,8 @@ fn commit<Way, T: Threads + Sync, K: KeeperBy<Way, T>>(
     Ok(AnswerLine::Fixed(reply_line(&reply)))
 }
 
-/// Answers a commit for whose hash there was no memory. If its record is another by now, it needs
-/// none.
+/// Answers a commit for whose hash memory ran out. If the account has another record by now, the
+/// answer needs no hash.
 fn starve<K: Keeper>(
     mode: Mode,
     keeper: &K,
@@ -193,8 +193,8 @@ fn hashes(request: &Request, stored: &Option<Record>) -> bool
     }
 }
 
-/// The reply's word with the line end. It stands ready, so that a change that was made needs no
-/// memory for its answer.
+/// The reply's word with the line end. The text is a constant, so that a change needs no memory for
+/// its answer.
 pub fn reply_line(reply: &Reply) -> &'static [u8]
     ensures { result.now ≡ reply_line reply.now }
 {

@@ -12,7 +12,7 @@ const ABOUT: &str = "Answers scripts on a book of password records, hashes and c
 
 const RUN_ABOUT: &str = "Answers a script from standard input, on an empty book";
 
-/// What help says of a subcommand.
+/// The help texts of a subcommand.
 struct HelpTexts {
     about: &'static str,
     usage: &'static str,
@@ -59,7 +59,7 @@ Commonest causes of a refusal:
   password  base64 with '=', or plain text
 docs/ERRORS.md has them all, by word.";
 
-/// What the words say; `clap`'s error if they don't parse.
+/// The values of the words; `clap`'s error if they don't parse.
 pub(crate) fn matches_of<'a>(alloc: Global, words: &'a [&'a str]) -> Result<ArgMatches<'a>, Error>
     ensures matches { IfOk result (λ m. subcommand_rows_of m
         ≡ subcommand_of credbook (map (λ s. s.now) words.entry.now)) }
@@ -75,7 +75,7 @@ pub(crate) fn value<'a>(matches: &ArgMatches<'a>, id: &str) -> Option<&'a str>
     matches.get_str(id)
 }
 
-/// The number of workers; `clap` has seen to the range.
+/// The number of workers, whose range `clap` has checked.
 pub(crate) fn workers_of(matches: &ArgMatches<'_>) -> u8 {
     matches.get_one("workers").unwrap_or(1)
 }
@@ -96,8 +96,8 @@ fn credbook<'a>(alloc: Global) -> Result<Command<'a>, AllocError>
     )
 }
 
-/// The same with a subcommand on one setting or record. It is made here, so that no second command
-/// lives while the caller may end early.
+/// The command with a subcommand on one setting or record. The subcommand is made here, so that no
+/// second command lives while the caller may end early.
 fn with_one<'a>(
     alloc: Global,
     command: Command<'a>,
@@ -158,7 +158,7 @@ fn of_one<'a>(
     with_arg(command, workers(alloc))
 }
 
-/// The same with an argument of its own.
+/// The command with an argument of its own.
 fn with_arg<'a>(command: Command<'a>, arg: Arg<'a>) -> Result<Command<'a>, AllocError>
     requires local { ((out-Command command).has_globals ≡ false) × (arg.global ≡ false) }
     ensures app { IfOk result (λ c. app_of c

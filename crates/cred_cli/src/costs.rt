@@ -1,4 +1,4 @@
-//! How much memory and work hashes take, and what asks for more than is allowed.
+//! The memory and the work of hashes, and bounds on both.
 
 ghost use Rattle.std.specs.Prelude.{◌≡◌, ◌≤◌, ◌*◌, ◌^◌};
 ghost use Rattle.cred_cli.specs.Costs.{exceeds, is_above, memory_alone, memory_of, no_bounds, request_exceeds, tables_kib, work_of};
@@ -6,8 +6,8 @@ ghost use Rattle.cred_cli.specs.Costs.{exceeds, is_above, memory_alone, memory_o
 use cred_book::Request;
 use cred_phc::{Scheme, Setting};
 
-/// How many KiB a hash of this setting takes, by as many threads as can work at it: `m` of Argon2,
-/// and 128 `r` `p` 2^`ln` bytes of scrypt. A little more comes with it.
+/// The memory of a hash of this setting in KiB, with as many threads as can share it: `m` for
+/// Argon2, and 128 `r` `p` 2^`ln` bytes for scrypt. A hash needs a little more.
 pub fn memory_of(setting: &Setting) -> u64
     ensures { result ≡ memory_of setting.now.scheme }
 {
@@ -17,7 +17,7 @@ pub fn memory_of(setting: &Setting) -> u64
     }
 }
 
-/// The same by one thread, which has one of scrypt's tables at a time: 128 `r` 2^`ln` bytes.
+/// That memory with one thread, which has one of scrypt's tables at a time: 128 `r` 2^`ln` bytes.
 pub fn memory_alone(setting: &Setting) -> u64
     ensures { result ≡ memory_alone setting.now.scheme }
 {
@@ -37,7 +37,7 @@ fn tables_kib(tables: u8, ln: u8, r: u8) -> u64
     (u64::from(tables) * rows + 7) / 8
 }
 
-/// How many KiB a hash of this setting goes over, each as often as it is gone over: `m` `t` of
+/// The work of a hash of this setting in KiB, each counted at every pass over it: `m` `t` of
 /// Argon2, and twice the memory of scrypt's tables, which are filled and then mixed.
 pub fn work_of(setting: &Setting) -> u64
     ensures { result ≡ work_of setting.now.scheme }
@@ -48,12 +48,12 @@ pub fn work_of(setting: &Setting) -> u64
     }
 }
 
-/// What the settings and records that come with lines may ask for.
+/// Bounds on the settings and records of lines.
 #[derive(Clone, Copy, Debug, PartialEq, Eq)]
 pub struct CostBounds {
-    /// How many KiB of memory, if that is bounded ([`memory_of`]).
+    /// The maximum memory in KiB, if it is bounded ([`memory_of`]).
     pub memory: Option<u64>,
-    /// How many KiB of work, if that is bounded ([`work_of`]).
+    /// The maximum work in KiB, if it is bounded ([`work_of`]).
     pub work: Option<u64>,
 }
 
@@ -69,7 +69,7 @@ impl CostBounds {
     }
 }
 
-/// Whether a hash of this setting takes more memory or more work than is allowed.
+/// Whether a hash of this setting needs more memory or more work than is allowed.
 pub fn exceeds(most: &CostBounds, setting: &Setting) -> bool
     ensures { result ≡ exceeds most.now setting.now.scheme }
 {
@@ -85,7 +85,7 @@ fn is_above(most: Option<u64>, cost: u64) -> bool
     }
 }
 
-/// Whether the record that the request would make is of a setting that asks for more than is
+/// Whether the record that the request would make has a setting that needs more than is
 /// allowed.
 pub fn request_exceeds(most: &CostBounds, request: &Request) -> bool
     ensures { result ≡ request_exceeds most.now request.now }

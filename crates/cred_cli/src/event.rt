@@ -1,4 +1,4 @@
-//! What a line of a script asks for.
+//! The operation that a line of a script asks for.
 
 ghost use Rattle.std.specs.Prelude.{◌≡◌, IfOk, length, map, nat_lt, take, true};
 ghost use Rattle.cred_phc.specs.Pieces.{pieces};
@@ -17,7 +17,7 @@ use cred_phc::{Pieces, Record};
 /// The longest line in bytes, its end not counted.
 pub(crate) const LONGEST_LINE: usize = 1024;
 
-/// How many pieces of a line are looked at: one more than any may have.
+/// The maximum number of pieces that are read of a line: one more than a good line may have.
 const MOST_PIECES: usize = 8;
 
 /// An operation with its fields, or why the line asks for none.
@@ -32,7 +32,7 @@ pub(crate) enum Event {
 }
 
 impl Event {
-    /// What the line asks for.
+    /// The operation that the line asks for.
     #[tactic(auto, unfolding(crate::specs::Events::event_of))]
     pub(crate) fn of_line(line: &[u8]) -> Event
         ensures event { result ≡ event_of line.now }
@@ -47,7 +47,7 @@ impl Event {
         }
     }
 
-    /// The event, or a refusal if it brings a setting or a record that asks for more than is
+    /// The event, or a refusal if its setting or its record needs more memory or work than is
     /// allowed.
     pub(crate) fn within(self, most: &CostBounds) -> Event
         requires { IsSound self }
@@ -136,8 +136,8 @@ fn begin_event(fields: &[&[u8]]) -> Result<Event, Refusal>
     }
 }
 
-/// The event that begins a request under this number. A line whose word or number of fields is
-/// another is refused before its number is read, and any other with its number first.
+/// The event that begins a request under this number. A line with another word or number of fields
+/// is refused before its number is read; otherwise the number is judged first.
 fn begun(key: &[u8], request: Result<Request, Refusal>) -> Result<Event, Refusal>
     requires { IfOk request (λ request. is_for_current request ≡ true) }
     ensures event { result ≡ begun key.now request }

@@ -1,12 +1,12 @@
-//! How the program ended, as its process tells the shell.
+//! The exit status of the program.
 
 ghost use Rattle.std.specs.Prelude.{◌≡◌};
 ghost use Rattle.cred_cli.specs.Statuses.{status_number};
 
-/// How the program ended.
+/// The end of the program.
 #[derive(Clone, Copy)]
 pub(crate) enum ExitStatus {
-    /// All that was asked for was done; a record that was checked is the password's.
+    /// Everything was done; a checked record is the password's.
     Done,
     /// The words, or a setting, a record or a password among them, were refused.
     Refused,
@@ -14,7 +14,7 @@ pub(crate) enum ExitStatus {
     Failed,
     /// Memory was refused.
     OutOfMemory,
-    /// A record that was checked isn't the password's.
+    /// A checked record isn't the password's.
     No,
 }
 

@@ -1,4 +1,4 @@
-//! Why a script ended before its last line was answered.
+//! Faults that end a script before its last line is answered.
 
 ghost use Rattle.std.specs.Prelude.{◌≡◌};
 ghost use Rattle.cred_cli.specs.{Faults.error_number, Faults.error_word, declared.fault.ScriptFault.TheVariants.Memory as OutOfMemory};
@@ -15,7 +15,7 @@ pub enum ScriptFault {
     /// The writer failed, or took no byte.
     #[error("the writer failed, or took no byte")]
     Write,
-    /// There was no memory for the script.
+    /// No memory for the script.
     #[error("out of memory")]
     Memory,
     /// The script has over 1048576 bytes.

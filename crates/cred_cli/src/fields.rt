@@ -1,5 +1,5 @@
-//! The fields of a line. Where there are more or fewer than a function reads it refuses them with
-//! `Line`; otherwise with why the first from the left stands for no value.
+//! The fields of a line. A function refuses more or fewer fields than it reads with `Line`, and
+//! otherwise with the fault of the first bad field from the left.
 
 ghost use Rattle.std.specs.Prelude.{◌≡◌, ◌≤◌, IfOk, IfSome, map, true};
 ghost use Rattle.cred_phc.specs.Ranges.{is_current};
@@ -111,8 +111,8 @@ pub fn name_password_setting(
     Ok((account, pw, setting))
 }
 
-/// The setting that a line gives behind its other fields, or the one that is drawn. More fields
-/// refuse the line before any other is read.
+/// The setting that a line gives after its other fields, or the drawn one. Too many fields refuse
+/// the line before any other is read.
 fn own_setting(own: &[&[u8]], drawn: Option<Setting>) -> Result<Result<Setting, Refusal>, Refusal>
     requires { IfSome drawn (λ s. is_current s.scheme ≡ true) }
     ensures read { result ≡ own_setting (map (λ s. s.now) own.now) drawn }
@@ -128,8 +128,8 @@ fn own_setting(own: &[&[u8]], drawn: Option<Setting>) -> Result<Result<Setting, 
     }
 }
 
-/// An operation on an account's record, by its word and the fields behind it. If these give no
-/// setting it is the drawn one.
+/// An operation on an account's record, from its word and the fields after it. Without a setting in
+/// the fields it has the drawn one.
 pub fn request(drawn: Option<Setting>, word: &[u8], fields: &[&[u8]]) -> Result<Request, Refusal>
     requires { IfSome drawn (λ s. is_current s.scheme ≡ true) }
     ensures request { result ≡ request_of drawn word.now (map (λ s. s.now) fields.now) }

@@ -6,7 +6,7 @@ ghost use Rattle.cred_cli.specs.Events.{key_of};
 use cred_phc::decimal;
 use std::marker::Model;
 
-/// How many operations may be open at once.
+/// The maximum number of open operations.
 pub(crate) const KEYS: u8 = 64;
 
 /// The number of an operation, from 1 to 64.
@@ -28,7 +28,7 @@ impl Model for Key {
 }
 
 impl Key {
-    /// The number that the decimal text says, without a leading zero, if it is one of 1 to 64.
+    /// The number of a decimal text without a leading zero, if it is one of 1 to 64.
     #[tactic(auto, unfolding(crate::specs::Events::key_of))]
     pub(crate) fn parse(text: &[u8]) -> Option<Key>
         ensures value { result ≡ key_of text.now }
@@ -43,7 +43,7 @@ impl Key {
         })
     }
 
-    /// Its place in a table of 64.
+    /// The number's place in a table of 64.
     pub(crate) fn index(self) -> usize
         ensures place { result ≡ self - 1 }
         ensures below { result < 64 }

@@ -21,7 +21,7 @@ pub fn names_are_the_books()
         → map.len (book_at capacity book events i) ≡ length (names_at capacity book events i) }
 {}
 
-/// The law that what was done before an earlier place is the front of what was done before a later
+/// The law that the operations before an earlier place are the front of those before a later
 /// one.
 #[tactic(auto, using(crate::proofs::Names::take_done))]
 pub fn history_is_a_front()
@@ -44,8 +44,8 @@ pub fn starved_commits_change_nothing()
         → line_of (answer_at capacity book events i) ≡ codes "bad 4 memory" ++ 10 ∷ [] }
 {}
 
-/// The law that what is within bounds brings no setting or record that asks for more, and that a
-/// line that does is refused: the book stays, and so does each open number; and its answer is
+/// The law that an event within bounds has no setting or record that needs more, and that a line
+/// with one is refused: the book stays, and so does each open number; and its answer is
 /// `bad 18 costly`.
 #[tactic(auto, using(crate::proofs::Bounds::costly_laws))]
 pub fn costly_lines_change_nothing()

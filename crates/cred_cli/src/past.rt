@@ -1,5 +1,5 @@
-//! What proofs read of the calls on a reader or a writer. It takes no memory, and does nothing at
-//! run time.
+//! The calls on a reader or a writer, as proofs read them. A past takes no memory, and does nothing
+//! at run time.
 
 ghost use Rattle.std.specs.{Prelude.◌≡◌, Prelude.ℕ, Prelude.List, Prelude.[], Borrow.ftrue, Coded.coded_list};
 ghost use Rattle.cred_cli.specs.Calls.{Call, call_code};
@@ -21,11 +21,11 @@ impl Model for Past {
     ghost also_owns = { λ _. ftrue };
 }
 
-/// What a past may gain.
+/// An addition to a past.
 pub(crate) trait Note {
     ghost use Rattle.cred_cli.specs.{Pasts.GoesOn, declared.past.Past.Past};
 
-    /// The past with it.
+    /// The past with the addition.
     ghost noted: { Self → Past → Past };
 
     /// Nothing that the past had is lost.

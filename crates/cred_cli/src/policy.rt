@@ -1,5 +1,5 @@
-//! How lines are taken: as a script's or a service's, which are refused though a script would answer
-//! them, and what they are answered with.
+//! The policy for lines: a script's or a service's, the lines that it refuses though a script would
+//! answer them, and the tools of the answers.
 
 ghost use Rattle.std.specs.Prelude.{◌≡◌, MatchBool};
 ghost use Rattle.cred_cli.specs.{Costs.within, Events.IsSound, Events.event_of, Service.unended};
@@ -12,8 +12,8 @@ use crate::tools::Tools;
 /// A script comes to an end, and a service goes on as long as it can.
 #[derive(Clone, Copy)]
 pub(crate) enum Mode {
-    /// A commit for whose hash there is no memory ends the run. A last line without its end is done
-    /// as any other.
+    /// A commit without memory for its hash ends the run. A last line without its end is done like
+    /// any other.
     Script,
     /// Such a commit is answered as refused, and its number stays open. A last line without its end
     /// is refused, as more than the end may be lost of it.
@@ -27,7 +27,7 @@ impl Mode {
         matches!(self, Mode::Service)
     }
 
-    /// What a last line comes to that asks for this and has no end.
+    /// The event of a last line that asks for this and has no end.
     pub(crate) fn unended(self, event: Event) -> Event
         requires { IsSound event }
         ensures event { result ≡ unended self event }
@@ -40,16 +40,16 @@ impl Mode {
     }
 }
 
-/// How lines are taken.
+/// The policy for lines.
 #[derive(Clone, Copy)]
 pub(crate) struct Policy {
     pub(crate) mode: Mode,
-    /// What a setting or a record that a line brings may ask for.
+    /// The bounds on a setting or a record of a line.
     pub(crate) most: CostBounds,
 }
 
 impl Policy {
-    /// What a line with its end comes to.
+    /// The event of a line with its end.
     pub(crate) fn event_of(&self, line: &[u8]) -> Event
         ensures event { result ≡ within self.now.most (event_of line.now) }
         ensures sound { IsSound result }
@@ -58,7 +58,7 @@ impl Policy {
     }
 }
 
-/// With what lines are answered.
+/// The tools and the policy by which lines are answered.
 #[derive(Drop)]
 pub(crate) struct Engine<'a, T> {
     pub(crate) tools: &'a Tools<'a, T>,

@@ -1,4 +1,4 @@
-//! What the program prints: one line on its output, or the cause of its end on `faults`.
+//! The output of the program: one line, or the cause of its end on `faults`.
 
 ghost use Rattle.std.specs.Prelude.{◌≡◌};
 ghost use Rattle.cred_cli.specs.{Commands.Prints, Statuses.status_number, Statuses.status_of, Watched.Basis, Watched.TakesAsContracted, Watched.writing_on};
@@ -10,7 +10,7 @@ use crate::watched::Watched;
 use crate::writing::write_whole;
 use std::io::Write;
 
-/// Writes the line whole, and answers the status `good`.
+/// Writes the whole line, and returns the status `good`.
 pub(crate) fn print<W: Write, F: Write>(
     writer: &mut Watched<W>,
     faults: &mut F,

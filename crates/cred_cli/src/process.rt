@@ -1,5 +1,5 @@
-//! The program as its process runs it: on the words that it was started with, and with a status
-//! that the shell sees.
+//! The program as a process: on the words of its command line, and with a status that the shell
+//! sees.
 
 ghost use Rattle.std.specs.{Prelude.◌≡◌, Prelude.◌⊎◌, Prelude.MatchResult, Process.exit_status};
 ghost use Rattle.cred_cli.specs.Statuses.{status_number};
@@ -14,9 +14,9 @@ use std::sync::Wait;
 use std::thread::Threads;
 use std::{env, io};
 
-/// Runs [`command`] on the words that the process was started with, and gives its status to the
-/// shell. A word that isn't UTF-8 is named on `faults`, and is 1; running out of memory for the
-/// words is 3.
+/// Runs [`command`] on the words of the process's command line, and returns its status to the
+/// shell: 1 for a word that isn't UTF-8, which is named on `faults`, and 3 if memory for the words
+/// runs out.
 pub fn run_program<R, I, O, F>(rt: &R, input: I, output: O, faults: &mut F) -> ExitCode
 where
     R: Env + AllocGlobal + Threads + Wait + Sync,
@@ -35,7 +35,7 @@ where
     exit_code(&ended)
 }
 
-/// The status of the command, if there was memory for its words and they are UTF-8.
+/// The status of the command, if its words are UTF-8 and memory for them suffices.
 fn exit_code(ended: &io::Result<u8>) -> ExitCode
     ensures { MatchResult ended.now (λ status. exit_status result ≡ status)
         (λ _. (exit_status result ≡ status_number ExitStatus.Refused)

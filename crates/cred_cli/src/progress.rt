@@ -1,4 +1,4 @@
-//! How far a script has been read.
+//! The progress of reading a script.
 
 ghost use Rattle.std.specs.Prelude.{◌≡◌, [], ◌∷◌, ◌++◌, ◌≤◌, take};
 ghost use Rattle.cred_cli.specs.{Events.most_kept, Outcome.longest_service};
@@ -6,8 +6,8 @@ ghost use Rattle.cred_cli.specs.{Events.most_kept, Outcome.longest_service};
 use crate::event::LONGEST_LINE;
 use std::marker::Model;
 
-/// How many bytes of a line are kept: one more than a line may have, as a longer one is refused
-/// whatever it goes on with.
+/// The maximum number of bytes that are kept of a line: one more than a good line may have, since a
+/// longer one is refused whatever follows.
 const KEPT: usize = LONGEST_LINE + 1;
 
 /// The line that is being read, as far as it is kept.
@@ -60,16 +60,16 @@ impl LineStart {
     }
 }
 
-/// What was read so far.
+/// The bytes and lines that were read so far.
 #[derive(Drop)]
 pub(crate) struct Progress {
     /// The line that has no end yet.
     pub(crate) start: LineStart,
-    /// How many lines are answered.
+    /// The number of answered lines.
     pub(crate) lines: u64,
-    /// How many bytes were taken.
+    /// The number of bytes that were taken.
     pub(crate) taken: u64,
-    /// How many may be taken.
+    /// The maximum number of bytes.
     pub(crate) limit: u64,
 
     ghost fewer_lines: { lines ≤ taken },

@@ -1,4 +1,4 @@
-//! Why a line is refused.
+//! The reasons why lines are refused.
 
 ghost use Rattle.std.specs.Prelude.{◌≡◌};
 ghost use Rattle.cred_cli.specs.{Refusals.error_number, Refusals.error_word, History.Refused, Texts.line_of};
@@ -7,7 +7,7 @@ ghost use Rattle.cred_cli.specs.declared.refusal.Refusal.TheVariants.{Book, Text
 use cred_book::BookError;
 use cred_phc::PhcError;
 
-/// Why a line changes nothing; its answer is `bad N WORD`.
+/// The reason why a line changes nothing; its answer is `bad N WORD`.
 #[derive(Clone, Copy, Debug, PartialEq, Eq)]
 pub enum Refusal {
     /// The line has over 1024 bytes.
@@ -18,11 +18,11 @@ pub enum Refusal {
     Key,
     /// The password isn't `-` or base64 of 1 to 256 bytes.
     Password,
-    /// The number is open.
+    /// The operation of this number is open already.
     Busy,
-    /// The number isn't open.
+    /// No operation of this number is open.
     Idle,
-    /// Its setting or record asks for more memory than the bound.
+    /// The setting or the record needs more memory or work than the bound.
     Costly,
     /// The text of a setting or a record has this fault.
     Text(PhcError),
@@ -63,7 +63,7 @@ impl Refusal {
         }
     }
 
-    /// Its answer with the line end. It stands ready, so that a refused line takes no memory.
+    /// The answer with its line end: a constant, so that a refused line takes no memory.
     pub fn line(self) -> &'static [u8]
         ensures { result.now ≡ line_of (Refused self) }
     {

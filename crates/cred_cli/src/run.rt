@@ -19,7 +19,7 @@ use crate::watched::Watched;
 use std::io::{Read, Write};
 use std::thread::Threads;
 
-/// How many bytes are asked for at once.
+/// The size of one read in bytes.
 const CHUNK: usize = 4096;
 
 /// Answers the lines that the reader gives, to its end or to the limit.
@@ -56,7 +56,7 @@ pub(crate) fn answer_all<Way, T: Threads + Sync, K: KeeperBy<Way, T>, R: Read, W
     run.read_all(engine, keeper, reader, writer)
 }
 
-/// Does what a line comes to, and writes its answer.
+/// Applies the event of a line, and writes its answer.
 fn answer_line<Way, T: Threads + Sync, K: KeeperBy<Way, T>, W: Write>(
     engine: &Engine<'_, T>,
     keeper: &mut K,
@@ -77,7 +77,7 @@ fn answer_line<Way, T: Threads + Sync, K: KeeperBy<Way, T>, W: Write>(
     answer.write_to(writer)
 }
 
-/// The open tickets of a script, and how far it has been read.
+/// The open tickets of a script, and the progress of reading it.
 #[derive(Drop)]
 pub(crate) struct Run {
     pub(crate) tickets: Tickets,
@@ -85,7 +85,7 @@ pub(crate) struct Run {
 }
 
 impl Run {
-    /// Takes one byte more. At a line end the line is answered.
+    /// Takes one more byte. At a line end the line is answered.
     pub(crate) fn take_byte<Way, T: Threads + Sync, K: KeeperBy<Way, T>, W: Write>(
         &mut self,
         engine: &Engine<'_, T>,

@@ -21,10 +21,10 @@ use std::thread::Threads;
 /// The longest script in bytes.
 const LONGEST_SCRIPT: u64 = 1048576;
 
-/// How a script ended that met no fault.
+/// The end of a script without a fault.
 #[derive(Clone, Copy, Debug, PartialEq, Eq)]
 pub struct End {
-    /// How many lines were answered.
+    /// The number of answered lines.
     pub lines: u64,
 }
 
@@ -40,8 +40,8 @@ pub struct End {
 /// `transcript` says which lines are answered. Of a reader or a writer whose own contract names its
 /// bytes, they are the same bytes (`gives`, `takes`).
 ///
-/// Errors: `Read` or `Write` if a call on the reader or the writer failed; `Memory` if it runs out;
-/// `TooLong` if the script has more bytes.
+/// Errors: `Read` or `Write` if such a call failed; `Memory` if memory ran out; `TooLong` if the
+/// script has more bytes.
 pub fn run_script<T: Threads + Wait + Sync, K: Keeper, R: Read, W: Write>(
     rt: &T,
     alloc: Global,

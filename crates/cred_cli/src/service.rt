@@ -15,16 +15,16 @@ use crate::watched::Watched;
 use std::io::{Read, Write};
 use std::thread::Threads;
 
-/// How many bytes a service reads at most: their count and that of the lines fit.
+/// The maximum number of bytes that a service reads, so that the counts of bytes and lines fit.
 const LONGEST_SERVICE: u64 = u64::MAX - 1;
 
 /// Answers lines as [`run_script`](crate::run_script) does, however many come.
 ///
-/// A commit that needs a hash for which there is no memory is refused as `bad 4 memory`: it does
-/// nothing, its number stays open, and the next line is answered. Memory may run out elsewhere.
+/// A commit without memory for its hash is refused as `bad 4 memory`: it does nothing, its number
+/// stays open, and the next line is answered. Memory may run out elsewhere.
 ///
-/// A line whose setting or record asks for more than `most` is refused as `bad 18 costly`. A record
-/// that the book had before is hashed all the same. A last line without its end is refused as
+/// A line whose setting or record needs more than `most` is refused as `bad 18 costly`. A record
+/// that the book had before is still hashed. A last line without its end is refused as
 /// `bad 11 line`, as more than that may be lost of it.
 ///
 /// Whenever the reader is called, each whole line that came is done and its answer is written, and
@@ -39,8 +39,8 @@ const LONGEST_SERVICE: u64 = u64::MAX - 1;
 /// It waits only where a call of the reader, the writer or the keeper does. So over a keeper whose
 /// changes wait for nobody every body of it returns, and is bound by this.
 ///
-/// Errors: `Read` or `Write` if a call on the reader or the writer failed; `Memory` if it runs out;
-/// `TooLong` after 2^64 - 2 bytes, which take centuries to come.
+/// Errors: `Read` or `Write` if such a call failed; `Memory` if memory ran out; `TooLong` after
+/// 2^64 - 2 bytes, which take centuries to come.
 pub fn serve<Way, T: Threads + Sync, K: KeeperBy<Way, T>, R: Read, W: Write>(
     tools: &Tools<'_, T>,
     most: CostBounds,

@@ -47,7 +47,7 @@ impl Tickets {
         self.slots[key.index()] = Some(ticket);
     }
 
-    /// The ticket of the number, which is open no more.
+    /// Closes the number, and returns its ticket.
     pub(crate) fn close(&mut self, key: Key) -> Option<Ticket>
         ensures ticket { result ≡ slice_index_or self.old (key - 1) None }
         ensures closed { self.new ≡ slice_set self.old (key - 1) None }

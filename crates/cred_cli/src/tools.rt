@@ -1,4 +1,4 @@
-//! With what scripts are run and commands are done.
+//! The tools of scripts and commands.
 
 ghost use Rattle.std.specs.Prelude.{◌≡◌};
 
@@ -6,7 +6,7 @@ use cred_book::Hashing;
 use cred_pool::NoGate;
 use std::alloc::Global;
 
-/// The runtime, the allocator, and how many threads at most work one hash.
+/// The runtime, the allocator, and the maximum number of threads for one hash.
 #[derive(Drop)]
 pub struct Tools<'a, T> {
     pub rt: &'a T,
@@ -15,7 +15,7 @@ pub struct Tools<'a, T> {
 }
 
 impl<'a, T> Tools<'a, T> {
-    /// Hashing with these, with no gate.
+    /// Hashing with these tools, without a gate.
     pub fn hashing(&self) -> Hashing<'a, T, NoGate>
         ensures { result.workers ≡ self.now.workers }
     {

@@ -1,4 +1,4 @@
-//! A reader or a writer that counts the calls on it, and keeps in mind whether one failed. Proofs
+//! A reader or a writer that counts the calls on it, and remembers whether one failed. Proofs
 //! also see all the bytes that passed.
 
 ghost use Rattle.std.specs.Prelude.{◌≡◌, ◌+◌, ◌-◌, ◌^◌, ◌<◌, ◌∷◌, min, true, length, IfOk, OnOk, OnErr};
@@ -98,7 +98,7 @@ impl<X> Watched<X> {
         }
     }
 
-    /// How many calls were made; it stands still at `u64::MAX`.
+    /// The number of calls, which stays at `u64::MAX`.
     pub fn calls(&self) -> u64
         ensures { result ≡ calls_of self.now }
     {
@@ -112,7 +112,7 @@ impl<X> Watched<X> {
         self.failed
     }
 
-    /// Whether a call gave no byte though there was room for one.
+    /// Whether a call gave no byte though the buffer had room.
     pub fn ended(&self) -> bool
         ensures { result ≡ ended_of self.now }
     {
@@ -129,8 +129,8 @@ impl<X> Watched<X> {
 }
 
 impl<R: Read> Watched<R> {
-    /// Reads as [`Read::read`] does, and logs how the writer and the keeper stood then, with which
-    /// it does nothing.
+    /// Reads like [`Read::read`], and logs the state of the writer and the keeper, neither of which
+    /// it changes.
     pub fn read_beside<K: Keeper, W: Write>(
         &mut self,
         keeper: &K,
