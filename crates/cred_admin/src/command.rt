@@ -15,29 +15,29 @@ use cred_cli::{KeeperBy, Tools, Watched, reply_line};
 use std::io::{Read, Write};
 use std::thread::Threads;
 
-/// What is asked of one account, with its passwords read a line each.
+/// An operation on one account, with its passwords read a line each.
 #[derive(Clone, Copy, Debug, PartialEq, Eq)]
 pub enum Command {
-    /// Makes the first record of the account, and the account if it doesn't exist. It answers
+    /// Makes the first record of the account, and the account if it doesn't exist. The answer is
     /// `enrolled`, or `exists`.
     Add(NewPassword),
-    /// Asks whether a password is the account's. It answers `yes` or `no`.
+    /// Asks whether a password is the account's. The answer is `yes` or `no`.
     Check,
-    /// Puts the record of a new password in place of that of the old one. It answers `replaced` or
+    /// Replaces the old password's record by one of a new password. The answer is `replaced` or
     /// `wrong`.
     Change(NewPassword),
-    /// Puts the record of a new password at the account, without the old one. It answers
-    /// `replaced`, or `enrolled` if there was none.
+    /// Sets the record of a new password, without the old one. The answer is
+    /// `replaced`, or `enrolled` for the first record.
     Reset(NewPassword),
-    /// Rehashes the account's record, unless it is of this scheme with these numbers. It answers
+    /// Rehashes the account's record, unless it has this scheme with these numbers. The answer is
     /// `upgraded`, `kept` or `wrong`.
     Upgrade(NewSetting),
-    /// Takes the account's record away; the name stays. It answers `removed` or `wrong`.
+    /// Removes the account's record; the name stays. The answer is `removed` or `wrong`.
     Remove,
 }
 
 impl Command {
-    /// The passwords that it reads.
+    /// The passwords that the command reads.
     pub fn passwords(&self) -> Passwords
         ensures { result ≡ passwords_of self.now }
     {
@@ -48,14 +48,14 @@ impl Command {
         }
     }
 
-    /// Reads its passwords, does the whole operation, and then writes the reply: `noaccount` or
+    /// Reads the passwords, does the whole operation, and then writes the reply: `noaccount` or
     /// `absent` where the account or its record is missing.
     ///
-    /// It waits only where a call of the reader, the writer or the keeper does. So over a keeper
+    /// This waits only where a call of the reader, the writer or the keeper does. So over a keeper
     /// whose changes wait for nobody every body of it returns, and is bound by this.
     ///
     /// Errors: `Read`, `NoPassword`, `NoNewPassword`, `Password`, `Empty`, `Memory`, and `Full` if
-    /// there is no room for another account: nothing is written or changed; `NoRecord`: the account
+    /// the book has no room for an account: nothing is written or changed; `NoRecord`: the account
     /// was added, and nothing written; `Write`.
     pub fn carry_out<Way, T: Threads + Sync, K: KeeperBy<Way, T>, R: Read, W: Write>(
         &self,
@@ -78,7 +78,7 @@ impl Command {
         tell(reply_line(&reply), status_of(&reply, hint), writer)
     }
 
-    /// What it asks for with these passwords.
+    /// The operation of the command with these passwords.
     fn operation(&self, name: &Name, typed: &Typed) -> Operation
         ensures asked { result ≡ operation_of name.now self.now typed.now }
         ensures current { is_current_operation result ≡ true }

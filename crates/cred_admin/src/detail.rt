@@ -1,4 +1,4 @@
-//! What is shown of a record.
+//! The part of a record that is shown.
 
 ghost use Rattle.std.specs.Prelude.{◌≡◌, ◌++◌, ◌∷◌, ◌≤◌, List, ℕ, IfOk, length};
 ghost use Rattle.cred_phc.specs.{Base64.base64, Text.scheme_text};
@@ -7,7 +7,7 @@ ghost use Rattle.cred_admin.specs.Listing.{detail_text};
 use cred_phc::{Record, Setting, write_record, write_setting};
 use std::alloc::{AllocError, Global};
 
-/// How much of a record is shown.
+/// The part of a record that is shown.
 #[derive(Clone, Copy, Debug, PartialEq, Eq)]
 pub enum Detail {
     /// The scheme and its costs, as `$argon2id$v=19$m=65536,t=3,p=4`.
@@ -44,7 +44,7 @@ fn costs_text(alloc: Global, setting: &Setting) -> Result<Vec<u8>, AllocError>
     Ok(costs)
 }
 
-/// What comes before the `$` and the salt, in base64, that end a text.
+/// The text before the `$` and the salt, in base64, that end a setting's text.
 fn before_salt<'a>(text: &'a [u8], salt: &[u8]) -> &'a [u8]
     requires { length salt.now ≤ 48 }
     ensures { (front : List ℕ) → text.now ≡ front ++ 36 ∷ base64 salt.now

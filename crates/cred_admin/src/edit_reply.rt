@@ -5,16 +5,16 @@ ghost use Rattle.cred_admin.specs.Edits.{edit_line, edit_status};
 
 use crate::status::Status;
 
-/// What became of such an order.
+/// The outcome of such an order.
 #[derive(Clone, Copy, Debug, PartialEq, Eq)]
 pub enum EditReply {
-    /// The record is gone, and the name stays.
+    /// The record was removed, and the name stays.
     Disabled,
-    /// The name is gone, with its record.
+    /// The name was removed, with its record.
     Deleted,
-    /// The record is that of the other name.
+    /// The record has the other name now.
     Renamed,
-    /// There is no record.
+    /// The account has no record.
     Absent,
     /// The other name exists already.
     Exists,
@@ -36,7 +36,7 @@ pub fn edit_line(reply: EditReply) -> &'static [u8]
     }
 }
 
-/// The exit status that goes with it.
+/// The exit status for the reply.
 pub(crate) fn edit_status(reply: EditReply) -> Status
     ensures { result ≡ edit_status reply }
 {

@@ -23,16 +23,16 @@ use std::io::Write;
 /// A change of an account for which no password is asked.
 #[derive(Clone, Copy)]
 pub enum Edit {
-    /// Takes the record away, and leaves the name.
+    /// Removes the record, and leaves the name.
     Disable(Name),
-    /// Takes the name out, with its record.
+    /// Removes the name, with its record.
     Delete(Name),
     /// Gives the account of the first name the second one.
     Rename(Name, Name),
 }
 
-/// Changes an account, and writes what became of it: `disabled`, `deleted` or `renamed`; `absent`
-/// if it has no record to take away; `exists` if the second name exists; or `noaccount`.
+/// Changes an account, and writes the outcome: `disabled`, `deleted` or `renamed`; `absent`
+/// if it has no record to remove; `exists` if the second name exists; or `noaccount`.
 ///
 /// Errors: `Memory`, and `Full` if an account would be renamed and the book has no room for one
 /// more name: nothing is written or changed; `Write`.
@@ -49,9 +49,9 @@ pub fn edit_account<S: Alter, W: Write>(
     tell(edit_line(reply), edit_status(reply), writer)
 }
 
-/// Changes an account, and says what became of it.
+/// Changes an account, and returns the outcome.
 ///
-/// Errors: `Full` if an account would be renamed, and there is no room for one more name;
+/// Errors: `Full` if an account would be renamed, and the book has no room for one more name;
 /// `Memory`. The book stays.
 pub fn make_edit<S: Alter>(book: &mut FileBook<S>, edit: &Edit) -> Result<EditReply, BookError>
     ensures { EditsWithin register_capacity book.old.book book.new.book edit.now result }
@@ -115,10 +115,10 @@ fn rename<S: Alter>(
     }
 }
 
-/// Writes the account's line of a passwd-file, and then takes its record away. The line comes
+/// Writes the account's line of a passwd-file, and then removes its record. The line comes
 /// first, so that a record isn't lost by a failed write.
 ///
-/// It writes `absent` or `noaccount` if there is no record. Errors: `Memory`, and `Write`: the
+/// The answer without a record is `absent` or `noaccount`. Errors: `Memory`, and `Write`: the
 /// account stays as it is.
 pub fn disable_shown<S: Alter, W: Write>(
     alloc: Global,

@@ -1,6 +1,6 @@
 //! A line of a passwd-file: `NAME:RECORD`, or `NAME:` if it has no record.
 //!
-//! What other programs write beside it is left away: a carriage return at the end, further fields,
+//! Additions of other programs are left out: a carriage return at the end, further fields,
 //! and in front of the record Dovecot's scheme in braces or Django's word `argon2`. An empty line
 //! and one that begins with `#` say nothing.
 
@@ -12,18 +12,18 @@ ghost use Rattle.cred_phc.specs.Pieces.{pieces};
 use cred_book::{BookError, Name};
 use cred_phc::{PhcError, Pieces, Record, parse_record};
 
-/// Why a line isn't good.
+/// The fault of a line.
 #[derive(Clone, Copy, Debug, PartialEq, Eq)]
 pub enum LineFault {
-    /// It has no colon.
+    /// The line has no colon.
     Line,
-    /// The text of its record has this fault.
+    /// The text of the record has this fault.
     Text(PhcError),
-    /// Its name is none, or the book refuses it.
+    /// The name is no name, or the book refuses it.
     Book(BookError),
-    /// Its record is locked.
+    /// The record is locked.
     Locked,
-    /// Its record asks for more memory than the bound.
+    /// The record needs more memory or work than the bound.
     Costly,
 }
 
@@ -55,10 +55,10 @@ impl LineFault {
     }
 }
 
-/// What a line says.
+/// The content of a line.
 #[derive(Clone, Copy, Debug, PartialEq, Eq)]
 pub(crate) enum Said {
-    /// Nothing: it is empty, or a remark.
+    /// Nothing: the line is empty, or a remark.
     Nothing,
     /// An account, with this record or none.
     Account { name: Name, stored: Option<Record> },
@@ -83,7 +83,7 @@ pub(crate) fn said_of(line: &[u8]) -> Result<Said, LineFault>
     }
 }
 
-/// Whether a line is there for its readers alone.
+/// Whether a line is a remark, for its readers alone.
 fn is_remark(line: &[u8]) -> bool
     ensures { result ≡ is_remark line.now }
 {
@@ -101,7 +101,7 @@ fn said_as(name: &[u8], text: &[u8]) -> Result<Said, LineFault>
     Ok(Said::Account { name, stored })
 }
 
-/// Whether a second field has a record that `passwd -l` locked, or `*`, which stands for none.
+/// Whether a second field has a record that `passwd -l` locked, or `*` in place of a record.
 fn is_locked(text: &[u8]) -> bool
     ensures { result ≡ is_locked text.now }
 {
@@ -139,7 +139,7 @@ fn record_part(text: &[u8]) -> &[u8]
     behind_word(behind_braces(text))
 }
 
-/// What stands after a scheme in braces, if the text begins with one.
+/// The text after a scheme in braces, if it begins with one.
 fn behind_braces(text: &[u8]) -> &[u8]
     ensures { result.now ≡ behind_braces (pieces 125 text.now) text.now }
 {
@@ -150,7 +150,7 @@ fn behind_braces(text: &[u8]) -> &[u8]
     }
 }
 
-/// What stands after Django's word, if the text begins with it.
+/// The text after Django's word, if it begins with that.
 fn behind_word(text: &[u8]) -> &[u8]
     ensures { result.now ≡ behind_word text.now }
 {

@@ -1,4 +1,4 @@
-//! Why a command ends without its answer.
+//! Faults that end a command without its answer.
 
 ghost use Rattle.std.specs.Prelude.{◌≡◌};
 ghost use Rattle.cred_admin.specs.{Statuses.fault_of_book, Statuses.status_of_fault, declared.fault.Fault.TheVariants.Memory as OutOfMemory};
@@ -9,7 +9,7 @@ use cred_phc::{Record, TagError};
 use std::alloc::AllocError;
 use thiserror::Error;
 
-/// What ended a command.
+/// The fault that ended a command.
 #[derive(Clone, Copy, Debug, PartialEq, Eq, Error)]
 pub enum Fault {
     #[error("reading failed")]
@@ -18,7 +18,7 @@ pub enum Fault {
     Write,
     #[error("out of memory")]
     Memory,
-    /// The account was added, and then there was no memory to keep this record.
+    /// The account was added, and then memory for this record ran out.
     #[error("out of memory: the name is there, with no record")]
     NoRecord(Record),
     #[error("the password has over 256 bytes")]
@@ -34,7 +34,7 @@ pub enum Fault {
 }
 
 impl Fault {
-    /// The exit status that tells of it.
+    /// The exit status of the fault.
     pub fn status(&self) -> Status
         ensures { result ≡ status_of_fault self.now }
     {
@@ -66,7 +66,7 @@ impl From<TagError> for Fault {
     }
 }
 
-/// A book that is asked for what it can do refuses it only for want of room or memory.
+/// Commands ask a book only for possible changes: it refuses them only for want of room or memory.
 impl From<BookError> for Fault {
     ghost from_gives = { λ why e. e ≡ fault_of_book why };
 

@@ -1,4 +1,4 @@
-//! What the lines of a passwd-file come to, before they are taken in.
+//! The accounts in the lines of a passwd-file, before they are imported.
 
 ghost use Rattle.std.specs.Prelude.{◌≡◌, ◌⊎◌, ◌<◌, IfErr, IfOk, IfSome, List, OnOk, true, ℕ};
 ghost use Rattle.std.specs.FinMap as map;
@@ -14,35 +14,35 @@ use cred_phc::{Pieces, Record};
 use std::alloc::{AllocError, Global};
 use std::io::Read;
 
-/// How many bytes are asked for at once.
+/// The size of one read in bytes.
 const CHUNK: usize = 65536;
 
-/// What an import does with a line whose account exists already.
+/// The treatment of a line whose account exists already.
 #[derive(Clone, Copy, Debug, PartialEq, Eq)]
 pub enum Existing {
-    /// The line is at fault.
+    /// The line is refused.
     Refused,
     /// The account stays as it is.
     Kept,
-    /// The account has the record of the line from now on, or none.
+    /// The account gets the record of the line, or none.
     Updated,
 }
 
-/// What an import does with a record that is locked: that stands behind `!` or `*`.
+/// The treatment of a locked record: one after `!` or `*`.
 #[derive(Clone, Copy, Debug, PartialEq, Eq)]
 pub enum LockedRecords {
-    /// The line is at fault.
+    /// The line is refused.
     Refused,
-    /// The line is of an account without a record.
+    /// The account of the line has no record.
     Disabled,
 }
 
-/// How an import takes its lines.
+/// The rules of an import.
 #[derive(Clone, Copy, Debug, PartialEq, Eq)]
 pub struct Rules {
     pub existing: Existing,
     pub locked: LockedRecords,
-    /// What a record may ask for; a line whose record asks for more is at fault.
+    /// The bounds on a record; a line whose record needs more is refused.
     pub most: CostBounds,
 }
 
@@ -57,7 +57,7 @@ impl Rules {
     }
 }
 
-/// A line that isn't good.
+/// A refused line.
 #[derive(Clone, Copy, Debug, PartialEq, Eq)]
 pub struct BadLine {
     /// Counted from 1.
@@ -68,16 +68,16 @@ pub struct BadLine {
 /// An account of a line, with its record or none.
 type Entry = (Name, Option<Record>);
 
-/// Why an import takes in nothing.
+/// The reason why an import changes nothing.
 #[derive(Debug, Drop)]
 pub enum ImportFault {
     /// Reading failed.
     Read,
-    /// There was no memory.
+    /// Memory ran out.
     Memory,
-    /// There is no room for so many accounts.
+    /// The book has no room for so many accounts.
     Full,
-    /// These lines aren't good.
+    /// These lines are refused.
     Lines(Vec<BadLine>),
 }
 
@@ -89,22 +89,22 @@ impl From<AllocError> for ImportFault {
     }
 }
 
-/// What the lines of an import come to.
+/// The result of reading the lines of an import.
 #[derive(Drop)]
 pub struct Gathered {
-    /// The accounts that are new.
+    /// The new accounts.
     pub accounts: Register,
-    /// The existing accounts, with the records that they have from now on.
+    /// The existing accounts that change, with their records from then on.
     pub changed: Register,
-    /// How many lines name an account that exists and stays as it is.
+    /// The number of lines whose account exists and stays as it is.
     pub kept: u64,
-    /// The lines that aren't good, in their order.
+    /// The refused lines, in their order.
     pub bad: Vec<BadLine>,
 }
 
-/// What the lines that the reader has come to, `NAME:RECORD` or `NAME:` each, beside this book.
+/// The accounts in the lines of the reader, `NAME:RECORD` or `NAME:` each, beside this book.
 ///
-/// Errors: `Read`; `Memory`; `Full` if there are over 2^24 accounts.
+/// Errors: `Read`; `Memory`; `Full` for over 2^24 accounts.
 pub fn gather<R: Read>(
     alloc: Global,
     book: &Register,
@@ -124,7 +124,7 @@ pub fn gather<R: Read>(
     gather_lines(alloc, book, rules, &text)
 }
 
-/// Reads what the reader has to its end.
+/// Reads the input to its end.
 fn read_all<R: Read>(alloc: Global, reader: &mut Watched<R>) -> Result<Vec<u8>, ImportFault>
     ensures text { (basis : Basis) → FitsSince basis reader.old reader.new
         → IfOk result (λ text. IfSome (left_on basis R.remaining reader.old)
@@ -182,7 +182,7 @@ impl Gathered {
         }
     }
 
-    /// Adds what a line comes to.
+    /// Adds the account of a line.
     fn take_line(
         &mut self,
         book: &Register,
@@ -237,7 +237,7 @@ impl Gathered {
         }
     }
 
-    /// Adds a line whose account exists already.
+    /// Adds a line whose account exists already, as `how` says.
     fn take_existing(&mut self, how: Existing, number: u64, entry: Entry) -> Result<(), ImportFault>
         requires { self.old.kept < number }
         ensures { Comes (with_existing how (tally_of self.old) number entry)
@@ -257,7 +257,7 @@ impl Gathered {
         }
     }
 
-    /// Adds a line that isn't good.
+    /// Adds a refused line.
     fn refuse(&mut self, number: u64, why: LineFault) -> Result<(), ImportFault>
         ensures { Comes (with_bad (tally_of self.old) number why) (tally_of self.new) result }
     {

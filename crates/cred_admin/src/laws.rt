@@ -1,4 +1,4 @@
-//! What imports come to, in the words of who wrote their lines.
+//! A law of imports, in the words of those who write the lines.
 
 ghost use Rattle.std.specs.Prelude.{◌≡◌, ℕ, List, None, Some, false, true};
 ghost use Rattle.std.specs.FinMap as map;

@@ -17,26 +17,26 @@ use cred_phc::Record;
 use std::alloc::{AllocError, Global};
 use std::io::Write;
 
-/// Lines are kept until they come to so many bytes, and then written.
+/// The size of the pieces in which lines are written, in bytes.
 const PIECE: usize = 65536;
 
-/// The law that a piece has 64 KiB, as the contracts that take it from the constant have it.
+/// The law that a piece has 64 KiB, in the form that contracts take from the constant.
 pub fn a_piece_has_64_kib()
     ensures { PIECE ≡ 65536 }
 {}
 
-/// How a line tells of an account.
+/// The form of an account's line.
 #[derive(Clone, Copy, Debug, PartialEq, Eq)]
 pub enum Line {
-    /// By its name.
+    /// Its name.
     Name,
-    /// As a passwd-file does: `NAME:` and this detail of its record, if it has one.
+    /// A line of a passwd-file: `NAME:` and this detail of its record, if it has one.
     Passwd(Detail),
-    /// In JSON: `{"name":"NAME","record":"RECORD"}`, or with `"costs"`; `null` is no record.
+    /// JSON: `{"name":"NAME","record":"RECORD"}`, or with `"costs"`; `null` is no record.
     Json(Detail),
 }
 
-/// Writes a line of each account, in the order of their names. It keeps about 64 KiB of them at a
+/// Writes a line of each account, in the order of their names, with about 64 KiB in memory at a
 /// time, however many there are. `import` reads those of `Line::Passwd(Detail::Record)`.
 ///
 /// Errors: `Memory`, and some first lines are written, perhaps none and never all; `Write`.
@@ -58,7 +58,7 @@ pub fn list<W: Write>(
     Ok(Status::Done)
 }
 
-/// Writes the lines that are kept once they come to a piece, and keeps them no longer.
+/// Writes the collected lines once they fill a piece, and drops them.
 fn write_piece<W: Write>(writer: &mut Watched<W>, text: &mut Vec<u8>) -> Result<(), Fault>
     ensures done { (basis : Basis) → OnOk result (IsPiece (held_on basis W.contents writer.old)
         (held_on basis W.contents writer.new) text.old.items text.new.items) }

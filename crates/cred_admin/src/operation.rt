@@ -1,4 +1,4 @@
-//! What a command does once its passwords are read.
+//! The work of a command after its passwords are read.
 
 ghost use Rattle.std.specs.Prelude.{◌≡◌, true};
 ghost use Rattle.cred_book.specs.Works.{is_for_current};
@@ -16,15 +16,15 @@ use std::thread::Threads;
 /// A whole operation on one account.
 #[derive(Clone, Copy)]
 pub(crate) enum Operation {
-    /// Judges a password by the account's record, and does what that allows.
+    /// Compares a password with the account's record, and does what the request asks.
     Ask(Request),
-    /// Makes a record, and puts it if there is none, at an account that is added if it is new.
+    /// Sets the first record of an account, which is added if it is new.
     Enrol {
         name: Name,
         setting: NewSetting,
         pw: Password,
     },
-    /// Makes a record, and puts it at the account, if it exists.
+    /// Sets the record of an account, if it exists.
     Reset {
         name: Name,
         setting: NewSetting,
@@ -33,7 +33,7 @@ pub(crate) enum Operation {
 }
 
 impl Operation {
-    /// Does it.
+    /// Does the operation.
     ///
     /// Errors: `Memory`, `Full`: nothing is changed; `NoRecord`: the account was added.
     pub(crate) fn work<Way, T: Threads + Sync, K: KeeperBy<Way, T>>(

@@ -1,4 +1,4 @@
-//! Passwords as they are read: a line each.
+//! Reading passwords, a line each.
 
 ghost use Rattle.std.specs.Prelude.{◌≡◌, ◌<◌, ◌&&◌, ◌++◌, ◌∷◌, [], IfErr, IfOk, IfSome, OnOk, Some, false, length, not, true};
 ghost use Rattle.cred_cli.specs.Watched.{Basis, ended_of, failed_of, left_on, reading_on};
@@ -13,36 +13,36 @@ use cred_phc::{MAX_PASSWORD, Password};
 use std::alloc::Global;
 use std::io::Read;
 
-/// What is asked of a new password.
+/// The rules for a new password.
 #[derive(Clone, Copy, Debug, PartialEq, Eq)]
 pub struct NewPassword {
     /// The setting of its record.
     pub setting: NewSetting,
-    /// Whether it may be empty.
+    /// Whether the password may be empty.
     pub empty: EmptyPassword,
 }
 
-/// What becomes of a new password that is empty.
+/// The treatment of an empty new password.
 #[derive(Clone, Copy, Debug, PartialEq, Eq)]
 pub enum EmptyPassword {
     /// It is refused.
     Refused,
-    /// It is taken like any other.
+    /// It is accepted like any other.
     Taken,
 }
 
 /// The passwords that a command reads, a line each.
 #[derive(Clone, Copy, Debug, PartialEq, Eq)]
 pub enum Passwords {
-    /// The account's.
+    /// The account's password.
     Present,
-    /// A new one.
+    /// A new password.
     New(EmptyPassword),
-    /// The account's, and then a new one.
+    /// The account's password, and then a new one.
     PresentAndNew(EmptyPassword),
 }
 
-/// The passwords that were read: those of the first line and of the last one, which may be one.
+/// The passwords that were read: of the first line and of the last one, which may be the same.
 #[derive(Clone, Copy)]
 pub(crate) struct Typed {
     pub(crate) first: Password,
@@ -51,8 +51,8 @@ pub(crate) struct Typed {
 
 /// Reads passwords, a line each. No byte after the last line is taken.
 ///
-/// Errors: those of [`read_password`]; `NoNewPassword` if there is no byte after the first line of
-/// two; `Empty` if a new one is empty and that is refused.
+/// Errors: those of [`read_password`]; `NoNewPassword` if the input ends after the first line of
+/// two; `Empty` if a new password is empty, and empty ones are refused.
 pub(crate) fn read_passwords<R: Read>(
     alloc: Global,
     wanted: Passwords,
@@ -86,7 +86,7 @@ pub(crate) fn read_passwords<R: Read>(
     }
 }
 
-/// Whether a new password is empty, and that is refused.
+/// Whether a new password is empty, and empty ones are refused.
 fn is_barred(empty: EmptyPassword, pw: &Password) -> bool
     ensures { result ≡ is_barred empty pw.now }
 {
@@ -96,18 +96,18 @@ fn is_barred(empty: EmptyPassword, pw: &Password) -> bool
     }
 }
 
-/// Whether the reader came to its end since it was asked. No line follows then, whatever a terminal
-/// may give behind its end.
+/// Whether the reader came to its end since it was asked. No line follows then, even if a terminal
+/// gives more after its end.
 fn came_to_end<R>(was_ended: bool, reader: &Watched<R>) -> bool
     ensures { result ≡ (not was_ended && ended_of reader.now) }
 {
     !was_ended && reader.ended()
 }
 
-/// Reads one line: the bytes before the next line end, which is taken off too, or before the end of
-/// what is read. No byte after the line is taken.
+/// Reads one line: the bytes before the next line end, which is read too, or before the end of
+/// the input. No byte after the line is read.
 ///
-/// Errors: `Read`; `Memory`; `NoPassword` if there is no byte to read; `Password` if the line has
+/// Errors: `Read`; `Memory`; `NoPassword` at the end of the input; `Password` if the line has
 /// over 256 bytes.
 fn read_password<R: Read>(alloc: Global, reader: &mut Watched<R>) -> Result<Password, Fault>
     ensures line { (basis : Basis) → FitsSince basis reader.old reader.new

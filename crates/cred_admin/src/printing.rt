@@ -1,4 +1,4 @@
-//! Writing a text whole, and answering by one.
+//! Writing a whole text, and answering with one.
 
 ghost use Rattle.std.specs.{Prelude.◌≡◌, Prelude.IfErr, Prelude.OnErr, Prelude.OnOk, Prelude.true, Io.KnownBytes.Appends};
 ghost use Rattle.cred_cli.specs.{Outcome.FrontWritten, Watched.Basis, Watched.failed_of, Watched.held_on, Watched.writing_on};
@@ -23,7 +23,7 @@ pub(crate) fn write_whole<W: Write>(writer: &mut Watched<W>, bytes: &[u8]) -> Re
     }
 }
 
-/// Writes all of a text, with which this status goes.
+/// Writes a whole text, and returns its status.
 ///
 /// Errors: `Write`.
 pub fn tell<W: Write>(text: &[u8], status: Status, writer: &mut Watched<W>) -> Result<Status, Fault>

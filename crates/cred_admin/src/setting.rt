@@ -8,10 +8,10 @@ use cred_phc::{PhcError, Setting, parse_setting};
 use std::alloc::{AllocError, Global};
 use std::marker::Model;
 
-/// What a salt looks like after a text that has none: 8 bytes of zero in base64.
+/// A salt for a text that has none: 8 bytes of zero in base64.
 const ANY_SALT: &[u8] = b"$AAAAAAAAAAA";
 
-/// A setting for new records: it isn't of version 0x10.
+/// A setting for new records: its version isn't 0x10.
 #[derive(Clone, Copy, Debug, PartialEq, Eq)]
 pub struct NewSetting {
     setting: Setting,
@@ -31,7 +31,7 @@ impl Model for NewSetting {
 }
 
 impl NewSetting {
-    /// The setting itself.
+    /// The setting.
     pub fn setting(&self) -> Setting
         ensures value { result ≡ self.now }
         ensures current { is_current self.now.scheme ≡ true }
@@ -40,8 +40,8 @@ impl NewSetting {
     }
 }
 
-/// The setting of a text. If the text ends before its salt, as
-/// `$argon2id$v=19$m=65536,t=3,p=4`, the setting has this salt.
+/// The setting of a text. A text that ends before its salt, such as
+/// `$argon2id$v=19$m=65536,t=3,p=4`, gets this salt.
 ///
 /// Errors: those of `parse_setting`; `Memory`.
 pub fn setting_of(alloc: Global, text: &[u8], salt: &[u8]) -> Result<NewSetting, PhcError>

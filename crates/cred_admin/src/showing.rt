@@ -17,7 +17,7 @@ use std::io::Write;
 
 /// Writes this detail of an account's record, in a line.
 ///
-/// It writes `absent` if there is no record, or `noaccount`. Errors: `Memory`, and nothing is
+/// The line is `absent` without a record, or `noaccount`. Errors: `Memory`: nothing is
 /// written; `Write`.
 pub fn show<K: Keeper, W: Write>(
     alloc: Global,
@@ -42,7 +42,7 @@ pub fn show<K: Keeper, W: Write>(
 
 /// Writes an account with this detail of its record in JSON, in a line.
 ///
-/// It writes `null` if there is no such account. Errors: `Memory`, and nothing is written; `Write`.
+/// The line is `null` if no such account exists. Errors: `Memory`: nothing is written; `Write`.
 pub fn show_json<K: Keeper, W: Write>(
     alloc: Global,
     keeper: &K,

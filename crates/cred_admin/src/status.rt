@@ -6,14 +6,14 @@ ghost use Rattle.cred_admin.specs.Statuses.{hint_of, number_of, status_of};
 use cred_book::Reply;
 use cred_phc::Password;
 
-/// Why a password may not be the one that was meant.
+/// The reason why a password may differ from the intended one.
 #[derive(Clone, Copy, Debug, PartialEq, Eq)]
 pub enum Hint {
     /// Its last byte is a carriage return, as each line of a Windows file has it before its end.
     CarriageReturn,
 }
 
-/// The hint that a password gives, if it gives one.
+/// The hint for this password, if any.
 pub(crate) fn hint_of(pw: &Password) -> Option<Hint>
     ensures { result ≡ hint_of pw.now }
 {
@@ -24,28 +24,28 @@ pub(crate) fn hint_of(pw: &Password) -> Option<Hint>
     None
 }
 
-/// How a command ended, for the shell.
+/// The exit status of a command.
 #[derive(Clone, Copy, Debug, PartialEq, Eq)]
 pub enum Status {
-    /// It did what was asked, or the password is right.
+    /// The command did its work, or the password is right.
     Done,
     /// The words of the command line are wrong.
     Usage,
     /// Reading or writing failed.
     Io,
-    /// There was no memory.
+    /// Memory ran out.
     Memory,
-    /// The book says no: another password, and perhaps why, no such account, no record, or one
+    /// The book says no: another password (perhaps with a hint), no such account, no record, or one
     /// already.
     No(Option<Hint>),
     /// The database failed, is busy, or holds no book.
     Database,
-    /// What was read isn't good: a password, none at all, a line, or one account too many.
+    /// The input is wrong: a password, no password, a line, or one account too many.
     Data,
 }
 
 impl Status {
-    /// The number that the shell sees.
+    /// The number of the exit status.
     pub fn number(self) -> u8
         ensures { result ≡ number_of self }
     {
@@ -61,7 +61,7 @@ impl Status {
     }
 }
 
-/// The exit status that goes with a reply, and with the hint of the password that was asked with.
+/// The exit status of a reply, with the hint for the password.
 pub(crate) fn status_of(reply: &Reply, hint: Option<Hint>) -> Status
     ensures { result ≡ status_of reply.now hint }
 {
