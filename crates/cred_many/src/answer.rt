@@ -1,4 +1,4 @@
-//! What is done in one go, without hashing.
+//! Operations without hashing, each done in one go.
 
 ghost use Rattle.std.specs.Prelude.{◌≡◌, IfOk, OnErr, OnOk, Some, true};
 ghost use Rattle.cred_phc.specs.Values.{RecordValue};
@@ -16,7 +16,7 @@ use cred_cli::{AnswerLine, Refusal};
 use cred_phc::Record;
 use std::alloc::{AllocError, Global};
 
-/// Does what needs no hash. If memory runs out the book stays.
+/// Does an operation that needs no hash. Without memory the book stays.
 pub(crate) fn do_ask<K: Host>(
     alloc: Global,
     keeper: &mut K,
@@ -59,7 +59,7 @@ pub(crate) fn do_ask<K: Host>(
     }
 }
 
-/// Takes an account's record away, and answers with the line that it had. If memory runs out the
+/// Removes an account's record, and answers with its line. Without memory the
 /// book stays.
 fn disable_shown<K: Host>(
     alloc: Global,
@@ -85,7 +85,7 @@ fn disable_shown<K: Host>(
     }
 }
 
-/// Gives the account this record, in place of any other. If memory runs out the book stays; it runs
+/// Gives the account this record, in place of any other. Without memory the book stays; memory runs
 /// out only if the account exists.
 pub(crate) fn put_in_place<K: Host>(
     keeper: &mut K,

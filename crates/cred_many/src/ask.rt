@@ -1,4 +1,4 @@
-//! What a tagged line asks for.
+//! The operation that a tagged line asks for.
 
 ghost use Rattle.std.specs.Prelude.{◌≡◌};
 ghost use Rattle.cred_many.specs.Asks.{IsSound, is_costly, is_reset, refused, within};
@@ -8,20 +8,20 @@ use cred_book::{Name, Request};
 use cred_cli::{CostBounds, Refusal, exceeds, request_exceeds};
 use cred_phc::{Password, Record, Setting};
 
-/// A whole operation with its fields, or why the line asks for none.
+/// A whole operation with its fields, or the fault of the line.
 #[derive(Clone, Copy)]
 pub(crate) enum Ask {
-    /// What needs no hash.
+    /// An operation that needs no hash.
     Quick(QuickAsk),
     /// An operation on an account's record, answered by its reply.
     Whole(Request),
-    /// Asks whether the password is right, and if it is rehashes a record of other costs.
+    /// Verifies the password, and rehashes a record of other costs if it is right.
     Login(Name, Password, Setting),
     /// Gives an account the record of this password, in place of any other.
     Reset(Name, Password, Setting),
 }
 
-/// An operation that needs no hash, or why the line asks for none.
+/// An operation that needs no hash, or the fault of the line.
 #[derive(Clone, Copy)]
 pub(crate) enum QuickAsk {
     /// Adds a name, with no record.
@@ -30,25 +30,25 @@ pub(crate) enum QuickAsk {
     Load(Name, Record),
     /// Asks for an account's record.
     Show(Name),
-    /// Asks for names in their order, so many at most, from this one on.
+    /// Asks for the names from this one on, in their order, at most so many.
     List(Name, u16),
     /// Changes an account for which no password is asked.
     Edit(Edit),
-    /// Takes an account's record away, and asks for its line.
+    /// Removes an account's record, and asks for its line.
     DisableShown(Name),
-    /// The line asks for nothing.
+    /// The line is refused.
     Bad(Refusal),
 }
 
 impl Ask {
-    /// What a line asks for that is refused.
+    /// The operation of a refused line.
     pub(crate) fn refused(why: Refusal) -> Ask
         ensures { result ≡ refused why }
     {
         Ask::Quick(QuickAsk::Bad(why))
     }
 
-    /// The same, or a refusal if its setting or record asks for more than is allowed.
+    /// The same operation, or a refusal if its setting or record needs more than is allowed.
     pub(crate) fn within(self, most: &CostBounds) -> Ask
         requires { IsSound self }
         ensures ask { result ≡ within most.now self }
@@ -60,7 +60,7 @@ impl Ask {
         self
     }
 
-    /// Whether it gives a record in place of any other.
+    /// Whether the operation sets a record in place of any other.
     pub(crate) fn is_reset(&self) -> bool
         ensures { result ≡ is_reset self.now }
     {

@@ -1,4 +1,4 @@
-//! The memory that all hashes together may take.
+//! The memory of all hashes together.
 
 ghost use Rattle.std.specs.Prelude.{◌≡◌, ◌<◌, ◌≤◌, ◌+◌, ◌^◌, IfErr, IfOk, All, vec_len};
 
@@ -7,12 +7,12 @@ use std::marker::Brand;
 use std::sync::ledger::{Book, Ledger, Share};
 use std::sync::{Condvar, Mutex, Wait};
 
-/// Names the ledger of one budget, in which stands what threads have taken. A function that is
-/// generic over it is called with `Brand`, and that call picks which it is.
+/// Names the ledger of one budget, which records the memory that threads have reserved. The call
+/// of a function that is generic over it with `Brand` picks the ledger.
 pub(crate) trait Limit: Ledger {
     ghost use Rattle.std.specs.Prelude.{ℕ};
 
-    /// How many KiB the budget has.
+    /// The size of the budget in KiB.
     ghost total: { ℕ };
 }
 
@@ -20,9 +20,9 @@ impl Limit for Brand {
     ghost total = { 0 };
 }
 
-/// So many KiB for all hashes that are worked at once. They take their turn: one that asks for more
-/// than is free waits, and others wait behind it. What a thread keeps between two hashes isn't
-/// counted, so nobody waits for a thread that is idle.
+/// The memory of all hashes at one time, in KiB. Hashes take turns: one that needs more than is
+/// free waits, and others wait behind it. Memory that a thread keeps between two hashes isn't
+/// counted, so nobody waits for an idle thread.
 #[derive(Drop)]
 pub(crate) struct Budget<L: Limit> {
     total: u64,
@@ -31,7 +31,7 @@ pub(crate) struct Budget<L: Limit> {
     turn: Mutex<()>,
 }
 
-/// What nobody has taken of a budget: all but what stands in the ledger.
+/// The free memory of a budget: all but the ledger's sum.
 #[derive(Drop)]
 struct Free<L: Limit> {
     kib: u64,
@@ -41,7 +41,7 @@ struct Free<L: Limit> {
     ghost fits: { L.total < 2 ^ 64 },
 }
 
-/// The part of a thread that has taken nothing of a budget.
+/// The share of a thread that has reserved nothing of a budget.
 #[derive(Drop)]
 pub(crate) struct Idle<L: Limit> {
     share: Share<L>,
@@ -50,8 +50,8 @@ pub(crate) struct Idle<L: Limit> {
     ghost none: { share.amount ≡ 0 },
 }
 
-/// The part of a thread that has taken so many KiB of a budget. It isn't `Drop`: it has to be given
-/// back, once and whole.
+/// The share of a thread that has reserved so many KiB of a budget. It isn't `Drop`: it must be
+/// returned, once and whole.
 pub(crate) struct Taken<L: Limit> {
     kib: u64,
     share: Share<L>,
@@ -61,7 +61,7 @@ pub(crate) struct Taken<L: Limit> {
 }
 
 impl<L: Limit> Budget<L> {
-    /// So many KiB, of which nothing is taken.
+    /// A budget of so many KiB, all of them free.
     pub(crate) fn new(total: u64, taken: Book<L>) -> Budget<L>
         requires total { total ≡ L.total }
         requires none { taken.total ≡ 0 }
@@ -74,7 +74,7 @@ impl<L: Limit> Budget<L> {
         }
     }
 
-    /// Takes so many KiB, once they are free, or none if there are never so many.
+    /// Reserves so many KiB, once they are free; fails if the budget is smaller.
     pub(crate) fn take<T: Wait>(&self, rt: &T, idle: Idle<L>, kib: u64) -> Result<Taken<L>, Idle<L>>
         ensures taken { IfOk result (λ taken. taken.kib ≡ kib) }
         ensures never { IfErr result (λ _. self.now.total < kib) }
@@ -89,7 +89,7 @@ impl<L: Limit> Budget<L> {
         Ok(free.split(kib, idle))
     }
 
-    /// Gives back what was taken.
+    /// Returns the reserved memory.
     pub(crate) fn give_back<T: Wait>(&self, rt: &T, taken: Taken<L>) -> Idle<L> {
         let mut free = self.free.lock(rt);
         let idle = free.join(taken);
@@ -100,7 +100,7 @@ impl<L: Limit> Budget<L> {
 }
 
 impl<L: Limit> Free<L> {
-    /// Takes so many KiB of it.
+    /// Reserves so many KiB of the free memory.
     fn split(&mut self, kib: u64, idle: Idle<L>) -> Taken<L>
         requires { kib ≤ self.old.kib }
         ensures { result.kib ≡ kib }
@@ -113,7 +113,7 @@ impl<L: Limit> Free<L> {
         Taken { kib, share }
     }
 
-    /// Adds what was taken of it.
+    /// Adds the reserved memory to the free memory.
     fn join(&mut self, taken: Taken<L>) -> Idle<L> {
         let Taken { kib, share } = taken;
         let mut share = share;
@@ -124,7 +124,7 @@ impl<L: Limit> Free<L> {
     }
 }
 
-/// A part for each of so many threads.
+/// A share for each of so many threads.
 pub(crate) fn parts<L: Limit>(
     alloc: Global,
     share: Share<L>,

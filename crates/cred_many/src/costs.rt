@@ -8,10 +8,10 @@ use cred_cli::memory_alone;
 use cred_phc::{Scheme, Setting};
 use std::marker::Model;
 
-/// Any salt does where nothing is kept.
+/// A salt for settings of which nothing is kept.
 pub(crate) const NO_SALT: [u8; 16] = [0; 16];
 
-/// The scheme with its numbers by which records are made where a line gives no setting.
+/// The scheme with its numbers of new records, for lines without a setting.
 #[derive(Clone, Copy)]
 pub struct Costs {
     scheme: Scheme,
@@ -31,7 +31,7 @@ impl Model for Costs {
 }
 
 impl Costs {
-    /// Those of a setting, unless it is of version 0x10, which only old records have.
+    /// The costs of a setting, unless it is of version 0x10, which only old records have.
     pub fn of(setting: &Setting) -> Option<Costs>
         ensures same { IfSome result (λ costs. costs ≡ setting.now.scheme) }
         ensures old { IfNone result (is_current setting.now.scheme ≡ false) }
@@ -51,7 +51,7 @@ impl Costs {
         self.scheme
     }
 
-    /// How many KiB a hash with them takes.
+    /// The memory of a hash with these costs in KiB.
     pub fn memory(&self) -> u64
         ensures { result ≡ memory_alone self.now }
     {

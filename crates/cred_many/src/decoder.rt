@@ -1,4 +1,4 @@
-//! Lines as they come in.
+//! Reading lines.
 
 ghost use Rattle.std.specs.Prelude.{◌≡◌, [], ◌∷◌, ◌+◌, ◌^◌, ◌<◌, IfSome, length};
 ghost use Rattle.cred_cli.specs.Script.{line_ends, lines_of};
@@ -14,14 +14,14 @@ use cred_phc::draw_salt;
 use rand_core::Rng;
 use std::marker::PhantomData;
 
-/// The line that is coming in, its number, and what draws settings.
+/// The line that is being read, its number, and the source of settings.
 #[derive(Drop)]
 pub(crate) struct LineDecoder<J: ServiceId, G: Rng> {
     pub(crate) start: LineStart,
-    /// How many lines came before.
+    /// The number of lines before this one.
     pub(crate) number: u64,
     costs: Costs,
-    /// What the costs of a line may ask for.
+    /// The bounds on the costs of a line.
     most: CostBounds,
     salts: G,
     of: PhantomData<J>,
@@ -32,7 +32,7 @@ pub(crate) struct LineDecoder<J: ServiceId, G: Rng> {
 }
 
 impl<J: ServiceId, G: Rng> LineDecoder<J, G> {
-    /// Before the first line.
+    /// The decoder before the first line.
     pub(crate) fn new(config: &ServiceConfig, salts: G) -> LineDecoder<J, G>
         requires costs { config.now.costs ≡ J.service.costs }
         requires most { config.now.most ≡ J.service.most }
@@ -50,7 +50,7 @@ impl<J: ServiceId, G: Rng> LineDecoder<J, G> {
         }
     }
 
-    /// Takes one byte. At a line end it gives the line.
+    /// Takes one byte, and returns the line that it ends, if any.
     pub(crate) fn take(&mut self, byte: u8) -> Option<Line<J>>
         requires next { ComesNext J.service.input (place self.old.start self.old.number)
             (byte ∷ []) }
@@ -81,7 +81,7 @@ impl<J: ServiceId, G: Rng> LineDecoder<J, G> {
         Some(Line::cut(self.number))
     }
 
-    /// The line that has come, after which the next begins.
+    /// The line that has ended; the next begins.
     fn end_line(&mut self) -> Line<J>
         requires whole { IfSome J.service.input
             (λ all. IsWholeLine all (place self.old.start self.old.number)) }

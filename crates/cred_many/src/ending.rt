@@ -1,4 +1,4 @@
-//! How the reading ends, and what is left of a service.
+//! The end of the reading, and the remains of a service.
 
 ghost use Rattle.std.specs.Prelude.{◌≡◌};
 ghost use Rattle.cred_many.specs.Reading.{IsEnd};
@@ -12,43 +12,43 @@ use cred_cli::Watched;
 use std::io::Write;
 use std::marker::{Model, PhantomData};
 
-/// How many lines are read at most; they take centuries to come.
+/// The maximum number of lines; they take centuries to come.
 pub(crate) const MOST_LINES: u64 = 1 << 63;
 
-/// What is left of a service.
+/// The remains of a service.
 #[derive(Drop)]
 pub struct Served<K: Host, W: Write, S: Source> {
     pub keeper: K,
     pub writer: Watched<W>,
     /// The source, if a call on it failed.
     pub source: Option<S>,
-    /// How many lines came.
+    /// The number of lines.
     pub lines: u64,
-    /// Why not all lines of the input came and were answered.
+    /// The reason why not all lines of the input came and were answered.
     pub fault: Option<ServiceFault>,
 }
 
-/// How the reading ended.
+/// The end of the reading.
 #[derive(Drop)]
 pub struct Ending<J: ServiceId, S: Source> {
     end: End<S>,
     of: PhantomData<J>,
 }
 
-/// Why no line comes any more.
+/// The reason why no more lines come.
 #[derive(Drop)]
 pub(crate) enum End<S> {
-    /// The whole input came, and all of its lines were handed out, so many.
+    /// The whole input came, and all its lines, so many, were handed out.
     Whole(u64),
     /// A call on the source failed.
     Failed(S),
-    /// As many lines came as are read.
+    /// The maximum number of lines came.
     TooLong,
     /// Nobody took a line.
     Untaken(Gone),
     /// No thread could be started.
     Threads,
-    /// There was no memory to begin with.
+    /// Memory ran out before the first line.
     Memory,
 }
 

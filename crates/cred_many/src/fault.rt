@@ -1,9 +1,9 @@
-//! Why a service ends before all is answered.
+//! Faults that end a service before all lines are answered.
 
 use std::alloc::AllocError;
 use thiserror::Error;
 
-/// What ended a service.
+/// The fault that ended a service.
 #[derive(Clone, Copy, Debug, PartialEq, Eq, Error)]
 pub enum ServiceFault {
     /// A call on the reader failed. What came before is answered.
@@ -12,7 +12,7 @@ pub enum ServiceFault {
     /// A call on the writer failed.
     #[error("writing failed")]
     Write,
-    /// There was no memory to begin with.
+    /// Memory ran out before the first line.
     #[error("out of memory")]
     Memory,
     /// No thread could be started.

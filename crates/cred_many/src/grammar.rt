@@ -1,4 +1,4 @@
-//! Reading what a tagged line asks for.
+//! Reading the operation of a tagged line.
 
 ghost use Rattle.std.specs.Prelude.{◌≡◌, IfOk, map, true};
 ghost use Rattle.cred_phc.specs.Ranges.{is_current};
@@ -9,10 +9,10 @@ use cred_admin::Edit;
 use cred_cli::{Refusal, fields};
 use cred_phc::{PhcError, Setting, decimal};
 
-/// How many names a list has at most.
+/// The maximum number of names in a list.
 const MOST_NAMES: u64 = 1000;
 
-/// What the words behind the tag ask for. Where they give no setting the drawn one is taken.
+/// The operation of the words after the tag, with the drawn setting if they give none.
 pub(crate) fn ask_of(drawn: Setting, words: &[&[u8]]) -> Result<Ask, Refusal>
     requires { is_current drawn.scheme ≡ true }
     ensures ask { result ≡ ask_of drawn (map (λ s. s.now) words.now) }
@@ -81,7 +81,7 @@ fn rename_ask(fields: &[&[u8]]) -> Result<QuickAsk, Refusal>
     }
 }
 
-/// An operation that takes a hash.
+/// An operation that needs a hash.
 fn hashed_ask(drawn: Setting, word: &[u8], fields: &[&[u8]]) -> Result<Ask, Refusal>
     requires { is_current drawn.scheme ≡ true }
     ensures ask { result ≡ hashed_ask drawn word.now (map (λ s. s.now) fields.now) }

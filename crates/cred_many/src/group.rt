@@ -10,7 +10,7 @@ use cred_book::{Change, Register};
 use cred_cli::reply_line;
 use std::alloc::{AllocError, Global};
 
-/// How many changes are made together at most.
+/// The maximum number of changes in one group.
 pub(crate) const MOST_TOGETHER: usize = 64;
 
 /// Hashed lines, the records that they give their accounts, and their answers one after another.
@@ -35,8 +35,8 @@ impl<J: ServiceId> Group<J> {
         }
     }
 
-    /// Takes a line in with its change. It comes back if memory runs out, and if the group changes
-    /// the account already.
+    /// Adds a line with its change. The line comes back if memory runs out, or the group changes
+    /// its account already.
     pub(crate) fn push(&mut self, work: Hashed<J>, change: &Change) -> Result<(), Hashed<J>>
         ensures works { OnOk result (self.new.works.items ≡ self.old.works.items ++ work ∷ []) }
         ensures first { OnOk result
@@ -65,7 +65,7 @@ impl<J: ServiceId> Group<J> {
     }
 }
 
-/// Adds a tagged answer. If memory runs out a part of it may be added.
+/// Adds a tagged answer, or a part of it if memory runs out.
 fn add_line(text: &mut Vec<u8>, tag: &[u8], answer: &[u8]) -> Result<(), AllocError>
     ensures added { OnOk result
         (text.new.items ≡ text.old.items ++ tag.now ++ 32 ∷ answer.now) }

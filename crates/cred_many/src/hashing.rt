@@ -19,7 +19,7 @@ use std::sync::Wait;
 /// The length of the tag of a new record in bytes.
 const NEW_TAG: u8 = 32;
 
-/// With what the threads hash.
+/// The tools of the threads that hash.
 #[derive(Drop)]
 pub(crate) struct Hashing<L: Limit> {
     pub(crate) alloc: Global,
@@ -28,8 +28,8 @@ pub(crate) struct Hashing<L: Limit> {
 }
 
 impl<L: Limit> Hashing<L> {
-    /// Hashes jobs as long as they come. The memory of a hash is kept for the next one, as far as
-    /// the costs of new records go.
+    /// Hashes jobs as long as they come. Memory is kept from hash to hash, up to the need of new
+    /// records.
     pub(crate) fn work<J: ServiceId, T: Wait>(
         &self,
         rt: &T,
@@ -69,8 +69,8 @@ impl<L: Limit> Hashing<L> {
         }
     }
 
-    /// Hashes a job, in memory that was taken for it. A name that doesn't exist, and an account
-    /// without a record, take a hash too.
+    /// Hashes a job in reserved memory. A name that doesn't exist, and an account
+    /// without a record, get a hash too.
     #[tactic(auto, using(crate::proofs::Shares::covered, crate::proofs::Shares::covered_in_vain))]
     fn hash<J: ServiceId>(&self, scratch: &mut Scratch, job: Job<J>, taken: &Taken<L>) -> Message<J>
         requires { job_memory self.now.costs job.1 ≤ taken.now.kib }
@@ -82,7 +82,7 @@ impl<L: Limit> Hashing<L> {
         job.work(scratch, self.alloc, taken)
     }
 
-    /// Hashes the password that would be compared if there were a record, with the costs of new
+    /// Hashes the password that would be compared with a record, with the costs of new
     /// ones.
     fn hash_for_nothing(
         &self,
@@ -100,7 +100,7 @@ impl<L: Limit> Hashing<L> {
         Ok(())
     }
 
-    /// How many KiB the hashes of a ticket take, one after another.
+    /// The memory of a ticket's hashes, one after another, in KiB.
     fn memory_of(&self, ticket: &Ticket) -> u64
         ensures { result ≡ job_memory self.now.costs ticket.now }
     {
@@ -108,7 +108,7 @@ impl<L: Limit> Hashing<L> {
             .max(made_memory(&ticket.request()))
     }
 
-    /// How many KiB the comparison with this record takes.
+    /// The memory of a comparison with this record in KiB.
     fn compared_memory(&self, copy: Option<Record>) -> u64
         ensures { result ≡ compared_memory self.now.costs copy }
     {
@@ -119,7 +119,7 @@ impl<L: Limit> Hashing<L> {
     }
 }
 
-/// The password that is compared with a record's, if one is.
+/// The password that is compared with a record, if any.
 fn compared(request: &Request) -> Option<Password> {
     match *request {
         Request::Enrol { .. } => None,
@@ -130,7 +130,7 @@ fn compared(request: &Request) -> Option<Password> {
     }
 }
 
-/// How many KiB the record takes that a request may put.
+/// The memory of the hash for the record that a request may make, in KiB.
 fn made_memory(request: &Request) -> u64
     ensures { result ≡ made_memory request.now }
 {

@@ -57,7 +57,7 @@ pub trait Host {
     /// Gives each of these accounts its record there, or none, in place of any other: all of them
     /// together, so that a crash leaves the book with all of it, or with none.
     ///
-    /// Errors: `NoAccount` if there is no account of one of the names; `Memory`. The book stays.
+    /// Errors: `NoAccount` if one of the names has no account; `Memory`. The book stays.
     fn replace_all(&mut self, changed: Register) -> Result<(), BookError>
         ensures { TakesIn capacity (book self.old) (book self.new) map.empty changed result };
 

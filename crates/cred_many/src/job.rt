@@ -1,4 +1,4 @@
-//! What the thread with the book and those that hash and read hand each other.
+//! The messages between the thread with the book and those that hash and read.
 
 ghost use Rattle.cred_many.specs.{Asks.IsJobOf, Costs.Covers};
 
@@ -11,7 +11,7 @@ use cred_pool::NoGate;
 use std::alloc::Global;
 use std::marker::Model;
 
-/// A line with what is to be hashed for it.
+/// A line with its ticket, which is to be hashed.
 #[derive(Drop)]
 pub struct Job<J: ServiceId> {
     pub(crate) line: Line<J>,
@@ -54,9 +54,9 @@ pub(crate) enum Message<J: ServiceId> {
     Came(Line<J>),
     /// A line is hashed.
     Hashed(Hashed<J>),
-    /// There was no memory to hash a line.
+    /// Memory to hash a line ran out.
     NoMemory(Job<J>),
-    /// No line comes any more.
+    /// No more lines come.
     Ended,
 }
 
@@ -67,8 +67,8 @@ impl<J: ServiceId> Job<J> {
         Job { line, ticket }
     }
 
-    /// Hashes it, on this thread alone, in the memory that the thread keeps, within what was taken
-    /// for it.
+    /// Hashes the ticket on this thread alone, in the thread's memory, within the reserved
+    /// share.
     pub(crate) fn work<L: Limit>(
         self,
         scratch: &mut Scratch,

@@ -1,4 +1,4 @@
-//! Laws about what a tagged line does. A law is a function that does nothing; its contract is what
+//! Laws of tagged lines. A law is a function that does nothing; its contract is what
 //! holds.
 
 ghost use Rattle.std.specs.Prelude.{◌≡◌, ◌≢◌, All, List, ℕ};
@@ -17,8 +17,8 @@ pub fn an_answer_tells_of_its_accounts()
         → map.get (done capacity book ask).1 name ≡ map.get book name }
 {}
 
-/// A password counts by its tags alone. Others may stand in its place that have the same tag under
-/// the setting of the account's record, and under that of the record that the line may make: the
+/// A password counts by its tags alone. Another may replace it that has the same tag under the
+/// setting of the account's record, and under that of the record that the line may make: then the
 /// answer is the same, and so is the book after it.
 pub fn a_password_counts_by_its_tags()
     ensures { (other : List ℕ → List ℕ) (capacity : ℕ) (book : Accounts) (ask : Ask)

@@ -1,4 +1,4 @@
-//! A line that came, read.
+//! A tagged line, after it was read.
 
 ghost use Rattle.std.specs.{Prelude.◌≡◌, Prelude.IfSome, Prelude.map, Prelude.true, List.list_all};
 ghost use Rattle.cred_phc.specs.Ranges.{is_current};
@@ -11,12 +11,12 @@ use cred_cli::{CostBounds, Refusal, first_pieces, is_too_long};
 use cred_phc::{Setting, ShortBytes};
 use std::marker::{Model, PhantomData};
 
-/// How many bytes a tag has at most.
+/// The maximum length of a tag in bytes.
 const LONGEST_TAG: usize = 20;
 
 type Tag = ShortBytes<LONGEST_TAG>;
 
-/// A line that came: its number among the lines, from 0 on, its tag and what it asks for.
+/// A line of the input: its number among the lines, from 0 on, its tag and its operation.
 #[derive(Drop)]
 pub struct Line<J: ServiceId> {
     number: u64,
@@ -41,8 +41,8 @@ impl<J: ServiceId> Model for Line<J> {
 }
 
 impl<J: ServiceId> Line<J> {
-    /// Reads the line of this number, for which this setting is drawn, and whose costs are bounded
-    /// so.
+    /// Reads the line of this number, with this drawn setting and these bounds on its
+    /// costs.
     pub(crate) fn read(number: u64, most: &CostBounds, drawn: Setting, line: &[u8]) -> Line<J>
         requires current { is_current drawn.scheme ≡ true }
         requires came { IfSome J.service.input
@@ -72,7 +72,7 @@ impl<J: ServiceId> Line<J> {
         }
     }
 
-    /// Its number among the lines, from 0 on.
+    /// The number among the lines, from 0 on.
     pub(crate) fn number(&self) -> u64
         ensures number { result ≡ self.now.number }
         ensures came { IfSome J.service.input (λ bytes. IsLine J.service bytes self.now) }
@@ -80,7 +80,7 @@ impl<J: ServiceId> Line<J> {
         self.number
     }
 
-    /// Its tag.
+    /// The tag.
     pub(crate) fn tag(&self) -> &[u8]
         ensures tag { result.now ≡ self.now.tag }
         ensures came { IfSome J.service.input (λ bytes. IsLine J.service bytes self.now) }
@@ -88,7 +88,7 @@ impl<J: ServiceId> Line<J> {
         self.tag.as_slice()
     }
 
-    /// What it asks for.
+    /// The operation.
     pub(crate) fn ask(&self) -> Ask
         ensures ask { result ≡ self.now.ask }
         ensures sound { IsSound result }
@@ -98,7 +98,7 @@ impl<J: ServiceId> Line<J> {
     }
 }
 
-/// The tag of a line and what it asks for. A line without a tag is answered under a star.
+/// The tag of a line and its operation. A line without a tag is answered under a star.
 fn parts(drawn: Setting, line: &[u8]) -> (Tag, Ask)
     requires { is_current drawn.scheme ≡ true }
     ensures tagged { result ≡ tagged_of drawn line.now }
@@ -127,7 +127,7 @@ fn tagged(drawn: Setting, pieces: &[&[u8]]) -> (Tag, Ask)
     }
 }
 
-/// What is refused under no tag: its answer has a star.
+/// A refused line without a tag: its answer has a star.
 fn untagged(why: Refusal) -> (Tag, Ask)
     ensures { result ≡ untagged why }
 {

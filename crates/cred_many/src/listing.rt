@@ -7,7 +7,7 @@ ghost use Rattle.cred_many.specs.Names.{names_line, page, spaced};
 use cred_book::{Name, Register};
 use std::alloc::{AllocError, Global};
 
-/// The word `names` and the first names, so many at most, from this one on, in a line.
+/// The word `names` and the names from this one on, at most so many, in a line.
 pub(crate) fn names_line(
     alloc: Global,
     accounts: &Register,

@@ -1,4 +1,4 @@
-//! What the thread with the book does with what the others hand over.
+//! The work of the thread with the book on the messages of the others.
 
 use crate::group::MOST_TOGETHER;
 use crate::host::Host;
@@ -12,8 +12,8 @@ use std::io::Write;
 use std::mem;
 use std::sync::Wait;
 
-/// The ends of the channels that the thread with the book keeps, and what was handed over and isn't
-/// done yet.
+/// The ends of the channels that the thread with the book keeps, and the work that is
+/// left.
 #[derive(Drop)]
 pub(crate) struct MessageLoop<J: ServiceId> {
     alloc: Global,
@@ -22,12 +22,12 @@ pub(crate) struct MessageLoop<J: ServiceId> {
     room: Sender<()>,
     /// Changes, which are made together.
     changes: Vec<Hashed<J>>,
-    /// Whether no line comes any more.
+    /// Whether no more lines come.
     ended: bool,
 }
 
 impl<J: ServiceId> MessageLoop<J> {
-    /// Before the first message.
+    /// The loop before the first message.
     pub(crate) fn new(
         alloc: Global,
         inbox: Receiver<Message<J>>,
@@ -44,8 +44,8 @@ impl<J: ServiceId> MessageLoop<J> {
         }
     }
 
-    /// Does what the other threads hand over, until all that came is answered or a fault ends it.
-    /// It answers whether all has come that will.
+    /// Handles the messages of the other threads, until all lines are answered or a fault ends it.
+    /// Returns whether the last line has come.
     pub(crate) fn run<T: Wait, K: Host, W: Write + Drop>(
         &mut self,
         rt: &T,
@@ -65,8 +65,8 @@ impl<J: ServiceId> MessageLoop<J> {
         !scribe.is_over()
     }
 
-    /// While changes wait, does what else has been handed over by now, so that they are made with
-    /// all that came as others were made. It ends after so many messages as there may be at once.
+    /// While changes wait, handles the messages that have arrived, so that their changes are made
+    /// together. Ends after as many messages as there may be at once.
     fn gather<T: Wait, K: Host, W: Write + Drop>(&mut self, rt: &T, scribe: &mut Scribe<J, K, W>) {
         for _ in 0..MOST_OPEN {
             if self.changes.is_empty() || self.changes.len() >= MOST_TOGETHER {
@@ -79,7 +79,7 @@ impl<J: ServiceId> MessageLoop<J> {
         }
     }
 
-    /// Does what a message asks for. A change that is hashed waits.
+    /// Handles a message. A hashed change waits.
     fn take_in<T: Wait, K: Host, W: Write + Drop>(
         &mut self,
         rt: &T,
@@ -103,7 +103,7 @@ impl<J: ServiceId> MessageLoop<J> {
         }
     }
 
-    /// Makes changes together, if there are several, and then those of them that are left one by
+    /// Makes changes together, if there are several, and then the remaining ones one by
     /// one.
     fn commit<T: Wait, K: Host, W: Write + Drop>(&mut self, rt: &T, scribe: &mut Scribe<J, K, W>) {
         let none = Vec::new(self.alloc);
@@ -122,7 +122,7 @@ impl<J: ServiceId> MessageLoop<J> {
         }
     }
 
-    /// Hands on what is to be hashed. If that is nothing, a line was answered, and there is room
+    /// Passes on a line that is to be hashed. Without one, a line was answered, which leaves room
     /// for another.
     fn pass_on<T: Wait>(&self, rt: &T, job: Option<Job<J>>) {
         match job {

@@ -11,7 +11,7 @@ use cred_phc::Record;
 use std::alloc::{AllocError, Global};
 use std::marker::Model;
 
-/// How many lines may be open at once.
+/// The maximum number of open lines.
 pub(crate) const MOST_OPEN: usize = 256;
 
 /// The record that was last copied for a line.
@@ -19,7 +19,7 @@ pub(crate) const MOST_OPEN: usize = 256;
 struct Sight {
     name: Name,
     stored: Option<Record>,
-    /// How often it was another one than the last time.
+    /// The number of changes that were seen of it.
     changes: u32,
 }
 
@@ -60,7 +60,7 @@ impl OpenLines {
         self.lines.is_empty()
     }
 
-    /// Where the line of this number stands, if it is open.
+    /// The place of the line of this number, if it is open.
     pub(crate) fn place_of(&self, number: u64) -> Option<usize>
         ensures within { IfSome result (λ i. i < length self.now) }
         ensures there { IfSome result (λ i. slice_get (numbers self.now) i ≡ Some number) }
@@ -78,7 +78,7 @@ impl OpenLines {
         ensures opened { OnOk result (self.new ≡ self.old ++ unseen number ∷ []) }
         ensures same { OnErr result (self.new ≡ self.old) }
     {
-        // Without a word of the type that a sight holds the prover doesn't find it.
+        // The prover finds the type that a sight holds only if the code names it.
         let _none: Option<Record> = None;
         self.lines.push(Open {
             number,
@@ -87,7 +87,7 @@ impl OpenLines {
         Ok(())
     }
 
-    /// The line there is open no more.
+    /// Closes the line at this place.
     pub(crate) fn close(&mut self, place: usize)
         requires { place < length self.old }
         ensures { self.new ≡ remove self.old place }
@@ -95,7 +95,7 @@ impl OpenLines {
         self.lines.remove(place);
     }
 
-    /// The lines that are open when these are open no more, or nothing if one of them isn't open or
+    /// The open lines without these, or nothing if one of these isn't open or
     /// memory runs out.
     pub(crate) fn without<J: ServiceId>(&self, works: &[Hashed<J>]) -> Option<OpenLines>
         ensures { IfSome result (λ left. AreClosed (entries_of works.now) self.now left) }
@@ -111,8 +111,8 @@ impl OpenLines {
         Some(left)
     }
 
-    /// Notes which record is copied for the line there, and says how often it was another one than
-    /// the last time.
+    /// Notes the record that is copied for the line at this place, and counts the changes that were
+    /// seen of it.
     pub(crate) fn look(&mut self, place: usize, name: Name, stored: Option<Record>) -> u32
         requires { place < length self.old }
         ensures { Notes self.old place name stored self.new result }
@@ -131,7 +131,7 @@ impl OpenLines {
     }
 }
 
-/// How often the name's record was seen to change, where this one stands now.
+/// The number of changes that were seen of the name's record, which is `now`.
 fn count(sight: &Option<Sight>, name: &Name, now: &Option<Record>) -> u32
     ensures { result ≤ counted sight.now name.now now.now }
 {

@@ -1,4 +1,4 @@
-//! Where answers are written.
+//! The output of answers.
 
 ghost use Rattle.std.specs.{Io.KnownBytes.Appends, List.remove, Prelude.◌≡◌, Prelude.◌∷◌, Prelude.◌++◌, Prelude.IfSome, Prelude.OnErr, Prelude.OnOk, Prelude.None, Prelude.true};
 ghost use Rattle.cred_cli.specs.{Outcome.FrontWritten, Watched.failed_of, Watched.inner_of};
@@ -11,7 +11,7 @@ use crate::service_id::ServiceId;
 use cred_cli::{ScriptFault, Watched, write_whole};
 use std::io::Write;
 
-/// The lines that aren't answered yet, the writer, and why nothing is answered any more.
+/// The open lines, the writer, and the fault that ended the answers, if any.
 #[derive(Drop)]
 pub(crate) struct Output<W: Write> {
     pub(crate) pending: OpenLines,
@@ -20,7 +20,7 @@ pub(crate) struct Output<W: Write> {
 }
 
 impl<W: Write> Output<W> {
-    /// Answers the line that stands there, which is open no more. If the writing fails nothing more
+    /// Answers the line at this place, and closes it. After a failed write nothing more
     /// is answered.
     pub(crate) fn answer<J: ServiceId>(&mut self, place: usize, line: &Line<J>, answer: &[u8])
         requires { IsReady self.old.fault self.old.pending place line.now.number }
@@ -36,7 +36,7 @@ impl<W: Write> Output<W> {
         }
     }
 
-    /// Writes the answers of lines that were done together, likewise.
+    /// Writes the answers of lines that were done together. After a failed write no more are.
     pub(crate) fn conclude_all(&mut self, answers: &[u8])
         requires { self.old.fault ≡ None }
         ensures same { self.new.pending ≡ self.old.pending }
@@ -49,7 +49,7 @@ impl<W: Write> Output<W> {
     }
 }
 
-/// Writes the tag and the answer whole. If that fails a proper prefix of the line is written.
+/// Writes the tag and the whole answer, or a proper prefix of the line if the writer fails.
 fn write_answer<W: Write>(
     writer: &mut Watched<W>,
     tag: &[u8],

@@ -25,20 +25,20 @@ use std::alloc::Global;
 use std::io::Write;
 use std::marker::PhantomData;
 
-/// After how many commits that found another record a line is given up.
+/// The number of commits that found another record, after which a line is given up.
 const TRIES: u32 = 8;
 
-/// The book and the writer of a service, which nobody has beside it.
+/// The book and the writer of a service, which has the only ones.
 ///
-/// Between two calls on it, the book and what is written are those of one list of lines that came,
-/// in which each that came stands once, unless it is pending. Who serves is lent it, and can do no
-/// more than its calls do: they take lines that came and what was hashed for them, each once. None
-/// of them has a handle by which it may wait, so each returns, and does what it promises.
+/// Between two calls, the book and the output are those of one list of lines that came, with each
+/// of them once, unless it is pending. The service borrows the scribe, and can do no more than the
+/// scribe's calls do: they accept lines that came, and their hashed work, each once. No call has a
+/// handle by which it may wait, so each returns, and keeps its promise.
 #[derive(Drop)]
 pub struct Scribe<J: ServiceId, K: Host, W: Write> {
     keeper: K,
     output: Output<W>,
-    /// How many lines came.
+    /// The number of lines that came.
     came: u64,
     of: PhantomData<J>,
 
@@ -49,7 +49,7 @@ pub struct Scribe<J: ServiceId, K: Host, W: Write> {
 }
 
 impl<J: ServiceId, K: Host, W: Write> Scribe<J, K, W> {
-    /// Before the first line.
+    /// The scribe before the first line.
     pub fn new(alloc: Global, keeper: K, writer: Watched<W>) -> Scribe<J, K, W>
         requires opening { K.book keeper ≡ J.service.opening }
         requires before { W.contents (inner_of writer) ≡ J.service.before }
@@ -66,7 +66,7 @@ impl<J: ServiceId, K: Host, W: Write> Scribe<J, K, W> {
         }
     }
 
-    /// What holds of every scribe, at each moment between two calls on it.
+    /// The law of every scribe, at each moment between two calls.
     pub fn holds(&self)
         ensures { ∥ Stands K.capacity J.service (record {
           book = K.book self.now.keeper;
@@ -82,21 +82,21 @@ impl<J: ServiceId, K: Host, W: Write> Scribe<J, K, W> {
         let _came = &self.came;
     }
 
-    /// Whether nothing is answered any more.
+    /// Whether no more lines are answered.
     pub fn is_over(&self) -> bool
         ensures { result ≡ is_some self.now.output.fault }
     {
         self.output.fault.is_some()
     }
 
-    /// Whether each line that came is answered.
+    /// Whether all lines that came are answered.
     pub fn is_idle(&self) -> bool
         ensures { IsTrue result ↔ (numbers self.now.output.pending ≡ []) }
     {
         self.output.pending.is_empty()
     }
 
-    /// What is left of it once no line comes any more. A line that is pending is lost.
+    /// The remains of the service once no more lines come. A pending line is lost.
     pub fn end<S: Source>(mut self, ending: Ending<J, S>) -> Served<K, W, S>
         ensures served { ∥ StandsAtEnd K.capacity J.service
             (left_of K.book K.failed W.contents S.failed result) ∥₁ }
@@ -123,7 +123,7 @@ impl<J: ServiceId, K: Host, W: Write> Scribe<J, K, W> {
         }
     }
 
-    /// Notes that a line that is pending has no answer, unless a fault is told already.
+    /// Notes that a pending line has no answer, unless a fault is noted already.
     fn lose_pending(&mut self)
         ensures idle { self.new.output.fault ≡ None → numbers self.new.output.pending ≡ [] }
         ensures came { self.new.came ≡ self.old.came }
@@ -133,7 +133,7 @@ impl<J: ServiceId, K: Host, W: Write> Scribe<J, K, W> {
         }
     }
 
-    /// What is left of it, and why not all came.
+    /// The remains of the service, and the reason why not all lines came.
     fn left<S: Source>(self, source: Option<S>, why: Option<ServiceFault>) -> Served<K, W, S>
         requires idle { self.output.fault ≡ None → numbers self.output.pending ≡ [] }
         requires cause { HasCause J.service.input (unwrap_or (option_map S.failed source) false)
@@ -163,7 +163,7 @@ impl<J: ServiceId, K: Host, W: Write> Scribe<J, K, W> {
         }
     }
 
-    /// Takes a line that came, and answers it if it needs no hash.
+    /// Takes a line that came, and answers it unless it needs a hash.
     pub fn take(&mut self, alloc: Global, line: Line<J>) -> Option<Job<J>> {
         if self.output.fault.is_some() {
             return None;
@@ -185,7 +185,7 @@ impl<J: ServiceId, K: Host, W: Write> Scribe<J, K, W> {
         }
     }
 
-    /// Opens the next line, and says where it stands.
+    /// Opens the next line, and returns its place.
     fn admit(&mut self, line: &Line<J>) -> Option<usize>
         requires { self.old.output.fault ≡ None }
         ensures { IfSome result (λ place.
@@ -207,8 +207,8 @@ impl<J: ServiceId, K: Host, W: Write> Scribe<J, K, W> {
         self.output.pending.place_of(number)
     }
 
-    /// The line with a copy of its account's record, unless there were copies of others often
-    /// enough.
+    /// The line with a copy of its account's record, unless it has had too many copies of other
+    /// records.
     fn job(&mut self, place: usize, line: Line<J>, request: Request) -> Option<Job<J>>
         requires ready { IsReady self.old.output.fault self.old.output.pending place line.number }
         requires current { is_for_current request ≡ true }
@@ -227,7 +227,7 @@ impl<J: ServiceId, K: Host, W: Write> Scribe<J, K, W> {
         Some(Job::new(line, ticket))
     }
 
-    /// Does what needs no hash.
+    /// Does an operation that needs no hash.
     fn answer_at_once(&mut self, alloc: Global, place: usize, line: Line<J>, ask: QuickAsk)
         requires ready { IsReady self.old.output.fault self.old.output.pending place line.number }
         requires asked { Quick ask ≡ line.ask }
@@ -238,8 +238,8 @@ impl<J: ServiceId, K: Host, W: Write> Scribe<J, K, W> {
         }
     }
 
-    /// Does the whole operation whose hashing is done, if the record is still the one that was
-    /// copied, and answers it. Otherwise the record is copied again.
+    /// Commits a whole operation, and answers it, if the record still equals the
+    /// copy. Otherwise the record is copied again.
     pub fn commit(&mut self, hashed: Hashed<J>) -> Option<Job<J>> {
         if self.output.fault.is_some() {
             return None;
@@ -275,7 +275,7 @@ impl<J: ServiceId, K: Host, W: Write> Scribe<J, K, W> {
         None
     }
 
-    /// Puts the record that was made in place of any other.
+    /// Sets the new record in place of any other.
     fn reset(&mut self, place: usize, line: Line<J>, worked: &Worked)
         requires ready { IsReady self.old.output.fault self.old.output.pending place line.number }
         requires asked { IsJobOf line.ask worked.now }
@@ -290,13 +290,13 @@ impl<J: ServiceId, K: Host, W: Write> Scribe<J, K, W> {
         }
     }
 
-    /// Answers a line for whose hash there was no memory.
+    /// Answers a line without memory for its hash.
     pub fn no_memory(&mut self, job: Job<J>) {
         let Job { line, .. } = job;
         self.starve(line);
     }
 
-    /// Refuses a line for want of memory, unless nothing is answered any more.
+    /// Refuses a line for want of memory, unless no more lines are answered.
     fn starve(&mut self, line: Line<J>)
         requires { NeedsMemory K.capacity (K.book self.old.keeper) line.ask }
         ensures { K.book self.new.keeper ≡ K.book self.old.keeper }
@@ -309,7 +309,7 @@ impl<J: ServiceId, K: Host, W: Write> Scribe<J, K, W> {
         }
     }
 
-    /// Answers that nothing was done for want of memory, or ends all if the keeper has failed.
+    /// Refuses a line for want of memory, or ends all if the keeper has failed.
     fn refuse(&mut self, place: usize, line: Line<J>)
         requires ready { IsReady self.old.output.fault self.old.output.pending place line.number }
         requires needs { NeedsMemory K.capacity (K.book self.old.keeper) line.ask }
@@ -323,7 +323,7 @@ impl<J: ServiceId, K: Host, W: Write> Scribe<J, K, W> {
         self.output.answer(place, &line, answer);
     }
 
-    /// Answers that nothing was done since others were always faster.
+    /// Answers `busy`, since other lines were always faster.
     fn give_up_as_busy(&mut self, place: usize, line: Line<J>)
         requires ready { IsReady self.old.output.fault self.old.output.pending place line.number }
         requires busy { IsBusy self.old.output.pending place line.ask }
@@ -332,8 +332,8 @@ impl<J: ServiceId, K: Host, W: Write> Scribe<J, K, W> {
     }
 }
 
-/// The request with a copy of its account's record. A name that isn't there is hashed as an account
-/// without a record, and its commit says that it doesn't exist.
+/// The request with a copy of its account's record. An unknown name is hashed as an account
+/// without a record, and its commit says that no such account exists.
 fn ticket_of<K: Host>(keeper: &K, request: Request) -> Ticket
     requires { is_for_current request ≡ true }
     ensures request { result.0 ≡ request }
@@ -345,14 +345,14 @@ fn ticket_of<K: Host>(keeper: &K, request: Request) -> Ticket
     }
 }
 
-/// Whether a commit found another record than the one that was copied.
+/// Whether a commit found another record than the copy.
 fn is_changed(reply: &Reply) -> bool
     ensures { result ≡ is_changed reply.now }
 {
     matches!(reply, Reply::Changed { .. })
 }
 
-/// The reply under which what is asked is answered: a login's is that of a verify.
+/// The reply to an operation: that of a login is the reply of a verify.
 fn told_reply(ask: Ask, reply: Reply) -> Reply
     ensures { result ≡ told_reply ask reply }
 {

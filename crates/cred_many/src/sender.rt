@@ -1,4 +1,4 @@
-//! How the thread that reads hands out lines.
+//! Handing out lines from the thread that reads.
 
 ghost use Rattle.std.specs.Prelude.{◌≡◌, ◌+◌, ◌^◌, ◌<◌, OnOk};
 
@@ -9,7 +9,7 @@ use crossbeam_channel::{Receiver, Sender};
 use std::marker::Model;
 use std::sync::Wait;
 
-/// How many lines were handed out.
+/// The number of lines that were handed out.
 #[derive(Drop)]
 pub struct LineCount {
     lines: u64,
@@ -24,7 +24,7 @@ impl Model for LineCount {
 }
 
 impl LineCount {
-    /// Their number.
+    /// The number.
     pub(crate) fn lines(&self) -> u64
         ensures { result ≡ self.now }
     {
@@ -32,21 +32,21 @@ impl LineCount {
     }
 }
 
-/// That nobody takes lines any more. Only `LineSender::hand_out` makes one.
+/// The proof that nobody takes lines any more. Only `LineSender::hand_out` makes one.
 #[derive(Clone, Copy)]
 pub(crate) struct Gone(());
 
-/// Hands lines to the thread that has the book, no more than may be open.
+/// Hands lines to the thread that has the book, no more than the maximum of open ones.
 #[derive(Drop)]
 pub(crate) struct LineSender<J: ServiceId> {
-    /// One for each line that may be opened now.
+    /// A token for each line that may be opened now.
     room: Receiver<()>,
     book: Sender<Message<J>>,
     handed: LineCount,
 }
 
 impl<J: ServiceId> LineSender<J> {
-    /// Before the first line.
+    /// The sender before the first line.
     pub(crate) fn new(room: Receiver<()>, book: Sender<Message<J>>) -> LineSender<J>
         ensures { result.handed ≡ 0 }
     {
@@ -54,14 +54,14 @@ impl<J: ServiceId> LineSender<J> {
         LineSender { room, book, handed }
     }
 
-    /// How many lines it handed out.
+    /// The number of lines that were handed out.
     pub(crate) fn handed(&self) -> &LineCount
         ensures { result.now ≡ self.now.handed }
     {
         &self.handed
     }
 
-    /// Hands out the next line, once there is room for it. It counts those that were sent.
+    /// Hands out the next line, once there is room for it, and counts it.
     pub(crate) fn hand_out<T: Wait>(&mut self, rt: &T, line: Line<J>) -> Result<(), Gone>
         requires next { line.number ≡ self.old.handed }
         requires few { self.old.handed + 1 < 2 ^ 64 }
@@ -74,7 +74,7 @@ impl<J: ServiceId> LineSender<J> {
         Ok(())
     }
 
-    /// Tells that no line comes any more.
+    /// Announces that no more lines come.
     pub(crate) fn end<T: Wait>(self, rt: &T) {
         let _ = self.book.send(rt, Message::Ended);
     }

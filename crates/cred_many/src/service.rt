@@ -30,29 +30,29 @@ use std::sync::ledger::Blank;
 use std::thread;
 use std::thread::Threads;
 
-/// What lines are hashed with where they say nothing of it.
+/// The settings of a service.
 #[derive(Clone, Copy)]
 pub struct ServiceConfig {
     /// The costs of new records.
     pub costs: Costs,
-    /// How many KiB all hashes together may take.
+    /// The memory of all hashes together, in KiB.
     pub memory: u64,
-    /// What the setting or the record of a line may ask for. `costs` are to be within it: a line
-    /// that makes a record with them is judged too.
+    /// The bounds on the setting or the record of a line. `costs` must be within them: a line
+    /// that makes a record with these is judged too.
     pub most: CostBounds,
 }
 
-/// Answers the lines that come, to their end, and hashes in `tools.workers` threads.
+/// Answers lines to the end of the input, and hashes in `tools.workers` threads.
 ///
-/// It is lent the scribe, and nothing else has the book or the writer: so what `Scribe::holds` says
-/// holds as long as it serves. `Scribe::end` takes what it returns, and says what is left.
+/// The service borrows the scribe, and nothing else has the book or the writer: so the law
+/// `Scribe::holds` stays true. `Scribe::end` takes the result, and returns the remains.
 ///
 /// Each line is done whole, and its answer is written whole, at one moment between its coming and
 /// its answer. Salts are drawn in the order of the lines, one for each. A line whose setting or
-/// record asks for more than `config.most` is refused, and so is a last line without its end, as
-/// more than that may be lost of it. The source is called again only once each whole line that it
-/// gave was handed on. The writer is one that holds nothing back, as it is never flushed. At a fault
-/// it ends without waiting for the source.
+/// record needs more than `config.most` is refused, and so is a last line without its end, as
+/// more than that may be lost of it. The source is called again only once each whole line that came
+/// was handed on. The writer is one that holds nothing back, as it is never flushed. After a fault
+/// the service ends without waiting for the source.
 pub fn serve_tagged<J, T, S, G, K, W>(
     tools: &Tools<'_, T>,
     config: &ServiceConfig,
@@ -95,7 +95,7 @@ where
     if hash_in_threads::<Brand, J, T, K, W>(tools, config, scribe, channels, blank) {
         reader.join(tools.rt)
     } else {
-        // It isn't waited for: after a fault it may never end.
+        // The reader isn't waited for: after a fault it may never end.
         Ending::new(End::Threads)
     }
 }
@@ -124,7 +124,7 @@ where
     serve_tagged(tools, config, scribe, salts, LineReader::new(reader))
 }
 
-/// The ends of the channels that the thread with the book has, and those that it gives to the
+/// The ends of the channels for the thread with the book, and the ends for the
 /// threads that hash.
 #[derive(Drop)]
 struct Channels<J: ServiceId> {
@@ -135,7 +135,7 @@ struct Channels<J: ServiceId> {
     inbox: Receiver<Message<J>>,
 }
 
-/// The channels, with room for all lines that may be open: so that nobody waits to send but the
+/// The channels, with room for all open lines: so that nobody waits to send but the
 /// thread that reads.
 fn make_channels<J: ServiceId, T: Wait>(
     rt: &T,
@@ -162,8 +162,8 @@ fn make_channels<J: ServiceId, T: Wait>(
     Ok((channels, sender))
 }
 
-/// Hashes in other threads, each with a part of the ledger, and does what is handed over in this
-/// one. It answers whether all has come that will.
+/// Hashes in other threads, each with a share of the ledger, and handles their messages in this
+/// one. Returns whether the last line has come.
 fn hash_in_threads<L, J, T, K, W>(
     tools: &Tools<'_, T>,
     config: &ServiceConfig,
@@ -233,8 +233,8 @@ where
             }
             started = true;
         }
-        // From now on the other threads alone hold these, so that each call on the other end fails
-        // once they have ended.
+        // From now on only the other threads hold these ends, so that each call on the opposite
+        // end fails once the threads have ended.
         drop(waiting);
         drop(book);
         if !started {

@@ -1,9 +1,9 @@
-//! Which service it is.
+//! The name of a service.
 
 use std::marker::Brand;
 
-/// Names one service. A function that is generic over it is called with `Brand`, and that call
-/// picks which service it is.
+/// Names one service. The call of a function that is generic over it with `Brand` picks
+/// the service.
 pub trait ServiceId {
     ghost use Rattle.cred_many.specs.Service.{Service};
 

@@ -1,4 +1,4 @@
-//! Where lines come from.
+//! The source of lines.
 
 ghost use Rattle.std.specs.Prelude.{◌≡◌, ◌≤◌, false, length};
 ghost use Rattle.cred_cli.specs.Script.{line_ends};
@@ -7,28 +7,28 @@ use crate::sender::LineCount;
 use std::io;
 use std::io::Read;
 
-/// What the lines of many clients come from.
+/// The source of the lines of many clients.
 ///
-/// Who calls it owes three things: that each whole line that it gave was handed on, that it neither
-/// gave its end nor failed, and that what it gives can be counted.
+/// The caller owes three things: that each whole line that came was handed on, that the source
+/// neither ended nor failed, and that the bytes it gives can be counted.
 pub trait Source {
     ghost use Rattle.std.specs.Prelude.{◌≡◌, ◌+◌, ◌^◌, ◌<◌, ◌==◌, ℕ, Bool, false, true, List, Option, length, IfOk, MatchResult, take};
     ghost use Rattle.std.specs.{Io.ReadsAtMost, Io.KnownBytes.ReadConsumes};
     ghost use Rattle.cred_cli.specs.Script.{line_ends};
 
-    /// The bytes that it has to give, if they are known.
+    /// The bytes that the source has to give, if they are known.
     ghost remaining: { Self → Option (List ℕ) };
 
-    /// How many line ends it gave.
+    /// The number of line ends that it gave.
     ghost given: { Self → ℕ };
 
-    /// Whether it gave its end.
+    /// Whether it has reported its end.
     ghost ended: { Self → Bool };
 
     /// Whether a call on it failed.
     ghost failed: { Self → Bool };
 
-    /// Reads as [`Read::read`] does, once that many lines were handed on.
+    /// Reads like [`Read::read`], once that many lines have been handed on.
     fn read(&mut self, handed: &LineCount, buf: &mut [u8]) -> io::Result<usize>
         requires handed { handed.now ≡ given self.old }
         requires going { (ended self.old ≡ false) × (failed self.old ≡ false) }
@@ -52,7 +52,7 @@ pub struct LineReader<R> {
 }
 
 impl<R: Read> LineReader<R> {
-    /// Takes a reader, from which nothing has come yet.
+    /// Wraps a reader that has given nothing yet.
     pub fn new(reader: R) -> LineReader<R>
         ensures remaining { ⟦<LineReader<R> as Source>⟧.remaining result ≡ R.remaining reader }
         ensures given { ⟦<LineReader<R> as Source>⟧.given result ≡ 0 }
@@ -92,7 +92,7 @@ impl<R: Read> Source for LineReader<R> {
     }
 }
 
-/// How many lines end in these bytes.
+/// The number of line ends in these bytes.
 fn line_ends(bytes: &[u8]) -> u64
     ensures ends { result ≡ line_ends bytes.now }
     ensures few { result ≤ length bytes.now }

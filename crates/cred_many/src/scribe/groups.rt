@@ -33,8 +33,8 @@ impl<J: ServiceId, K: Host, W: Write> Scribe<J, K, W> {
         others
     }
 
-    /// Takes a line into the group if it changes an account that no other line there does, and
-    /// otherwise gives it back.
+    /// Adds a line to the group if it changes an account that no other line there does, and
+    /// otherwise returns it.
     fn gather(&self, group: &mut Group<J>, hashed: Hashed<J>) -> Result<(), Hashed<J>>
         requires { IsGroup K.capacity J.service (K.book self.now.keeper) group.old.changed
             (entries_of group.old.works.items) group.old.text.items }
@@ -56,7 +56,7 @@ impl<J: ServiceId, K: Host, W: Write> Scribe<J, K, W> {
         group.push(hashed, &change)
     }
 
-    /// Makes the changes of a group, and answers its lines. If the keeper refuses none is made.
+    /// Makes the changes of a group, and answers its lines; none if the keeper refuses.
     fn commit_group(&mut self, group: Group<J>)
         requires going { self.old.output.fault ≡ None }
         requires group { IsGroup K.capacity J.service (K.book self.old.keeper) group.changed
