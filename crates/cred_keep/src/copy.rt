@@ -1,4 +1,4 @@
-//! A book that is read to its end, and one that is written into another database.
+//! Reading a book to its end, and copying one into another database.
 
 ghost use Rattle.std.specs.Prelude.{◌≡◌, false, IfErr, IfOk};
 ghost use Rattle.std.specs.FinMap as map;
@@ -11,16 +11,16 @@ use cred_file::{FileBook, OpenFault};
 use sqlite::{Alter, Connection};
 use std::alloc::Global;
 
-/// Why a book wasn't written into another database.
+/// The reason why a book wasn't copied into another database.
 #[derive(Clone, Copy, Debug, PartialEq, Eq)]
 pub enum CopyFault {
-    /// The one database gave no book.
+    /// Opening the book of the source failed.
     Source(OpenFault),
-    /// The other one took none.
+    /// Creating the copy in the target failed.
     Target(OpenFault),
 }
 
-/// Reads all accounts of the database's book, and says how many there are. Nothing is changed, and
+/// Reads all accounts of the database's book, and returns their number. Nothing is changed, and
 /// the connection comes back.
 ///
 /// Errors: those of `FileBook::open`.
@@ -45,9 +45,9 @@ pub fn count_accounts<S: Alter>(
     }
 }
 
-/// Writes the book of one database into another, which is empty, by one transaction, and says how
-/// many accounts it has: the other table stands for the book that the first one does, and a crash
-/// leaves it. The first database isn't changed. Both connections come back.
+/// Copies the book of one database into another, which is empty, by one transaction, and returns
+/// the number of accounts. The target's table stands for the source's book, and a crash leaves it.
+/// The source isn't changed. Both connections come back.
 ///
 /// Errors: `Source` with the error of `FileBook::open`; `Target` with that of
 /// `FileBook::create_copy`.
@@ -75,8 +75,8 @@ pub fn copy_book<S: Alter, D: Alter>(
     }
 }
 
-/// Writes a book that is kept in one database into another, which is empty, by one transaction, and
-/// says how many accounts it has.
+/// Copies a kept book into an empty database, by one transaction, and returns the number of
+/// accounts.
 ///
 /// Errors: `Target` with that of `FileBook::create_copy`.
 pub fn copy_into<S: Alter, D: Alter>(

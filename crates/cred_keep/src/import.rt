@@ -1,4 +1,4 @@
-//! Taking in the lines of a passwd-file, all or none.
+//! Importing the lines of a passwd-file, all or none.
 
 ghost use Rattle.std.specs.Prelude.{◌≡◌, IfErr, IfOk, false, length, string_bytes};
 ghost use Rattle.cred_admin.specs.Seen.{FitsSince};
@@ -13,24 +13,24 @@ use sqlite::Alter;
 use std::alloc::{AllocError, Global};
 use std::io::Read;
 
-/// What an import does with lines that aren't good.
+/// The treatment of bad lines in an import.
 #[derive(Clone, Copy, Debug, PartialEq, Eq)]
 pub enum BadLines {
-    /// It takes in nothing.
+    /// They are refused, and the import changes nothing.
     Refused,
-    /// It leaves them out.
+    /// They are left out.
     LeftOut,
 }
 
-/// Whether an import changes the book.
+/// The effect of an import.
 #[derive(Clone, Copy, Debug, PartialEq, Eq)]
 pub enum Effect {
     Made,
-    /// It only tells what it would change.
+    /// None: it only tells the changes that it would make.
     Foretold,
 }
 
-/// How the counts of an import are written.
+/// The form of an import's counts.
 #[derive(Clone, Copy, Debug, PartialEq, Eq)]
 pub enum Counts {
     Hidden,
@@ -40,7 +40,7 @@ pub enum Counts {
     Json,
 }
 
-/// How an import is done.
+/// The options of an import.
 #[derive(Clone, Copy, Debug, PartialEq, Eq)]
 pub struct Importing {
     pub rules: Rules,
@@ -49,26 +49,26 @@ pub struct Importing {
     pub counts: Counts,
 }
 
-/// What an import made, or would make.
+/// The changes that an import made, or would make.
 #[derive(Debug, Drop)]
 pub struct Imported {
     pub effect: Effect,
-    /// How many accounts are new.
+    /// The number of new accounts.
     pub added: usize,
-    /// How many existing accounts have the record of their line.
+    /// The number of existing accounts that get the record of their line.
     pub changed: usize,
-    /// How many lines name an account that exists and stays as it is.
+    /// The number of lines whose account exists and stays as it is.
     pub kept: u64,
-    /// The lines that are left out since they aren't good, in their order.
+    /// The bad lines that are left out, in their order.
     pub bad: Vec<BadLine>,
-    /// These counts, as they are written.
+    /// The text of these counts.
     pub text: Vec<u8>,
 }
 
-/// Takes in the lines that the reader has, by one transaction of the database: a crash leaves the
-/// book without them, or with all that are taken.
+/// Imports the lines of the reader, by one transaction of the database: a crash leaves the
+/// book without them, or with all good ones.
 ///
-/// Errors: `Lines` with all that aren't good, unless they are left out; `Full` if there would be
+/// Errors: `Lines` with all bad lines, unless they are left out; `Full` if the book would have
 /// over 2^24 accounts; `Read`; `Memory`. The book is as it was.
 pub(crate) fn import<S: Alter, R: Read>(
     alloc: Global,
@@ -143,7 +143,7 @@ fn json_counts(
     )
 }
 
-/// Adds accounts and replaces the records of others, or tells whether there is room for them.
+/// Adds accounts and replaces the records of others, or checks that the book has room for them.
 fn take<S: Alter>(
     book: &mut FileBook<S>,
     effect: Effect,

@@ -1,4 +1,4 @@
-//! What is asked of a kept book, and doing it.
+//! Orders on a kept book, and doing them.
 
 ghost use Rattle.std.specs.Prelude.{◌≡◌, ◌⊎◌, ℕ, List, OnOk, false, true};
 ghost use Rattle.cred_cli.specs.Watched.{Basis, IsLogged, IsNew, MayFollow, reading, reading_on, transcript_reading, transcript_writing, writing, writing_on};
@@ -21,19 +21,19 @@ use sqlite::{Alter, Connection};
 use std::io::{Read, Write};
 use std::thread::Threads;
 
-/// What is asked of a book that is kept.
+/// An order on a kept book.
 #[derive(Clone, Copy)]
 pub enum Order {
     /// Runs a script.
     Run,
-    /// Answers the lines of a script for as long as they come. Those that bring a setting or a
-    /// record are refused if it asks for more than this.
+    /// Answers the lines of a script for as long as they come, but refuses a line whose setting or
+    /// record needs more than this.
     Serve { most: CostBounds },
     /// Does a command on one account, with its passwords.
     Account { name: Name, command: Command },
     /// Disables, deletes or renames an account without its password.
     Edit { edit: Edit },
-    /// Writes the account's line of a passwd-file, and takes its record away without its password.
+    /// Writes the account's line of a passwd-file, and removes its record without its password.
     DisableShown { name: Name },
     /// Writes this detail of the account's record.
     Show { name: Name, detail: Detail },
@@ -41,11 +41,11 @@ pub enum Order {
     ShowJson { name: Name, detail: Detail },
     /// Writes a line of each account.
     List { line: Line },
-    /// Takes in a passwd-file.
+    /// Imports a passwd-file.
     Import { how: Importing },
 }
 
-/// Opens the book of a database, and does what is asked of it, as [`serve`] does. The connection
+/// Opens the book of a database, and does an order on it, as [`serve`] does. The connection
 /// comes back. If the database holds no book, `faults` says why, and nothing is read or written.
 pub fn serve_in<T: Threads + Sync, S: Alter, R: Read, W: Write, F: Write>(
     tools: &Tools<'_, T>,
@@ -78,9 +78,9 @@ pub fn serve_in<T: Threads + Sync, S: Alter, R: Read, W: Write, F: Write>(
     }
 }
 
-/// Does what is asked, as [`perform`] does, says on `faults` what ended it if something did, why a
-/// password may be wrong or what an import left out, and gives the exit status: `Database` if a
-/// change is lost. Whether `faults` takes its text changes nothing.
+/// Does an order, as [`perform`] does, and returns the exit status: `Database` if a change is lost.
+/// `faults` gets the fault that ended it, the reason why a password may be wrong, or the lines that
+/// an import left out. A failure of `faults` changes nothing.
 pub fn serve<T: Threads + Sync, S: Alter, R: Read, W: Write, F: Write>(
     tools: &Tools<'_, T>,
     book: &mut FileBook<S>,
@@ -113,12 +113,12 @@ pub fn serve<T: Threads + Sync, S: Alter, R: Read, W: Write, F: Write>(
     }
 }
 
-/// Does what is asked of a book that is kept. No call was made on the reader or the writer before.
-/// It waits only where a call of the reader or the writer does: else every body of it returns, and
+/// Does an order on a kept book. No call was made on the reader or the writer before.
+/// Only a call of the reader or the writer may wait: else every body of it returns, and
 /// is bound by this.
 ///
-/// Ok tells how it ended, and then the table stands for the book, and a crash leaves it. Errors:
-/// what ended the order; `Database` if the database failed, whatever came of it.
+/// `Ok` is the end of the order: then the table stands for the book, and a crash leaves it. Errors:
+/// the fault that ended the order; `Database` if the database failed, whatever the answer.
 pub fn perform<T: Threads + Sync, S: Alter, R: Read, W: Write>(
     tools: &Tools<'_, T>,
     book: &mut FileBook<S>,

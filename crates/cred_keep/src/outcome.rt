@@ -1,4 +1,4 @@
-//! How an order ends.
+//! The end of an order.
 
 ghost use Rattle.std.specs.Prelude.{◌≡◌};
 ghost use Rattle.cred_cli.specs.Watched.{Basis, writing_on};
@@ -9,17 +9,17 @@ use cred_admin::{Fault, ImportFault, Status, tell};
 use cred_cli::{End, ScriptFault, Watched};
 use std::io::Write;
 
-/// What an order came to.
+/// The result of an order.
 #[derive(Debug, Drop)]
 pub enum Ending {
     /// A command, a list or a script ended with this status.
     Answered(Status),
-    /// An import made this, or would make it.
+    /// An import made these changes, or would make them.
     Imported(Imported),
 }
 
 impl Ending {
-    /// The exit status that tells of it.
+    /// The exit status of the result.
     pub fn status(&self) -> Status
         ensures { result ≡ status_of_ending self.now }
     {
@@ -30,7 +30,7 @@ impl Ending {
     }
 }
 
-/// What ended an order that did not do what was asked.
+/// The fault of an order that failed.
 #[derive(Debug, Drop)]
 pub enum Failure {
     /// A command on one account, a list or an export met this fault.
@@ -39,12 +39,12 @@ pub enum Failure {
     Import(ImportFault),
     /// A script met this fault.
     Script(ScriptFault),
-    /// The database failed; the book's `lost` tells of the change that was under way.
+    /// The database failed; the book's `lost` is the change that was under way.
     Database,
 }
 
 impl Failure {
-    /// The exit status that tells of it.
+    /// The exit status of the fault.
     pub fn status(&self) -> Status
         ensures { result ≡ status_of_failure self.now }
     {
@@ -61,7 +61,7 @@ impl Failure {
     }
 }
 
-/// How a command's end is that of an order.
+/// Turns the end of a command into that of an order.
 pub(crate) fn command_end(ended: Result<Status, Fault>) -> Result<Ending, Failure>
     ensures { result ≡ command_end ended }
 {
@@ -88,7 +88,7 @@ pub(crate) fn import_end<W: Write>(
     }
 }
 
-/// How a script's end is that of an order.
+/// Turns the end of a script into that of an order.
 pub(crate) fn run_end(ended: Result<End, ScriptFault>) -> Result<Ending, Failure>
     ensures { result ≡ run_end ended }
 {

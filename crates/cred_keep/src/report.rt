@@ -1,4 +1,4 @@
-//! What is said on standard error.
+//! The texts on standard error.
 
 ghost use Rattle.std.specs.Prelude.{◌≡◌};
 ghost use Rattle.cred_keep.specs.Orders.{status_of_open};
@@ -13,14 +13,14 @@ use sqlite::{Error, ErrorCode};
 use std::io;
 use std::io::Write;
 
-/// How many accounts are named at most whose changes were lost together.
+/// The maximum number of accounts that are named when their changes were lost together.
 const MOST_NAMED: usize = 64;
 
-/// What a name is, as faults say it.
+/// The rule for names, in the words of refusals.
 pub const NAME_RULE: &str = "a name has 1 to 32 of a-z, 0-9, '.', '_', '-'";
 
-/// Says what the ending has beside its status: why a password may be wrong, if the book says no to
-/// it, and which lines an import left out. Whether `faults` takes its text changes nothing.
+/// Writes the remarks on an ending: why a password may be wrong, if the book says no to
+/// it, and the lines that an import left out. A failure of `faults` changes nothing.
 pub(crate) fn advise<F: Write>(faults: &mut F, ending: &Ending) {
     let _ = match ending {
         Ending::Answered(Status::No(Some(Hint::CarriageReturn))) => writeln!(
@@ -41,8 +41,8 @@ fn tell_imported<F: Write>(faults: &mut F, made: &Imported) -> io::Result<()> {
     }
 }
 
-/// Says why an order failed; the book's lost change is named if the database failed. Whether
-/// `faults` takes its text changes nothing.
+/// Writes the fault of an order, with the book's lost change if the database failed. A failure of
+/// `faults` changes nothing.
 pub fn explain<F: Write>(faults: &mut F, failure: &Failure, lost: Option<&Lost>) {
     let _ = match failure {
         Failure::Database => match lost {
@@ -80,7 +80,7 @@ fn tell_lost<F: Write>(faults: &mut F, lost: &Lost) -> io::Result<()> {
     }
 }
 
-/// Names the accounts whose records were to be replaced together, if they aren't too many.
+/// Names the accounts whose records were to be replaced together, unless they are too many.
 fn tell_lost_changes<F: Write>(faults: &mut F, changed: &Register) -> io::Result<()> {
     write!(faults, "the changes of")?;
     for (name, _) in changed.iter().take(MOST_NAMED) {
@@ -132,7 +132,7 @@ fn tell_why<F: Write>(faults: &mut F, why: LineFault) -> io::Result<()> {
     }
 }
 
-/// Says why no book was begun or opened, and gives the exit status that tells of it.
+/// Writes why no book was begun or opened, and returns the exit status.
 pub fn refuse<F: Write>(faults: &mut F, why: &OpenFault) -> Status
     ensures { result ≡ status_of_open why.now }
 {

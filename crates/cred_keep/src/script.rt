@@ -66,12 +66,12 @@ impl<H, S: Alter> KeeperBy<AtOnce, H> for FileBook<S> {
     }
 }
 
-/// Answers lines on a kept book for as long as they come, as `serve` does. It waits only where a
+/// Answers lines on a kept book for as long as they come, as `serve` does. This waits only where a
 /// call of the reader or the writer does: else every body of it returns, and is bound by this.
 ///
-/// Each change is in the database before it is answered. A commit for whose hash there is no memory
+/// Each change is in the database before it is answered. A commit without memory for its hash
 /// is refused, and the service goes on; the keeper's own want of memory ends it. A line is refused
-/// if its setting or record asks for more than `most`, and so is a last one without its end. A
+/// if its setting or record needs more than `most`, and so is a last one without its end. A
 /// crash leaves the book after the lines that were done, perhaps with the change that was under way
 /// as the database failed.
 pub fn serve_on_file<T: Threads + Sync, S: Alter, R: Read, W: Write>(
