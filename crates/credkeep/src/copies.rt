@@ -1,5 +1,5 @@
-//! Copies of a book in files of their own: one that is made while it may be served, one that is put
-//! in its place, and one that is only read.
+//! Copies of a book in files of their own: a backup, which may be made while the book is served, a
+//! copy that replaces the book, and one that is only read.
 
 ghost use Rattle.std.specs.Prelude.{◌≡◌, false};
 
@@ -23,13 +23,13 @@ use std::io::Write;
 use std::thread::sleep;
 use std::time::Duration;
 
-/// The ends of the names of what is written beside a place: the book as it was read, and the new
+/// The ends of the names of files beside a place: the book as it was read, and the new
 /// file.
 const READ: &str = "-read";
 
 pub(crate) const NEW: &str = "-new";
 
-/// How many accounts a book has, and what is in its log.
+/// The number of a book's accounts, and the content of its log.
 #[derive(Clone, Copy)]
 pub(crate) struct Contents {
     accounts: usize,
@@ -60,7 +60,7 @@ impl Contents {
     }
 }
 
-/// How the word ends for so many things.
+/// The plural ending for so many things.
 fn plural_of(count: u64) -> &'static str {
     if count == 1 { "" } else { "s" }
 }
@@ -89,7 +89,7 @@ pub(crate) fn back_up(
     Ok(Contents { accounts, log })
 }
 
-/// Puts a copy in the book's place.
+/// Puts a copy in the place of the book.
 pub(crate) fn restore(
     host: &HostRuntime,
     request: &Request<'_>,
@@ -103,13 +103,13 @@ pub(crate) fn restore(
     let file = request.file;
     let place = accept(host, file, real_path(host, file))?;
     accept(host, file, look_at_old(host, place.as_str()))?;
-    // A copy may take long to read, so a book in use is told of first.
+    // A copy may take long to read, so a book in use is refused first.
     if is_busy(host, place.as_str(), request.wait) {
         return Err(refuse_file(host, file, FileFault::Busy));
     }
     let read = make_draft(host, place.as_str(), READ)?;
     let log = read_book(host, from, &read, request.remarks)?;
-    // From itself a book comes back without the changes that are damaged.
+    // A book restored from itself comes back without the damaged changes.
     if accept(host, from, real_path(host, from))? != place {
         accept(host, from, see_whole(log))?;
     }
@@ -120,7 +120,7 @@ pub(crate) fn restore(
     Ok(Contents { accounts, log })
 }
 
-/// Reads the file and its log to their ends, and says what is in them. The book may be in use, and
+/// Reads the file and its log to their ends, and tells their content. The book may be in use, and
 /// nothing is written into its files.
 pub(crate) fn verify(host: &HostRuntime, request: &Request<'_>) -> Result<Status, Status> {
     let file = request.file;
@@ -137,13 +137,13 @@ pub(crate) fn verify(host: &HostRuntime, request: &Request<'_>) -> Result<Status
     Ok(status)
 }
 
-/// Makes a draft beside a place. A fault names the draft: the place itself may be readable.
+/// Makes a draft beside a place. A fault names the draft, as the place itself may be readable.
 fn make_draft<'a>(host: &'a HostRuntime, place: &str, end: &str) -> Result<Draft<'a>, Status> {
     let path = accept(host, place, sidecar(host, place, end))?;
     accept(host, path.as_str(), Draft::make(host, place, end))
 }
 
-/// Copies the book's files as they are at one moment, and looks at their log.
+/// Copies the book's files at one moment, and reads the copy of the log.
 fn read_book(
     host: &HostRuntime,
     file: &str,
@@ -160,7 +160,7 @@ fn read_book(
     accept(host, file, look_at_its_log(host, read.path()))
 }
 
-/// Writes the book that was read into the new file, and says how many accounts it has.
+/// Writes the book that was read into the new file, and returns the number of accounts.
 fn copy(
     host: &HostRuntime,
     file: &str,
@@ -175,7 +175,7 @@ fn copy(
     }
 }
 
-/// Writes the book that was read into a database. Of two kinds of files at once a proof takes too
+/// Writes the book that was read into a database. With two kinds of files at once a proof takes too
 /// long: this one names the first, and its caller the second.
 fn copy_into<D: Alter>(
     host: &HostRuntime,
@@ -199,8 +199,8 @@ fn copy_into<D: Alter>(
     }
 }
 
-/// The same as `copy_book`, and below as `count_accounts`, over any databases: where a call with
-/// clauses names a file's, a proof takes too long.
+/// As `copy_book`, and below as `count_accounts`, over any databases: a call with clauses that
+/// names a file's database takes too long to prove.
 fn copy_between<S: Alter, D: Alter>(
     alloc: Global,
     source: Connection<S>,
@@ -239,7 +239,7 @@ fn put_back_once(host: &HostRuntime, new: &Draft<'_>, place: &str) -> Result<(),
 }
 
 /// Copies the log of the old file into it, so that the old book is whole without its log. A file
-/// that is damaged or gone has no whole book: its log is taken away.
+/// that is damaged or gone has no whole book: its log is removed.
 fn fold_log(host: &HostRuntime, place: &str) -> Result<OldLog, BookFault> {
     if len_of(host, place)?.unwrap_or(0) == 0 {
         return Ok(OldLog::Removed);

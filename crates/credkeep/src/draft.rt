@@ -1,4 +1,4 @@
-//! Files that are made whole beside a place, and then put there.
+//! Files that are written beside a place, and then put there.
 
 use crate::files::{OWNER_ALONE, own_user};
 use crate::sidecar::{
@@ -12,11 +12,11 @@ use std::thread::sleep;
 use std::time::Duration;
 use std::{fs, io};
 
-/// For so many milliseconds a file is held after another was put in its place: a process that had
+/// A file is held for so many milliseconds after another replaced it: a process that had
 /// opened it by its name finds it in use, and looks at the name again.
 const LINGER: u64 = 100;
 
-/// A file that is written beside the place where it goes, and is removed with this if it isn't put
+/// A file that is written beside its place. It is removed with this value unless it is put
 /// there. Nobody else may read or write it.
 pub(crate) struct Draft<'a> {
     rt: &'a HostRuntime,
@@ -24,17 +24,17 @@ pub(crate) struct Draft<'a> {
     file: File,
 }
 
-/// What becomes of a log that lies at the place.
+/// The treatment of a log at the place.
 #[derive(Clone, Copy, PartialEq, Eq)]
 pub(crate) enum OldLog {
-    /// It has no changes, or nothing is put there.
+    /// It stays: it has no changes, or the draft isn't put there.
     Kept,
-    /// It is taken away.
+    /// It is removed.
     Removed,
 }
 
 impl Drop for Draft<'_> {
-    /// If the removal fails nothing is lost: the next run takes the file.
+    /// If the removal fails nothing is lost: the next run uses the file.
     fn drop(self) {
         let Draft { rt, path, file } = self;
         if let Ok(true) = is_at(rt, &file, path.as_str()) {
@@ -45,10 +45,10 @@ impl Drop for Draft<'_> {
 }
 
 impl<'a> Draft<'a> {
-    /// Makes an empty file whose name is the place's with this end. What a run that was stopped
-    /// left there is taken for it.
+    /// Makes an empty file, named as the place with this end. A file that a stopped run left there
+    /// is used again.
     ///
-    /// Errors: `Busy` if another run is writing it; what has its name and may not be overwritten.
+    /// Errors: `Busy` if another run is writing it; `Irregular` or `Owner` for a foreign file.
     pub(crate) fn make(rt: &'a HostRuntime, place: &str, end: &str) -> Result<Self, FileFault> {
         let path = sidecar(rt, place, end)?;
         let file = open_or_make(rt, path.as_str())?;
@@ -65,14 +65,14 @@ impl<'a> Draft<'a> {
         self.path.as_str()
     }
 
-    /// What is written and read directly.
+    /// The file, for direct reads and writes.
     pub(crate) fn file(&self) -> &File {
         &self.file
     }
 
-    /// Gives it the owner and the mode of the file that it is to replace, if there is one.
+    /// Gives the draft the owner and the mode of the file that it will replace, if one exists.
     ///
-    /// Errors: `Owner` if this user can't give it away.
+    /// Errors: `Owner` if this user can't give the draft away.
     pub(crate) fn dress_as(&self, place: &str) -> Result<(), FileFault> {
         let Some(old) = if_there(fs::symlink_metadata(self.rt, place))? else {
             return Ok(());
@@ -90,11 +90,11 @@ impl<'a> Draft<'a> {
         Ok(self.file.set_permissions(mode)?)
     }
 
-    /// Puts the file at the place, by one step: whoever looks there finds the old file whole, or
-    /// this one. It has no log then.
+    /// Puts the file at the place in one step: readers find the old file whole, or this one, which
+    /// has no log then.
     ///
-    /// Errors: `Busy` if another process has the old file open; `OldLog` if a log lies there with
-    /// changes in it, which is to be kept.
+    /// Errors: `Busy` if another process has the old file open; `OldLog` if a log beside it has
+    /// changes that must be kept.
     pub(crate) fn put_at(&self, place: &str, old_log: OldLog) -> Result<(), FileFault> {
         let rt = self.rt;
         remove_logs(rt, self.path())?;
@@ -123,7 +123,7 @@ fn remove_logs(rt: &HostRuntime, path: &str) -> io::Result<()> {
     remove_sidecar(rt, path, JOURNAL)
 }
 
-/// Opens the file of a draft, or makes it. Neither a link nor another user's file is taken.
+/// Opens or makes the file of a draft, but no link and no other user's file.
 fn open_or_make(rt: &HostRuntime, path: &str) -> Result<File, FileFault> {
     let mut options = OpenOptions::new();
     options.read(true).write(true);

@@ -1,4 +1,4 @@
-//! Why a book isn't opened, and what is said of it.
+//! Faults of opening a book, and their texts.
 
 use cred_admin::Status;
 use cred_file::OpenFault;
@@ -8,12 +8,12 @@ use sqlite::{Error, ErrorCode};
 use std::io;
 use std::io::Write;
 
-/// Why a book isn't opened or read, or a copy isn't put in its place.
+/// The reason why a book isn't opened or read, or why a copy isn't put in its place.
 #[derive(Clone, Copy)]
 pub(crate) enum BookFault {
-    /// Something stands against its file.
+    /// The file is refused.
     File(FileFault),
-    /// The database wasn't opened: it failed, or is none.
+    /// The database wasn't opened: it failed, or isn't one.
     Database(Error),
     /// The database holds no book, or failed once it was open.
     Book(OpenFault),
@@ -25,7 +25,7 @@ impl BookFault {
         ErrorCode::DatabaseBusy,
     ));
 
-    /// Whether another process has the file, or had it meanwhile.
+    /// Whether another process has the file open, or had it meanwhile.
     pub(crate) fn is_busy(&self) -> bool {
         matches!(
             self,
@@ -53,7 +53,7 @@ impl From<OpenFault> for BookFault {
     }
 }
 
-/// The value, if there is one; otherwise it says why the file was refused.
+/// The value; without one, writes why the file was refused.
 pub(crate) fn accept<T, E: Into<BookFault>>(
     host: &HostRuntime,
     path: &str,
@@ -65,7 +65,7 @@ pub(crate) fn accept<T, E: Into<BookFault>>(
     }
 }
 
-/// Says why a file was refused, and gives the exit status that tells of it.
+/// Writes why a file was refused, and returns the exit status.
 pub(crate) fn refuse_file<E: Into<BookFault>>(host: &HostRuntime, path: &str, why: E) -> Status {
     match why.into() {
         BookFault::File(why) => {

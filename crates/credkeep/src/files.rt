@@ -18,34 +18,34 @@ use std::thread::sleep;
 use std::time::Duration;
 use std::{fs, io};
 
-/// A connection to a file, of which nothing is supposed but that it was synced when it said so.
+/// A connection to a file, of which nothing is assumed but that its syncs are true.
 pub(crate) type Database = Connection<FileStore<FileFrom<Wary>>>;
 
 /// The file may be read and written by its owner alone. Its log gets the same mode.
 pub(crate) const OWNER_ALONE: u32 = 0o600;
 
-/// What a mode lets others do.
+/// The permissions of others in a mode.
 const OTHERS: u32 = 0o077;
 
-/// What a database begins with (SQLite's file format, section 1.3.1).
+/// The first bytes of a database (SQLite's file format, section 1.3.1).
 const HEADER: &[u8; 16] = b"SQLite format 3\0";
 
-/// How often a busy file is tried in a second, and the milliseconds between.
+/// The number of tries at a busy file in a second, and the milliseconds between.
 const TRIES_A_SECOND: u32 = 20;
 
 pub(crate) const PAUSE: u64 = 50;
 
-/// Where a book is begun.
+/// The place where a book is begun.
 #[derive(Clone, Copy, PartialEq, Eq)]
 pub(crate) enum Beginning {
-    /// In a new file, which is put at the place once it is whole.
+    /// A new file, which is put at the place once it is whole.
     NewFile,
-    /// In the existing database.
+    /// An existing database.
     Database,
 }
 
-/// Sees that a book may begin at this path. An existing file has to be one of this user's,
-/// which no other can read or write, and empty or a database.
+/// Checks that a book may begin at this path. An existing file must belong to this user alone, and
+/// be empty or a database.
 pub(crate) fn look_before_init(rt: &HostRuntime, path: &str) -> Result<Beginning, FileFault> {
     if path == ":memory:" {
         return Err(FileFault::NoFile);
@@ -78,14 +78,14 @@ fn look_at_place(rt: &HostRuntime, path: &str, found: &Metadata) -> Result<Begin
     Ok(Beginning::Database)
 }
 
-/// Who can read and write a file.
+/// The users who can read and write a file.
 #[derive(Clone, Copy, PartialEq, Eq)]
 pub(crate) enum Access {
     OwnerAlone,
     Others,
 }
 
-/// Sees that the file may hold a book, and says whether others can read or write it. Nothing is
+/// Checks that the file may hold a book, and whether others can read or write it. Nothing is
 /// written.
 pub(crate) fn look_at(rt: &HostRuntime, path: &str) -> Result<Access, FileFault> {
     if path == ":memory:" {
@@ -106,7 +106,7 @@ pub(crate) fn look_at(rt: &HostRuntime, path: &str) -> Result<Access, FileFault>
     Ok(Access::OwnerAlone)
 }
 
-/// Looks at a file as [`look_at`] does, and says what it finds.
+/// Checks a file as [`look_at`] does, and writes what it finds.
 pub(crate) fn look(host: &HostRuntime, file: &str, remarks: Remarks) -> Result<(), Status> {
     let access = accept(host, file, look_at(host, file))?;
     if access == Access::Others && remarks == Remarks::Told {
@@ -118,7 +118,7 @@ pub(crate) fn look(host: &HostRuntime, file: &str, remarks: Remarks) -> Result<(
     Ok(())
 }
 
-/// Sees that a copy may be put at this place: nothing is there, or an empty file, or a database.
+/// Checks that a copy may be put at this place: no file, an empty file, or a database.
 pub(crate) fn look_at_old(rt: &HostRuntime, path: &str) -> Result<(), FileFault> {
     if path == ":memory:" {
         return Err(FileFault::NoFile);
@@ -133,7 +133,7 @@ pub(crate) fn look_at_old(rt: &HostRuntime, path: &str) -> Result<(), FileFault>
     look_inside(rt, path)
 }
 
-/// Sees that it is a file with one name.
+/// Checks that this is a file with one name.
 fn see_single(found: &Metadata) -> Result<(), FileFault> {
     if !found.is_file() {
         return Err(FileFault::Irregular);
@@ -156,24 +156,24 @@ fn look_inside(rt: &HostRuntime, path: &str) -> Result<(), FileFault> {
     Ok(())
 }
 
-/// Whether a file beside this one has bytes in it.
+/// Whether a file beside this one has bytes.
 fn has_bytes(rt: &HostRuntime, path: &str, end: &str) -> io::Result<bool> {
     let real = real_path(rt, path)?;
     let other = sidecar(rt, real.as_str(), end)?;
     Ok(len_of(rt, other.as_str())?.unwrap_or(0) != 0)
 }
 
-/// The user that this process acts for: Linux gives its folder below /proc to them.
+/// The user of this process: the owner of its folder below /proc in Linux.
 pub(crate) fn own_user(rt: &HostRuntime) -> io::Result<u32> {
     Ok(fs::metadata(rt, "/proc/self")?.uid())
 }
 
-/// What is done with the changes behind a damaged one in the log.
+/// The treatment of a log with a damaged change.
 #[derive(Clone, Copy, PartialEq, Eq)]
 pub(crate) enum DamagedLog {
-    /// Nothing: the file isn't opened.
+    /// The file isn't opened.
     Refused,
-    /// They are given up.
+    /// The damaged change and those behind it are given up.
     Cut,
 }
 
@@ -195,7 +195,7 @@ pub(crate) fn open_file(
     open_once(rt, path, damaged)
 }
 
-/// Opens a file as [`open_file`] does, or says why not of the book at `file`.
+/// Opens a file as [`open_file`] does, or writes why not, naming the book at `file`.
 pub(crate) fn open_database(
     host: &HostRuntime,
     file: &str,
@@ -230,7 +230,7 @@ pub(crate) fn close(host: &HostRuntime, path: &str, conn: Database, status: Stat
     status
 }
 
-/// Whether another process has the file open, and still has it after so many seconds.
+/// Whether another process still has the file open after so many seconds.
 pub(crate) fn is_busy(rt: &HostRuntime, path: &str, wait: u16) -> bool {
     for _ in 0..tries_in(wait) {
         if !matches!(hold(rt, path), Err(FileFault::Busy)) {
@@ -241,7 +241,7 @@ pub(crate) fn is_busy(rt: &HostRuntime, path: &str, wait: u16) -> bool {
     matches!(hold(rt, path), Err(FileFault::Busy))
 }
 
-/// How often a busy file is tried in so many seconds, before it is tried a last time.
+/// The number of tries at a busy file in so many seconds, before a last one.
 pub(crate) fn tries_in(wait: u16) -> u32 {
     u32::from(wait) * TRIES_A_SECOND
 }
@@ -258,8 +258,8 @@ fn open_once(rt: &HostRuntime, path: &str, damaged: DamagedLog) -> Result<Databa
     }
 }
 
-/// Opens a file of which this is supposed. It is over any `S`, since a proof takes a minute where a
-/// call with clauses names one.
+/// Opens a file of which this is assumed. The function is over any `S`: with clauses about one `S`
+/// the proof of a call takes a minute.
 fn open_as<S: Start>(
     rt: &HostRuntime,
     path: &str,
@@ -278,8 +278,8 @@ pub(crate) fn fold<S: Start>(conn: Connection<FileStore<FileFrom<S>>>) -> Result
     conn.close()
 }
 
-/// Sees that no change in the log is damaged: such a one and all behind it would be given up by
-/// the opening, without a word. The file is held meanwhile; if it can't be, the opening says why.
+/// Checks that no change in the log is damaged: the opening would give up such a change and all
+/// behind it, without a word. The file is held meanwhile; if it can't be, the opening says why.
 fn see_log_whole(rt: &HostRuntime, path: &str) -> Result<(), BookFault> {
     if len_of_log(rt, path)?.unwrap_or(0) <= EMPTY_LOG {
         return Ok(());
@@ -304,7 +304,7 @@ pub(crate) fn see_whole(look: LogLook) -> Result<(), FileFault> {
     })
 }
 
-/// Finds what stands behind an opening that failed: the library says only that it did.
+/// Finds the cause of a failed opening: the library says only that it failed.
 fn why_unopened(rt: &HostRuntime, path: &str, error: Error) -> BookFault {
     match error {
         Error::SqliteFailure(ErrorCode::CannotOpen) => match see_writable(rt, path) {
@@ -315,7 +315,7 @@ fn why_unopened(rt: &HostRuntime, path: &str, error: Error) -> BookFault {
     }
 }
 
-/// Sees that the file and its log can be opened and written by this user.
+/// Checks that this user can open and write the file and its log.
 fn see_writable(rt: &HostRuntime, path: &str) -> io::Result<()> {
     let real = real_path(rt, path)?;
     let mut options = OpenOptions::new();

@@ -1,36 +1,36 @@
-//! What a write-ahead log holds, read without changing it (SQLite's file format, section 4.1).
+//! Reading a write-ahead log without changing it (SQLite's file format, section 4.1).
 
 use sqlite_wal::checksum_of;
 use std::alloc::Global;
 use std::io;
 use std::io::{ErrorKind, Read};
 
-/// The bytes of the log's header, and of a frame's, which a page follows.
+/// The size of the log's header, and of a frame's, which a page follows, in bytes.
 pub(crate) const LOG_HEADER: usize = 32;
 
 const FRAME_HEADER: usize = 24;
 
-/// What the log's header begins with, but for the lowest bit, which says how its sums are made.
+/// The first bytes of a log's header, without the lowest bit, which gives the order of the sums.
 const MAGIC: [u8; 3] = [0x37, 0x7f, 0x06];
 
-/// The commits that a log holds.
+/// The commits of a log.
 #[derive(Clone, Copy, Debug, PartialEq, Eq)]
 pub(crate) struct LogLook {
-    /// How many can be read, from the first one on.
+    /// The number of commits that can be read, from the first one on.
     pub(crate) commits: u64,
-    /// How many stand at or behind bytes that no writer left so, even one that was stopped.
+    /// The number of commits at or behind bytes that no writer left so, even a stopped one.
     pub(crate) lost: u64,
 }
 
 impl LogLook {
-    /// What no log holds.
+    /// The content of an empty log.
     pub(crate) const EMPTY: LogLook = LogLook {
         commits: 0,
         lost: 0,
     };
 }
 
-/// Reads a log to its end. One that is too short for a page holds nothing.
+/// Reads a log to its end. A log that is too short for a page has no commits.
 pub(crate) fn look_at_log<R: Read>(alloc: Global, log: &mut R) -> io::Result<LogLook> {
     let mut head = [0; LOG_HEADER];
     if !fills(log, &mut head)? || head[0] != MAGIC[0] {
@@ -46,7 +46,7 @@ pub(crate) fn look_at_log<R: Read>(alloc: Global, log: &mut R) -> io::Result<Log
     if is_signed(&head) {
         return frames.count(log);
     }
-    // Behind a header that is damaged its salt still tells which frames are of this log.
+    // Behind a damaged header its salt still tells which frames belong to this log.
     let lost = frames.count_behind(log)?;
     Ok(LogLook { commits: 0, lost })
 }
@@ -61,14 +61,14 @@ struct Frames {
     sums: (u32, u32),
 }
 
-/// What a frame is to the ones before it.
+/// The relation of a frame to those before it.
 #[derive(Clone, Copy, PartialEq, Eq)]
 enum Frame {
-    /// It goes on with them.
+    /// It continues them.
     Next,
-    /// It isn't of this log, or not yet.
+    /// It doesn't belong to this log, or not yet.
     Other,
-    /// It is of this log, and its bytes aren't those that were written.
+    /// It belongs to this log, and its bytes were changed.
     Damaged,
 }
 
@@ -80,7 +80,7 @@ impl Frames {
         Ok(Frames { head, frame, sums })
     }
 
-    /// Counts the commits up to the first frame that doesn't go on with those before it.
+    /// Counts the commits up to the first frame that doesn't continue those before it.
     fn count<R: Read>(&mut self, log: &mut R) -> io::Result<LogLook> {
         let mut commits: u64 = 0;
         for _ in 0..u64::MAX {
@@ -101,7 +101,7 @@ impl Frames {
         Ok(LogLook { commits, lost: 0 })
     }
 
-    /// Counts the commits of this log in what is left, whatever their sums.
+    /// Counts the commits of this log in the rest, whatever their sums.
     fn count_behind<R: Read>(&mut self, log: &mut R) -> io::Result<u64> {
         let mut commits: u64 = 0;
         for _ in 0..u64::MAX {
@@ -132,12 +132,12 @@ impl Frames {
         Frame::Next
     }
 
-    /// Whether it has the header's salt, which a new header changes.
+    /// Whether the frame has the header's salt, which a new header changes.
     fn has_salt(&self) -> bool {
         self.frame.len() >= FRAME_HEADER && self.frame[8..16] == self.head[16..24]
     }
 
-    /// Whether it says how many pages the database has after it: the last frame of a commit does.
+    /// Whether the frame has the new size of the database: the last frame of a commit does.
     fn ends_commit(&self) -> bool {
         self.frame.len() >= FRAME_HEADER && be32(&self.frame, 4) != 0
     }
@@ -162,7 +162,7 @@ fn be32(bytes: &[u8], at: usize) -> u32 {
     }
 }
 
-/// Whether there are bytes enough to fill the buffer.
+/// Whether the reader has bytes enough to fill the buffer.
 pub(crate) fn fills<R: Read>(reader: &mut R, buf: &mut [u8]) -> io::Result<bool> {
     match reader.read_exact(buf) {
         Ok(()) => Ok(true),

@@ -1,5 +1,5 @@
-//! `credkeep`, a credential store in a database file. What an order does is `cred_keep`'s, and what
-//! the words ask for is `credkeep_words`'; here the file is opened, and the status is told.
+//! `credkeep`, a credential store in a database file. `cred_keep` does the orders, and
+//! `credkeep_words` reads the words; here the file is opened, and the status is told.
 #![tactic(auto)]
 
 mod copies;

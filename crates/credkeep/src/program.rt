@@ -21,7 +21,7 @@ use std::sync::Wait;
 use std::thread::Threads;
 use std::{env, io};
 
-/// Does what the process's words ask for.
+/// Does the act that the process's words ask for.
 pub(crate) fn run<T: Threads + Wait + Sync + Copy + Send + 'static>(
     host: &HostRuntime,
     rt: &T,
@@ -48,7 +48,7 @@ fn run_words<T: Threads + Wait + Sync + Copy + Send + 'static>(
     }
 }
 
-/// Does what is asked. Either status is the program's; with the second it was said what is refused.
+/// Does an act. Either status is the program's; with the second, the refusal was written.
 fn answer<T: Threads + Wait + Sync + Copy + Send + 'static>(
     host: &HostRuntime,
     rt: &T,
@@ -77,8 +77,8 @@ fn answer<T: Threads + Wait + Sync + Copy + Send + 'static>(
     }
 }
 
-/// Begins a book, in a file that is put at its place when it is whole, or in a database that is
-/// there.
+/// Begins a book, in a file that is put at its place once it is whole, or in an existing
+/// database.
 fn init(host: &HostRuntime, request: &Request<'_>) -> Result<Status, Status> {
     let file = request.file;
     match accept(host, file, look_before_init(host, file))? {
@@ -95,7 +95,7 @@ fn begin_beside(host: &HostRuntime, file: &str) -> Result<Status, Status> {
     let new = accept(host, file, Draft::make(host, file, NEW))?;
     let conn = open_database(host, file, new.path(), 0, DamagedLog::Refused)?;
     let (conn, status) = begin_in(host.alloc(), conn, host.stderr());
-    // It goes to its place without its log: if that can't be copied into it nothing was begun.
+    // The file goes to its place without its log: if the log can't be copied, no book was begun.
     let status = match fold(conn) {
         Err(error) if status == Status::Done => {
             refuse(&mut host.stderr(), &OpenFault::Database(error))
@@ -108,7 +108,7 @@ fn begin_beside(host: &HostRuntime, file: &str) -> Result<Status, Status> {
     Ok(status)
 }
 
-/// Opens the file, does what is asked in its database, and closes it. Passwords were read before.
+/// Opens the file, does an order in its database, and closes it. The passwords were read before.
 fn on_file<T: Threads + Sync>(
     host: &HostRuntime,
     tools: &Tools<'_, T>,
@@ -135,8 +135,8 @@ fn on_file<T: Threads + Sync>(
     Ok(close(host, file, conn, status))
 }
 
-/// Does what is asked in a database, which comes back. It is over any database: of a file's a proof
-/// takes too long.
+/// Does an order in a database, which comes back. The function is over any database: with a file's
+/// database a proof takes too long.
 fn obey<T: Threads + Sync, S: Alter, R: Read + Drop, W: Write + Drop, F: Write + Drop>(
     tools: &Tools<'_, T>,
     conn: Connection<S>,
@@ -152,7 +152,7 @@ fn obey<T: Threads + Sync, S: Alter, R: Read + Drop, W: Write + Drop, F: Write +
     serve_in(tools, conn, order, &mut reader, &mut writer, &mut faults)
 }
 
-/// Begins a book in the database, which comes back, or says whose the tables are that stand in the
+/// Begins a book in the database, which comes back, or says whose tables are in the
 /// way.
 fn begin_in<S: Alter, F: Write + Drop>(
     alloc: Global,

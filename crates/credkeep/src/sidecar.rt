@@ -1,4 +1,4 @@
-//! The files that lie beside a database: its log, its journal, its folder.
+//! The files beside a database: its log, its journal, its folder.
 
 use crate::log::{LogLook, look_at_log};
 use credkeep_words::FileFault;
@@ -15,10 +15,10 @@ pub(crate) const LOG: &str = "-wal";
 
 pub(crate) const JOURNAL: &str = "-journal";
 
-/// A log of no more bytes holds no change: the header, and the start of one frame.
+/// A log of at most so many bytes has no change: the header, and the start of one frame.
 pub(crate) const EMPTY_LOG: u64 = 41;
 
-/// What was found at a name, or nothing if nothing has it.
+/// The file at a path, or `None` if none exists.
 pub(crate) fn if_there<T>(found: io::Result<T>) -> io::Result<Option<T>> {
     match found {
         Ok(found) => Ok(Some(found)),
@@ -27,13 +27,13 @@ pub(crate) fn if_there<T>(found: io::Result<T>) -> io::Result<Option<T>> {
     }
 }
 
-/// The name of a file that lies beside this one.
+/// The path of a file beside this one.
 pub(crate) fn sidecar(rt: &HostRuntime, path: &str, end: &str) -> io::Result<String> {
     Ok(format!(in rt.alloc(); "{path}{end}")?)
 }
 
-/// The name of the file itself, if a link leads to it; beside that its log lies. A name that
-/// nothing has is its own.
+/// The path of the file itself, if this is a link: the log lies beside the file. A path without a
+/// file stays as it is.
 pub(crate) fn real_path(rt: &HostRuntime, path: &str) -> io::Result<String> {
     match if_there(fs::canonicalize(rt, path))? {
         Some(real) => Ok(real.into_string()),
@@ -41,19 +41,19 @@ pub(crate) fn real_path(rt: &HostRuntime, path: &str) -> io::Result<String> {
     }
 }
 
-/// The length of a file, or nothing if nothing has the name.
+/// The length of a file, or `None` if none exists at this path.
 pub(crate) fn len_of(rt: &HostRuntime, path: &str) -> io::Result<Option<u64>> {
     Ok(if_there(fs::symlink_metadata(rt, path))?.map(|found| found.len()))
 }
 
-/// The length of the log of the database at this path, or where a link leads from there.
+/// The length of the log of the database at this path, or of the file that it links to.
 pub(crate) fn len_of_log(rt: &HostRuntime, path: &str) -> io::Result<Option<u64>> {
     let real = real_path(rt, path)?;
     let log = sidecar(rt, real.as_str(), LOG)?;
     len_of(rt, log.as_str())
 }
 
-/// What the log of the database at this path holds; nothing if there is none.
+/// The content of the log of the database at this path; `EMPTY` without a log.
 pub(crate) fn look_at_its_log(rt: &HostRuntime, path: &str) -> io::Result<LogLook> {
     let log = sidecar(rt, path, LOG)?;
     match len_of(rt, log.as_str())? {
@@ -65,19 +65,19 @@ pub(crate) fn look_at_its_log(rt: &HostRuntime, path: &str) -> io::Result<LogLoo
     }
 }
 
-/// Whether the database at this path has a log with changes in it, also with damaged ones.
+/// Whether the database at this path has a log with changes, even damaged ones.
 pub(crate) fn has_changes_in_log(rt: &HostRuntime, path: &str) -> io::Result<bool> {
     Ok(look_at_its_log(rt, path)? != LogLook::EMPTY)
 }
 
-/// Takes the file away that lies beside this one, if one does.
+/// Removes a file beside this one, if it exists.
 pub(crate) fn remove_sidecar(rt: &HostRuntime, path: &str, end: &str) -> io::Result<()> {
     let other = sidecar(rt, path, end)?;
     if_there(fs::remove_file(rt, other.as_str()))?;
     Ok(())
 }
 
-/// Syncs the folder of a file, whose names are then on the disk.
+/// Syncs the folder of a file, so that the names in it are on the disk.
 pub(crate) fn sync_folder(rt: &HostRuntime, path: &str) -> io::Result<()> {
     let mut folder = PathBuf::from_str(rt.alloc(), path)?;
     folder.pop();
@@ -89,12 +89,12 @@ pub(crate) fn sync_folder(rt: &HostRuntime, path: &str) -> io::Result<()> {
     File::open(rt, name)?.sync_all()
 }
 
-/// A database and its log, of which no other process opens either until this is dropped.
+/// A database and its log, neither of which another process can open until this is dropped.
 pub(crate) type Held = Files<FileFrom<Wary>>;
 
-/// Holds the database at this path, as the library does that opens it.
+/// Holds the database at this path, as the library does when it opens one.
 ///
-/// Errors: `Busy` if another process has it open, or if it was put in another's place meanwhile;
+/// Errors: `Busy` if another process has it open, or replaced it meanwhile;
 /// `Journal`; `System`.
 pub(crate) fn hold(rt: &HostRuntime, path: &str) -> Result<Held, FileFault> {
     let file = File::open(rt, path)?;
@@ -114,7 +114,7 @@ pub(crate) fn hold(rt: &HostRuntime, path: &str) -> Result<Held, FileFault> {
     }
 }
 
-/// Opens the two where this is supposed of them; over any `S`, as a proof over one takes a minute.
+/// Opens the two files with these assumptions; over any `S`, as a proof over one takes a minute.
 fn open_as<S: Start>(
     rt: &HostRuntime,
     path: &str,

@@ -1,9 +1,9 @@
-//! A copy of a database as it is at one moment, also while another process serves it.
+//! A copy of a database at one moment, even while another process serves it.
 //!
 //! A change is added at the end of the log, and the file itself is written only as the log is
 //! copied into it; then the log begins again, with another salt in its header. So the file, and
 //! after it the log from its start to its end, is the database at one moment, unless the log began
-//! anew meanwhile.
+//! again meanwhile.
 
 use crate::draft::Draft;
 use crate::files::OWNER_ALONE;
@@ -17,20 +17,20 @@ use std::thread::sleep;
 use std::time::Duration;
 use std::{fs, io};
 
-/// How often a copy is begun again, and the milliseconds between.
+/// The number of tries at a copy, and the milliseconds between.
 const TRIES: u32 = 100;
 
 const PAUSE: u64 = 20;
 
-/// How many bytes are copied at once.
+/// The number of bytes that are copied at once.
 const CHUNK: usize = 65536;
 
 const MIB: u64 = 1024 * 1024;
 
-/// A file of more MiB takes long to read once it is copied.
+/// A file of more MiB takes long to read after it is copied.
 const MANY: u64 = 16;
 
-/// What stays as it is while nothing but the end of the log is written: the log's header has its
+/// The parts that stay the same while only the end of the log is written: the log's header has its
 /// salt.
 #[derive(Clone, Copy, PartialEq, Eq)]
 struct Stamp {
@@ -41,7 +41,7 @@ struct Stamp {
 
 /// Copies a database into a draft, with its log beside it.
 ///
-/// Errors: `Busy` if its log begins again at each try.
+/// Errors: `Busy` if the log begins again during each try.
 pub(crate) fn take_snapshot(
     rt: &HostRuntime,
     path: &str,
@@ -101,7 +101,7 @@ fn copy_both(
     to.flush()
 }
 
-/// Copies what is left of a file, and says how many MiB it was.
+/// Copies the rest of a file, and returns its number of MiB.
 fn copy_all(from: &mut File, to: &mut File, progress: &mut Progress<'_>) -> io::Result<u64> {
     let mut chunk = [0; CHUNK];
     let mut copied: u64 = 0;

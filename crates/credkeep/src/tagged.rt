@@ -26,17 +26,17 @@ use std::sync::Wait;
 use std::thread;
 use std::thread::Threads;
 
-/// How a book is served.
+/// The way in which a book is served.
 #[derive(Clone, Copy)]
 pub(crate) struct Tagged {
-    /// How many threads hash, if it was said.
+    /// The number of threads that hash, if it was given.
     pub(crate) at_once: Option<u8>,
-    /// What hashes together may take, the costs of new records, and what lines may ask for.
+    /// The memory of all hashes together, the costs of new records, and the bounds on lines.
     pub(crate) config: ServiceConfig,
 }
 
 impl Tagged {
-    /// What the words ask for.
+    /// The service that the words ask for.
     pub(crate) fn of(service: &Service) -> Tagged {
         let setting = service.setting.setting();
         let costs = match Costs::of(&setting) {
@@ -81,7 +81,7 @@ pub(crate) fn serve_tagged<T: Threads + Wait + Sync + Copy + Send + 'static>(
     Ok(close(host, file, conn, status))
 }
 
-/// Where lines come from, where their answers go, and where the salts of new records come from.
+/// The source of lines, the place of their answers, and the source of salts for new records.
 #[derive(Drop)]
 struct Streams<R, W, G> {
     reader: R,
@@ -134,7 +134,7 @@ where
     }
 }
 
-/// Says what ended a service, if something did.
+/// Writes the fault that ended a service, if any.
 fn tell_end<F: Write>(faults: &mut F, fault: Option<ServiceFault>, lost: Option<&Lost>) {
     match fault {
         None => {}
@@ -199,7 +199,7 @@ fn status_of_fault(fault: ServiceFault) -> Status
     }
 }
 
-/// As many threads as there are processors, but no more than have memory for the costs of new
+/// As many threads as processors, but no more than have memory for the costs of new
 /// records at once.
 fn threads_of<T: Threads>(rt: &T, tagged: &Tagged) -> u8 {
     if let Some(at_once) = tagged.at_once {
