@@ -131,14 +131,14 @@ pub(crate) enum Word {
     Json,
 }
 
-/// What a word looks like.
+/// The form of a word.
 #[derive(Clone, Copy)]
 enum Form {
-    /// A word at its place, which help calls so.
+    /// A word at its place, with its name in help.
     Operand(&'static str),
-    /// An option with a value, which help calls so.
+    /// An option with a value, and the value's name in help.
     Valued(&'static str),
-    /// The same, which is this if it isn't given.
+    /// An option with a value, the value's name in help, and its default.
     Defaulted(&'static str, &'static str),
     Flag,
 }
@@ -147,7 +147,7 @@ enum Form {
 pub(crate) static PROGRAM: [Word; 3] = [Word::Wait, Word::Quiet, Word::File];
 
 impl Word {
-    /// Its name, how it looks, and what help says of it.
+    /// The name of the word, its form, and its text in help.
     fn text(self) -> (&'static str, Form, &'static str) {
         match self {
             Word::File => ("file", Form::Operand("FILE"), FILE_HELP),
@@ -178,7 +178,7 @@ impl Word {
         }
     }
 
-    /// Its name, if it is an option.
+    /// The name of the word, if it is an option.
     pub(crate) fn option(self) -> Option<&'static str> {
         match self.text() {
             (_, Form::Operand(_), _) => None,
@@ -207,8 +207,8 @@ fn without_commands<'a>(alloc: Global) -> Result<Command<'a>, AllocError> {
     with_words(alloc, command, &PROGRAM)
 }
 
-/// The same with a command. It is made here, so that no second one lives while the caller may end
-/// early.
+/// The program with a command. The command is made here, so that no second one lives while the
+/// caller may end early.
 fn with_command<'a>(
     alloc: Global,
     command: Command<'a>,
@@ -254,7 +254,7 @@ fn operand<'a>(alloc: Global, id: &'static str, value: &'static str) -> Arg<'a> 
     Arg::new(alloc, id).value_name(value).required(true)
 }
 
-/// An option with a value. A negative number is one, which is refused as what it is.
+/// An option with a value. A negative number is a value, which is refused as such.
 fn option<'a>(alloc: Global, id: &'static str, value: &'static str) -> Arg<'a> {
     Arg::new(alloc, id)
         .long(id)

@@ -1,10 +1,10 @@
-//! The commands, and what help says of each.
+//! The commands, and their help.
 
 use crate::arguments::Word;
 use std::io;
 use std::io::Write;
 
-/// What a command is.
+/// The commands.
 #[derive(Clone, Copy)]
 pub(crate) enum Verb {
     Init,
@@ -29,7 +29,7 @@ pub(crate) enum Verb {
 }
 
 impl Verb {
-    /// The word that asks for it.
+    /// The word of the command.
     pub(crate) fn word(self) -> &'static str {
         match self {
             Verb::Init => "init",
@@ -247,7 +247,7 @@ pub(crate) static COMMANDS: [CommandText; 19] = [
     },
 ];
 
-/// The command that a word asks for, if it is one's.
+/// The command that this word names, if any.
 pub(crate) fn command_named(word: &str) -> Option<&'static CommandText> {
     for text in &COMMANDS {
         if text.verb.word() == word {
@@ -257,7 +257,7 @@ pub(crate) fn command_named(word: &str) -> Option<&'static CommandText> {
     None
 }
 
-/// The command of the first word that is one, if any is.
+/// The command of the first word that names one, if any.
 pub(crate) fn command_in(words: &[String]) -> Option<&'static CommandText> {
     for word in words {
         if let Some(text) = command_named(word.as_str()) {

@@ -1,17 +1,17 @@
-//! Which number of a setting's text is outside its range.
+//! The number of a setting's text that is outside its range.
 
 use std::io;
 use std::io::Write;
 
-/// The most memory of Argon2, in KiB.
+/// The maximum memory of Argon2, in KiB.
 const MAX_MEMORY: u64 = 2097152;
 
 const MAX_PASSES: u64 = 4294967295;
 
-/// The most lanes of Argon2; and the greatest r and p of scrypt.
+/// The maximum number of lanes of Argon2; and the greatest r and p of scrypt.
 const MAX_LANES: u64 = 255;
 
-/// The most blocks in scrypt's table, r times 2^ln.
+/// The maximum number of blocks in scrypt's table, r times 2^ln.
 const MAX_ROWS: u64 = 16777216;
 
 /// Names the number that is outside its range, with the range.
@@ -55,7 +55,7 @@ fn write_table<W: Write>(out: &mut W, cost: u64, size: u64) -> io::Result<()> {
     }
 }
 
-/// The number behind a label among the costs; 0 if the label doesn't exist.
+/// The number after a label among the costs; 0 without the label.
 fn number_at(text: &str, label: &str) -> u64 {
     for field in text.split('$') {
         for cost in field.split(',') {

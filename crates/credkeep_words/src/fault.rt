@@ -1,10 +1,10 @@
-//! Why the file of a book is refused.
+//! The reasons why the file of a book is refused.
 
 use cred_admin::Status;
 use std::io::ErrorKind;
 use std::{fmt, io};
 
-/// Why a file isn't opened, found before anything is written into it. Its text says what each is.
+/// The reason why a file isn't opened, found before any write. Its text says what each is.
 #[derive(Clone, Copy)]
 pub enum FileFault {
     NoFile,
@@ -16,20 +16,20 @@ pub enum FileFault {
     Owner,
     Mode,
     Linked,
-    /// Another process has it open, or writes it.
+    /// Another process has the file open, or is writing it.
     Busy,
     Same,
-    /// There is a log with changes in it: of a book in use, or of a file that is gone.
+    /// A log with changes lies there: of a book in use, or of a file that is gone.
     OldLog,
-    /// So many changes stand before the damage, and so many are lost.
+    /// The number of changes before the damage, and of those that are lost.
     DamagedLog { before: u64, lost: u64 },
-    /// It can be read and written, but a sync of it failed.
+    /// The file can be read and written, but a sync of it failed.
     Unsynced,
     System(io::Error),
 }
 
 impl FileFault {
-    /// The exit status that tells of it.
+    /// The exit status of the fault.
     pub fn status(&self) -> Status {
         match self {
             FileFault::NoFile => Status::Usage,

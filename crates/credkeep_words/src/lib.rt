@@ -1,6 +1,6 @@
-//! The words of the program `credkeep`: what its command line asks for, what is said of words and
-//! files that are refused, and the passwords that it reads. The files are `credkeep`'s, and what an
-//! order does is `cred_keep`'s.
+//! The words of the program `credkeep`: the request of its command line, the texts on refused words
+//! and files, and the passwords that it reads. `credkeep` has the files, and `cred_keep` does the
+//! orders.
 #![tactic(auto)]
 
 mod arguments;

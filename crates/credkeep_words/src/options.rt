@@ -7,12 +7,12 @@ use cred_book::Name;
 use cred_cli::CostBounds;
 use cred_keep::{BadLines, Counts, Effect, Importing};
 
-/// The first value if the flag is given, and else the second.
+/// The first value if the flag is given, and otherwise the second.
 pub(crate) fn either<V: Copy>(values: &ArgMatches<'_>, flag: &str, given: V, absent: V) -> V {
     if values.get_flag(flag) { given } else { absent }
 }
 
-/// A word that has to be given.
+/// A required word.
 pub(crate) fn text_in<'a>(values: &ArgMatches<'a>, word: &str) -> &'a str {
     values.get_str(word).unwrap_or("")
 }
@@ -25,7 +25,7 @@ pub(crate) fn name_in<'a>(values: &ArgMatches<'a>, word: &str) -> Result<Name, R
     }
 }
 
-/// What settings and records may ask for.
+/// The bounds on settings and records.
 pub(crate) fn most_in<'a>(values: &ArgMatches<'a>) -> Result<CostBounds, Refusal<'a>> {
     Ok(CostBounds {
         memory: size_in(values, "most-memory")?,
@@ -33,7 +33,7 @@ pub(crate) fn most_in<'a>(values: &ArgMatches<'a>) -> Result<CostBounds, Refusal
     })
 }
 
-/// The KiB of an option's size, if it is given.
+/// The size that an option gives in KiB, if any.
 pub(crate) fn size_in<'a>(
     values: &ArgMatches<'a>,
     option: &'static str,
@@ -47,7 +47,7 @@ pub(crate) fn size_in<'a>(
     }
 }
 
-/// The KiB of a size: a number of them, or of so many K, M or G bytes of 1024 each.
+/// The KiB of a size: a number of KiB, or one with K, M or G behind it.
 fn kib_of(text: &str) -> Option<u64> {
     let (digits, unit) = match text.as_bytes().last() {
         Some(b'K') => (text.strip_suffix('K')?, 1),
@@ -61,7 +61,7 @@ fn kib_of(text: &str) -> Option<u64> {
         .map(|count| u64::from(count) * unit)
 }
 
-/// The number of an option, if it is given.
+/// The number that an option gives, if any.
 pub(crate) fn number_in<'a>(
     values: &ArgMatches<'a>,
     option: &'static str,
@@ -77,7 +77,7 @@ pub(crate) fn number_in<'a>(
     }
 }
 
-/// How many threads an option gives, if it is given.
+/// The number of threads that an option gives, if any.
 pub(crate) fn threads_in<'a>(
     values: &ArgMatches<'a>,
     option: &'static str,
@@ -87,19 +87,19 @@ pub(crate) fn threads_in<'a>(
     Ok(number.map(|number| u8::try_from(number).unwrap_or(most)))
 }
 
-/// How counts are written.
+/// The form of counts.
 pub(crate) fn counts_in(values: &ArgMatches<'_>) -> Counts {
     let plain = either(values, "quiet", Counts::Hidden, Counts::Plain);
     either(values, "json", Counts::Json, plain)
 }
 
-/// How the accounts are listed.
+/// The form of the list of accounts.
 pub(crate) fn line_in(values: &ArgMatches<'_>) -> Line {
     let plain = either(values, "costs", Line::Passwd(Detail::Costs), Line::Name);
     either(values, "json", Line::Json(Detail::Costs), plain)
 }
 
-/// How an import is done.
+/// The options of an import.
 pub(crate) fn importing_in<'a>(values: &ArgMatches<'a>) -> Result<Importing, Refusal<'a>> {
     let existing = match (values.get_flag("skip-existing"), values.get_flag("update")) {
         (true, true) => return Err(Refusal::Existing),

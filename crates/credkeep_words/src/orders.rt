@@ -1,4 +1,4 @@
-//! What each command asks for.
+//! The act of each command.
 
 use crate::commands::Verb;
 use crate::options::{
@@ -20,13 +20,13 @@ use std::random::RandomSource;
 /// RFC 9106's second recommended choice: Argon2id, 64 MiB, three passes, four lanes.
 const DEFAULT_SETTING: &str = "$argon2id$v=19$m=65536,t=3,p=4";
 
-/// How many KiB hashes of tagged lines may need together.
+/// The default memory of all hashes of tagged lines together, in KiB.
 const DEFAULT_MEMORY: u64 = 2097152;
 
-/// At most as many threads hash for a command on one account as the default setting has lanes.
+/// The maximum number of threads for a command on one account: the lanes of the default setting.
 const LANES: u8 = 4;
 
-/// What a command asks for with these options.
+/// The act of a command with these options.
 pub(crate) fn act_of<'a, R: RandomSource + AllocGlobal>(
     rt: &R,
     verb: Verb,
@@ -104,7 +104,7 @@ fn rename<'a>(values: &ArgMatches<'a>, name: Name) -> Result<Act<'a>, Refusal<'a
     edit(values, Edit::Rename(name, name_in(values, "new")?))
 }
 
-/// How tagged lines are answered. New records are within the bounds, and have room.
+/// The service of tagged lines. New records are within the bounds, and have room.
 fn service_in<'a, R: RandomSource + AllocGlobal>(
     rt: &R,
     values: &ArgMatches<'a>,
@@ -142,7 +142,7 @@ fn new_password_in<'a, R: RandomSource + AllocGlobal>(
     })
 }
 
-/// The setting of new records, with a salt of its own or one that is drawn.
+/// The setting of new records, with its own salt or a drawn one.
 fn setting_in<'a, R: RandomSource + AllocGlobal>(
     rt: &R,
     values: &ArgMatches<'a>,

@@ -1,4 +1,4 @@
-//! The passwords that an order reads: lines of standard input, or typed at a terminal that shows
+//! Reading the passwords of an order: lines of standard input, or typed at a terminal that shows
 //! them.
 
 use crate::refusal::say;
@@ -10,11 +10,11 @@ use std::io::{BufRead, ErrorKind, IsTerminal, Read, Write};
 
 const PRESENT: &str = "Password: ";
 
-/// The bytes of the longest line of a password, with its end.
+/// The size of the longest line of a password in bytes, with its end.
 const LONGEST: u64 = MAX_PASSWORD as u64 + 1;
 
-/// The lines of the passwords that an order on a book reads; nothing if it reads none. Behind them
-/// no byte may come: a password with a line end in it would be cut there. At a terminal each is
+/// The password lines of an order on a book, if it reads any. The input must end after them: a
+/// password with a line end in it would be cut there. At a terminal each is
 /// asked for on standard error, a new one twice.
 pub fn read_passwords(
     host: &HostRuntime,
@@ -35,7 +35,7 @@ pub fn read_passwords(
     }
 }
 
-/// Says that the new password of an order ends in a carriage return, if it does.
+/// Warns if the new password of an order ends in a carriage return.
 pub fn advise(host: &HostRuntime, order: &Order, lines: &[u8]) {
     let Order::Account { command, .. } = order else {
         return;
@@ -54,8 +54,8 @@ pub fn advise(host: &HostRuntime, order: &Order, lines: &[u8]) {
     }
 }
 
-/// Reads the input to its end, or to where it can't be these passwords. What was read may be too
-/// short or too long, which the order tells.
+/// Reads the input to its end, or to where it can't be these passwords. The input may be too
+/// short or too long, which the order says.
 fn read_lines(host: &HostRuntime, passwords: Passwords) -> Result<Vec<u8>, Status> {
     let (count, most, too_many) = match passwords {
         Passwords::Present | Passwords::New(_) => {
@@ -77,7 +77,7 @@ fn read_lines(host: &HostRuntime, passwords: Passwords) -> Result<Vec<u8>, Statu
     }
 }
 
-/// Whether there is a byte behind so many lines.
+/// Whether the input goes on after so many lines.
 fn has_more(bytes: &[u8], lines: u64) -> bool {
     let mut left = lines;
     for byte in bytes {
@@ -127,7 +127,7 @@ fn ask_new_line(host: &HostRuntime) -> Result<Vec<u8>, Status> {
     Ok(new)
 }
 
-/// The line that is typed, with its end.
+/// One typed line, with its end.
 fn ask_line(host: &HostRuntime, prompt: &str) -> Result<Vec<u8>, Status> {
     let _ = write!(host.stderr(), "{prompt}");
     let mut line = Vec::new(host.alloc());

@@ -1,4 +1,4 @@
-//! How far an order is, told on a terminal.
+//! The progress of an order, written on a terminal.
 
 ghost use Rattle.std.specs.{Io.ReadsAtMost, Io.KnownBytes.ReadConsumes, Prelude.◌≡◌};
 
@@ -15,11 +15,11 @@ const MANY_LINES: u64 = 10_000;
 
 const LINES: &str = "lines read, which are taken in together";
 
-/// A line on standard error that is written over as an order goes on.
+/// A line on standard error that is overwritten as an order goes on.
 #[derive(Drop)]
 pub struct Progress<'a> {
     host: &'a HostRuntime,
-    /// When the line was written, or the order begun; nothing if nobody sees it.
+    /// The time of the last line, or of the order's begin; `None` without a terminal.
     last: Option<Instant>,
     shown: bool,
 }
@@ -37,7 +37,7 @@ impl<'a> Progress<'a> {
         }
     }
 
-    /// Says how much of something is done, if the last time was a second ago.
+    /// Writes how much is done, if the last time was a second ago.
     pub fn tell(&mut self, done: u64, what: &str) {
         let Some(last) = self.last else {
             return;
@@ -48,7 +48,7 @@ impl<'a> Progress<'a> {
         }
     }
 
-    /// Says so at once.
+    /// Writes how much is done.
     pub fn write(&mut self, done: u64, what: &str) {
         if self.last.is_none() {
             return;
@@ -67,7 +67,7 @@ impl<'a> Progress<'a> {
     }
 }
 
-/// A reader whose lines are counted as it is read.
+/// A reader that counts its lines.
 #[derive(Drop)]
 pub struct Counted<'a, R> {
     inner: R,
@@ -84,7 +84,7 @@ impl<'a, R> Counted<'a, R> {
         }
     }
 
-    /// Says how many lines were read before a read of so many bytes.
+    /// Writes how many lines were read before a read of so many bytes.
     fn tell(&mut self, count: usize)
         ensures same_reader { self.new.inner ≡ self.old.inner }
     {
@@ -117,7 +117,7 @@ impl<R: Read> Read for Counted<'_, R> {
     }
 }
 
-/// How many lines end with these bytes.
+/// The number of lines after these bytes.
 fn lines_with(lines: u64, read: &[u8]) -> u64 {
     let mut lines = lines;
     for byte in read {

@@ -1,4 +1,4 @@
-//! What is said of words that are refused, and the exit status that goes with it.
+//! The texts on refused words, and their exit statuses.
 
 use crate::commands::{CommandText, Verb, command_in, write_commands};
 use crate::costs::write_range;
@@ -13,14 +13,14 @@ use std::alloc::Global;
 use std::io;
 use std::io::Write;
 
-/// Why the words of the command line ask for nothing.
+/// The reason why the words of the command line are refused.
 #[derive(Drop)]
 pub(crate) enum Refusal<'a> {
     /// They don't parse, or ask for help or the version.
     Words(Error),
     /// No word is a command.
     NoCommand,
-    /// There is a word or an option too many for this command.
+    /// A word or an option too many for this command.
     Unknown(&'static CommandText, Slip),
     /// No account can have this name.
     Name { text: &'a str, why: BookError },
@@ -28,22 +28,22 @@ pub(crate) enum Refusal<'a> {
     Setting { text: &'a str, why: PhcError },
     /// The text of this option is no size.
     Size(&'static str),
-    /// The text of this option is no number from the one to the other.
+    /// The text of this option is no number in this range.
     Number(&'static str, u16, u16),
-    /// The setting asks for more memory than the bound on the lines.
+    /// The setting needs more memory or work than the bound on the lines.
     Costly,
-    /// A hash under the setting takes so many KiB, more than all hashes may take together.
+    /// A hash under the setting needs so many KiB, more than all hashes together may need.
     Crowded(u64),
     /// Existing accounts can't both stay as they are and be updated.
     Existing,
     /// The system has no random bytes for a salt.
     Salt,
-    /// There is no memory.
+    /// Memory ran out.
     Memory,
 }
 
 impl<'a> Refusal<'a> {
-    /// Why the words don't parse. A word too many isn't repeated: it may be a password.
+    /// The reason why the words don't parse. A word too many isn't repeated: it may be a password.
     pub(crate) fn of_words(alloc: Global, words: &[String], error: Error) -> Refusal<'a> {
         match error.kind() {
             ErrorKind::UnknownArgument | ErrorKind::InvalidSubcommand => match command_in(words) {
@@ -55,7 +55,7 @@ impl<'a> Refusal<'a> {
         }
     }
 
-    /// Says why, on standard error. Help and the version are written on standard output, and done.
+    /// Writes the reason on standard error. Help and the version are written on standard output.
     pub(crate) fn tell(&self, host: &HostRuntime) -> Status {
         match self {
             Refusal::Words(error) => return tell_words(host, error),
@@ -126,7 +126,7 @@ fn write_unknown<W: Write>(out: &mut W, command: &CommandText, slip: Slip) -> io
     )
 }
 
-/// Names what is safe to name: options, and never a word that was given.
+/// Names the option that is safe to name, and never a word that was given.
 fn write_slip<W: Write>(out: &mut W, verb: Verb, slip: Slip) -> io::Result<()> {
     let word = verb.word();
     write!(out, "credkeep: {word}: ")?;
@@ -196,7 +196,7 @@ fn write_fault<W: Write>(out: &mut W, text: &str, why: PhcError) -> io::Result<(
     }
 }
 
-/// Says why nothing was done, and gives the exit status that tells of it.
+/// Writes a text on standard error, and returns the exit status.
 pub fn say(host: &HostRuntime, text: &str, status: Status) -> Status {
     let _ = writeln!(host.stderr(), "credkeep: {text}");
     status

@@ -1,4 +1,4 @@
-//! What the words of the command line ask for.
+//! The request of the command line.
 
 use crate::arguments::credkeep;
 use crate::commands::command_named;
@@ -12,11 +12,11 @@ use cred_keep::{Counts, Order};
 use std::alloc::Global;
 use std::random::RandomSource;
 
-/// A file, and what is to be done with it.
+/// A file, and an act on it.
 #[derive(Drop)]
 pub struct Request<'a> {
     pub file: &'a str,
-    /// For how many seconds a busy file is tried.
+    /// The number of seconds for which a busy file is tried.
     pub wait: u16,
     pub remarks: Remarks,
     pub counts: Counts,
@@ -30,14 +30,14 @@ pub enum Echo {
     Taken,
 }
 
-/// Whether warnings and progress are told.
+/// Whether warnings and progress are written.
 #[derive(Clone, Copy, PartialEq, Eq)]
 pub enum Remarks {
     Told,
     Hidden,
 }
 
-/// What is to be done with a file.
+/// An act on a file.
 #[derive(Drop)]
 pub enum Act<'a> {
     /// Begins a book.
@@ -50,7 +50,7 @@ pub enum Act<'a> {
     Verify,
     /// Answers tagged lines of many clients.
     Tagged(Service),
-    /// Does what is asked of a book, with at most so many threads.
+    /// Does an order on a book, with at most so many threads.
     Perform {
         order: Order,
         workers: u8,
@@ -58,21 +58,21 @@ pub enum Act<'a> {
     },
 }
 
-/// How tagged lines are answered.
+/// The service of tagged lines.
 #[derive(Clone, Copy)]
 pub struct Service {
-    /// How many lines are hashed at once, if it was said.
+    /// The number of lines that are hashed at once, if it was given.
     pub at_once: Option<u8>,
-    /// How many KiB all hashes together may take. A hash under the setting takes no more.
+    /// The memory of all hashes together in KiB. A hash under the setting needs no more.
     pub memory: u64,
     /// The costs of new records, which are within the bounds.
     pub setting: NewSetting,
-    /// What the setting or the record of a line may ask for.
+    /// The bounds on the setting or the record of a line.
     pub most: CostBounds,
 }
 
-/// What the process's words ask for. If they are refused it says why, and gives the exit status;
-/// so it does if they ask for help.
+/// The request of the process's words. Refused words and calls for help are answered here, with the
+/// exit status.
 pub fn request_of<'a>(host: &HostRuntime, words: &'a [String]) -> Result<Request<'a>, Status> {
     match read_words(host, words) {
         Ok(request) => Ok(request),

@@ -1,4 +1,4 @@
-//! What was meant by a word that isn't taken, as far as that can be said without repeating it: it
+//! The meaning of a refused word, as far as a text can tell it without repeating the word: it
 //! may be a password.
 
 use crate::arguments::{PROGRAM, Word};
@@ -6,25 +6,25 @@ use crate::commands::{COMMANDS, CommandText};
 use std::alloc::Global;
 use strsim::osa_distance;
 
-/// A name that differs from an option's in so many letters is none.
+/// The number of wrong letters from which a name isn't taken for an option.
 const FAR: usize = 3;
 
-/// What is wrong with a word, and the option that it is or is near to.
+/// The fault of a word, and the option that it is or resembles.
 #[derive(Clone, Copy)]
 pub(crate) enum Slip {
-    /// Nothing but that it is one too many.
+    /// It is one too many.
     Unnamed,
-    /// An option of the program stands behind the command.
+    /// An option of the program, after the command.
     Late(&'static str),
-    /// An option of the command stands before it.
+    /// An option of the command, before it.
     Early(&'static str),
     /// An option of other commands.
     Elsewhere(&'static str),
-    /// No option, and nearly this one.
+    /// No option, but similar to this one.
     Misspelt(&'static str),
 }
 
-/// What is wrong with the first option that isn't taken where it stands, beside this command.
+/// The fault of the first option that is refused at its place, beside this command.
 pub(crate) fn slip_in(alloc: Global, words: &[String], command: &CommandText) -> Slip {
     let mut is_behind = false;
     for word in words {
@@ -41,7 +41,7 @@ pub(crate) fn slip_in(alloc: Global, words: &[String], command: &CommandText) ->
     Slip::Unnamed
 }
 
-/// The name of an option, without a value that stands behind it.
+/// The name of an option, without a value after it.
 fn name_in(text: &str) -> &str {
     match text.split_once('=') {
         Some((name, _)) => name,
@@ -76,7 +76,7 @@ fn has(words: &[Word], option: &str) -> bool {
     false
 }
 
-/// The option whose name is nearest, if one is near.
+/// The option with the most similar name, if one is similar.
 fn option_like(alloc: Global, name: &str) -> Option<&'static str> {
     let mut best = nearer(alloc, &PROGRAM, name, (FAR, None));
     for command in &COMMANDS {
@@ -85,7 +85,7 @@ fn option_like(alloc: Global, name: &str) -> Option<&'static str> {
     best.1
 }
 
-/// The nearest option of these words, if it is nearer than the best that was found.
+/// The option of these words whose name is most similar, if it beats the best so far.
 fn nearer(
     alloc: Global,
     words: &[Word],
