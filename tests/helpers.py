@@ -182,6 +182,15 @@ def common_folder() -> pathlib.Path:
     return folder
 
 
+def write_files(folder: pathlib.Path, texts: dict[str, str], mode: int = 0o644) -> None:
+    """Writes texts into files below a folder, by their names there."""
+    for name, text in texts.items():
+        path = folder / name
+        path.parent.mkdir(parents=True, exist_ok=True)
+        path.write_text(text)
+        path.chmod(mode)
+
+
 def files_below(folder: pathlib.Path) -> set[str]:
     return {str(it.relative_to(folder)) for it in folder.rglob("*") if not it.is_dir()}
 

@@ -1,11 +1,9 @@
 """tools/build_v4.py over a toolchain of stand-ins: what is compiled for x86-64-v4, and when nothing is."""
 
-import pathlib
 import sys
-import unittest
 
 from tests import helpers
-from tests.helpers import TOP
+from tests.helpers import TOP, each
 
 # It says what it was asked, has clang compile a module, and says what was proved.
 RATTLE = r"""#!/bin/sh
@@ -34,12 +32,10 @@ class Build(helpers.Case):
     def built(self, status=0, **env):
         """What it says and writes, over a toolchain that does so."""
         room = self.room()
-        for name, text in {"rt": f"#!/bin/sh\necho {room}/START-HERE.md\n", "bin/rattle": RATTLE, "toolchain/bin/clang": CLANG}.items():
-            (room / name).parent.mkdir(parents=True, exist_ok=True)
-            (room / name).write_text(text)
-            (room / name).chmod(0o755)
+        page, clang = f"#!/bin/sh\necho {room}/START-HERE.md\n", "toolchain/bin/clang"
+        helpers.write_files(room, {"rt": page, "bin/rattle": RATTLE, clang: CLANG}, 0o755)
         if env.pop("LACKS", False):
-            (room / "toolchain/bin/clang").unlink()
+            (room / clang).unlink()
         env = {"RT": str(room / "rt"), "ROOM": str(room), "LEVEL": "x86-64-v3", "SAID": PROVED, "STATUS": "0", **env}
         said = helpers.run(sys.executable, TOP / "tools/build_v4.py", room / "v4.a", env=env, status=status)
         return said, *((room / it).read_text() if (room / it).exists() else None for it in ("asked", "v4.a"))
@@ -52,20 +48,15 @@ class Build(helpers.Case):
         for words in ("build --crate-name cred_c src/lib.rt", "--cpu=x86-64-v3 --backend llvm"):
             self.assertIn(words, asked)
 
-    def test_refusals(self):
+    @each(
+        ("no clang", {"LACKS": True}, "the toolchain has no folder toolchain"),
+        ("a module of another level", {"LEVEL": "x86-64-v2", "STATUS": "1"}, 'the module has no "target-cpu"="x86-64-v3"'),
+        ("a rattle that fails", {"SAID": f"{PROVED}\na goal stands open", "STATUS": "1"}, "a goal stands open"),
+        ("nothing proved", {"SAID": "logic=assumed target=x86_64"}, "logic=assumed"),
+        ("another processor", {"SAID": PROVED.replace("x86_64", "aarch64")}, "aarch64"),
+    )
+    def test_refusals(self, name, env, reason):
         """What isn't proved, or isn't compiled for that level, is no library: the status says so, and the last line why."""
-        for name, env, reason in (
-            ("no clang", {"LACKS": True}, "the toolchain has no folder toolchain"),
-            ("a module of another level", {"LEVEL": "x86-64-v2", "STATUS": "1"}, 'the module has no "target-cpu"="x86-64-v3"'),
-            ("a rattle that fails", {"SAID": f"{PROVED}\na goal stands open", "STATUS": "1"}, "a goal stands open"),
-            ("nothing proved", {"SAID": "logic=assumed target=x86_64"}, "logic=assumed"),
-            ("another processor", {"SAID": PROVED.replace("x86_64", "aarch64")}, "aarch64"),
-        ):
-            with self.subTest(name):
-                said, _, _ = self.built(status=1, **env)
-                self.assertIn(reason, said)
-                self.assertTrue(said.endswith("The library is built without x86-64-v4: the lines above say why.\n"), said)
-
-
-if __name__ == "__main__":
-    unittest.main()
+        said, _, _ = self.built(status=1, **env)
+        self.assertIn(reason, said)
+        self.assertTrue(said.endswith("The library is built without x86-64-v4: the lines above say why.\n"), said)

@@ -2,17 +2,16 @@
 
 import contextlib
 import os
-import pathlib
 import pty
 import re
 import shlex
 import shutil
 import subprocess
 import sys
-import tempfile
 import unittest
 
-TOP = pathlib.Path(__file__).resolve().parents[2]
+from tests.helpers import TOP, Case, ended, write_files
+
 CREDKEEP = r"""#!/bin/sh
 case "$*" in
 --help) cat <<'TEXT'
@@ -84,34 +83,24 @@ CASES = [
 ]
 
 
-class Completions(unittest.TestCase):
-    @classmethod
-    def setUpClass(cls):
-        room = tempfile.TemporaryDirectory()
-        cls.addClassCleanup(room.cleanup)
-        cls.top, cls.at, cls.bin = (pathlib.Path(room.name) / it for it in ("tree", "at", "bin"))
-        for folder in ("tools", "crates/credkeep/out", "crates/credbook/out"):
-            (cls.top / folder).mkdir(parents=True)
-        for name, text in (("credkeep", CREDKEEP), ("credbook", CREDBOOK)):
-            (cls.top / f"crates/{name}/out/{name}").write_text(text)
-            (cls.top / f"crates/{name}/out/{name}").chmod(0o755)
-        shutil.copy(TOP / "tools/completions.py", cls.top / "tools")
-        shutil.copytree(TOP / "completions", cls.top / "completions")
-        for folder in ("bin", "python/rigzumal/server/daemon"):
-            shutil.copytree(TOP / folder, cls.top / folder)
-        cls.folders = [cls.top / it for it in ("bash", "zsh", "fish")]
-        subprocess.run([sys.executable, cls.top / "tools/completions.py", *cls.folders], check=True)
-        cls.at.mkdir()
-        for end in ("", "-wal", "-locks"):
-            (cls.at / f"users.db{end}").touch()
-        cls.bin.mkdir()
-        shutil.copy(cls.top / "crates/credkeep/out/credkeep", cls.bin)
-        cls.env = {**os.environ, "PATH": f"{cls.bin}:{os.environ['PATH']}", "HOME": str(cls.at)}
+class Completions(Case):
+    def setUp(self):
+        super().setUp()
+        self.top, self.at = self.room(), self.room()
+        programs = {f"crates/{it}/out/{it}": text for it, text in (("credkeep", CREDKEEP), ("credbook", CREDBOOK))}
+        write_files(self.top, programs, 0o755)
+        for folder in ("tools", "completions", "bin", "python/rigzumal/server/daemon"):
+            shutil.copytree(TOP / folder, self.top / folder)
+        self.folders = [self.top / it for it in ("bash", "zsh", "fish")]
+        subprocess.run([sys.executable, self.top / "tools/completions.py", *self.folders], check=True)
+        write_files(self.at, {f"users.db{end}": "" for end in ("", "-wal", "-locks")})
+        path = f"{self.top}/crates/credkeep/out:{os.environ['PATH']}"
+        self.env = {**os.environ, "PATH": path, "HOME": str(self.at)}
 
     def shell(self, *words):
-        done = subprocess.run(words, cwd=self.at, env=self.env, capture_output=True, text=True, timeout=60)
-        self.assertEqual(done.stderr, "")
-        return {it.split("\t")[0] for it in done.stdout.splitlines() if it}
+        done = ended([*words], cwd=self.at, env=self.env)
+        self.assertEqual(done.faults, "")
+        return {it.split("\t")[0] for it in done.written.splitlines() if it}
 
     def test_bash(self):
         for line, offered in CASES:
@@ -177,11 +166,7 @@ class Completions(unittest.TestCase):
         return shown.decode().partition(line)[2]
 
     def test_remove(self):
-        others = [it / "of-another" for it in self.folders]
-        for file in others:
-            file.touch()
-        rooms = [shutil.copytree(it, self.top / f"{it.name}-copy") for it in self.folders]
-        subprocess.run([sys.executable, self.top / "tools/completions.py", "--remove", *rooms], check=True)
-        self.assertEqual([[it.name for it in room.iterdir()] for room in rooms], [["of-another"]] * 3)
-        for file in others:
-            file.unlink()
+        for folder in self.folders:
+            (folder / "of-another").touch()
+        subprocess.run([sys.executable, self.top / "tools/completions.py", "--remove", *self.folders], check=True)
+        self.assertEqual([[it.name for it in folder.iterdir()] for folder in self.folders], [["of-another"]] * 3)

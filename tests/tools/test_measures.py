@@ -1,71 +1,58 @@
 """What the figures rest on: bench/turns.py and bench/c/libraries.py."""
 
-import importlib.util
 import pathlib
 import sys
-import tempfile
 import unittest
 from unittest import mock
 
-from tests.helpers import run
+from tests.helpers import TOP, Case, each, run
 
-TOP = pathlib.Path(__file__).resolve().parents[2]
-
-
-def module(path):
-    """A script's module."""
-    spec = importlib.util.spec_from_file_location(path.replace("/", "_").removesuffix(".py"), TOP / path)
-    made = importlib.util.module_from_spec(spec)
-    spec.loader.exec_module(made)
-    return made
+sys.path[:0] = [str(TOP / it) for it in ("bench/c", "bench")]
+import libraries  # noqa: E402
+import turns  # noqa: E402
 
 
 class Turns(unittest.TestCase):
-    turns = module("bench/turns.py")
-
     def test_figures(self):
         """Ratios are of the first over the second, turn by turn."""
         ours, theirs = [(1, 30), (2, 10), (6, 20)], [(4, 10), (4, 10), (4, 40)]
-        self.assertEqual((self.turns.best(ours), self.turns.best(ours, 1)), (1, 10))
-        self.assertEqual((self.turns.median(ours), self.turns.median(theirs, 1)), (2, 10))
-        self.assertEqual((self.turns.ratio(ours, theirs), self.turns.ratio(ours, theirs, 1)), (0.25, 1))
-        self.assertEqual(self.turns.median_ratio(ours, theirs), 0.5)
-        self.assertEqual(self.turns.median_ratio(ours, theirs, 1), 1)
-        self.assertEqual(self.turns.median_ratio(theirs, ours), 2)
+        self.assertEqual((turns.best(ours), turns.best(ours, 1)), (1, 10))
+        self.assertEqual((turns.median(ours), turns.median(theirs, 1)), (2, 10))
+        self.assertEqual((turns.ratio(ours, theirs), turns.ratio(ours, theirs, 1)), (0.25, 1))
+        self.assertEqual(turns.median_ratio(ours, theirs), 0.5)
+        self.assertEqual(turns.median_ratio(ours, theirs, 1), 1)
+        self.assertEqual(turns.median_ratio(theirs, ours), 2)
 
     def test_the_first_turns_do_not_count(self):
         figures = iter([(9,), (1,), (2,)])
-        found = self.turns.take_turns({"row": {"way": lambda: (next(figures), b"tag")}}, 2)
+        found = turns.take_turns({"row": {"way": lambda: (next(figures), b"tag")}}, 2)
         self.assertEqual(found, {"row": {"way": [(1,), (2,)]}})
 
     def test_ways_that_make_different_tags_are_not_compared(self):
         rows = {"row": {"one": lambda: ((1,), b"tag"), "other": lambda: ((1,), b"gat")}}
         with self.assertRaisesRegex(SystemExit, "different ones at row"):
-            self.turns.take_turns(rows, 1)
+            turns.take_turns(rows, 1)
 
 
 class Libraries(unittest.TestCase):
-    libraries = module("bench/c/libraries.py")
-
     def test_libsodium_is_initialised(self):
         """Without it libsodium runs slow code."""
         found = mock.Mock()
-        with mock.patch.object(self.libraries, "library", return_value=found):
+        with mock.patch.object(libraries, "library", return_value=found):
             for answer in (0, 1):  # anew, and already
                 found.sodium_init = mock.Mock(return_value=answer)
-                self.assertIs(self.libraries.libsodium(), found)
+                self.assertIs(libraries.libsodium(), found)
                 found.sodium_init.assert_called_once_with()
             found.sodium_init.return_value = -1
-            self.assertRaises(SystemExit, self.libraries.libsodium)
+            self.assertRaises(SystemExit, libraries.libsodium)
 
-    def test_libsodium_that_is_not_initialised_is_not_timed(self):
-        for way in (self.libraries.sodium_argon2, self.libraries.sodium_scrypt):
-            with self.subTest(way.__name__):
-                self.assertRaises(SystemExit, way, mock.Mock(sodium_init=mock.Mock(return_value=0)))
-                self.assertTrue(callable(way(mock.Mock(sodium_init=mock.Mock(return_value=1)))))
+    @each(libraries.sodium_argon2, libraries.sodium_scrypt)
+    def test_libsodium_that_is_not_initialised_is_not_timed(self, way):
+        self.assertRaises(SystemExit, way, mock.Mock(sodium_init=mock.Mock(return_value=0)))
+        self.assertTrue(callable(way(mock.Mock(sodium_init=mock.Mock(return_value=1)))))
 
 
-class Pages(unittest.TestCase):
+class Pages(Case):
     """What bench/c/run.py has of huge pages, in a process that maps 16 MiB and asks for none."""
 
     MAPS = """
@@ -86,11 +73,7 @@ print(run.huge_pages())
             self.skipTest("this system has no huge pages")
         folders, always = [str(TOP / it) for it in ("bench/c", "bench")], "[always]" in allowed
         for whose, asks, has_some in (("own", False, always), ("own", True, True), ("none", True, False), ("all", False, True)):
-            with self.subTest(whose, asks=asks), tempfile.TemporaryDirectory() as room:
-                script = pathlib.Path(room) / "maps.py"
+            with self.subTest(whose, asks=asks):
+                script = self.room() / "maps.py"
                 script.write_text(self.MAPS.format(folders=folders, whose=whose, asks=asks))
                 self.assertEqual(int(run(sys.executable, script)) > 0, has_some)
-
-
-if __name__ == "__main__":
-    unittest.main()

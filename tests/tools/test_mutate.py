@@ -1,16 +1,13 @@
 """tools/mutate.py: each operator makes a mutant that a weak test lets through and a better one refuses."""
 
-import pathlib
 import re
 import shutil
 import subprocess
 import sys
-import tempfile
-import textwrap
 import time
 import unittest
 
-MUTATE = pathlib.Path(__file__).resolve().parents[2] / "tools/mutate.py"
+from tests.helpers import TOP, Case
 
 # An operator, a file, what a weak test says of it and what a better one adds, and the mutant that is between them.
 PYTHON = [
@@ -64,16 +61,15 @@ def in_rust(check):
     return compiled(f"include!(\"m.rs\");\nfn main() {{ assert!({check}); }}", ("rustc", "rs"), "-A warnings -o t t.rs")
 
 
-class Mutate(unittest.TestCase):
+class Mutate(Case):
     def setUp(self):
-        room = tempfile.TemporaryDirectory()
-        self.addCleanup(room.cleanup)
-        self.top = pathlib.Path(room.name)
+        super().setUp()
+        self.top = self.room()
         subprocess.run(["git", "init", "-q"], cwd=self.top, check=True)
 
     def mutate(self, file, source, command, *options):
         (self.top / file).write_text(source)
-        words = [sys.executable, MUTATE, self.top / file, "--jobs", "2", *options, "--tests", *command]
+        words = [sys.executable, TOP / "tools/mutate.py", self.top / file, "--jobs", "2", *options, "--tests", *command]
         return subprocess.run(words, capture_output=True, text=True, timeout=300)
 
     def judge(self, table, file, command, *options):
@@ -110,16 +106,8 @@ class Mutate(unittest.TestCase):
 
     def test_limit(self):
         """A mutant that doesn't end is refused in time, with all that it began."""
-        source = textwrap.dedent(
-            """
-            import subprocess
-            def f(n):
-                child = subprocess.Popen(["sleep", "600"])
-                while n > 0:
-                    n -= 1
-                child.kill()
-            """
-        )
+        source = 'import subprocess\ndef f(n):\n    child = subprocess.Popen(["sleep", "600"])\n'
+        source += "    while n > 0:\n        n -= 1\n    child.kill()\n"
         began = time.monotonic()
         done = self.mutate("m.py", source, in_python("f(3) is None"), "--limit", "2")
         self.assertIn(" refused", done.stdout)

@@ -2,14 +2,12 @@
 once, and what it says of each."""
 
 import os
-import pathlib
 import shutil
-import subprocess
 import sys
-import tempfile
-import unittest
 
-TOOLS = pathlib.Path(__file__).resolve().parents[2] / "tools"
+from tests.helpers import TOP, Case, each, ended, write_files
+
+TOOLS = ("wrong_bodies.py", "wrong_body.py", "tree.py")
 # `rt doc` names a kit, and `rt lib` leaves a library.
 RT = """#!/bin/sh
 [ "$1" = doc ] && exec echo "$KIT/START-HERE.md"
@@ -47,27 +45,19 @@ EDITS = {
 PAGE = "| Wrong body | Where |\n|---|---|\n| one | `high/one` |\n\nOthers: `high/two`.\n"
 
 
-class WrongBodies(unittest.TestCase):
+class WrongBodies(Case):
     def setUp(self):
-        room = tempfile.TemporaryDirectory()
-        self.addCleanup(room.cleanup)
-        self.top = pathlib.Path(room.name)
-        for name in ("low/src", "high/src", "high/wrong-bodies"):
-            (self.top / "crates" / name).mkdir(parents=True)
-        for name in ("tools", "docs", ".git", "kit/bin"):
-            (self.top / name).mkdir(parents=True)
-        for tool in ("wrong_bodies.py", "wrong_body.py", "tree.py"):
-            shutil.copy(TOOLS / tool, self.top / "tools")
-        for name, text in {"rt": RT, "kit/bin/rattle": RATTLE}.items():
-            (self.top / name).write_text(text)
-            (self.top / name).chmod(0o755)
+        super().setUp()
+        self.top = self.room()
+        (self.top / ".git").mkdir()
+        self.write({f"tools/{it}": (TOP / "tools" / it).read_text() for it in TOOLS})
+        write_files(self.top, {"rt": RT, "kit/bin/rattle": RATTLE}, 0o755)
         self.write({"crates.txt": "low:\nhigh: low\n", "docs/PLANTED.md": PAGE})
         self.write({"crates/low/src/lib.rt": "fn low() { 0 }\n", "crates/high/src/lib.rt": SOURCE})
         self.write({f"crates/high/wrong-bodies/{name}.edit": text for name, text in EDITS.items()})
 
     def write(self, texts):
-        for name, text in texts.items():
-            (self.top / name).write_text(text)
+        write_files(self.top, texts)
 
     def tried(self, *words):
         """The status, the lines of wrong bodies, and how many checks there were."""
@@ -75,10 +65,9 @@ class WrongBodies(unittest.TestCase):
         asked.unlink(missing_ok=True)
         room = {"RT": self.top / "rt", "KIT": self.top / "kit", "ASKED": asked}
         env = {**os.environ, **{name: str(it) for name, it in room.items()}}
-        command = [sys.executable, self.top / "tools/wrong_bodies.py", *words]
-        done = subprocess.run(command, env=env, capture_output=True, text=True, timeout=60)
-        lines = sorted(it for it in done.stdout.splitlines() if it.startswith("high"))
-        return done.returncode, lines, len(asked.read_text().splitlines()) if asked.exists() else 0
+        done = ended([sys.executable, self.top / "tools/wrong_bodies.py", *words], env=env)
+        lines = sorted(it for it in done.written.splitlines() if it.startswith("high"))
+        return done.status, lines, len(asked.read_text().splitlines()) if asked.exists() else 0
 
     def refused(self, *names):
         functions = {"one-otherwise": "one", "limit": "three"}
@@ -106,34 +95,32 @@ class WrongBodies(unittest.TestCase):
                 self.assertEqual(self.tried()[1], self.refused(*EDITS))
                 self.assertEqual(self.tried()[1], self.refused("one"))
 
-    def test_not_refused(self):
+    @each(
+        ("fn: two\nold: { 2 }\nnew: { 1 + 1 }\n", "it is proved with it"),
+        ("fn: two\nold: { 5 }\nnew: { wrong }\n", "its old text isn't in its file once"),
+        ("fn: two\nold: { 2 }\nnew: { 2 }\n", "or the new one is the same"),
+    )
+    def test_not_refused(self, text, why):
         """A body that is right, one that doesn't apply and one that changes nothing are named, and the
         status is 1, at the next run too."""
-        for text, why in (
-            ("fn: two\nold: { 2 }\nnew: { 1 + 1 }\n", "it is proved with it"),
-            ("fn: two\nold: { 5 }\nnew: { wrong }\n", "its old text isn't in its file once"),
-            ("fn: two\nold: { 2 }\nnew: { 2 }\n", "or the new one is the same"),
-        ):
-            with self.subTest(why=why):
-                text = text.replace("old:", "file: src/lib.rt\nold:")
-                self.write({"crates/high/wrong-bodies/two.edit": text})
-                for _ in range(2):
-                    status, lines, _ = self.tried()
-                    said = "\n".join(lines)
-                    [bad] = [it for it in lines if "NOT REFUSED" in it]
-                    self.assertEqual((status, bad.split(":")[0], len(lines)), (1, "high/two", 5))
-                    self.assertIn(why, said)
+        text = text.replace("old:", "file: src/lib.rt\nold:")
+        self.write({"crates/high/wrong-bodies/two.edit": text})
+        for _ in range(2):
+            status, lines, _ = self.tried()
+            said = "\n".join(lines)
+            [bad] = [it for it in lines if "NOT REFUSED" in it]
+            self.assertEqual((status, bad.split(":")[0], len(lines)), (1, "high/two", 5))
+            self.assertIn(why, said)
 
-    def test_refused_elsewhere(self):
+    @each(EDITS["limit"].replace("three", "two"), EDITS["limit"].replace("three", "four"))
+    def test_refused_elsewhere(self, text):
         """A body that only a caller of its function refuses, or a function that the body adds, is tried
         alone, and the whole crate is looked at."""
-        for text in (EDITS["limit"].replace("three", "two"), EDITS["limit"].replace("three", "four")):
-            with self.subTest(text=text):
-                self.write({"crates/high/wrong-bodies/two.edit": text})
-                status, lines, _ = self.tried()
-                name = text[4:].split()[0]
-                why = f"high/two: refused, in {name}: not there, but fn high::three, which says less"
-                self.assertEqual((status, lines[-1]), (0, why))
+        self.write({"crates/high/wrong-bodies/two.edit": text})
+        status, lines, _ = self.tried()
+        name = text[4:].split()[0]
+        why = f"high/two: refused, in {name}: not there, but fn high::three, which says less"
+        self.assertEqual((status, lines[-1]), (0, why))
 
     def test_functions_that_are_not_proved(self):
         """Nothing is said of a wrong body of a function that isn't proved as it stands."""
@@ -148,7 +135,3 @@ class WrongBodies(unittest.TestCase):
         self.assertEqual(self.tried("--", "sh", "-c", prove + "0")[:2], (0, self.refused(*EDITS)))
         self.assertEqual(self.tried("--", "sh", "-c", prove + "3")[0], 3)
         self.assertEqual(self.tried("--", "sh", "-c", "exit 3"), (3, [], 0))
-
-
-if __name__ == "__main__":
-    unittest.main()
