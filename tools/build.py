@@ -1,13 +1,14 @@
 #!/usr/bin/env python3
 """Proves and builds a program from nothing, crates side by side, and runs it on the words that come after `--`, if that is there.
 
-    python3 tools/build.py [--cpu LEVEL] [--built] [PROGRAM] [-- WORD..]          (PROGRAM: credbook)
+    python3 tools/build.py [--cpu LEVEL] [--built] [--note] [PROGRAM] [-- WORD..]          (PROGRAM: credbook)
 
 The program is compiled for LEVEL: x86-64, x86-64-v2 or x86-64-v3, and without the flag for the highest of them whose features this
 processor has. On standard error it says every half minute, and as each library is proved, how many are, and about how long the rest
 will take. What the program prints is all that comes on standard output, and its status is this script's. What is built already is
 taken as it is, if its sources are unchanged; with --built nothing else is done, and the status is 1 if the program isn't built for
-LEVEL. `rt run` alone does the same in more time: one rt at a time may work above a library, so libraries that don't use each other
+LEVEL. What each crate took is what it is expected to take the next time (crates/NAME/out/seconds), and with --note by those who build it
+first, too: tools/build_seconds.json, of four idle processors. `rt run` alone does the same in more time: one rt at a time may work above a library, so libraries that don't use each other
 are worked here in two copies of the sources, and what was proved is copied back. The variable RT names another rt.
 """
 
@@ -15,6 +16,7 @@ import argparse
 import concurrent.futures
 import contextlib
 import hashlib
+import json
 import os
 import pathlib
 import queue
@@ -22,18 +24,16 @@ import shutil
 import subprocess
 import sys
 import tempfile
-import threading
 import time
 
-from tree import CRATES, TOP, all_below, listed
+from tree import CRATES, TOP, all_below, below, listed, source, tell_each
 
 AT_ONCE = 2
 # Seconds between two lines on standard error.
 EVERY = float(os.environ.get("BUILD_SAYS_EVERY", 25))
 RT = os.environ.get("RT", "rt")
-# How long each took at its first build on four idle processors; others count as 60. A build leaves what it took in out/seconds.
-SECONDS = {"cred_pool": 26, "cred_blake": 39, "cred_base64": 14, "cred_argon": 110, "cred_scrypt": 76, "cred_phc": 88, "cred_book": 99}
-SECONDS |= {"cred_cli": 264, "credbook": 99, "cred_file": 159, "cred_admin": 207, "cred_keep": 237, "cred_many": 393, "credkeep": 983}
+# What each took at its first build; others count as 60.
+NOTED = TOP / "tools/build_seconds.json"
 LEVELS = ("x86-64", "x86-64-v2", "x86-64-v3")
 LOADER = "/lib64/ld-linux-x86-64.so.2"
 
@@ -53,8 +53,8 @@ def folders(room):
 
 def expected(name):
     """Seconds that a crate is expected to take: what it took last here, or on another machine."""
-    last = CRATES / name / "out/seconds"
-    return max(float(last.read_text()), 1) if last.is_file() else SECONDS.get(name, 60)
+    last = source(CRATES / name / "out/seconds")
+    return max(float(last), 1) if last else json.loads(source(NOTED) or "{}").get(name, 60)
 
 
 def bring(name, source, target):
@@ -70,21 +70,11 @@ class Progress:
     def __init__(self, names):
         self.names, self.running, self.done = names, {}, {}
         self.expected = {it: expected(it) for it in names}
-        self.ended = threading.Event()
-
-    def __enter__(self):
-        self.teller = threading.Thread(target=self.tell, daemon=True)
-        self.teller.start()
-        return self
-
-    def __exit__(self, *_):
-        self.ended.set()
-        self.teller.join()
+        tell_each(EVERY, self.tell)
 
     def tell(self):
-        while not self.ended.wait(EVERY):
-            if working := ", ".join(self.running):
-                self.say(f"{working}: at work", "\r" if sys.stderr.isatty() else "\n")
+        if working := ", ".join(self.running):
+            self.say(f"{working}: at work", "\r" if sys.stderr.isatty() else "\n")
 
     @contextlib.contextmanager
     def of(self, name, what):
@@ -92,25 +82,19 @@ class Progress:
         began = self.running[name] = time.monotonic()
         try:
             yield
-            self.done[name] = time.monotonic() - began
         finally:
             del self.running[name]
+        self.done[name] = time.monotonic() - began
         (CRATES / name / "out/seconds").write_text(f"{self.done[name]:.0f}\n")
         self.say(f"{name}: {what}, {self.done[name]:.0f} s")
 
     def rest(self):
         """Seconds until all are done, if each takes as long as expected at the pace of those that are done."""
-        done = {**self.done}
+        now, done, running = time.monotonic(), {**self.done}, {**self.running}
         pace = sum(done.values()) / sum(self.expected[it] for it in done) if done else 1
-        running = {name: time.monotonic() - began for name, began in [*self.running.items()]}
-        left = {it: max(pace * self.expected[it] - running.get(it, 0), EVERY) for it in [*running, *self.names] if it not in done}
-        whole = 0
-        while left:
-            working = [it for it in left if not {*left} & {*all_below(it)}][:AT_ONCE]
-            step = min(left[it] for it in working)
-            whole += step
-            left = {it: seconds - step * (it in working) for it, seconds in left.items() if it not in working or seconds > step}
-        return whole
+        left = {it: max(pace * self.expected[it] - now + running.get(it, now), EVERY) for it in self.names if it not in done}
+        chain = lambda name: left.get(name, 0) + max(map(chain, below(name)), default=0)
+        return max([sum(left.values()) / AT_ONCE, *map(chain, left)])
 
     def say(self, what, end="\n"):
         """What happened, how much is done, and how long the rest takes."""
@@ -204,6 +188,7 @@ def main():
     reader = argparse.ArgumentParser(usage=__doc__.split("\n\n")[1].strip())
     reader.add_argument("--cpu", choices=LEVELS, metavar="LEVEL", help=", ".join(LEVELS))
     reader.add_argument("--built", action="store_true")
+    reader.add_argument("--note", action="store_true")
     reader.add_argument("program", nargs="?", default="credbook", choices=[*listed()], metavar="PROGRAM")
     asked = reader.parse_args(sys.argv[1:at])
     program, level = asked.program, asked.cpu or level_here()
@@ -211,9 +196,12 @@ def main():
         if asked.built:
             raise SystemExit(f"{program} isn't built for {level}: make programs CPU={level} does it")
         print(f"{program}: for {level}{'' if asked.cpu else ', which this processor has'}", file=sys.stderr, flush=True)
-        with Progress([*missing_of(all_below(program)), program]) as progress:
-            build_all(all_below(program), progress)
-            build_program(program, level, progress)
+        progress = Progress([*missing_of(all_below(program)), program])
+        build_all(all_below(program), progress)
+        build_program(program, level, progress)
+        if asked.note:
+            took = {it: round(seconds) for it, seconds in progress.done.items()}
+            NOTED.write_text(json.dumps(json.loads(source(NOTED) or "{}") | took) + "\n")
     if at is not None:
         os.chdir(CRATES / program)
         os.execv(f"out/{program}", [program, *sys.argv[at + 1 :]])

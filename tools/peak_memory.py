@@ -14,6 +14,7 @@ import sys
 
 from refuse_memory import tests_of
 from tests.helpers import counts
+from tree import report
 
 # scrypt's memory of N = 2^14 and r = 8 in KiB.
 TABLE = 128 * 8 * 2**14 // 1024
@@ -31,18 +32,15 @@ HOW = {"PEAK": "at once", "ASKED": "in all"}
 SOME_KIB = 64
 
 
-def main():
-    passed = 0
-    for ending, word, kib in TESTS:
-        [test] = tests_of("hash_tests", ending)
-        done, counted = counts(test)
-        found = counted.get(word, 0)
-        is_well = done.status == 0 and 1024 * kib <= found <= 1024 * (kib + SOME_KIB)
-        passed += is_well
-        print(f"hash_tests {test[1]}: {kib} KiB wanted, {found / 1024:.0f} KiB {HOW[word]}{'' if is_well else ': FAILED'}", flush=True)
-    print(f"{passed} passed, {len(TESTS) - passed} failed")
-    sys.exit(passed < len(TESTS))
+def looked_at(ending, word, kib):
+    """Says what a test takes: a line for it if that is too much, or too little."""
+    [test] = tests_of("hash_tests", ending)
+    done, counted = counts(test)
+    found = counted.get(word, 0)
+    print(f"hash_tests {test[1]}: {kib} KiB wanted, {found / 1024:.0f} KiB {HOW[word]}", flush=True)
+    is_well = done.status == 0 and 1024 * kib <= found <= 1024 * (kib + SOME_KIB)
+    return None if is_well else f"hash_tests {test[1]}: FAILED"
 
 
 if __name__ == "__main__":
-    main()
+    sys.exit(report([looked_at(*it) for it in TESTS]))

@@ -14,7 +14,7 @@ import pathlib
 import subprocess
 import sys
 
-from tree import CRATES, TOP
+from tree import CRATES, TOP, report
 
 sys.path.insert(0, str(TOP))
 from tests.helpers import Ended, ended, in_turn, without_request  # noqa: E402
@@ -50,14 +50,12 @@ def main():
         sys.exit(__doc__)
     crates = [pathlib.Path(it).name for it in sys.argv[1:2]] or sorted(it.name for it in CRATES.glob("*_tests"))
     word = sys.argv[2] if len(sys.argv) > 2 else "::refused"
-    tests = [(crate, it) for crate in crates for it in tests_of(crate, word)]
-    passed = 0
+    tests, found = [(crate, it) for crate in crates for it in tests_of(crate, word)], []
     for crate, test in tests:
         requests, failed = sweep(test)
-        passed += not failed
-        print(f"{crate} {test[1]}: {requests} requests refused in turn, {f'FAILED at {failed}' if failed else 'all passed'}", flush=True)
-    print(f"{passed} passed, {len(tests) - passed} failed")
-    sys.exit(passed < len(tests))
+        found.append(failed and f"{crate} {test[1]}: FAILED at {failed}")
+        print(f"{crate} {test[1]}: {requests} requests refused in turn", flush=True)
+    sys.exit(report(found))
 
 
 if __name__ == "__main__":

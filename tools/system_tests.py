@@ -12,11 +12,10 @@ import concurrent.futures
 import os
 import subprocess
 import sys
-import threading
 import time
 import unittest
 
-from tree import TOP
+from tree import TOP, tell_each
 
 FOLDERS = ("credbook", "credkeep")
 # What runs longest begins first.
@@ -54,13 +53,11 @@ class Progress:
 
     def __init__(self, count):
         self.count, self.running, self.passed, self.failed, self.skipped = count, {}, 0, [], 0
-        threading.Thread(target=self.tell, daemon=True).start()
+        tell_each(EVERY, self.tell)
 
     def tell(self):
-        while True:
-            time.sleep(EVERY)
-            longest = ", ".join(sorted(self.running, key=self.running.get)[:4])
-            print(f"system tests: {self.passed + self.skipped + len(self.failed)} of {self.count}; at work: {longest}", flush=True)
+        longest = ", ".join(sorted({**self.running}, key=self.running.get)[:4])
+        print(f"system tests: {self.passed + self.skipped + len(self.failed)} of {self.count}; at work: {longest}", flush=True)
 
     def of(self, job):
         name, command = job

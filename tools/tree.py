@@ -1,8 +1,10 @@
-"""What the tools read of the tree."""
+"""What the tools read of the tree, and how they tell."""
 
 import functools
 import pathlib
 import re
+import threading
+import time
 
 TOP = pathlib.Path(__file__).resolve().parent.parent
 CRATES = TOP / "crates"
@@ -44,6 +46,16 @@ def has_test(crate, test):
 def has_edit(crate, name):
     """Whether a wrong body stands in the gate."""
     return (CRATES / crate / "wrong-bodies" / f"{name}.edit").is_file()
+
+
+def tell_each(seconds, tell):
+    """Has something told each time that so many seconds are over, beside the program's work."""
+
+    def work():
+        while not time.sleep(seconds):
+            tell()
+
+    threading.Thread(target=work, daemon=True).start()
 
 
 def report(found):

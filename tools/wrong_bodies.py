@@ -28,9 +28,8 @@ import subprocess
 import sys
 import tempfile
 import threading
-import time
 
-from tree import CRATES, TOP, all_below, below, listed, source
+from tree import CRATES, TOP, all_below, below, listed, source, tell_each
 from wrong_body import Edit, groups
 
 RT = os.environ.get("RT", "rt")
@@ -189,10 +188,9 @@ class Trial:
         return 0
 
     def tell(self):
-        while not time.sleep(EVERY):
-            proved = f"{len(self.proved)} of {len(listed())} crates proved, " if self.proved else ""
-            left = ", ".join(f"{count} of {name}" for name, count in self.left.items() if count)
-            say(f"{proved}{len(self.refused)} wrong bodies refused{'; to be judged: ' if left else ''}{left}")
+        proved = f"{len(self.proved)} of {len(listed())} crates proved, " if self.proved else ""
+        left = ", ".join(f"{count} of {name}" for name, count in [*self.left.items()] if count)
+        say(f"{proved}{len(self.refused)} wrong bodies refused{'; to be judged: ' if left else ''}{left}")
 
     def end(self, status):
         """Says the last words."""
@@ -217,7 +215,7 @@ def main():
     git = TOP / ".git"
     with tempfile.TemporaryDirectory(prefix="wrong-bodies-", dir=git if git.is_dir() else None) as room:
         trial = Trial(asked, pathlib.Path(room))
-        threading.Thread(target=trial.tell, daemon=True).start()
+        tell_each(EVERY, trial.tell)
         return trial.end(trial.beside(command) if command else trial.over_built())
 
 

@@ -1,15 +1,13 @@
 """tools/build.py: what it builds, in which order, and what it says meanwhile."""
 
+import json
 import os
-import pathlib
 import re
-import shutil
 import subprocess
 import sys
-import tempfile
-import unittest
 
-TOOLS = pathlib.Path(__file__).resolve().parents[2] / "tools"
+from tests.helpers import TOP, Case, ended, write_files
+
 CRATES = """# lowest first
 low:
 other:
@@ -20,7 +18,7 @@ program: low other high
 RT = """#!/bin/sh
 name=$(basename "$PWD")
 echo "$name $*" >> "$ASKED"
-sleep 0.3
+until [ -e "${GO-/}" ]; do sleep 0.1; done
 [ "$name" != "${FAILING-}" ] || { echo "a goal stands open"; exit 1; }
 mkdir -p out/rlib
 touch out/rlib/stamp
@@ -28,25 +26,20 @@ touch out/rlib/stamp
 """
 
 
-class Build(unittest.TestCase):
+class Build(Case):
     def setUp(self):
-        room = tempfile.TemporaryDirectory()
-        self.addCleanup(room.cleanup)
-        self.top = pathlib.Path(room.name)
-        for name in ("low", "other", "high", "program"):
-            (self.top / "crates" / name / "src").mkdir(parents=True)
-        (self.top / "tools").mkdir()
-        for tool in ("build.py", "tree.py"):
-            shutil.copy(TOOLS / tool, self.top / "tools")
-        (self.top / "crates.txt").write_text(CRATES)
-        (self.top / "HANDLES").write_text("")
-        (self.top / "rt").write_text(RT)
-        (self.top / "rt").chmod(0o755)
+        super().setUp()
+        self.top = self.room()
+        texts = {f"tools/{it}": (TOP / "tools" / it).read_text() for it in ("build.py", "tree.py")}
+        texts |= {f"crates/{it}/src/lib.rt": "" for it in ("low", "other", "high", "program")}
+        write_files(self.top, {**texts, "crates.txt": CRATES, "HANDLES": ""})
+        write_files(self.top, {"rt": RT}, 0o755)
+
+        own = {"RT": str(self.top / "rt"), "ASKED": str(self.top / "asked"), "BUILD_SAYS_EVERY": "0.1"}
+        self.command, self.env = [sys.executable, self.top / "tools/build.py"], {**os.environ, **own}
 
     def build(self, *words, **env):
-        env = {**os.environ, "RT": str(self.top / "rt"), "ASKED": str(self.top / "asked"), "BUILD_SAYS_EVERY": "0.1", **env}
-        command = [sys.executable, self.top / "tools/build.py", *words]
-        return subprocess.run(command, env=env, capture_output=True, text=True, timeout=60)
+        return ended([*self.command, *words], env={**self.env, **env})
 
     def asked(self):
         asked, path = [], self.top / "asked"
@@ -58,15 +51,26 @@ class Build(unittest.TestCase):
     def test_order(self):
         """Each library once and after those below it, then the program, whose output and status are handed on."""
         done = self.build("--cpu", "x86-64", "program", "--", "a", "b")
-        self.assertEqual((done.stdout, done.returncode), ("answered a b\n", 7))
+        self.assertEqual((done.written, done.status), ("answered a b\n", 7))
         asked = self.asked()
         self.assertEqual(sorted(asked), ["high", "low", "other", "program"])
         self.assertLess(asked.index("low"), asked.index("high"))
         self.assertEqual(asked[-1], "program")
 
+    def told(self, *words):
+        """What a build tells; its first crates go on once it has told of them."""
+        lines, go = [], self.top / "go"
+        env = {**self.env, "GO": str(go)}
+        with subprocess.Popen([*self.command, *words], env=env, stderr=subprocess.PIPE, text=True) as run:
+            for line in run.stderr:
+                lines.append(line.rstrip())
+                if "low, other: at work" in line:
+                    go.touch()
+        return lines
+
     def test_progress(self):
         """It counts what is done, says what is at work, and guesses the time that is left."""
-        lines = self.build("--cpu", "x86-64", "program").stderr.splitlines()
+        lines = self.told("--cpu", "x86-64", "program")
         self.assertEqual(lines[0], "program: for x86-64")
         done = [it for it in lines if ": proved" in it]
         self.assertEqual([re.search(r"(\d of \d) done", it)[1] for it in done], ["1 of 4", "2 of 4", "3 of 4", "4 of 4"])
@@ -76,30 +80,36 @@ class Build(unittest.TestCase):
 
     def test_clock(self):
         """What took longer the last time is expected to take as long; what runs counts by its own time."""
-        for name, seconds in {"low": 600, "other": 1200, "high": 600, "program": 60}.items():
-            (self.top / "crates" / name / "out").mkdir()
-            (self.top / "crates" / name / "out/seconds").write_text(f"{seconds}\n")
-        lines = self.build("--cpu", "x86-64", "program").stderr.splitlines()
+        last = {"low": 600, "other": 1200, "high": 600, "program": 60}
+        write_files(self.top, {f"crates/{it}/out/seconds": f"{seconds}\n" for it, seconds in last.items()})
+        lines = self.told("--cpu", "x86-64", "--note", "program")
         self.assertTrue(any("low, other: at work; 0 of 4 done, about 21 minutes left" in it for it in lines), lines)
-        self.assertLess(int((self.top / "crates/low/out/seconds").read_text()), 600)
+        seconds = {it: int((self.top / f"crates/{it}/out/seconds").read_text()) for it in last}
+        self.assertLess(seconds["low"], 600)
+        self.assertEqual(json.loads((self.top / "tools/build_seconds.json").read_text()), seconds)
+
+    def test_clock_of_others(self):
+        """Where nothing was built yet, what others noted is expected."""
+        write_files(self.top, {"tools/build_seconds.json": '{"low": 600, "other": 1200, "high": 600}'})
+        self.assertIn("low, other: at work; 0 of 4 done, about 21 minutes left", self.told("program"))
 
     def test_built(self):
         """What is built is taken as it is, until a source, the level or the program changes."""
-        self.assertEqual(self.build("--built", "--cpu", "x86-64", "program").returncode, 1)
+        self.assertEqual(self.build("--built", "--cpu", "x86-64", "program").status, 1)
         self.assertEqual(self.asked(), [])
         self.build("--cpu", "x86-64", "program")
         self.asked()
-        self.assertEqual(self.build("--built", "--cpu", "x86-64", "program").returncode, 0)
-        self.assertEqual(self.build("--cpu", "x86-64", "program").stderr, "")
+        self.assertEqual(self.build("--built", "--cpu", "x86-64", "program").status, 0)
+        self.assertEqual(self.build("--cpu", "x86-64", "program").faults, "")
         self.assertEqual(self.asked(), [])
         done = self.build("--built", "--cpu", "x86-64-v2", "program")
-        self.assertEqual((done.returncode, done.stderr), (1, "program isn't built for x86-64-v2: make programs CPU=x86-64-v2 does it\n"))
+        self.assertEqual((done.status, done.faults), (1, "program isn't built for x86-64-v2: make programs CPU=x86-64-v2 does it\n"))
         (self.top / "crates/low/src/lib.rt").write_text("// changed\n")
-        self.assertEqual(self.build("--built", "--cpu", "x86-64", "program").returncode, 1)
+        self.assertEqual(self.build("--built", "--cpu", "x86-64", "program").status, 1)
 
     def test_failure(self):
         """A library that isn't proved ends the build, with what the toolchain wrote."""
         done = self.build("program", FAILING="high")
-        self.assertEqual(done.returncode, 1)
-        self.assertIn("high: not proved\na goal stands open\n", done.stderr)
+        self.assertEqual(done.status, 1)
+        self.assertIn("high: not proved\na goal stands open\n", done.faults)
         self.assertNotIn("program", self.asked())
