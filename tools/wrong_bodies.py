@@ -45,6 +45,12 @@ def say(line):
     sys.stdout.flush()
 
 
+def checked(path):
+    """What a check reads of a file: a comment of Rattle changes no verdict."""
+    text = path.read_bytes()
+    return re.sub(rb"(?m)^[ \t]*//.*\n", b"", text) if path.suffix == ".rt" else text
+
+
 class Bench:
     """Where the wrong bodies of one crate are tried: a copy of its files, over libraries that are built."""
 
@@ -57,7 +63,7 @@ class Bench:
         for low in all_below(crate):
             lang = libraries / f"{low}.rlib/lang"
             files |= {f"{low}/{it.relative_to(lang)}": it for it in [*lang.glob("src/**/*.rt"), *lang.glob("antt/specs/**/*.antt")]}
-        self.sum = hashlib.sha256(repr([(name, hashlib.sha256(files[name].read_bytes()).hexdigest()) for name in sorted(files)]).encode()).hexdigest()
+        self.sum = hashlib.sha256(repr([(name, hashlib.sha256(checked(files[name])).hexdigest()) for name in sorted(files)]).encode()).hexdigest()
 
     def has(self, function):
         """Whether the crate has a function of that name as it stands: an edit may add one."""

@@ -80,12 +80,14 @@ class WrongBodies(Case):
 
     def test_sums(self):
         """What was refused is tried again if it's named, or if its crate, a wrong body of the crate,
-        or what can be cited below has changed."""
+        or what can be cited below has changed, but not for a comment."""
         self.assertEqual(self.tried()[1], self.refused(*EDITS))
         self.assertEqual(self.tried(), (0, self.refused("one"), 2))
         self.assertEqual(self.tried("--all")[1], self.refused(*EDITS))
+        self.write({"crates/high/src/lib.rt": f"/// One.\n{SOURCE}"})
+        self.assertEqual(self.tried()[1], self.refused("one"))
         for name, text in (
-            ("crates/high/src/lib.rt", f"// more\n{SOURCE}"),
+            ("crates/high/src/lib.rt", f"const MORE: u8 = 1;\n{SOURCE}"),
             ("crates/low/src/lib.rt", "fn low() { 1 }\n"),
             ("crates/high/wrong-bodies/two.edit", EDITS["two"].replace("wrong 2", "wrong 3")),
         ):
