@@ -25,7 +25,7 @@ static unsigned char *frame; /* below which a thread's call stands */
 
 WRAP(void, secrets_clear_traces, void) {
     if (!is_painted)
-        __real_clear_traces();
+        __real_secrets_clear_traces();
 }
 
 /* A stack with a page below it that isn't there for anyone. */
