@@ -12,7 +12,7 @@
 #     make uninstall PREFIX=/usr/local [DESTDIR=..]
 #
 # Programs are compiled for the processor that they are built on. CPU=x86-64-v2 in front of build and install makes
-# those that run on others too.
+# those that run on others too. `make programs library ARCH=arm64` makes those for ARM64.
 
 PREFIX ?= /usr/local
 DESTDIR ?=
@@ -48,7 +48,7 @@ build: programs library
 
 # tools/build.py knows what is built already.
 programs:
-	for name in $(PROGRAMS); do RT='$(RT)' $(PYTHON) tools/build.py $(CPU:%=--cpu %) $$name || exit 1; done
+	for name in $(PROGRAMS); do RT='$(RT)' $(PYTHON) tools/build.py $(patsubst %,--cpu %,$(or $(filter arm64,$(ARCH)),$(CPU))) $$name || exit 1; done
 
 library:
 	$(MAKE) -C c RT='$(RT)' PYTHON='$(PYTHON)'

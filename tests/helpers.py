@@ -1,8 +1,8 @@
 """What all tests share: how a program is run and how it ended, what a test needs of the machine,
 and shims that stand before the C library.
 
-RIGZUMAL_TIMES=N makes N times as many kills and random operations as the gate does. It runs on
-Python 3.9, as the package does.
+RIGZUMAL_TIMES=N makes N times as many kills and random operations as the gate does. ARCH=arm64 runs
+programs of that processor, under qemu-user. It runs on Python 3.9, as the package does.
 """
 
 from __future__ import annotations
@@ -36,6 +36,11 @@ from typing import Any, NamedTuple, Optional, TypeVar
 
 TOP = pathlib.Path(__file__).resolve().parent.parent
 TIMES = int(os.environ.get("RIGZUMAL_TIMES", "1"))
+ARCH = os.environ.get("ARCH", "x86_64")
+IS_NATIVE = ARCH == "x86_64"
+TRIPLET = "x86_64-linux-gnu" if IS_NATIVE else "aarch64-linux-gnu"
+# Programs of another processor run under qemu-user, over Debian's cross libraries.
+EMULATOR = ["qemu-aarch64", "-L", f"/usr/{TRIPLET}"]
 # A run that hasn't ended after so many seconds hangs, and is killed.
 LONGEST = 120
 LIMIT = float(os.environ.get("TEST_LIMIT", "1800"))
@@ -167,10 +172,28 @@ def text_of(written: bytes) -> str:
 def program(name: str) -> str:
     """A copy that every user may run of the program that the variable NAME names, or of the built
     one."""
-    source = pathlib.Path(os.environ.get(name.upper(), TOP / "crates" / name / "out" / name))
+    out = TOP / "crates" / name / "out" / ("" if IS_NATIVE else ARCH)
+    source = pathlib.Path(os.environ.get(name.upper(), out / name))
     if not source.is_file():
         raise FileNotFoundError(f"{source}: build it by make programs, or by rt ci")
-    return shutil.copy(source, common_folder())
+    return str(runnable(pathlib.Path(shutil.copy(source, common_folder()))))
+
+
+def runnable(program: pathlib.Path) -> pathlib.Path:
+    """A program, or the script that runs one of another processor."""
+    if IS_NATIVE:
+        return program
+    need(EMULATOR[0])
+    script = program.with_suffix(".sh")
+    script.write_text(f'#!/bin/sh\nexec {shlex.join(EMULATOR)} {program} "$@"\n')
+    script.chmod(0o755)
+    return script
+
+
+def need_native() -> None:
+    """Skips a test that looks at the program's process, which is the emulator's on this machine."""
+    if not IS_NATIVE:
+        raise unittest.SkipTest(f"{EMULATOR[0]} would be looked at")
 
 
 @functools.cache
@@ -300,7 +323,10 @@ BUILDING = threading.Lock()
 
 
 def shim_compiler() -> list[str]:
-    """The toolchain's clang, in a folder beside the page whose path `rt doc` prints, or cc."""
+    """The toolchain's clang, in a folder beside the page whose path `rt doc` prints, or cc; for
+    another processor its own."""
+    if not IS_NATIVE:
+        return [f"{TRIPLET}-gcc"]
     page = subprocess.run(["rt", "doc"], capture_output=True, text=True, check=True).stdout.strip()
     clang = pathlib.Path(page).parent / "toolchain" / "bin" / "clang"
     return [str(clang), "-nostdlib", "-fuse-ld=lld"] if clang.exists() else ["cc"]
@@ -321,9 +347,15 @@ def built_shim(name: str) -> str:
     return str(library)
 
 
+def preloaded(name: str) -> dict[str, str]:
+    """The environment of a program with a shim: an emulator hands it on, and has none itself."""
+    variable = "LD_PRELOAD" if IS_NATIVE else "QEMU_SET_ENV"
+    return {**os.environ, variable: ("" if IS_NATIVE else "LD_PRELOAD=") + shim(name)}
+
+
 def counts(command: list[str], given: str = "") -> tuple[Ended, dict[str, int]]:
     """How a run ended, with its counts of SYNCS, THREADS and memory (tests/shims/counts.c)."""
-    done = ended(command, given, env={**os.environ, "LD_PRELOAD": shim("counts")})
+    done = ended(command, given, env=preloaded("counts"))
     told = r"(?m)^(SYNCS|THREADS|PEAK|ASKED) (\d+)\n"
     found = {word: int(count) for word, count in re.findall(told, done.faults)}
     return done._replace(faults=re.sub(told, "", done.faults)), found
@@ -332,7 +364,7 @@ def counts(command: list[str], given: str = "") -> tuple[Ended, dict[str, int]]:
 def without_request(nth: int, command: list[str], given: str = "", **options: Any) -> Ended | None:
     """How a run ended whose request for memory of this number was refused, or nothing if it made
     fewer requests."""
-    env = {**os.environ, "LD_PRELOAD": shim("refuse"), "REFUSE_NTH": str(nth)}
+    env = {**preloaded("refuse"), "REFUSE_NTH": str(nth)}
     done = ended(command, given, env=env, **options)
     if "REFUSED\n" not in done.faults:
         return None
@@ -341,6 +373,7 @@ def without_request(nth: int, command: list[str], given: str = "", **options: An
 
 def instructions(command: list[str], given: str = "") -> tuple[Ended, int]:
     """How a run ended, and how many instructions it took, as valgrind counts them."""
+    need_native()
     counter = ["valgrind", "--tool=callgrind", "--callgrind-out-file=/dev/null"]
     done = ended([*counter, *command], given)
     return done, int(done.faults.split("Collected : ")[1].split()[0])

@@ -4,12 +4,14 @@
     python3 tools/build.py [--cpu LEVEL] [--built] [--note] [PROGRAM] [-- WORD..]          (PROGRAM: credbook)
 
 The program is compiled for LEVEL: x86-64, x86-64-v2 or x86-64-v3, and without the flag for the highest of them whose features this
-processor has. On standard error it says every half minute, and as each library is proved, how many are, and about how long the rest
-will take. What the program prints is all that comes on standard output, and its status is this script's. What is built already is
-taken as it is, if its sources are unchanged; with --built nothing else is done, and the status is 1 if the program isn't built for
-LEVEL. What each crate took is what it is expected to take the next time (crates/NAME/out/seconds), and with --note by those who build it
-first, too: tools/build_seconds.json, of four idle processors. `rt run` alone does the same in more time: one rt at a time may work above a library, so libraries that don't use each other
-are worked here in two copies of the sources, and what was proved is copied back. The variable RT names another rt.
+processor has. With the level arm64 it is one for that processor, linked by Debian's gcc-aarch64-linux-gnu, in the crate's out/arm64.
+On standard error it says every half minute, and as each library is proved, how many are, and about how long the rest will take. What
+the program prints is all that comes on standard output, and its status is this script's. What is built already is taken as it is, if
+its sources are unchanged; with --built nothing else is done, and the status is 1 if the program isn't built for LEVEL. What each crate
+took is what it is expected to take the next time (crates/NAME/out/seconds), and with --note by those who build it first, too:
+tools/build_seconds.json, of four idle processors. `rt run` alone does the same in more time: one rt at a time may work above a library,
+so libraries that don't use each other are worked here in two copies of the sources, and what was proved is copied back. The variable RT
+names another rt.
 """
 
 import argparse
@@ -20,6 +22,7 @@ import json
 import os
 import pathlib
 import queue
+import re
 import shutil
 import subprocess
 import sys
@@ -36,6 +39,10 @@ RT = os.environ.get("RT", "rt")
 NOTED = TOP / "tools/build_seconds.json"
 LEVELS = ("x86-64", "x86-64-v2", "x86-64-v3")
 LOADER = "/lib64/ld-linux-x86-64.so.2"
+ARM64, TARGET = "arm64", "aarch64-unknown-linux-gnu"
+# What the toolchain's part in C lacks for ARM64, and how a program is linked with it.
+ARM64_CALLS = TOP / "c/programs/arm64.c"
+ARM64_LINKER = "aarch64-linux-gnu-gcc -O2 -std=c11 -Wall -Wextra -Wpedantic -Werror -pie -Wl,-z,relro,-z,now -Wl,-z,noexecstack".split()
 
 
 def folders(room):
@@ -153,31 +160,36 @@ def sum_of(program, level):
     """A sum over all that a built program depends on, and over the program itself."""
     crates = [CRATES / it for it in [*all_below(program), program]]
     sources = [it for at in crates for part in ("src", "specs", "proofs") for it in sorted((at / part).rglob("*")) if it.is_file()]
+    sources += [ARM64_CALLS] if level == ARM64 else []
     found = hashlib.sha256(level.encode())
-    for file in [TOP / "crates.txt", *sources, crates[-1] / "out" / program]:
+    for file in [TOP / "crates.txt", *sources, files_of(program, level)[0]]:
         found.update(hashlib.sha256(file.read_bytes()).digest())
     return found.hexdigest()
 
 
-def files_of(program):
+def files_of(program, level):
     """Where a built program lies, and what it was built of and for."""
-    out = CRATES / program / "out"
+    out = CRATES / program / "out" / (ARM64 if level == ARM64 else "")
     return out / program, out / f"{program}.level"
 
 
 def is_built(program, level):
-    built, seal = files_of(program)
+    built, seal = files_of(program, level)
     return built.is_file() and seal.is_file() and seal.read_text() == sum_of(program, level)
 
 
 def build_program(program, level, progress):
     """Proves a program over its libraries and compiles it for a level."""
-    built, seal = files_of(program)
-    built.unlink(missing_ok=True)
+    (built, seal), compiled = files_of(program, level), CRATES / program / "out" / f"{program}.o"
+    for file in (built, compiled):
+        file.unlink(missing_ok=True)
     with progress.of(program, "proved and built"):
-        # rt builds a program as it runs it: here for its help.
-        words = [RT, "run", f"--cpu={level}", "--", "--help"]
-        done = subprocess.run(words, cwd=CRATES / program, capture_output=True, text=True)
+        # rt builds a program as it runs it: here for its help. It links none for another machine, and fails then.
+        flag = f"--target={TARGET}" if level == ARM64 else f"--cpu={level}"
+        done = subprocess.run([RT, "run", flag, "--", "--help"], cwd=CRATES / program, capture_output=True, text=True)
+        if level == ARM64 and compiled.is_file() and re.search(rf"(?m)^logic=proved .*\btarget={TARGET}\b", done.stdout):
+            built.parent.mkdir(exist_ok=True)
+            subprocess.run([*ARM64_LINKER, compiled, ARM64_CALLS, "-o", built], check=True)
         if not built.is_file():
             raise SystemExit(f"{program}: not proved\n{(done.stdout + done.stderr)[-4000:]}")
         seal.write_text(sum_of(program, level))
@@ -186,15 +198,17 @@ def build_program(program, level, progress):
 def main():
     at = sys.argv.index("--") if "--" in sys.argv else None
     reader = argparse.ArgumentParser(usage=__doc__.split("\n\n")[1].strip())
-    reader.add_argument("--cpu", choices=LEVELS, metavar="LEVEL", help=", ".join(LEVELS))
+    reader.add_argument("--cpu", choices=(*LEVELS, ARM64), metavar="LEVEL", help=", ".join((*LEVELS, ARM64)))
     reader.add_argument("--built", action="store_true")
     reader.add_argument("--note", action="store_true")
     reader.add_argument("program", nargs="?", default="credbook", choices=[*listed()], metavar="PROGRAM")
     asked = reader.parse_args(sys.argv[1:at])
     program, level = asked.program, asked.cpu or level_here()
+    if at is not None and level == ARM64:
+        reader.error("a program for arm64 doesn't run on this machine: leave out -- and its words")
     if not is_built(program, level):
         if asked.built:
-            raise SystemExit(f"{program} isn't built for {level}: make programs CPU={level} does it")
+            raise SystemExit(f"{program} isn't built for {level}: make programs {'ARCH' if level == ARM64 else 'CPU'}={level} does it")
         print(f"{program}: for {level}{'' if asked.cpu else ', which this processor has'}", file=sys.stderr, flush=True)
         progress = Progress([*missing_of(all_below(program)), program])
         build_all(all_below(program), progress)

@@ -4,7 +4,7 @@ import functools
 import os
 import pathlib
 import re
-import shlex
+import shutil
 import sys
 import unittest
 
@@ -13,18 +13,14 @@ TOP = HERE.parent
 sys.path.insert(0, str(TOP.parent))
 
 from tests import helpers
-from tests.helpers import files_below, need, need_module, need_root  # noqa: F401 (for the tests)
+from tests.helpers import ARCH, EMULATOR, IS_NATIVE, TRIPLET, need, runnable
+from tests.helpers import files_below, need_module, need_root  # noqa: F401 (for the tests)
 
-ARCH = os.environ.get("ARCH", "x86_64")
-IS_NATIVE = ARCH == "x86_64"
-TRIPLET = "x86_64-linux-gnu" if IS_NATIVE else "aarch64-linux-gnu"
 COMPILER = os.environ.get("CC", "cc" if IS_NATIVE else f"{TRIPLET}-gcc")
 # Whether programs of this machine can load the library.
 IS_HOST = IS_NATIVE and "musl" not in COMPILER
 OUT = TOP / os.environ.get("OUT", "out" if IS_NATIVE else f"out/{ARCH}")
-# Programs of another processor run under qemu-user, over Debian's cross libraries. Its Python and
-# libargon2 lie where tests/arm64/root.sh puts them.
-EMULATOR = ["qemu-aarch64", "-L", f"/usr/{TRIPLET}"]
+# Where tests/arm64/root.sh puts another processor's Python and libargon2.
 ROOT = pathlib.Path("/") if IS_NATIVE else OUT / "root/at"
 ORIGINAL = ROOT / f"usr/lib/{TRIPLET}/libargon2.so.1"
 OURS = {"LD_LIBRARY_PATH": str(OUT)}
@@ -67,6 +63,11 @@ def need_glibc():
         raise unittest.SkipTest("musl has nothing of the kind")
 
 
+def toolchain():
+    """The toolchain's folder, or this one where there is none."""
+    return pathlib.Path(run("rt", "doc").strip()).parent if shutil.which("rt") else TOP
+
+
 def need_original():
     if not ORIGINAL.exists():
         raise unittest.SkipTest(f"{ORIGINAL} is not there")
@@ -87,17 +88,6 @@ def built(name, flags, linked, cc=None):
     sources = [f"{folder}/{name}.c", *map(str, linked)]
     run(cc or COMPILER, *WARNINGS, *flags, *wraps(sources), *sources, "-o", program)
     return runnable(program)
-
-
-def runnable(program):
-    """A program, or the script that runs one of another processor."""
-    if IS_NATIVE:
-        return program
-    need(EMULATOR[0])
-    script = program.with_suffix(".sh")
-    script.write_text(f'#!/bin/sh\nexec {shlex.join(EMULATOR)} {program} "$@"\n')
-    script.chmod(0o755)
-    return script
 
 
 def python(*words, env=None, at=TOP):

@@ -1,12 +1,10 @@
 """Tests of each call, of the choice of a build, and of what the libraries show."""
 
-import pathlib
 import re
-import shutil
 import unittest
 
 from harness import ALL_WARNINGS, BUILDS, JOBS, LIBARGON2, ORIGINAL, OUT, ROOM, SANITIZED, SOURCES
-from harness import TOP, WITHOUT_BUILDS, built, need, need_host, run, sources_for
+from harness import TOP, WITHOUT_BUILDS, built, need, need_host, run, sources_for, toolchain
 
 
 # The build that processors are to run, as qemu calls them.
@@ -77,8 +75,7 @@ class Calls(unittest.TestCase):
         out only if the toolchain has no clang for it."""
         need_host()
         code = {build: run("objdump", "-d", OUT / f"{build}.o") for build in BUILDS}
-        kit = pathlib.Path(run("rt", "doc").strip()).parent if shutil.which("rt") else TOP
-        if not (kit / "toolchain/bin/clang").exists() and "xmm" not in code["v4"]:
+        if not (toolchain() / "toolchain/bin/clang").exists() and "xmm" not in code["v4"]:
             code.pop("v4")
         for at, build in enumerate(code):
             with self.subTest(build):

@@ -6,8 +6,8 @@ import shutil
 import unittest
 
 from harness import COMPILER, IN_THREADS, IS_NATIVE, JOBS, LIBARGON2, OUT, RACES, ROOM, SANITIZED
-from harness import SOURCES, VALGRIND, WITHOUT_BUILDS, built, need, need_host, need_root, python
-from harness import run, run_sanitized
+from harness import SOURCES, VALGRIND, WITHOUT_BUILDS, built, need, need_glibc, need_host
+from harness import need_root, python, run, run_sanitized, toolchain
 
 
 FAST = ["-O2"]
@@ -86,6 +86,16 @@ class Programs(unittest.TestCase):
                 if name == "forked_lanes" and not IS_NATIVE:
                     self.skipTest("it looks at what madvise asked for")
                 run(built(name, flags, linked), *words)
+
+    def test_program_calls(self):
+        """What the programs for ARM64 call of C, and of the toolchain those for x86-64: the same."""
+        need_glibc()
+        of_toolchain = [toolchain() / f"c/lib{it}_c.a" for it in ("os", "libc")]
+        for sources in (["programs/arm64.c"], of_toolchain):
+            with self.subTest(sources):
+                if sources is of_toolchain and not (IS_NATIVE and sources[0].exists()):
+                    self.skipTest("no toolchain for this processor")
+                run(built("program_calls", SANITIZED, sources), "", "a", "two words", "é" * 99)
 
     def test_under_valgrind(self):
         need("valgrind")

@@ -22,7 +22,19 @@ until [ -e "${GO-/}" ]; do sleep 0.1; done
 [ "$name" != "${FAILING-}" ] || { echo "a goal stands open"; exit 1; }
 mkdir -p out/rlib
 touch out/rlib/stamp
-[ "$1" != run ] || { printf '#!/bin/sh\\necho answered "$@"\\nexit 7\\n' > out/program; chmod +x out/program; }
+case "$*" in
+"run --target=aarch64-unknown-linux-gnu "*) echo object > out/program.o; echo "$SAID"; exit 1 ;;
+run*) printf '#!/bin/sh\\necho answered "$@"\\nexit 7\\n' > out/program; chmod +x out/program ;;
+esac
+"""
+PROVED = "logic=proved functions=1 axioms=2 target=aarch64-unknown-linux-gnu sum=0"
+# It joins the files that it is given.
+LINKER = """#!/bin/sh
+for it; do
+    case $it in *.o | *.c) cat "$it" ;; esac
+    last=$it
+done > linked
+mv linked "$last"
 """
 
 
@@ -32,11 +44,11 @@ class Build(Case):
         self.top = self.room()
         texts = {f"tools/{it}": (TOP / "tools" / it).read_text() for it in ("build.py", "tree.py")}
         texts |= {f"crates/{it}/src/lib.rt": "" for it in ("low", "other", "high", "program")}
-        write_files(self.top, {**texts, "crates.txt": CRATES, "HANDLES": ""})
-        write_files(self.top, {"rt": RT}, 0o755)
-
-        own = {"RT": str(self.top / "rt"), "ASKED": str(self.top / "asked"), "BUILD_SAYS_EVERY": "0.1"}
-        self.command, self.env = [sys.executable, self.top / "tools/build.py"], {**os.environ, **own}
+        write_files(self.top, {**texts, "crates.txt": CRATES, "HANDLES": "", "c/programs/arm64.c": "calls\n"})
+        write_files(self.top, {"rt": RT, "aarch64-linux-gnu-gcc": LINKER}, 0o755)
+        own = {"RT": str(self.top / "rt"), "ASKED": str(self.top / "asked"), "BUILD_SAYS_EVERY": "0.1", "SAID": PROVED}
+        self.command = [sys.executable, self.top / "tools/build.py"]
+        self.env = {**os.environ, "PATH": f"{self.top}:{os.environ['PATH']}", **own}
 
     def build(self, *words, **env):
         return ended([*self.command, *words], env={**self.env, **env})
@@ -106,6 +118,26 @@ class Build(Case):
         self.assertEqual((done.status, done.faults), (1, "program isn't built for x86-64-v2: make programs CPU=x86-64-v2 does it\n"))
         (self.top / "crates/low/src/lib.rt").write_text("// changed\n")
         self.assertEqual(self.build("--built", "--cpu", "x86-64", "program").status, 1)
+
+    def test_arm64(self):
+        """What was proved for that processor is linked with what the toolchain lacks for it, beside the program for this one."""
+        built, other = (self.top / "crates/program/out" / it for it in ("arm64/program", "program"))
+        self.build("--cpu", "x86-64", "program")
+        for said in ("", PROVED.replace("proved", "assumed"), PROVED.replace("aarch64", "x86_64")):
+            done = self.build("--cpu", "arm64", "program", SAID=said)
+            self.assertEqual((done.status, built.exists()), (1, False), said)
+            self.assertIn(f"program: not proved\n{said}", done.faults)
+        self.assertEqual(self.build("--cpu", "arm64", "program").status, 0)
+        self.assertEqual(built.read_text(), "object\ncalls\n")
+        self.asked()
+        for level in ("x86-64", "arm64"):
+            self.assertEqual(self.build("--built", "--cpu", level, "program").status, 0)
+        self.assertEqual(self.build("--cpu", "arm64", "program", "--", "a").status, 2)
+        self.assertIn("answered", other.read_text())
+        (self.top / "c/programs/arm64.c").write_text("other calls\n")
+        done = self.build("--built", "--cpu", "arm64", "program")
+        self.assertEqual((done.status, done.faults), (1, "program isn't built for arm64: make programs ARCH=arm64 does it\n"))
+        self.assertEqual(self.asked(), [])
 
     def test_failure(self):
         """A library that isn't proved ends the build, with what the toolchain wrote."""
