@@ -73,18 +73,22 @@ static void test_errno(void) {
 }
 
 /* A word with room for it, with none to spare, and with less: then the room has its front. Nothing
- * behind that is written. */
+ * else is written. */
 static void test_words(int count, char **words) {
-    for (int at = 0; at < count; at++)
-        for (size_t room = 0, size = strlen(words[at]); room < size + 3; room++) {
+    for (int at = 0; at < count; at++) {
+        char *wanted = strdup(words[at]);
+        size_t size = strlen(wanted);
+        for (size_t room = 0; room < size + 3; room++) {
             uint8_t buffer[4096];
-            memset(buffer, 0x5a, sizeof buffer);
             CHECK(room < sizeof buffer);
+            memset(buffer, 0x5a, sizeof buffer);
             CHECK(rattle_arg((size_t)at, buffer, room) == (room < size ? -2 : (ssize_t)size));
             size_t written = room < size ? room : size;
-            CHECK(memcmp(buffer, words[at], written) == 0);
+            CHECK(memcmp(buffer, wanted, written) == 0 && strcmp(words[at], wanted) == 0);
             CHECK(is_all(buffer + written, 0x5a, sizeof buffer - written));
         }
+        free(wanted);
+    }
     CHECK(rattle_arg((size_t)count, NULL, 0) == -1 && rattle_arg(SIZE_MAX, NULL, 0) == -1);
 }
 
