@@ -5,9 +5,9 @@ import os
 import shutil
 import unittest
 
-from harness import COMPILER, IN_THREADS, IS_NATIVE, JOBS, LIBARGON2, OUT, RACES, ROOM, SANITIZED
-from harness import SOURCES, VALGRIND, WITHOUT_BUILDS, built, need, need_glibc, need_host
-from harness import need_root, python, run, run_sanitized, toolchain
+from harness import COMPILER, HERE, IN_THREADS, IS_NATIVE, JOBS, LIBARGON2, OUT, RACES, ROOM
+from harness import SANITIZED, SOURCES, VALGRIND, WARNINGS, WITHOUT_BUILDS, built, need, need_glibc
+from harness import need_host, need_root, python, run, run_sanitized, toolchain
 
 
 FAST = ["-O2"]
@@ -95,7 +95,10 @@ class Programs(unittest.TestCase):
             with self.subTest(sources):
                 if sources is of_toolchain and not (IS_NATIVE and sources[0].exists()):
                     self.skipTest("no toolchain for this processor")
-                run(built("program_calls", SANITIZED, sources), "", "a", "two words", "é" * 99)
+                flags = ["-fPIC", "-shared", "-Wl,--whole-archive", *sources]
+                run(COMPILER, *WARNINGS, *flags, "-Wl,--no-whole-archive", "-o", ROOM / "calls.so")
+                env = {"LIBRARY": str(ROOM / "calls.so")}
+                python("-m", "unittest", "program_calls", env=env, at=HERE)
 
     def test_under_valgrind(self):
         need("valgrind")
