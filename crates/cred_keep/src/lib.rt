@@ -12,7 +12,7 @@ mod script;
 
 pub use copy::{CopyFault, copy_book, copy_into, count_accounts};
 pub use import::{BadLines, Counts, Effect, Imported, Importing};
-pub use order::{Order, perform, serve, serve_in};
+pub use order::{Order, serve_in};
 pub use outcome::{Ending, Failure};
 pub use report::{NAME_RULE, explain, refuse};
 pub use script::{run_on_file, serve_on_file};

@@ -1,15 +1,13 @@
 //! Orders on a kept book, and doing them.
 
-ghost use Rattle.std.specs.Prelude.{◌≡◌, ◌⊎◌, ℕ, List, OnOk, false, true};
+ghost use Rattle.std.specs.Prelude.{◌≡◌, ◌⊎◌, ℕ, List, false, true};
 ghost use Rattle.cred_cli.specs.Watched.{Basis, IsLogged, IsNew, MayFollow, reading, reading_on, transcript_reading, transcript_writing, writing, writing_on};
 ghost use Rattle.cred_admin.specs.Seen.{FitsSince, seen};
-ghost use Rattle.cred_file.specs.Keeps.{IsTableOf};
-ghost use Rattle.cred_keep.specs.Orders.{IsRefused, IsServed, Leaves, Performs, is_script, is_unread, status_of_end};
-ghost use Rattle.sqlite.specs.{State.HasCleanDisk, Held.state};
+ghost use Rattle.cred_keep.specs.Orders.{IsRefused, IsServed, Performs, is_script, is_unread};
 
 use crate::import::{Importing, import};
 use crate::outcome::{Ending, Failure, command_end, import_end, run_end};
-use crate::report::{advise, explain, refuse};
+use crate::report::{refuse, tell_end};
 use crate::script::{AtOnce, run_on_file, serve_on_file};
 use cred_admin::{
     Command, Detail, Edit, Line, Status, disable_shown, edit_account, list, show, show_json,
@@ -45,8 +43,14 @@ pub enum Order {
     Import { how: Importing },
 }
 
-/// Opens the book of a database, and does an order on it, as [`serve`] does. The connection
-/// comes back. If the database holds no book, `faults` says why, and nothing is read or written.
+/// Opens the book of a database, and does an order on it; the connection comes back. If the
+/// database holds no book, `faults` says why, and nothing is read or written. No call was made on
+/// the reader or the writer before. Only a call of these two may wait: else every body returns, and
+/// is bound by this.
+///
+/// `faults` also gets the fault that ended the order, the reason why a password may be wrong, or
+/// the lines that an import left out. A failure of `faults` changes nothing. The status is
+/// `Database` if a change is lost; otherwise the table stands for the book, and a crash leaves it.
 pub fn serve_in<T: Threads + Sync, S: Alter, R: Read, W: Write, F: Write>(
     tools: &Tools<'_, T>,
     conn: Connection<S>,
@@ -68,85 +72,20 @@ pub fn serve_in<T: Threads + Sync, S: Alter, R: Read, W: Write, F: Write>(
         ⊎ (IsRefused S.Store conn result.0 result.1 × (reader.new ≡ reader.old)
         × (writer.new ≡ writer.old)) }
     ensures logged { is_script order.now ≡ true → IsLogged reader.old reader.new }
+    ensures unread { is_unread order.now ≡ true → reader.new ≡ reader.old }
 {
     match FileBook::open(tools.alloc, conn) {
         Ok(mut book) => {
-            let status = serve(tools, &mut book, order, reader, writer, faults);
+            let ended = perform(tools, &mut book, order, reader, writer);
+            let status = tell_end(faults, ended, book.lost());
             (book.close(), status)
         }
         Err((why, conn)) => (conn, refuse(faults, &why)),
     }
 }
 
-/// Does an order, as [`perform`] does, and returns the exit status: `Database` if a change is lost.
-/// `faults` gets the fault that ended it, the reason why a password may be wrong, or the lines that
-/// an import left out. A failure of `faults` changes nothing.
-pub fn serve<T: Threads + Sync, S: Alter, R: Read, W: Write, F: Write>(
-    tools: &Tools<'_, T>,
-    book: &mut FileBook<S>,
-    order: &Order,
-    reader: &mut Watched<R>,
-    writer: &mut Watched<W>,
-    faults: &mut F,
-) -> Status
-    requires new_reader { IsNew reader.old }
-    requires new_writer { IsNew writer.old }
-    ensures done { (ended : _) × Leaves S.Store order.now (seen
-        (reading R.remaining reader.old reader.new) (writing W.contents writer.old writer.new)
-        book.old.book book.new.book) book.new ended × (result ≡ status_of_end ended) }
-    ensures transcript { (rest : List ℕ) → MayFollow rest reader.new
-        → (ended : _) × Leaves S.Store order.now (seen (transcript_reading rest reader.new)
-        (transcript_writing writer.old writer.new) book.old.book book.new.book) book.new ended
-        × (result ≡ status_of_end ended) }
-    ensures logged { is_script order.now ≡ true → IsLogged reader.old reader.new }
-    ensures unread { is_unread order.now ≡ true → reader.new ≡ reader.old }
-{
-    match perform(tools, book, order, reader, writer) {
-        Ok(ending) => {
-            advise(faults, &ending);
-            ending.status()
-        }
-        Err(failure) => {
-            explain(faults, &failure, book.lost());
-            failure.status()
-        }
-    }
-}
-
-/// Does an order on a kept book. No call was made on the reader or the writer before.
-/// Only a call of the reader or the writer may wait: else every body of it returns, and
-/// is bound by this.
-///
-/// `Ok` is the end of the order: then the table stands for the book, and a crash leaves it. Errors:
-/// the fault that ended the order; `Database` if the database failed, whatever the answer.
-pub fn perform<T: Threads + Sync, S: Alter, R: Read, W: Write>(
-    tools: &Tools<'_, T>,
-    book: &mut FileBook<S>,
-    order: &Order,
-    reader: &mut Watched<R>,
-    writer: &mut Watched<W>,
-) -> Result<Ending, Failure>
-    requires new_reader { IsNew reader.old }
-    requires new_writer { IsNew writer.old }
-    ensures done { Leaves S.Store order.now (seen (reading R.remaining reader.old reader.new)
-        (writing W.contents writer.old writer.new) book.old.book book.new.book) book.new result }
-    ensures transcript { (rest : List ℕ) → MayFollow rest reader.new
-        → Leaves S.Store order.now (seen (transcript_reading rest reader.new)
-        (transcript_writing writer.old writer.new) book.old.book book.new.book) book.new result }
-    ensures logged { is_script order.now ≡ true → IsLogged reader.old reader.new }
-    ensures unread { is_unread order.now ≡ true → reader.new ≡ reader.old }
-    ensures kept { OnOk result (HasCleanDisk (state S.Store book.new.conn)
-        → IsTableOf (state S.Store book.new.conn) book.new.book) }
-{
-    let ended = obey(tools, book, order, reader, writer);
-    book.keeps();
-    if book.lost().is_some() {
-        return Err(Failure::Database);
-    }
-    ended
-}
-
-fn obey<T: Threads + Sync, S: Alter, R: Read, W: Write>(
+/// Does an order on a kept book.
+fn perform<T: Threads + Sync, S: Alter, R: Read, W: Write>(
     tools: &Tools<'_, T>,
     book: &mut FileBook<S>,
     order: &Order,

@@ -1,7 +1,7 @@
 //! The texts on standard error.
 
-ghost use Rattle.std.specs.Prelude.{◌≡◌};
-ghost use Rattle.cred_keep.specs.Orders.{status_of_open};
+ghost use Rattle.std.specs.Prelude.{◌≡◌, option_map};
+ghost use Rattle.cred_keep.specs.Orders.{status_of_end, status_of_open, unless_lost};
 
 use crate::import::{Effect, Imported};
 use crate::outcome::{Ending, Failure};
@@ -19,9 +19,34 @@ const MOST_NAMED: usize = 64;
 /// The rule for names, in the words of refusals.
 pub const NAME_RULE: &str = "a name has 1 to 32 of a-z, 0-9, '.', '_', '-'";
 
+/// Writes the remarks on an order's end, and returns the status: `Database` if a change is lost.
+/// A failure of `faults` changes nothing.
+pub(crate) fn tell_end<F: Write>(
+    faults: &mut F,
+    ended: Result<Ending, Failure>,
+    lost: Option<&Lost>,
+) -> Status
+    ensures { result ≡ status_of_end (unless_lost (option_map (λ l. l.now) lost.entry) ended) }
+{
+    match (lost, ended) {
+        (Some(_), _) => {
+            explain(faults, &Failure::Database, lost);
+            Failure::Database.status()
+        }
+        (None, Ok(ending)) => {
+            advise(faults, &ending);
+            ending.status()
+        }
+        (None, Err(failure)) => {
+            explain(faults, &failure, lost);
+            failure.status()
+        }
+    }
+}
+
 /// Writes the remarks on an ending: why a password may be wrong, if the book says no to
 /// it, and the lines that an import left out. A failure of `faults` changes nothing.
-pub(crate) fn advise<F: Write>(faults: &mut F, ending: &Ending) {
+fn advise<F: Write>(faults: &mut F, ending: &Ending) {
     let _ = match ending {
         Ending::Answered(Status::No(Some(Hint::CarriageReturn))) => writeln!(
             faults,
@@ -172,7 +197,11 @@ pub fn refuse<F: Write>(faults: &mut F, why: &OpenFault) -> Status
 fn tell_database<F: Write>(faults: &mut F, error: Error) -> io::Result<()> {
     match error {
         Error::SqliteFailure(ErrorCode::DatabaseBusy) => {
-            writeln!(faults, "credkeep: busy: another process has the file open")
+            writeln!(
+                faults,
+                "credkeep: busy: another process has the file open; credkeep-ask --server asks \
+                 the server"
+            )
         }
         Error::SqliteFailure(ErrorCode::DatabaseCorrupt | ErrorCode::NotADatabase) => {
             writeln!(

@@ -138,7 +138,7 @@ fn texts_of_openings(rt: HostRuntime) {
         (OpenFault::Memory, "out of memory"),
         (
             OpenFault::Database(Error::SqliteFailure(ErrorCode::DatabaseBusy)),
-            "busy: another process has the file open",
+            "busy: another process has the file open; credkeep-ask --server asks the server",
         ),
         (
             OpenFault::Database(Error::SqliteFailure(ErrorCode::CannotOpen)),

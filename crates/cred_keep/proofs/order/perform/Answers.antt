@@ -1,32 +1,44 @@
 use Rattle.std.proofs.Common.{rules}
-use Rattle.cred_cli.specs.Watched.{Contract, transcript_reading, transcript_writing}
+use Rattle.cred_cli.specs.{Outcome.longest_script, Watched.reading_on, Watched.writing_on}
 use Rattle.cred_admin.specs.Seen.{seen}
-use Rattle.cred_keep.specs.Orders.{Performs}
-use Rattle.cred_keep.proofs.OnBasis.{on_transcript}
+use Rattle.cred_keep.specs.Orders.{RunsWithin, ServesLines}
+use Rattle.cred_keep.proofs.OnBasis.{on_each}
 use Rattle.cred_keep.proofs.order.perform.Goals as goal
 
-pub returns-then-is_some-clause-done : goal.returns-then-is_some-clause-done
-returns-then-is_some-clause-done g c = search (rules, c.obey-ended.ensures.done Contract tt)
+pub returns-in-Run-clause-done : goal.returns-in-Run-clause-done
+returns-in-Run-clause-done g c = λ basis fits.
+    let reader = c.run_on_file.new.reader in
+    let writer = c.run_on_file.new.writer in
+    let held : RunsWithin longest_script (seen (reading_on basis g.R.Read.remaining c.args.reader.now reader) (writing_on basis g.W.Write.contents c.args.writer.now writer) c.args.book.now.book c.run_on_file.new.book.book) c.run_on_file.result =
+    on_each g.R.Read.remaining g.W.Write.contents c.args.reader.now reader c.args.writer.now writer c.requires.new_reader.given
+    (λ r w. RunsWithin longest_script (seen r w c.args.book.now.book c.run_on_file.new.book.book) c.run_on_file.result) c.run_on_file.ensures.runs c.run_on_file.ensures.transcript basis fits in
+    search (rules, held)
 
-pub returns-clause-done : goal.returns-clause-done
-returns-clause-done g c = search (rules, c.obey-ended.ensures.done Contract tt)
+pub returns-in-Serve-clause-done : goal.returns-in-Serve-clause-done
+returns-in-Serve-clause-done g c = λ basis fits.
+    let reader = c.serve_on_file.new.reader in
+    let writer = c.serve_on_file.new.writer in
+    let held : ServesLines c.in-Serve.most (seen (reading_on basis g.R.Read.remaining c.args.reader.now reader) (writing_on basis g.W.Write.contents c.args.writer.now writer) c.args.book.now.book c.serve_on_file.new.book.book) c.serve_on_file.result =
+    on_each g.R.Read.remaining g.W.Write.contents c.args.reader.now reader c.args.writer.now writer c.requires.new_reader.given
+    (λ r w. ServesLines c.in-Serve.most (seen r w c.args.book.now.book c.serve_on_file.new.book.book) c.serve_on_file.result) c.serve_on_file.ensures.runs c.serve_on_file.ensures.transcript basis fits in
+    search (rules, held)
 
--- ---- whatever the reader and the writer are
+pub returns-in-Account-clause-done : goal.returns-in-Account-clause-done
+returns-in-Account-clause-done g c = λ basis fits. rw c.in-Account.is (c.carry_out.result, c.carry_out.ensures.done basis fits, c.command_end.ensures)
 
-pub returns-then-is_some-clause-transcript : goal.returns-then-is_some-clause-transcript
-returns-then-is_some-clause-transcript g c = λ rest may.
-    let reader = c.obey-ended.new.reader in
-    let writer = c.obey-ended.new.writer in
-    let books = seen (transcript_reading rest reader) (transcript_writing c.args.writer.now writer) c.args.book.now.book c.obey-ended.new.book.book in
-    let done : Performs c.args.order.now books c.obey-ended.result = on_transcript g.R.Read.remaining g.W.Write.contents c.args.reader.now reader c.args.writer.now writer c.requires.new_reader.given
-    (λ r w. Performs c.args.order.now (seen r w c.args.book.now.book c.obey-ended.new.book.book) c.obey-ended.result) c.requires.new_reader.ended c.obey-ended.ensures.done rest may in
-    search (rules, done)
+-- ---- orders that read nothing
 
-pub returns-clause-transcript : goal.returns-clause-transcript
-returns-clause-transcript g c = λ rest may.
-    let reader = c.obey-ended.new.reader in
-    let writer = c.obey-ended.new.writer in
-    let books = seen (transcript_reading rest reader) (transcript_writing c.args.writer.now writer) c.args.book.now.book c.obey-ended.new.book.book in
-    let done : Performs c.args.order.now books c.obey-ended.result = on_transcript g.R.Read.remaining g.W.Write.contents c.args.reader.now reader c.args.writer.now writer c.requires.new_reader.given
-    (λ r w. Performs c.args.order.now (seen r w c.args.book.now.book c.obey-ended.new.book.book) c.obey-ended.result) c.requires.new_reader.ended c.obey-ended.ensures.done rest may in
-    search (rules, done)
+pub returns-in-Edit-clause-done : goal.returns-in-Edit-clause-done
+returns-in-Edit-clause-done g c = λ basis fits. search (rules, c.edit_account.ensures basis)
+
+pub returns-in-DisableShown-clause-done : goal.returns-in-DisableShown-clause-done
+returns-in-DisableShown-clause-done g c = λ basis fits. search (rules, c.disable_shown.ensures basis)
+
+pub returns-in-Show-clause-done : goal.returns-in-Show-clause-done
+returns-in-Show-clause-done g c = λ basis fits. search (rules, c.show.ensures basis)
+
+pub returns-in-ShowJson-clause-done : goal.returns-in-ShowJson-clause-done
+returns-in-ShowJson-clause-done g c = λ basis fits. search (rules, c.show_json.ensures basis)
+
+pub returns-in-List-clause-done : goal.returns-in-List-clause-done
+returns-in-List-clause-done g c = λ basis fits. search (rules, c.list.ensures basis)

@@ -1,12 +1,35 @@
-use Rattle.std.proofs.Common.{inl}
+use Rattle.std.proofs.Common.{◌∙◌, ap, inl, refl}
+use Rattle.cred_cli.specs.Watched.{Contract, transcript_reading, transcript_writing}
+use Rattle.cred_admin.specs.Seen.{seen}
+use Rattle.cred_keep.specs.Orders.{Performs, status_of_end, unless_lost}
+use Rattle.cred_keep.proofs.OnBasis.{on_transcript}
 use Rattle.cred_keep.proofs.order.serve_in.Goals as goal
 
 pub returns-in-Ok-clause-done : goal.returns-in-Ok-clause-done
 returns-in-Ok-clause-done g c =
-    let done = c.serve-status.ensures.done in
-    inl (record { opened = c.in-Ok.book; found = c.in-Ok.ensures.found; kept = c.serve-status.new.book; ended = done.0; leaves = done.1; closed = c.close.ensures.same; told = done.2 })
+    let it = c.perform-ended in
+    inl (record {
+      opened = c.in-Ok.book;
+      found = c.in-Ok.ensures.found;
+      kept = it.new.book;
+      ended = unless_lost it.new.book.lost it.result;
+      leaves = record { ends = (it.result, it.ensures.done Contract tt, refl); keeps = rw c.close.ensures.same at c.close.ensures.kept };
+      closed = c.close.ensures.same;
+      told = c.tell_end-status.ensures ∙ ap (λ l. status_of_end (unless_lost l it.result)) c.lost.ensures;
+    })
 
 pub returns-in-Ok-clause-transcript : goal.returns-in-Ok-clause-transcript
 returns-in-Ok-clause-transcript g c = λ rest may.
-    let done = c.serve-status.ensures.transcript rest may in
-    inl (record { opened = c.in-Ok.book; found = c.in-Ok.ensures.found; kept = c.serve-status.new.book; ended = done.0; leaves = done.1; closed = c.close.ensures.same; told = done.2 })
+    let it = c.perform-ended in
+    let performs : Performs c.args.order.now (seen (transcript_reading rest it.new.reader) (transcript_writing c.args.writer.now it.new.writer) c.in-Ok.book.book it.new.book.book) it.result =
+    on_transcript g.R.Read.remaining g.W.Write.contents c.args.reader.now it.new.reader c.args.writer.now it.new.writer c.requires.new_reader.given
+    (λ r w. Performs c.args.order.now (seen r w c.in-Ok.book.book it.new.book.book) it.result) c.requires.new_reader.ended it.ensures.done rest may in
+    inl (record {
+      opened = c.in-Ok.book;
+      found = c.in-Ok.ensures.found;
+      kept = it.new.book;
+      ended = unless_lost it.new.book.lost it.result;
+      leaves = record { ends = (it.result, performs, refl); keeps = rw c.close.ensures.same at c.close.ensures.kept };
+      closed = c.close.ensures.same;
+      told = c.tell_end-status.ensures ∙ ap (λ l. status_of_end (unless_lost l it.result)) c.lost.ensures;
+    })
