@@ -49,7 +49,7 @@ class Accounts(Operations[Pool]):
             record over itself. It is for servers that show a change before it is safe
             (MariaDB without a binary log), and makes a login cost as much as a change.
         least_length: characters that a new password has at least; it ends no login.
-        prepare: makes of a password that is text the one that is hashed, new or present,
+        prepare: turns a password that is text, new or present, into the hashed one,
             such as `rigzumal.opaque_string`. Give it from the table's first record on:
             a record of another form of the password is one of another password.
 
@@ -68,8 +68,8 @@ class Accounts(Operations[Pool]):
 
     Every operation may raise:
         TypeError: the key is of another type than its column, or a password is neither
-            bytes nor text; no row was read. A hook's answer is none that it may give, or
-            `also` has ended the transaction; no record was written.
+            bytes nor text; no row was read. A hook gave an answer that it may not give,
+            or `also` has ended the transaction; no record was written.
         ValueError: a new password is too short, has over 256 bytes or no UTF-8, or is
             refused by `prepare`; no row was read. As a present password it is a wrong
             one, after one hash.

@@ -64,7 +64,7 @@ class Connections:
         return [kind(f"replica-{code}", text)]
 
     def _why(self, done: Undone) -> str:
-        """Why nothing was done; the text of a driver's error may have a row."""
+        """Why nothing was done, without a driver's text, which may quote a row."""
         cause = done.cause.__cause__ if isinstance(done.cause, Lost) else done.cause
         if isinstance(cause, AccountsError):
             return f"{type(cause).__name__}: {cause}"
@@ -73,8 +73,8 @@ class Connections:
     async def patiently(self, job: Job[Any], patience: Optional[float] = None) -> Any:
         """Runs a job at the primary until it is done, with pauses that grow.
 
-        Done again is what did nothing: a lost connection, a transaction that the server
-        undid. Nothing is hashed again.
+        It repeats a job that did nothing: after a lost connection, or a transaction
+        that the server undid. No password is hashed again.
         """
         begun, waits = time.monotonic(), None
         while True:
@@ -126,7 +126,7 @@ class Waits:
         return self.age >= self._patience
 
     def next(self, is_dead: bool = False) -> float:
-        """The next pause; as long as the last where the connection was a dead one."""
+        """The next pause; after a dead connection as long as the last."""
         pause, self.is_first = self._next, False
         if not is_dead:
             self._next = min(pause * 2, 0.5)
@@ -134,9 +134,9 @@ class Waits:
 
 
 def _reason(error: Exception) -> str:
-    """Why there is no connection, in the server's or the system's words.
+    """The cause of a missing connection, in the words of the server or the system.
 
-    Nothing was sent on it, so they have no row; a password of the DSN is left out.
+    They quote no row, since nothing was sent; a password of the DSN is left out.
     """
     lines = [line.strip() for line in str(error).splitlines()]
     return ": " + _DSN_PASSWORD.sub(r"\1***", "; ".join(filter(None, lines)))[:_LONGEST]

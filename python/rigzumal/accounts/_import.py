@@ -41,9 +41,9 @@ class Import:
     takes_foreign: bool = False  # records of other schemes, for a hook to judge
 
     def take(self, file: pathlib.Path, key_of: Callable[[str], Key]) -> dict[str, int]:
-        """Adds the accounts of lines "NAME RECORD", and counts what became of them.
+        """Adds the accounts of lines "NAME RECORD", and counts the outcomes.
 
-        The lines that aren't taken are named on standard error.
+        Refused lines are named on standard error.
         """
         with open(file, encoding="utf-8", errors="surrogateescape") as lines:
             records = list(self._records(lines, key_of))
@@ -72,7 +72,7 @@ class Import:
     def _records(
         self, lines: Iterable[str], key_of: Callable[[str], Key]
     ) -> Iterator[Line]:
-        """The names and records of an import, all read before anything is put."""
+        """The names and records of an import, all read before any is added."""
         for number, line in enumerate(lines, 1):
             try:
                 yield self._record(line.rstrip("\r\n"), key_of)
@@ -102,7 +102,7 @@ class Import:
         return key, record
 
     def put(self, batch: Sequence[Line]) -> list[str]:
-        """Puts a batch in one transaction: "added", "there" or "another" for each."""
+        """Adds a batch in one transaction: "added", "there" or "another" for each."""
         with self.pool() as conn:
             session, words = Session(conn), list[str]()
             run(self.dialect.start(session))
@@ -118,7 +118,7 @@ class Import:
         return words
 
     def _put_at_once(self, session: Session, share: Sequence[Line]) -> list[str]:
-        """Puts some lines by a few statements; StoreFault if other records stand then."""
+        """Adds lines by few statements; StoreFault if other records exist then."""
         stands = self._standing(session, [key for key, _ in share])
         new: dict[Key, str] = {}
         for key, record in share:
@@ -193,7 +193,7 @@ def costs_of(record: Optional[str]) -> Optional[str]:
 
 
 def why(record: object, fault: InvalidRecordError) -> str:
-    """What is wrong with a record, with the scheme of another program's."""
+    """The fault of a record, with the scheme of another program's record."""
     scheme = none_of_ours(record) if isinstance(record, str) else ""
     return f"{scheme}, and {fault}" if scheme else str(fault)
 

@@ -33,7 +33,7 @@ _REPLIES: Final = dict(enumerate(Reply, 1))
 
 
 class Judge:
-    """Works requests at copies, with new records by one hasher, as of Accounts.
+    """Does requests on copies of records, with new records by the hasher of Accounts.
 
     Attributes:
         sample: a record of the hasher's costs that no password is right for.
@@ -72,7 +72,7 @@ class Judge:
         return self._made(bytes_of_password(password))
 
     def question(self, ticket: Ticket) -> Optional[tuple[Foreign, str, bytes]]:
-        """The hook, if it is to judge: with a text of another scheme, and the password."""
+        """The hook with its text and the password, if it must judge."""
         request, copy = ticket.request, ticket.copy
         if self.foreign is None or not isinstance(copy, str):
             return None
@@ -83,8 +83,8 @@ class Judge:
     def work(self, ticket: Ticket, right: Optional[bool] = None) -> Worked:
         """The effect of the whole operation at the ticket's copy.
 
-        `right` is what the hook has answered to the ticket's question. Whoever has no
-        record costs one hash too, as does an account that doesn't exist.
+        `right` is the hook's answer to the ticket's question. An account without a
+        record costs one hash too, and so does an unknown name.
         """
         request, copy = ticket.request, ticket.copy
         reply, after = self._judged(ticket, right)
@@ -117,7 +117,7 @@ class Judge:
         return self._at_right(request, copy)
 
     def _at_record(self, request: Request, copy: str) -> tuple[Reply, Copy]:
-        """The same at a record of ours, of any of the secrets."""
+        """The effect at a record of ours, with any of the secrets."""
         secrets = self._secrets
         if None in secrets and copy.startswith("$scrypt$"):
             secrets = (None,)
@@ -153,7 +153,7 @@ class Judge:
             is_right(record, password, secret)
 
     def _at_right(self, request: Request, copy: str) -> tuple[Reply, Copy]:
-        """The same at a right password of a record that any upgrade replaces."""
+        """The effect of a right password at a record that any upgrade replaces."""
         if request.kind is Kind.VERIFY:
             return Reply.YES, copy
         if request.kind is Kind.REMOVE:
@@ -185,8 +185,9 @@ class Judge:
     def goes_up(self, found: Parts) -> bool:
         """Whether an upgrade replaces a record of these numbers.
 
-        No way up leads back: of one scheme, neither version, memory nor work is lower,
-        and one is higher. So two versions of a service don't flip records to and fro.
+        No chain of upgrades leads back: of one scheme, neither version, memory nor work
+        is lower, and one is higher. So two versions of a service don't flip records to
+        and fro.
         """
         if found.costs in self._old:
             return True

@@ -1,10 +1,10 @@
-"""How the operations are done, as coroutines.
+"""The operations, as coroutines.
 
-An operation begins by reading the record (the copy), works with no connection held, and
-is committed by an UPDATE that asks whether the copy still stands. Its reply is what the
-whole operation answers at one record that stood between its call and its answer: at its
-commit, or if it changes nothing, as the primary was read. What a replica was read for
-is looked at once more at the primary.
+An operation reads the record (the copy), works without a connection, and commits by an
+UPDATE that compares the row's record with the copy. Its reply is that of the whole
+operation at one record, which the row had between the call and the answer: at the
+commit, or without a change when the primary was read. A copy from a replica is compared
+with the primary's record at the end.
 """
 
 from __future__ import annotations
@@ -120,7 +120,7 @@ class Operations(Generic[AnyPool]):
     async def _perform(
         self, request: Request, also: Hook = None, patience: Optional[float] = None
     ) -> Answer:
-        """The whole operation, done again if another record stands at its commit."""
+        """The whole operation, done again if the row changed before its commit."""
         request = self._passwords.of(request)
         copy, is_settled = await self._first_copy(request, patience)
         for _ in range(self._tries):
@@ -145,7 +145,7 @@ class Operations(Generic[AnyPool]):
     async def _first_copy(
         self, request: Request, patience: Optional[float] = None
     ) -> tuple[Copy, bool]:
-        """A copy to work at, and whether it was read at the primary."""
+        """A copy, and whether it was read at the primary."""
         self._dialect.check_key(request.key)
         has_replica = self._connections.replica is not None
         if has_replica and self._dialect.can_stand(request.key):
@@ -168,7 +168,7 @@ class Operations(Generic[AnyPool]):
     async def _commit(
         self, worked: Worked, also: Hook = None, patience: Optional[float] = None
     ) -> Answer:
-        """Compares and puts, at once or in a transaction of its own."""
+        """Compares and writes, at once or in a transaction of its own."""
         key = worked.ticket.request.key
         if also is None and not self._dialect.can_stand(key):
             return Answer(Reply.NO_ACCOUNT, NO_ROW, NO_ROW)
@@ -192,13 +192,13 @@ class Operations(Generic[AnyPool]):
     async def _settled(self, worked: Worked, also: Hook) -> Answer:
         """Finds out whether a change took place whose COMMIT had no answer.
 
-        A record is put once, since its salt is fresh. So if the new one stands, it was
-        put. It may not have come to the disk or to the standby, so it is put over
-        itself: that COMMIT waits for both, where a look wouldn't.
+        A record is written once, since its salt is fresh. So if the row has the new
+        one, it was written. It may not have reached the disk or the standby, so it is
+        written over itself: that COMMIT waits for both, where a SELECT wouldn't.
 
-        If the copy stands, the change wasn't made so far, and the same is sent again: a
-        record that was replaced never stands again. That isn't so of NULL. To enrol
-        again might bring back what another has removed since.
+        If the row has the copy, the change wasn't made so far, and is sent again: a
+        replaced record never returns. NULL may return: to enrol again might bring back a
+        record that another client has removed since.
         """
         waits, why = Waits(self._connections.patience, time.monotonic(), 0.01), ""
         while worked.reply.makes_change:
@@ -219,10 +219,10 @@ class Operations(Generic[AnyPool]):
         raise _unknown(worked, why)
 
     async def _put_again(self, worked: Worked, also: Hook) -> bool:
-        """Whether the change stands, for good; False if another turn may tell.
+        """Whether the change was made for good; False if another try may tell.
 
         Raises:
-            OutcomeUnknown: neither the copy nor the new record stands.
+            OutcomeUnknown: the row has neither the copy nor the new record.
         """
         copy, after, request = worked.ticket.copy, worked.after, worked.ticket.request
         now = await self._look(request.key)

@@ -1,4 +1,4 @@
-"""How many accounts have which records, for the command."""
+"""Counts of accounts by their records, for the command."""
 
 from __future__ import annotations
 
@@ -12,7 +12,7 @@ from rigzumal._parts import Parts, parts, scheme_of_another
 
 
 class State(enum.Enum):
-    """What a login makes of a record."""
+    """The effect of a login on a record."""
 
     CURRENT = "current"
     REHASH = "rehash"

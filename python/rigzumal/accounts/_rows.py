@@ -55,7 +55,7 @@ class Rows:
 
 
 def line_of(name: object, record: Optional[str]) -> str:
-    """The line of an import; empty of an account without a record, or if it fits none."""
+    """The account's line for an import; empty without a record, or if none fits."""
     text, line = str(name), f"{name} {record}"
     fits = record and line.isprintable() and " " not in record and text == text.strip()
     return line if fits else ""

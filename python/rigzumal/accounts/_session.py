@@ -1,7 +1,7 @@
-"""Where blocking drivers and asyncio differ.
+"""The difference between blocking drivers and asyncio.
 
-All that stands above is coroutines. Over a blocking driver they never wait for anything
-but the driver itself, so `run` has what they answer at once.
+All layers above are coroutines. Over a blocking driver they wait for the driver alone,
+so `run` has their answer at once.
 """
 
 from __future__ import annotations
@@ -44,7 +44,7 @@ def at_once(name: str, answer: Any) -> Any:
 
 
 class Result(NamedTuple):
-    """What a statement answered: rows, how many it touched, and the server's word."""
+    """The answer to a statement: its rows, its row count, and the server's word."""
 
     rows: list[tuple[Any, ...]]
     affected: int
@@ -108,7 +108,7 @@ Job = Callable[[Session], Coroutine[Any, Any, T]]
 
 
 async def _note(job: Job[T], session: Session, ends: list[Any]) -> None:
-    """Does a job, and notes what it answered or raised."""
+    """Does a job, and notes its answer or exception."""
     try:
         ends.append(await job(session))
     except BaseException as error:
@@ -152,8 +152,8 @@ class Runtime:
     async def use(self, pool: Any, job: Job[T]) -> T:
         """Does a job on a connection of a pool, whatever the pool raises or swallows after it.
 
-        A pool that rolls back a broken connection raises in place of what the job raised,
-        and "COMMIT had no answer" would be taken for "nothing was done".
+        A pool that rolls back a broken connection raises its own error instead of the
+        job's, and "COMMIT had no answer" would be taken for "nothing was done".
         """
         ends: list[Any] = []
         try:
@@ -180,7 +180,7 @@ class Runtime:
         return work(*args)
 
     async def ask(self, name: str, hook: Callable[..., Any], *args: Any) -> Any:
-        """What a caller's hook answers, which may hash too."""
+        """The answer of a caller's hook, which may hash too."""
         return at_once(name, hook(*args))
 
 

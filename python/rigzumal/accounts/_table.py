@@ -1,8 +1,8 @@
 """The operations' work on one connection.
 
-A change is one statement that commits, where the engine has such a one and what stands
-afterwards tells enough. Otherwise it is a transaction: the comparison, a look at what
-was put, COMMIT.
+A change is one statement that commits, if the engine has one and the row shows
+afterwards whether it took effect. Otherwise it is a transaction: the comparison, a look
+at the new record, COMMIT.
 """
 
 from __future__ import annotations
@@ -66,7 +66,7 @@ class Table:
         self._raise(caught)
 
     async def one(self, session: Session, sql: str, key: Key) -> Copy:
-        """The record that a statement reads; NO_ROW of a key that no column holds."""
+        """The record that a statement reads; NO_ROW of a key that doesn't fit."""
         try:
             return _record((await session.execute(sql, key)).rows)
         except Exception as error:
@@ -77,7 +77,7 @@ class Table:
     async def change(
         self, session: Session, worked: Worked, also: Hook = None
     ) -> Union[Answer, Undone]:
-        """A change by one statement, or a transaction with a caller's own in it."""
+        """A change by one statement, or a transaction with a caller's hook in it."""
         self.dialect.fresh(session.conn)
         done: Union[Answer, Undone, None] = None
         if also is None and self._is_of_one_statement(worked):
@@ -85,10 +85,10 @@ class Table:
         return done or await self._transaction(session, worked, also)
 
     def _is_of_one_statement(self, worked: Worked) -> bool:
-        """Whether one statement does it, if the engine has such a one.
+        """Whether one statement makes the change, if the engine has one.
 
-        Of NULL to a record, and of a record to NULL, what stands doesn't tell whether it
-        was put. There a connection that breaks before COMMIT has to be known.
+        From NULL to a record or back, the row doesn't show afterwards who wrote it: a
+        connection that breaks before COMMIT has to be known there.
         """
         copy, after = worked.ticket.copy, worked.after
         both = isinstance(copy, str) and isinstance(after, str)
@@ -97,7 +97,7 @@ class Table:
     async def _at_once(
         self, session: Session, worked: Worked
     ) -> Union[Answer, Undone, None]:
-        """A change by one statement; None if a transaction has to say what stands."""
+        """A change by one statement; None if a transaction has to find out."""
         dialect, copy, after = self.dialect, worked.ticket.copy, worked.after
         is_sent = False
         try:
@@ -116,7 +116,7 @@ class Table:
         return await self._undone(session, caught)
 
     def _may_stand(self, caught: Exception) -> bool:
-        """Known to be undone is what the server itself gave up; all else may stand."""
+        """Only a statement that the server itself gave up is known to be undone."""
         return is_of_driver(caught) and not self.dialect.gave_up(caught)
 
     async def _transaction(
@@ -144,9 +144,9 @@ class Table:
         return await self._undone(session, caught)
 
     async def _answer(self, session: Session, worked: Worked, also: Hook) -> Answer:
-        """Compares and puts, after a caller's hook was told the reply.
+        """Compares and writes, after a caller's hook got the reply.
 
-        The row is locked meanwhile. The record is written last, so that it doesn't stand
+        The row is locked meanwhile. The record is written last, so that none is written
         if the hook has ended the transaction.
         """
         if also is None:
@@ -177,13 +177,13 @@ class Table:
         return mode.has_transaction and not mode.has_failed
 
     async def commit_in(self, session: Session, worked: Worked) -> Answer:
-        """The same within a transaction that another has begun, and ends."""
+        """Compares and writes within a transaction that the caller begins and ends."""
         self.dialect.check_key(worked.ticket.request.key)
         await self.dialect.within(session)
         return await self.compare(session, worked)
 
     async def compare(self, session: Session, worked: Worked) -> Answer:
-        """Compares and puts, within a transaction that is open."""
+        """Compares and writes, within an open transaction."""
         key, copy = worked.ticket.request.key, worked.ticket.copy
         dialect = self.dialect
         if not dialect.can_stand(key):
@@ -212,8 +212,8 @@ class Table:
     async def examine(
         self, session: Session, record: str, used: Container[Kind]
     ) -> list[Fault]:
-        """What the engine shows to be wrong, and a trial: no catalogue shows a role that may
-        not update, a rule that does nothing, or a CHECK that no record passes."""
+        """The faults that the engine or a trial shows: no catalogue shows a role that
+        may not update, a rule that does nothing, or a CHECK that no record passes."""
         self.dialect.fresh(session.conn)
         found = await self.dialect.examine(session)
         faults = [*found.faults, *(() if self.confirm else found.unless_confirmed)]
@@ -224,7 +224,7 @@ class Table:
         return faults + ([Fault(Severity.ERROR, "no-update", text)] if text else [])
 
     async def _trial(self, session: Session, record: str) -> Optional[str]:
-        """Why no record can be put."""
+        """The reason why no record can be written."""
         fault = None
         try:
             await self.dialect.start(session)
@@ -265,8 +265,8 @@ class Table:
     async def _hook_failed(self, session: Session, error: Exception) -> Undone:
         """Rolls back after a caller's hook has raised this.
 
-        It is done again for what the server says on this connection alone: the hook may
-        have asked others, whose errors look alike.
+        The operation is tried again only for errors of this connection: the hook may
+        have used others, whose errors look alike.
         """
         verdict, is_open = Verdict.REFUSED, True
         if self.dialect.is_drivers(error):
@@ -297,8 +297,8 @@ class Table:
     def _raise(self, error: Exception) -> NoReturn:
         """Raises the exception that an error means.
 
-        With its number alone, and outside of its handler: a driver's text may have the
-        row that was refused, with the record.
+        The exception has the number alone, and is raised outside of the handler: a
+        driver's text may quote the refused row, with the record.
         """
         if not is_of_driver(error):
             raise error

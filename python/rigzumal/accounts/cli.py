@@ -72,7 +72,7 @@ def main(words: Optional[Sequence[str]] = None) -> int:
 
 @contextlib.contextmanager
 def _password_judged() -> Iterator[None]:
-    """What accounts refuse within is the password: it is the input."""
+    """A ValueError within is about the password, which is input."""
     try:
         yield
     except RigzumalError:
@@ -142,7 +142,7 @@ class _Command:
         return key
 
     def copy(self, key: Key) -> Copy:
-        """What stands: a record, None, or NO_ROW."""
+        """The record of the row, None, or NO_ROW."""
         return self.accounts.begin(Request(Kind.VERIFY, key)).copy
 
     def say(self, reply: Reply, *good: Reply) -> int:

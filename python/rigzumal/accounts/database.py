@@ -51,11 +51,11 @@ class Database:
 
     @property
     def is_missing(self) -> bool:
-        """Whether it is a file of SQLite that doesn't exist: a connection makes one."""
+        """Whether the database is a file that doesn't exist: SQLite would make one."""
         return self.kind == "sqlite" and not os.path.exists(self._path)
 
     def dialect_kind(self) -> type[Dialect]:
-        """The dialect of its engine: of MariaDB and MySQL the server says which it is."""
+        """The dialect of the engine; the server says whether it is MariaDB or MySQL."""
         if self.kind != "mysql":
             return Sqlite if self.kind == "sqlite" else Postgres
         with contextlib.closing(self.connect()) as conn:

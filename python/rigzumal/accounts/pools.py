@@ -174,7 +174,7 @@ def _close(opening: asyncio.Future[Any]) -> None:
 def of_engine(engine: Any) -> Any:
     """The pool of an engine of SQLAlchemy, 1.4 or 2.0.
 
-    Of an Engine it is one for Accounts, of an AsyncEngine one for AsyncAccounts. The
+    An Engine gives a pool for Accounts, an AsyncEngine one for AsyncAccounts. The
     engine is made with isolation_level="AUTOCOMMIT", or is
     `engine.execution_options(isolation_level="AUTOCOMMIT")`. If its pool has no
     connection to give in time, an operation is Unavailable.
@@ -208,7 +208,7 @@ def of_engine(engine: Any) -> Any:
 
 @contextmanager
 def _drivers_error() -> Iterator[None]:
-    """Raises the driver's own error within SQLAlchemy's, whose meaning is known."""
+    """Raises the driver's error that SQLAlchemy's wraps: its meaning is known."""
     try:
         yield
     except Exception as error:

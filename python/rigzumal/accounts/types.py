@@ -92,7 +92,7 @@ def bytes_of_password(password: Secret) -> bytes:
 
 @dataclass(frozen=True, init=False)
 class Request:
-    """An operation to be done on an account.
+    """A requested operation on an account.
 
     Raises:
         TypeError: a password is neither bytes nor text.

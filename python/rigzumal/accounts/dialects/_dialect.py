@@ -37,7 +37,7 @@ class Verdict(enum.Enum):
 
 
 def is_of_driver(raised: BaseException) -> bool:
-    """Whether a driver or the network raised it: all else is a fault of a program."""
+    """Whether a driver or the network raised the error, and not a program."""
     if isinstance(raised, OSError):
         return True
     return any(kind.__name__ == "Error" for kind in type(raised).__mro__)
@@ -165,7 +165,8 @@ class Dialect:
         return f"INSERT INTO {self.table} ({k}, {r}) VALUES {rows}{unless}"
 
     def enrol(self, count: int) -> str:
-        """The statement that puts records where none stand: of keys with theirs, and the keys."""
+        """The statement that writes records for accounts without one: of keys with
+        theirs, and the keys."""
         k, r, m = self.quoted(self.key_name), self.quoted(self.record_name), self.mark
         record = f"CASE {k}{f' WHEN {m} THEN {m}' * count} END"
         keys = ", ".join([m] * count)
@@ -213,14 +214,14 @@ class Dialect:
             raise StoreFault(LEFT_OPEN)
 
     async def within(self, session: Session) -> None:
-        """Refuses a caller's connection on which each statement would be by itself, and a
-        transaction of a level that won't do."""
+        """Refuses a caller's connection in autocommit, and a transaction of a wrong
+        level."""
         mode = self.mode(session.conn)
         if mode.is_autocommit and not mode.has_transaction:
             raise StoreFault(NO_TRANSACTION)
 
     async def prepare(self, session: Session) -> None:
-        """Asks a session for what an operation relies on, before its first use."""
+        """Sets in a session what an operation relies on, before its first use."""
 
     # ---- statements
 
@@ -229,13 +230,13 @@ class Dialect:
         await session.execute(self.begin)
 
     async def put(self, session: Session, after: Copy, key: Key, copy: Copy) -> Result:
-        """Puts a record if its copy stands; what stays the same is written too."""
+        """Writes a record if the row has the copy; an equal record is written too."""
         return await session.execute(self.update, after, key, copy)
 
     async def put_at_once(
         self, session: Session, after: Copy, key: Key, copy: Copy
     ) -> int:
-        """Puts a record by one statement that commits; how many rows it touched."""
+        """Writes a record by one statement that commits; the number of touched rows."""
         raise NotImplementedError
 
     async def commit(self, session: Session) -> None:
@@ -308,7 +309,7 @@ class Dialect:
             yield error("key-not-unique", text)
 
     def after_triggers(self, rows: Iterable[Sequence[object]]) -> Iterator[Fault]:
-        """What a trigger before the write makes of a record shows at the trial."""
+        """The trial shows what a trigger before the write does to a record."""
         for (name,) in rows:
             text = f"the trigger {name} may change what was written"
             yield warning("after-trigger", text)

@@ -40,7 +40,7 @@ _LACKS: Final = (1267, 3988)
 
 
 class StatementTimeout(OSError):
-    """max_statement_time is over, and the statement was undone, as after a lock's."""
+    """max_statement_time ended the statement, which was undone."""
 
 
 class MariaDB(Dialect):

@@ -27,8 +27,8 @@ _LACKS: Final = ("22P05", "22021")  # characters that the server's encoding does
 class Postgres(Dialect):
     """PostgreSQL by psycopg 3, blocking or asynchronous.
 
-    The UPDATE answers with the record that it put, which spares the reading back; what an
-    AFTER trigger makes of it isn't seen so.
+    The UPDATE returns the record that it wrote, so that no second read is needed; the
+    effect of an AFTER trigger isn't seen so.
     """
 
     # Its own level, whatever the session's default is: under READ COMMITTED an UPDATE

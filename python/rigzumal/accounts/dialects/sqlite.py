@@ -94,7 +94,7 @@ class Sqlite(Dialect):
         return Findings(faults)
 
     def _type_faults(self, declared: str) -> Iterator[Fault]:
-        """SQLite takes '07' for 7, or 7 for '7', as the column's type has it."""
+        """SQLite compares '07' as 7, or 7 as '7', by the column's type."""
         words = declared.upper()
         holds: type = float
         if "INT" in words:
