@@ -78,7 +78,7 @@ class Book:
         return status if status >= 0 else 128 - status
 
     def kill(self) -> None:
-        """Kills it. By asyncio's own call its status might be lost."""
+        """Kills it. asyncio's own call might lose its status."""
         if self.process.returncode is None:
             with suppress(ProcessLookupError):
                 os.kill(self.process.pid, signal.SIGKILL)

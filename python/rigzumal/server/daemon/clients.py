@@ -27,7 +27,7 @@ GROUP = re.compile(rb"^\d+:(?:name=systemd)?:((?:/[^/\n]+){1,2})", re.M)
 
 
 def share_of(uid: int, pid: int) -> str:
-    """Whose share a process has: its uid's, and of root's processes the service's.
+    """The user whose share a process uses: its uid, or a service of root's.
 
     Most servers that log users in ask as root; none of them shuts the others out.
     """
@@ -37,7 +37,7 @@ def share_of(uid: int, pid: int) -> str:
 
 @lru_cache(maxsize=1024)
 def group_of(pid: int, second: int) -> str:
-    """The group of a process; nothing if it has gone, or is hidden. It is kept for a second."""
+    """The group of a process, kept for a second; empty if it has gone, or is hidden."""
     try:
         with open(f"/proc/{pid}/cgroup", "rb", buffering=0) as file:
             found = GROUP.search(file.read(4096))
@@ -68,11 +68,11 @@ class Connection:
     # ---- what the kinds of clients have of their own
 
     def has_request(self) -> bool:
-        """Whether the input may have one."""
+        """Whether the input may have a request."""
         raise NotImplementedError
 
     def take_request(self) -> None:
-        """Takes one off the input, and submits it."""
+        """Takes a request off the input, and submits it."""
         raise NotImplementedError
 
     def reply(self, tag: bytes, answer: bytes) -> None:
@@ -115,7 +115,7 @@ class Connection:
         return self.running >= self.most or self.is_paused or bool(self.output)
 
     def go_on(self) -> None:
-        """Has the next step come once there is something to do."""
+        """Has the next step run once work is left."""
         if self.is_gone:
             return
         has_request, is_full = self.has_request(), self.is_full()
@@ -126,7 +126,7 @@ class Connection:
             self.service.rota.add(self)
 
     def watch(self, is_watched: bool) -> None:
-        """Looks at the socket for something to read, or doesn't."""
+        """Watches the socket for input, or stops watching it."""
         if is_watched and not self.is_watched:
             self.loop.add_reader(self.file, self.wake)
         elif self.is_watched and not is_watched:
@@ -136,7 +136,7 @@ class Connection:
     # ---- input and output
 
     def read(self) -> None:
-        """Reads what is there; at its end the client still gets its answers, if it can."""
+        """Reads the input; at its end the client still gets its answers, if it can."""
         try:
             more = self.socket.recv(READ)
         except (BlockingIOError, InterruptedError):
@@ -152,7 +152,7 @@ class Connection:
                 self.close()
 
     def write(self, text: bytes) -> None:
-        """Sends it, and what the client doesn't take now once it does."""
+        """Sends an answer, and the rest of it once the client takes more."""
         is_waiting = bool(self.output)
         self.output += text
         if not self.is_gone and not is_waiting and self.send():
@@ -189,7 +189,7 @@ class Connection:
             self.end()
 
     def close(self) -> None:
-        """Closes it at once. What runs for it goes on, and is answered to nobody."""
+        """Closes the connection at once. Its running requests go on, unanswered."""
         if self.is_gone:
             return
         self.is_gone = True
@@ -200,7 +200,7 @@ class Connection:
 
 
 class Client(Connection):
-    """One that sends lines, and gets an answer to each, in any order."""
+    """A client that sends lines, and gets an answer to each, in any order."""
 
     most = IN_FLIGHT
     is_cutting = False  # the rest of a line that is too long

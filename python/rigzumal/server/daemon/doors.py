@@ -103,7 +103,7 @@ class Door:
             self.listener = None
 
     def accept(self, listening: socket.socket, service: Service) -> None:
-        """Lets in those who came, for so long in a pass of the loop: others have steps too."""
+        """Lets in new connections, for so long in a pass: others have steps too."""
         end, let_in, gone = time.monotonic() + ACCEPTING, 0, 0
         try:
             while time.monotonic() < end:

@@ -1,6 +1,6 @@
 """An htpasswd file whose users move into the book, each by a right password.
 
-The server never writes that file. HTPASSWD.moved has the names of which it counts no more.
+The server never writes that file. HTPASSWD.moved has the names that have left it.
 """
 
 from __future__ import annotations
@@ -73,7 +73,7 @@ class Foreign:
             log.warning(text, self.path, len(stuck), len(records), shown)
 
     async def record(self, name: bytes) -> bytes:
-        """What the file has for a name that hasn't moved, or nothing."""
+        """The file's record of a name that hasn't moved, or nothing."""
         async with self.reading:
             try:
                 if version_of(self.path) != self.version:
@@ -84,7 +84,7 @@ class Foreign:
         return self.last_record(name)
 
     def last_record(self, name: bytes) -> bytes:
-        """The same by what was read last."""
+        """The same, as the file was read last."""
         return b"" if name in self.moved.of else self.records.get(name, b"")
 
     # ---- a request
@@ -155,19 +155,19 @@ class Foreign:
         return await self.service.book.ask(*request.words)
 
     def lock(self, name: bytes) -> asyncio.Lock:
-        """A lock for what moves or ends a name."""
+        """The lock for moving or ending a name."""
         return self.locks.setdefault(name, asyncio.Lock())
 
 
 def version_of(path: str) -> tuple[int, ...]:
-    """What differs once a file has been written or replaced."""
+    """The marks of a file, which differ once it has been written or replaced."""
     it = os.stat(path)
     check_regular(it)
     return it.st_ino, it.st_size, it.st_mtime_ns, it.st_ctime_ns
 
 
 def why_stuck(name: bytes, record: bytes) -> str:
-    """Why a user can't move, or nothing."""
+    """The reason why a user can't move; empty if they can."""
     if not NAME.fullmatch(name):
         return "no name of a book"
     if record.startswith(SCHEMES):

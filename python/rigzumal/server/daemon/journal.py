@@ -89,7 +89,7 @@ class Journal:
 
 
 class Marks(Journal):
-    """Names, and what each is marked by: lines of NAME [MARK] TIME."""
+    """Names with their marks: lines of NAME [MARK] TIME."""
 
     def __init__(self, path: str) -> None:
         super().__init__(path)
@@ -110,7 +110,7 @@ class Marks(Journal):
         return mark in self.of.get(name, ())
 
     async def put(self, name: bytes, mark: bytes = b"") -> bool:
-        """Has a mark on the disk, and then counts it; false if it can't."""
+        """Writes a mark to the disk, and then counts it; false if that fails."""
         line = b" ".join(filter(None, (name, mark, utc().encode())))
         is_kept = await self.add(line)
         if is_kept:
@@ -145,7 +145,7 @@ class Audit(Journal):
 
 
 def sync_folder(path: str) -> None:
-    """Has the names of a folder's files on the disk."""
+    """Syncs the names of a folder's files to the disk."""
     folder = os.open(path, os.O_RDONLY | os.O_DIRECTORY)
     try:
         os.fsync(folder)

@@ -25,7 +25,7 @@ class Locks(Marks):
         self.service = service
 
     def shown(self, _: str) -> str:
-        """Who has which mark."""
+        """The names with their marks."""
         pairs = [
             f"{name.decode('ascii', 'replace')}:{MARKS[mark].decode()}"
             for name in sorted(self.of)
@@ -82,6 +82,6 @@ class Locks(Marks):
         return answer
 
     async def clear(self, name: bytes) -> None:
-        """Takes the marks of a name back."""
+        """Removes the marks of a name."""
         for mark in self.of.get(name, ()):
             await self.put(name, UNDONE[mark])

@@ -1,4 +1,4 @@
-"""What is told: problems, lines on standard error, systemd's notices."""
+"""Messages: problems, lines on standard error, systemd's notices."""
 
 from __future__ import annotations
 
@@ -17,12 +17,12 @@ logged = dict[Hashable, float]()  # when log_seldom logged what
 
 
 class Problem(Exception):
-    """Why the server can't start, in a user's words."""
+    """The reason why the server can't start, in a user's words."""
 
 
 @contextmanager
 def problems_at(path: str) -> Iterator[None]:
-    """Makes a problem of what the system refuses at a path."""
+    """Turns the system's refusal of a path into a problem."""
     try:
         yield
     except OSError as fault:
@@ -40,7 +40,7 @@ def log_fault(_: object, context: dict[str, Any]) -> None:
 
 
 def log_seldom(key: Hashable, text: str, *values: object) -> None:
-    """Logs what has a key once an hour."""
+    """Logs messages of one key once an hour."""
     now = time.monotonic()
     if now >= logged.get(key, -SELDOM) + SELDOM:
         logged[key] = now
@@ -53,7 +53,7 @@ def utc(seconds: Optional[float] = None) -> str:
 
 
 def notify(text: str) -> None:
-    """Tells systemd, if it wants to be told."""
+    """Sends systemd a notice, if it wants them."""
     if path := os.environ.get("NOTIFY_SOCKET"):
         to = "\0" + path[1:] if path[0] == "@" else path
         try:
@@ -64,6 +64,6 @@ def notify(text: str) -> None:
 
 
 def watchdog_seconds() -> float:
-    """How often systemd, or nobody, wants to be told that the book answers."""
+    """The seconds between notices that the book answers, for systemd or for nobody."""
     given = os.environ.get("WATCHDOG_USEC", "")
     return int(given) / 2e6 if re.fullmatch("[1-9][0-9]{0,18}", given) else 30.0

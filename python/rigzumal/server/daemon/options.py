@@ -1,4 +1,4 @@
-"""What the command line says, and the operations that a socket may take."""
+"""The command line, and the operations that a socket may allow."""
 
 from __future__ import annotations
 
@@ -24,7 +24,7 @@ MOST_AT_ONCE = 254  # of a user: credkeep takes 255
 
 @dataclass(frozen=True)
 class Kind:
-    """What an operation's line has, and what it costs the book."""
+    """The fields of an operation's line, and its cost for the book."""
 
     names: int = 1  # how many of its fields are names, from the first on
     hashes: bool = False
@@ -79,7 +79,7 @@ def flag(text: str) -> Any:
 
 @dataclass
 class Options:
-    """What was given, or else these."""
+    """The given values, or else these."""
 
     file: str = ""
     doors: list[Door] = field(default_factory=list)
@@ -107,7 +107,7 @@ class Options:
     fold_local_part: bool = flag("fold the part before the @ too")
 
     def workers(self) -> int:
-        """How many lines the book hashes at once: one more, which is for another user."""
+        """The lines that the book hashes at once: one more, for another user."""
         return 1 + min(self.at_once or len(os.sched_getaffinity(0)), MOST_AT_ONCE)
 
     def book_name(self) -> str:
@@ -168,7 +168,7 @@ def parser() -> Parser:
 
 
 def folder_of(file: str) -> pathlib.Path:
-    """Where the sockets of a book are: a folder of its own, by the book's name or path."""
+    """The folder of a book's sockets, by the book's name or path."""
     path = pathlib.Path(os.path.abspath(file)).with_suffix("")
     return SOCKETS / (path.name if path.parent == BOOKS else "-".join(path.parts[1:]))
 
@@ -205,7 +205,7 @@ def parse(words: Sequence[str]) -> Options:
     """The options of a command line.
 
     Raises:
-        Problem: they can't be meant.
+        Problem: they lack FILE, or contradict each other.
     """
     options = parser().parse_args(words, Options())
     if options.metrics:

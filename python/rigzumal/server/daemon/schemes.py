@@ -43,7 +43,7 @@ def is_right(record: bytes, password: Optional[bytes]) -> bool:
 
 
 def decoded(field: bytes) -> Optional[bytes]:
-    """What a field of a line has; none if it isn't base64."""
+    """The bytes in a field of a line; None if it isn't base64."""
     padded = field + b"=" * (-len(field) % 4)
     try:
         return b"" if field == b"-" else base64.b64decode(padded, validate=True)
@@ -64,7 +64,7 @@ def crypt_r() -> Any:
     """crypt(3), for many threads.
 
     Raises:
-        Problem: this machine has none.
+        Problem: this machine lacks crypt(3).
     """
     for name in LIBRARIES:
         try:

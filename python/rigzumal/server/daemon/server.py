@@ -77,7 +77,7 @@ async def open_doors(service: Service) -> None:
 
 
 async def probe(service: Service) -> None:
-    """Measures a hash some times, of which other work on the machine may slow one."""
+    """Measures a hash some times, since other work on the machine may slow one down."""
     for _ in range(3):
         await service.log_in(*PROBE)
 
@@ -114,7 +114,7 @@ async def end(service: Service) -> int:
 
 
 async def end_clients(service: Service, began: float) -> None:
-    """Ends each once its lines are answered, or once it leaves these unread."""
+    """Ends each client once its answers are sent, or once it leaves them unread."""
     for client in service.clients():
         client.end()
     seconds = 0.0

@@ -58,7 +58,7 @@ class Request:
         return b"wrong" if self.kind.changes else b"no"
 
     def without_record(self, answer: bytes) -> bytes:
-        """An answer without the record that `disable NAME show` takes away, and says."""
+        """An answer without the record that `disable NAME show` removes and shows."""
         is_shown = self.words[0] == b"disable" and b":" in answer
         return b"disabled" if is_shown else answer
 
@@ -89,7 +89,7 @@ class Service:
     # ---- before a line has a place
 
     def submit(self, client: Connection, line: bytes) -> None:
-        """Has a line answered, now or once it had a place."""
+        """Has a line answered, at once or after it had a place."""
         tag, *words = line.split(b" ")
         words += [b"", b""][len(words) :]  # an operation, and one field at least
         if not TAG.fullmatch(tag):
@@ -109,7 +109,7 @@ class Service:
             places.submit(client.user, client, request)
 
     def own_answer(self, client: Connection, words: list[bytes]) -> bytes:
-        """The server's answer to a line that the book needn't be asked for, or nothing."""
+        """The server's own answer to a line, or nothing if the book has to be asked."""
         kind = OPERATIONS.get(words[0])
         if kind is None or words[0] not in client.door.operations:
             what = words[0].decode() if kind else "an unknown operation"
@@ -130,7 +130,7 @@ class Service:
         return b"short" if any(is_short(it, least) for it in new) else b""
 
     def in_book(self, name: bytes) -> bytes:
-        """What stands in the book for a name; "@", which no name is, where it is refused."""
+        """The book's form of a name; "@", which is no name, for a refused one."""
         local, at, domain = name.rpartition(b"@")
         is_hashed = re.fullmatch(rb"e\.[a-z2-7]{30}", name)
         if not self.options.mail_names or not (at or is_hashed):
@@ -143,7 +143,7 @@ class Service:
         return b"e." + base64.b32encode(digest)[:30].lower()
 
     def places(self, kind: Kind) -> Places[Request]:
-        """Where a line waits: for a hash, for the disk, or for neither."""
+        """The places that a line waits for: of hashes, of the disk, or of neither."""
         is_quick = kind.changes and self.hash_seconds <= SYNC
         if kind.hashes and not is_quick:
             return self.hashes
@@ -157,7 +157,7 @@ class Service:
         task.add_done_callback(self.tasks.discard)
 
     async def process(self, request: Request) -> None:
-        """Has a request answered, unless it needn't be any more."""
+        """Has a request answered, unless its client has gone and it changes nothing."""
         client, kind, answer = request.client, request.kind, LATER
         self.tally.waited += time.monotonic() - request.came
         try:
@@ -209,7 +209,7 @@ class Service:
         return answer
 
     async def log_in(self, *words: bytes) -> bytes:
-        """The answer to a login; the quickest of late tells what a hash of new costs takes."""
+        """The answer to a login; the quickest tells the time of a hash of new costs."""
         began = time.monotonic()
         self.logins += 1
         answer = await self.book.ask(*words)
@@ -220,7 +220,7 @@ class Service:
         return answer
 
     async def ask_besides(self, request: Request, *words: bytes) -> bytes:
-        """The book's answer to what a request needs besides, which is audited too."""
+        """The book's answer to a further line of a request, which is audited too."""
         answer = await self.book.ask(*words)
         await self.audit.record(replace(request, words=list(words)), answer)
         return answer

@@ -40,7 +40,7 @@ COUNTED = [*" ".join(counts for counts, _ in METRICS.values()).split(), "book"]
 
 @dataclass
 class Tries:
-    """How many failed, and the moment until which the next has to wait."""
+    """The number of failed tries, and the moment until which the next has to wait."""
 
     count: int
     until: float
@@ -49,9 +49,9 @@ class Tries:
 class Limiter:
     """Failed tries at each of many names, or of each of many users.
 
-    From `most` on, each doubles the wait for the next. No more run at once than may fail
-    until then. What is remembered is bounded: then what is forgotten anyway goes first,
-    then those who needn't wait, the oldest first.
+    From `most` on, each failed try doubles the wait for the next. No more tries run at
+    once than may fail until then. The memory is bounded: expired tries go first, then
+    the keys that needn't wait, the oldest first.
     """
 
     def __init__(self, most: int) -> None:
@@ -62,7 +62,7 @@ class Limiter:
         self.running, self.ends = Counter[str](), dict[str, asyncio.Event]()
 
     def rest(self, key: str) -> float:
-        """For how many seconds more the next try has to wait."""
+        """The seconds that the next try still has to wait."""
         found = self.many.get(key)
         return max(0.0, found.until - time.monotonic()) if found else 0.0
 
@@ -130,7 +130,7 @@ class Limiter:
                 self.few[key] = Tries(found.count, time.monotonic())
 
     def waits(self) -> Iterator[tuple[str, int, float]]:
-        """Who has to wait: with how many failed tries, and for how many seconds more."""
+        """The keys that have to wait, with their failed tries and seconds."""
         for key, tries in self.many.items():
             if rest := self.rest(key):
                 yield key, tries.count, rest
@@ -152,14 +152,14 @@ class Tally:
         self.own[b"forgive"] = self.forgive
 
     def limits(self, kind: Kind, name: str, uid: int) -> Limits:
-        """Those of a request, if it is a try."""
+        """The limits of a request, if it is a try."""
         if not kind.tries:
             return ()
         own = ((self.users, f"uid {uid}"),) if uid in PEOPLE else ()
         return ((self.names, name), *own)
 
     def seconds_to_wait(self, name: str, uid: int) -> float:
-        """How long the next try has to wait."""
+        """The seconds that the next try has to wait."""
         return max(self.names.rest(name), self.users.rest(f"uid {uid}"))
 
     async def begin(self, limits: Limits) -> bool:
@@ -206,7 +206,7 @@ class Tally:
         return " ".join(["stats", *(f"{it}={now.get(it, 0)}" for it in COUNTED)])
 
     def waits(self, _: str) -> str:
-        """Who has to wait: KEY:FAILED:SECONDS, a user as uid=1000, which is no name."""
+        """The keys that have to wait: KEY:FAILED:SECONDS, with uid=1000 for a user."""
         found = [*self.names.waits(), *self.users.waits()][:MOST_SHOWN]
         words = [f"{key}:{count}:{rest:.0f}" for key, count, rest in found]
         return " ".join(["waits", *(word.replace(" ", "=") for word in words)])
@@ -218,7 +218,7 @@ class Tally:
         return "forgiven" if is_found else "none"
 
     def last(self, name: str) -> str:
-        """When a password was right last, since this server's start."""
+        """The time of the last right password, since this server's start."""
         return f"last {utc(self.logins[name])}" if name in self.logins else "none"
 
 

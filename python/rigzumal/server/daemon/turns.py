@@ -1,4 +1,4 @@
-"""Whose turn it is: to be read, to have a place at the book, to change it."""
+"""Turns: for connections to be read, for lines to go to the book, for changes."""
 
 from __future__ import annotations
 
@@ -17,7 +17,7 @@ Item = TypeVar("Item")
 
 
 class Queue(Generic[Item]):
-    """What waits: users take turns, then the clients of each, an item each."""
+    """Waiting items: users take turns, then the clients of each, an item each."""
 
     def __init__(self) -> None:
         self.users = OrderedDict[Hashable, OrderedDict[Hashable, deque[Item]]]()
@@ -41,10 +41,10 @@ class Queue(Generic[Item]):
 
 
 class Places(Queue[Item]):
-    """Places at the book, and what waits for one.
+    """Places at the book, and the items that wait for one.
 
-    The user of whom fewest run has the next. The last place is for a user of whom none
-    runs: so one who floods leaves it free.
+    The user with the fewest running items has the next. The last place is for a user
+    with none: so a flood leaves it free.
     """
 
     def __init__(self, count: int, start: Callable[[Item], object]) -> None:
@@ -74,9 +74,9 @@ class Places(Queue[Item]):
 
 
 class Rota(Queue["Connection"]):
-    """Connections that are due. A step of one takes one request.
+    """Connections that are due. A step of a connection takes one request.
 
-    So whoever comes waits for a slice, and for a step of each other user, whatever these
+    So a newcomer waits for a slice, and for a step of each other user, whatever these
     send.
     """
 
@@ -96,7 +96,7 @@ class Rota(Queue["Connection"]):
             asyncio.get_running_loop().call_soon(self.run)
 
     def run(self) -> None:
-        """Goes on with those that wait, for a slice."""
+        """Goes on with the waiting connections, for a slice."""
         end, self.is_begun = time.monotonic() + SLICE, False
         while self.users and time.monotonic() < end:
             connection = self.pop(next(iter(self.users)))
@@ -110,8 +110,8 @@ class Rounds:
     """The book answers nobody while a change waits for the disk.
 
     Beside logins, changes go in rounds, and rest for longer than the round took. Changes
-    that hash are synced together, so all that wait go in one round. Each other one is a
-    sync of its own, so one of them does. If nobody logs in, none waits here.
+    that hash are synced together, so all that wait go in one round. Each other change
+    is a sync of its own, so one of them goes. Without logins no change waits here.
     """
 
     def __init__(self, is_busy: Callable[[], bool]) -> None:
@@ -121,7 +121,7 @@ class Rounds:
         self.gate.set()
 
     async def begin(self, is_alone: bool) -> None:
-        """Returns when a change may go: now, or in the next round."""
+        """Returns once a change may go: now, or in the next round."""
         is_due = self.gate.is_set()
         while self.is_busy() and not is_due:
             await self.gate.wait()
@@ -132,7 +132,7 @@ class Rounds:
         self.running += 1
 
     def end(self) -> None:
-        """One was answered; behind the last of a round comes the rest."""
+        """A change was answered; after the last of a round come the others."""
         self.running -= 1
         if not self.running:
             self.has_alone = False

@@ -51,7 +51,7 @@ def credentials(headers: Sequence[tuple[bytes, bytes]]) -> Optional[bytes]:
 
 
 class WebClient(Connection):
-    """One that sends requests. It gets the answer to each before the next is read."""
+    """A client that sends requests, each answered before the next is read."""
 
     def __init__(self, service: Service, door: Door, sock: socket.socket) -> None:
         super().__init__(service, door, sock)
@@ -121,7 +121,7 @@ class WebDoor(Door):
 
 @dataclass(eq=False)
 class LoopbackDoor(WebDoor):
-    """The same at a port of 127.0.0.1, which each user of the machine may reach."""
+    """A port of 127.0.0.1 for HTTP, which each user of the machine may reach."""
 
     port: int = 0
     family = socket.AF_INET
