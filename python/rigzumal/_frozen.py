@@ -22,7 +22,7 @@ class Frozen:
         return vars(self)
 
     def replace(self: Self, **changes: Any) -> Self:
-        """The same with other values of some attributes."""
+        """A copy with other values of some attributes."""
         return type(self)(**{**vars(self), **changes})
 
     def __replace__(self: Self, **changes: Any) -> Self:

@@ -212,7 +212,7 @@ class PasswordHasher(_Hasher):
         )
 
     def replace(self, **changes: Any) -> PasswordHasher:
-        """The same with other values of some attributes."""
+        """A copy with other values of some attributes."""
         if "secrets" in changes:
             changes = {"secret": None, **changes}
         return super().replace(**{"secrets": self.secrets or None, **changes})

@@ -239,7 +239,7 @@ def trim() -> int:
 
 
 def keep(most: int) -> int:
-    """Bounds the bytes that are kept from now on, and answers the old bound.
+    """Bounds the bytes that are kept from now on, and returns the old bound.
 
     The first bound is 64 MiB, or RIGZUMAL_KEEP of the environment; with 0 no memory is kept.
     """

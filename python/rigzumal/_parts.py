@@ -91,6 +91,6 @@ def scheme_of_another(record: str) -> str:
 
 
 def none_of_ours(record: str) -> str:
-    """The same, for people."""
+    """The scheme in words, for people."""
     scheme = scheme_of_another(record)
     return f"the record's scheme is {scheme}" if scheme else ""

@@ -1,4 +1,4 @@
-"""Encoded hashes, with the salts and tags that no record of `rigzumal` has: those of any length."""
+"""Encoded hashes, with salts and tags of any length."""
 
 from __future__ import annotations
 

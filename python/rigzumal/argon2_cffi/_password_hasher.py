@@ -119,10 +119,10 @@ class PasswordHasher:
     def verify(
         self, hash: Union[str, bytes], password: Union[str, bytes]
     ) -> Literal[True]:
-        """True if the hash is one of the password.
+        """True if the password is the hash's.
 
         Raises:
-            VerifyMismatchError: it is one of another password.
+            VerifyMismatchError: the hash is of another password.
             VerificationError: it can't be verified for another reason.
             InvalidHashError: it begins with none of Argon2's kinds, or isn't a string of C.
         """

@@ -23,7 +23,7 @@ class CompareAndSetBackend(ModelBackend):
     """Django's ModelBackend, which undoes no change of a password.
 
     - At a right login it rehashes a record of old costs, by an UPDATE that compares the
-      row's record; if that has changed, it judges the password at the new one.
+      row's record; if the record has changed, it judges the password at the new one.
     - It reads the user from the database that it writes to, so a replica may lag.
     - An unknown name and an inactive user cost one hash and two queries, as a wrong
       password does; an inactive user's record isn't rehashed.
@@ -69,7 +69,7 @@ class CompareAndSetBackend(ModelBackend):
 
 @hidden
 def _spend(password: Any) -> None:
-    """Hashes what was typed, as long as a wrong password of that length takes."""
+    """Hashes the typed password, for as long as a wrong one of that length takes."""
     try:
         hashers.make_password(password)
     except ValueError:  # the text has no form in UTF-8, and is judged as an empty one

@@ -68,7 +68,7 @@ def _password_field() -> Optional[Any]:
 
 
 def _classes(setting: str, number: str) -> tuple[list[tuple[str, type]], Messages]:
-    """The classes that a setting lists, with their paths, and what is amiss with the list."""
+    """The classes in a setting's list, with their paths, and the list's faults."""
     listed = getattr(settings, setting)
     if isinstance(listed, str):
         text = f"{setting} is a text, where a list is wanted."
@@ -93,15 +93,15 @@ def _classes(setting: str, number: str) -> tuple[list[tuple[str, type]], Message
 
 
 def _misspelt(setting: str) -> str:
-    """What a hint says of a setting whose name is nearly this one's."""
+    """The hint at a setting whose name is nearly this one's."""
     others = set(dir(settings)) - {setting}
     near = difflib.get_close_matches(setting, others, 1, 0.9)
     return f" The settings have {near[0]}: is {setting} meant?" if near else ""
 
 
 def backends(**_: Any) -> Messages:
-    """W001: the backend isn't used. W002: one that doesn't compare is used too.
-    E012: one can't be imported. W014: the model compares, under Django's own backend.
+    """W001: the backend isn't used. W002: one that doesn't compare is used too. E012:
+    one can't be imported. W014: the model compares, under Django's own backend.
 
     A model that compares does so under any backend which calls its check_password.
     """

@@ -46,7 +46,7 @@ class _Comparing:
 
     @hidden
     def save(self: Any, commit: bool = True) -> Any:
-        """Writes the new password, if nothing came between."""
+        """Writes the new password, unless the record was changed meanwhile."""
         if not commit:
             raise ValueError(
                 "a record is compared as it is put: there is no commit=False"
@@ -98,6 +98,6 @@ class AdminPasswordChangeForm(_Comparing, forms.AdminPasswordChangeForm):
 
 
 class AdminOwnPasswordChangeForm(PasswordChangeForm):
-    """PasswordChangeForm as the admin shows it, for the one who is logged in."""
+    """PasswordChangeForm as the admin shows it, for the user who is logged in."""
 
     required_css_class = "required"

@@ -2,7 +2,7 @@
 
 `user.password` is the copy: the record as it was when the user was read. A record is
 judged and hashed without a lock, and an UPDATE writes the new one if the row still has
-the copy. If it hasn't, the row's record is judged instead. So the answer is that of the
+the copy. Otherwise the row's record is judged instead. So the answer is that of the
 row's record, and no change is lost to a slower one.
 
 In a transaction of the caller's (`ATOMIC_REQUESTS`) a change counts once that has been
@@ -111,7 +111,7 @@ def note_put(user: Any, database: str, copy: Copy) -> None:
 def known_copy(user: Any, database: str) -> Optional[Copy]:
     """The user's record in a database; None if it wasn't read or written there.
 
-    For the database that is written it may come from another one: a replica.
+    For a write, the record may have been read from another database: a replica.
     """
     copies: dict[str, Copy] = getattr(user, "_record_copies", {})
     if copies and database not in copies and database == database_of(user):
@@ -198,7 +198,7 @@ def judge_login(user: Any, password: Any) -> Judged:
 def judge_change(
     user: Any, old_password: Any, new_password: Any, judged: Optional[str] = None
 ) -> Judged:
-    """A change of the password, if the old one is right; at the record `judged` it is."""
+    """A change of the password, if the old one is right, as it is at `judged`."""
 
     def judge(copy: str) -> tuple[bool, str]:
         right = copy == judged or hashers.check_password(old_password, copy)

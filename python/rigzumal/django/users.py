@@ -199,7 +199,7 @@ def comparing(model: Any) -> Iterator[None]:
 
 
 def own_methods(classes: Any, *names: str) -> list[str]:
-    """Those of these methods that are neither Django's nor the mixin's."""
+    """The methods of these names that are neither Django's nor the mixin's."""
     known = (AbstractBaseUser, CompareAndSetMixin)
     having = [(of, name) for name in names for of in classes if name in vars(of)]
     return [f"{of.__qualname__}.{name}" for of, name in having if of not in known]
