@@ -60,14 +60,14 @@
 extern "C" {
 #endif
 
-/* Of a call whose answer a program has to look at: compilers warn where one ignores it. */
+/* For a call whose answer a program must use: compilers warn where it is ignored. */
 #ifdef __GNUC__
 #define RIGZUMAL_CHECK_ANSWER __attribute__((__warn_unused_result__))
 #else
 #define RIGZUMAL_CHECK_ANSWER
 #endif
 
-/* The version of this header; rigzumal_version answers that of the library. */
+/* The version of this header; rigzumal_version returns that of the library. */
 #define RIGZUMAL_LIBRARY_VERSION "0.2.0"
 
 /* Sizes in bytes. */
@@ -82,7 +82,7 @@ enum rigzumal_size {
     RIGZUMAL_TAG_SIZE_MAX = 64
 };
 
-/* The kinds of Argon2, and what stands for scrypt beside them. For passwords: Argon2id. */
+/* The kinds of Argon2, and a number for scrypt. For passwords: Argon2id. */
 enum rigzumal_scheme {
     RIGZUMAL_ARGON2D = 0,
     RIGZUMAL_ARGON2I = 1,
@@ -100,14 +100,14 @@ enum rigzumal_argon2_version { RIGZUMAL_VERSION_10 = 0x10, RIGZUMAL_VERSION_13 =
 enum rigzumal_fault {
     RIGZUMAL_OK = 0,
     /* Of a text, or of its parts: the first from the left. */
-    RIGZUMAL_SHAPE = 1,    /* it does not begin with '$', or a field is missing or too many */
+    RIGZUMAL_SHAPE = 1,    /* the text lacks its '$' or a field, or has a field too many */
     RIGZUMAL_SCHEME = 2,   /* the scheme is none of argon2d, argon2i, argon2id and scrypt */
-    RIGZUMAL_VERSION = 3,  /* no version that can be read: settings have 19, records 19 or 16 */
-    RIGZUMAL_PARAMS = 4,   /* the numbers are not written in the form of the scheme */
+    RIGZUMAL_VERSION = 3,  /* unsupported version: settings need 19, records 19 or 16 */
+    RIGZUMAL_PARAMS = 4,   /* the costs are not in the form of the scheme */
     RIGZUMAL_RANGE = 5,    /* a number is outside its range */
     RIGZUMAL_SALT = 6,     /* the salt is not base64, or its size is outside its range */
     RIGZUMAL_TAG = 7,      /* the tag is not base64, or its size is outside its range */
-    RIGZUMAL_MEMORY = 8,   /* there is too little memory */
+    RIGZUMAL_MEMORY = 8,   /* out of memory */
     RIGZUMAL_TOO_LONG = 9, /* the text has over 512 bytes */
     /* Of a check, and of the room for a text. */
     RIGZUMAL_MISMATCH = 10, /* the record is of another password */
@@ -117,14 +117,14 @@ enum rigzumal_fault {
     RIGZUMAL_NO_VERSION = 13,     /* the number names no version */
     RIGZUMAL_LANES = 14,          /* not 1 to 255 lanes */
     RIGZUMAL_COST = 15,           /* the memory isn't 8 KiB a lane to 2 GiB */
-    RIGZUMAL_PASSES = 16,         /* there is no pass */
-    RIGZUMAL_TAG_SIZE_FAULT = 17, /* the tag hasn't 4 to 2^32 - 1 bytes */
+    RIGZUMAL_PASSES = 16,         /* the number of passes is 0 */
+    RIGZUMAL_TAG_SIZE_FAULT = 17, /* the tag size isn't 4 to 2^32 - 1 */
     RIGZUMAL_INPUT_SIZE = 18,     /* an input has 2^32 bytes or more */
     /* Of the numbers of scrypt. */
     RIGZUMAL_SCRYPT_COST = 19, /* ln isn't 1 to 23 and below 16 r, or the table is over 2 GiB */
     RIGZUMAL_BLOCK_SIZE = 20,  /* r isn't 1 to 255 */
     RIGZUMAL_BLOCKS = 21,      /* p isn't 1 to 255 */
-    RIGZUMAL_KEY_SIZE = 22,    /* the key hasn't 1 to 2^32 - 1 bytes */
+    RIGZUMAL_KEY_SIZE = 22,    /* the key size isn't 1 to 2^32 - 1 */
     /* Of a step. */
     RIGZUMAL_NO_OPERATION = 23,  /* the number names no operation */
     RIGZUMAL_COPY = 24,          /* the copy is not a record */
@@ -143,18 +143,18 @@ enum rigzumal_fault {
 /* The version of the library in use, such as "0.2.0". */
 const char *rigzumal_version(void);
 
-/* Gives the memory that is kept between calls back to the system, and answers its size. Running
+/* Returns the memory that is kept between calls to the system, and answers its size. Running
  * calls keep theirs. Use it in a program that hashes seldom: the system maps and clears the memory
  * of the next call again, which needs longer. */
 size_t rigzumal_trim(void);
 
 /* Bounds the bytes that are kept from now on, in whole huge pages of 2 MiB: 0 keeps none, and
  * 134217728 keeps the table of RIGZUMAL_SCRYPT_COSTS, or the memory of two callers at once with
- * RIGZUMAL_ARGON2_COSTS. It gives back the memory that is kept now,
- * and answers the old bound: at the start RIGZUMAL_KEEP of the environment, or 64 MiB. */
+ * RIGZUMAL_ARGON2_COSTS. It returns the memory that is kept now to the system, and answers the old
+ * bound: at the start RIGZUMAL_KEEP of the environment, or 64 MiB. */
 size_t rigzumal_keep(size_t most);
 
-/* The same of libargon2.so.1, the drop-in library, which has its own memory and no other call of
+/* The same for libargon2.so.1, the drop-in library, which has its own memory and no other call of
  * this header. */
 size_t rigzumal_libargon2_trim(void);
 size_t rigzumal_libargon2_keep(size_t most);
@@ -185,8 +185,8 @@ int rigzumal_check(const char *record, const void *password,
                    size_t password_size) RIGZUMAL_CHECK_ANSWER;
 
 /* The two calls above with a secret beside the password: a pepper that the program keeps apart from
- * its records, K of RFC 9106, section 3.1. The text doesn't show it; without the same secret no
- * password is right. Scrypt has no secret: SCHEME.
+ * its records, K of RFC 9106, section 3.1. The text doesn't show the secret; without the
+ * same one no password is right. Scrypt has no secret: SCHEME.
  * Faults: those of rigzumal_record and of rigzumal_check; INPUT_SIZE of the secret too. */
 int rigzumal_record_with_secret(char *text, size_t text_size, size_t tag_size, const char *costs,
                                 const void *salt, size_t salt_size, const void *password,
@@ -225,7 +225,7 @@ int rigzumal_needs_rehash(const char *record, const char *costs, size_t salt_siz
 /* The operations on the record of an account. */
 enum rigzumal_operation {
     RIGZUMAL_ENROL = 1,   /* make the first record */
-    RIGZUMAL_VERIFY = 2,  /* is it the password? */
+    RIGZUMAL_VERIFY = 2,  /* compare the password with the record */
     RIGZUMAL_CHANGE = 3,  /* replace the record by one of a new password */
     RIGZUMAL_UPGRADE = 4, /* rehash the same password under other costs */
     RIGZUMAL_REMOVE = 5   /* remove the record */
@@ -257,15 +257,14 @@ enum rigzumal_reply {
  *         WHERE id = ? AND record IS NOT DISTINCT FROM ?               -- id; the copy, or NULL
  *
  * IS NOT DISTINCT FROM is an = that holds of two NULLs too: MySQL and MariaDB write <=>, and SQLite
- * before 3.39 IS. With = alone an ENROL would never find its copy. The comparison is to be that of
- * bytes, whatever the column's collation.
+ * before 3.39 IS. With = alone an ENROL would never find its copy. Compare bytes, whatever the
+ * column's collation.
  *
  * If the store updates a row only if it still has the copy, and compares and writes in one step,
  * its replies are those of one history, in which each operation was done whole at its update. This
- * holds whatever else clients do to the rows, if each compares and writes so: a reset, a record of
- * another scheme, or a new row, whose copy is no row. If an update changes no row, answer CHANGED,
- * or begin again with the row's record. A reply that makes no change needs a second look instead of
- * the update.
+ * holds beside any other changes that compare and write so: a reset, a record of another scheme, or
+ * a new row, whose copy is no row. If an update changes no row, answer CHANGED, or begin again with
+ * the row's record. A reply that makes no change needs a second look instead of the update.
  *
  * copy is the record's text, or null if the account has none. password is the new password of an
  * ENROL, and otherwise the judged one. A CHANGE reads new_password; an ENROL, a CHANGE and an
@@ -324,7 +323,7 @@ int rigzumal_scrypt(void *key, size_t key_size, const struct rigzumal_scrypt *nu
  * zero in a child forked meanwhile.
  *
  * Use threads to make one login faster on an idle machine. Of 64 MiB, three passes and four lanes,
- * on four processors, a tag took 102 ms on one thread and 32 ms on four. They gain a service
+ * on four processors, a tag took 102 ms on one thread and 32 ms on four. Threads gain a service
  * little, since it has as many logins at once as processors: four callers made a tag every 30 ms
  * with one thread each, and every 28 ms with four; at 19 MiB and two passes every 6.0 ms either
  * way. */

@@ -39,9 +39,9 @@ errors! {
     Shape = 1,
     /// A text's scheme is none of argon2d, argon2i, argon2id and scrypt.
     Scheme = 2,
-    /// A text's version is not one that can be read: 19, in a record 16 too.
+    /// Unsupported version: settings need 19, records 19 or 16.
     Version = 3,
-    /// A text's numbers are not written in the form of the scheme.
+    /// The costs are not in the form of the scheme.
     Params = 4,
     /// A text's number is outside its range.
     Range = 5,
@@ -49,13 +49,13 @@ errors! {
     Salt = 6,
     /// The tag is not base64, or its size is outside its range: 4 to 64 bytes.
     Tag = 7,
-    /// There is too little memory.
+    /// Out of memory.
     Memory = 8,
     /// A text has over 512 bytes.
     TooLong = 9,
     /// The record is one of another password.
     Mismatch = 10,
-    /// A text doesn't fit into its room.
+    /// The room for a text is too small.
     NoRoom = 11,
     /// A number names no kind of Argon2.
     NoKind = 12,
@@ -65,9 +65,9 @@ errors! {
     Lanes = 14,
     /// The memory isn't 8 KiB a lane to 2 GiB.
     Cost = 15,
-    /// There is no pass.
+    /// The number of passes is 0.
     Passes = 16,
-    /// A raw tag hasn't 4 to 2^32 - 1 bytes.
+    /// The size of a raw tag isn't 4 to 2^32 - 1.
     TagSize = 17,
     /// An input has 2^32 bytes or more.
     InputSize = 18,
@@ -77,7 +77,7 @@ errors! {
     BlockSize = 20,
     /// p isn't 1 to 255.
     Blocks = 21,
-    /// A raw key hasn't 1 to 2^32 - 1 bytes.
+    /// The size of a raw key isn't 1 to 2^32 - 1.
     KeySize = 22,
     /// The system gave no random bytes for a salt.
     NoRandom = 26,
