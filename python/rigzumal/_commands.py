@@ -59,7 +59,7 @@ class Words(argparse.ArgumentParser):
             if near and first.startswith("--"):
                 message += f"; is {near[0]} meant?"
         hidden = r"invalid choice: .*(?=\(choose)"
-        message = re.sub(hidden, "there is no such word ", message, flags=re.S)
+        message = re.sub(hidden, "unknown word ", message, flags=re.S)
         self.print_usage(sys.stderr)
         self.exit(Status.WORDS, f"{self.prog}: error: {message}\n")
 
@@ -83,7 +83,7 @@ def memory(text: str) -> int:
     unit = text[-1:].upper()
     number = text[:-1] if unit in _UNITS else text
     if not (number.isascii() and number.isdigit()):
-        raise argparse.ArgumentTypeError(f"{text!r} is no size, such as 64M")
+        raise argparse.ArgumentTypeError(f"{text!r} is not a size such as 64M")
     return int(number) * _UNITS.get(unit, 1)
 
 
@@ -120,7 +120,7 @@ def read_password(prompt: str = "Password", *, is_new: bool = False) -> bytes:
         Refusal: two that were typed differ, none was typed, or nothing can be read.
     """
     if sys.stdin is None:
-        raise Refusal("there is no standard input", Status.STREAM)
+        raise Refusal("standard input is closed", Status.STREAM)
     if not sys.stdin.isatty():
         return sys.stdin.buffer.read()
     try:

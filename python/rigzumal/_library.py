@@ -107,7 +107,7 @@ def bytes_of(secret: Secret) -> bytes:
     if isinstance(secret, bytes):
         return secret
     if not isinstance(secret, str):
-        return data_of(secret, "bytes or str is")
+        return data_of(secret, "bytes or str")
     try:
         return secret.encode()
     except UnicodeEncodeError:
@@ -115,7 +115,7 @@ def bytes_of(secret: Secret) -> bytes:
     raise ValueError("the text has no form in UTF-8")
 
 
-def data_of(data: object, wanted: str = "bytes are") -> bytes:
+def data_of(data: object, wanted: str = "bytes") -> bytes:
     """The bytes of a salt or the like, which can't be text.
 
     Raises:
@@ -127,7 +127,7 @@ def data_of(data: object, wanted: str = "bytes are") -> bytes:
         return bytes(memoryview(data))  # type: ignore[arg-type]
     except TypeError:
         pass
-    raise TypeError(f"{wanted} wanted, not {type(data).__name__}")
+    raise TypeError(f"expected {wanted}, not {type(data).__name__}")
 
 
 def text_bytes(text: Secret) -> bytes:
@@ -245,7 +245,7 @@ def keep(most: int) -> int:
     """
     whole_number("most", most)
     if not 0 <= most < 2**63:
-        raise OverflowError("most is to be 0 to 2^63 - 1")
+        raise OverflowError("most must be 0 to 2^63 - 1")
     return int(_library.rigzumal_keep(most))
 
 
@@ -310,14 +310,14 @@ def in_range(name: str, number: int, least: int, most: int, fault: int) -> None:
     """Raises an InvalidNumbersError of this fault that names the number, if it is out of range."""
     whole_number(name, number)
     if not least <= number <= most:
-        said = f"{name} is to be {least} to {most}, and not {number}"
+        said = f"{name} must be {least} to {most}, not {number}"
         raise InvalidNumbersError(fault, said)
 
 
 def whole_number(name: str, number: object) -> None:
     """Raises a TypeError that names the number if it is no int."""
     if not isinstance(number, int) or isinstance(number, bool):
-        raise TypeError(f"{name} is to be an int, not {type(number).__name__}")
+        raise TypeError(f"{name} must be an int, not {type(number).__name__}")
 
 
 def checked(number: int) -> int:

@@ -59,7 +59,7 @@ class Import:
             try:
                 words += self.put(batch)
             except Exception:
-                say(f"no line from {start + 1} on is known to be taken")
+                say(f"the lines from {start + 1} on may be missing")
                 raise
             for place in range(start, len(words)):
                 if words[place] == "another":
@@ -82,11 +82,11 @@ class Import:
     def _record(self, line: str, key_of: Callable[[str], Key]) -> Line:
         name, _, record = line.rpartition(" ")
         if not line.isascii() and _NO_UTF8.search(line):
-            raise Refusal("it is not in UTF-8")
+            raise Refusal("the line is not UTF-8")
         if line.startswith("\ufeff"):
-            raise Refusal("it begins with a byte order mark")
+            raise Refusal("the line begins with a byte order mark")
         if not name.strip():
-            raise Refusal('it is no "NAME RECORD": a space is between, and no colon')
+            raise Refusal('a line is "NAME RECORD", with a space and no colon')
         if name != name.strip():
             raise Refusal("the name begins or ends with a blank")
         key = key_of(name)

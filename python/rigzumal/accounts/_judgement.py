@@ -48,12 +48,12 @@ class Judge:
     ) -> None:
         if not hasattr(hasher, "hash_len"):
             kind = type(hasher).__name__
-            raise TypeError(f"a PasswordHasher or a ScryptHasher is wanted, not {kind}")
+            raise TypeError(f"pass a PasswordHasher or a ScryptHasher, not {kind}")
         if hasher.hash_len != _TAG_SIZE:
             raise ValueError(f"records of accounts have tags of {_TAG_SIZE} bytes")
         if foreign is not None and not callable(foreign):
             kind = type(foreign).__name__
-            raise TypeError(f"`foreign` is to be a function, not a {kind}")
+            raise TypeError(f"`foreign` must be a function, not a {kind}")
         self._hasher, self.foreign = hasher, foreign
         self._upgraded: dict[str, bool] = {}
         # b"" among older secrets stands for records without one.

@@ -60,11 +60,11 @@ class Operations(Generic[AnyPool]):
     ) -> None:
         whole_number("tries", tries)
         if tries < 1 or not patience >= 0:
-            raise ValueError("tries is 1 or more, and patience 0 or more")
+            raise ValueError("tries must be 1 or more, and patience 0 or more")
         for one in (pool, *([] if replica is None else [replica])):
             check_pool(one)
         if not isinstance(dialect, Dialect):
-            wanted = 'a dialect is wanted, such as Postgres("users", "id", "record")'
+            wanted = 'pass a dialect such as Postgres("users", "id", "record")'
             raise TypeError(f"{wanted}, not a {type(dialect).__name__}")
         self._judge = Judge(hasher, foreign, upgrade_from)
         self._passwords = Passwords(least_length, prepare)

@@ -30,7 +30,7 @@ class Passwords:
             raise ValueError(f"least_length is 0 to {LONGEST_PASSWORD}")
         if self.prepare is not None and not callable(self.prepare):
             kind = type(self.prepare).__name__
-            raise TypeError(f"`prepare` is to be a function, not a {kind}")
+            raise TypeError(f"`prepare` must be a function, not a {kind}")
 
     def new(self, password: Secret) -> bytes:
         """The bytes of a password that an account is to get.

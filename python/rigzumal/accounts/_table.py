@@ -201,7 +201,7 @@ class Table:
         if count == 0:
             raise StoreFault("the row has the copy, and an UPDATE doesn't change it")
         if count != 1:
-            raise StoreFault(f"the UPDATE says {count} rows, and one is wanted")
+            raise StoreFault(f"the UPDATE touched {count} rows instead of one")
         # A trigger, a short column or a character set may have made another of it.
         if not dialect.returns:
             rows = (await session.execute(dialect.select, key)).rows
@@ -241,7 +241,7 @@ class Table:
         except StoreFault as raised:
             fault = str(raised)
         except Exception as raised:
-            fault = f"no record can be put: {self.name(raised)}"
+            fault = f"no record can be written: {self.name(raised)}"
         await self.dialect.undo(session)
         return fault
 
@@ -328,7 +328,7 @@ def _record(rows: list[tuple[Any, ...]]) -> Copy:
         return NO_ROW
     (record,) = rows[0]
     if record is not None and not isinstance(record, str):
-        raise StoreFault(f"the record is no text, but {type(record).__name__}")
+        raise StoreFault(f"the record is not text, but {type(record).__name__}")
     return record
 
 

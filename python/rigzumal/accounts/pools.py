@@ -37,7 +37,7 @@ _MAKERS = "PerThread(connect), of_engine(engine) or ConnectionPool(..).connectio
 def check_pool(pool: object) -> None:
     """Raises TypeError for a connection or an engine in place of a pool."""
     if not callable(pool) or hasattr(type(pool), "cursor"):
-        raise TypeError(f"a pool is wanted, not a {type(pool).__name__}: {_MAKERS}")
+        raise TypeError(f"pass a pool, not a {type(pool).__name__}: {_MAKERS}")
 
 
 def lent(pool: Any, enter: str) -> Any:

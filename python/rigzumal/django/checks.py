@@ -71,7 +71,7 @@ def _classes(setting: str, number: str) -> tuple[list[tuple[str, type]], Message
     """The classes in a setting's list, with their paths, and the list's faults."""
     listed = getattr(settings, setting)
     if isinstance(listed, str):
-        text = f"{setting} is a text, where a list is wanted."
+        text = f"{setting} is a text instead of a list."
         return [], [_message(number, text, f"Put {listed!r} into a list.")]
     found: list[tuple[str, type]] = []
     amiss: Messages = []

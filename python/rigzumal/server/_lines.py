@@ -173,7 +173,7 @@ def answer_of(tag: bytes, line: bytes) -> str:
     """
     found, _, said = line.partition(b" ")
     if found != tag or not line.endswith(b"\n") or not said[:-1].isascii():
-        raise Unavailable("the line that came is no answer")
+        raise Unavailable("the server's line is no answer")
     text = said[:-1].decode()
     if text == "unavailable":
         raise Unavailable("the book has ended")

@@ -351,7 +351,7 @@ class Commands(Base):
         error = io.StringIO()
         with mock.patch.object(sys, "stdin", None), contextlib.redirect_stderr(error):
             self.assertEqual(cli.main(["check", "ann"]), 2)
-        self.assertEqual(error.getvalue(), "rigzumal: there is no standard input\n")
+        self.assertEqual(error.getvalue(), "rigzumal: standard input is closed\n")
 
     def test_a_file_that_is_mistyped(self):
         """It isn't made; what `init` makes has what SCALE.md asks of SQLite."""
@@ -401,7 +401,7 @@ class Commands(Base):
         said, error = self.streams("import", file, status=5)
         self.assertEqual(said, "")
         named = "rigzumal: stopped at the account user700\n"
-        self.assertIn(f"{named}rigzumal: no line from 501 on is known to be taken\n", error)
+        self.assertIn(f"{named}rigzumal: the lines from 501 on may be missing\n", error)
         self.assertIn("not this one", error)
         self.assertEqual(self.count(), 500)
 
@@ -414,12 +414,12 @@ class Commands(Base):
             self.assertIn(f"line {at + 1}:", self.run_command("import", file, status=6))
         for bad, said in (
             ("ann", ""),
-            (f" {RECORD}", 'it is no "NAME RECORD"'),
-            (f"  {RECORD}", 'it is no "NAME RECORD"'),
+            (f" {RECORD}", 'a line is "NAME RECORD"'),
+            (f"  {RECORD}", 'a line is "NAME RECORD"'),
             (f"ann  {RECORD}", "the name begins or ends with a blank"),
             (f"\u00a0ann {RECORD}", "the name begins or ends with a blank"),
-            (f"\ufeffann {RECORD}", "it begins with a byte order mark"),
-            (f"\udcff {RECORD}", "it is not in UTF-8"),
+            (f"\ufeffann {RECORD}", "the line begins with a byte order mark"),
+            (f"\udcff {RECORD}", "the line is not UTF-8"),
             (f"be\0n {RECORD}", "the column can't hold this name"),
             ("ann $2b$12$R9h/cIPz0gi.URNNX3kh2O", "the record's scheme is 2b, and "),
             ("ann pbkdf2_sha256$260000$abc$def", "the record's scheme is pbkdf2_sha256"),

@@ -39,7 +39,7 @@ class Refused(unittest.TestCase):
         conn = psycopg2.connect(support.server(servers.PostgresServer).url)
         self.addCleanup(conn.close)
         conn.autocommit = True
-        self.assert_refused(conn, Postgres, "the driver is psycopg2, and psycopg 3 is wanted")
+        self.assert_refused(conn, Postgres, "the driver is psycopg2 instead of psycopg 3")
 
     def test_mysqlclient(self):
         mysql = module("MySQLdb")
@@ -47,7 +47,7 @@ class Refused(unittest.TestCase):
         given = {"host": "127.0.0.1", "port": server.port, "user": "store", "passwd": "store"}
         conn = mysql.connect(db="store", autocommit=True, **given)
         self.addCleanup(conn.close)
-        self.assert_refused(conn, MariaDB, "the driver is MySQLdb, and PyMySQL is wanted")
+        self.assert_refused(conn, MariaDB, "the driver is MySQLdb instead of PyMySQL")
 
     def test_asyncpg(self):
         asyncpg = module("asyncpg")

@@ -13,7 +13,7 @@ CASE, BLANKS = "differ in case", "differ by blanks at the end"
 ACCENTS, CUT = "differ by accents", "record-type: record is {}: a record has up to 152 bytes"
 SHORTER = "record-length: record is {}: another program's record has up to 512 bytes"
 LATIN = "key-not-unicode: names outside of {} are no accounts"
-NOT_UNIQUE, PUT = "no unique index of its own", "no record can be put: "
+NOT_UNIQUE, PUT = "no unique index of its own", "no record can be written: "
 SHORT = "CHECK (length(record) < 60)"
 
 

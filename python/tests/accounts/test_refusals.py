@@ -20,13 +20,13 @@ class Arguments(Base):
         engine = type("Engine", (), {"connect": self.no_connection})()
         for kind in (Accounts, AsyncAccounts):
             for given in (self.conn, engine, "sqlite:///x"):
-                name = f"a pool is wanted, not a {type(given).__name__}: PerThread"
+                name = f"pass a pool, not a {type(given).__name__}: PerThread"
                 self.assertRaisesRegex(TypeError, name, kind, given, self.dialect, LOW)
                 with self.assertRaisesRegex(TypeError, name):
                     kind(self.no_connection, self.dialect, LOW, replica=given)
-        with self.assertRaisesRegex(TypeError, "a PasswordHasher .* is wanted, not str"):
+        with self.assertRaisesRegex(TypeError, "pass a PasswordHasher .*, not str"):
             self.accounts("argon2")
-        with self.assertRaisesRegex(TypeError, "a dialect is wanted, .* not a str"):
+        with self.assertRaisesRegex(TypeError, "pass a dialect such as .* not a str"):
             self.accounts(dialect="users")
         for given in ({"tries": 0}, {"patience": -1.0}, {"patience": float("nan")}):
             self.assertRaises(ValueError, self.accounts, **given)
@@ -173,7 +173,7 @@ class Arguments(Base):
     def test_rows_and_records_of_other_types(self):
         self.put(LOW.hash("one").encode())
         for factory, said in (
-            (None, "the record is no text, but bytes"),
+            (None, "the record is not text, but bytes"),
             (lambda cursor, row: object(), "a row is object"),
         ):
             conn = self.another()

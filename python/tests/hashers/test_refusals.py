@@ -93,7 +93,7 @@ class Refusals(unittest.TestCase):
                 for number in (least, most):
                     self.assertEqual(getattr(kind(**{**given, name: number}), name), number)
                 for number in (least - 1, most + 1, -1):
-                    message = f"{name} is to be {least} to {most}, and not {number}"
+                    message = f"{name} must be {least} to {most}, not {number}"
                     changed = {**given, name: number}
                     self.refused(
                         rigzumal.InvalidNumbersError, word, kind, **changed, message=message
@@ -126,7 +126,7 @@ class Refusals(unittest.TestCase):
     )
     def test_salts(self, hasher, sizes, range_):
         for size in sizes:
-            message, salt = f"the salt's length is to be {range_}, and not {size}", bytes(size)
+            message, salt = f"the salt's length must be {range_}, not {size}", bytes(size)
             bad = rigzumal.InvalidNumbersError
             self.refused(bad, "salt", hasher.hash, "x", salt=salt, message=message)
 

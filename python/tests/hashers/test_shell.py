@@ -139,12 +139,12 @@ class Shell(unittest.TestCase):
 
     @each(
         ("hash hunter2", "a password is never an argument"),
-        ("hunter2", "there is no such word (choose from 'hash'"),
-        ("accounts hunter2", "there is no such word (choose from 'init'"),
+        ("hunter2", "unknown word (choose from 'hash'"),
+        ("accounts hunter2", "unknown word (choose from 'init'"),
         ("accounts --database= list", "no database: --database URL"),
         ("hash --log2-n 10", "rigzumal: --log2-n is of scrypt, and --scrypt is missing\n"),
         ("hash --scrypt --lanes 4", "rigzumal: --lanes is of Argon2, and --scrypt is given\n"),
-        ("hash --lanes 0", "rigzumal: 14 lanes: parallelism is to be 1 to 255, and not 0\n"),
+        ("hash --lanes 0", "rigzumal: 14 lanes: parallelism must be 1 to 255, not 0\n"),
         ("calibrate --lanes 0", "lanes"),
         ("calibrate --memory 4M --lanes 1", "--memory is below 19456 KiB; --below allows it\n"),
         ("calibrate --memory 4X", "--memory"),

@@ -30,8 +30,8 @@ _IN_NO_COLUMN: Final = re.compile("[\0\ud800-\udfff]")
 class Verdict(enum.Enum):
     """The meaning of a driver's error before a COMMIT was sent."""
 
-    AGAIN = "the server undid the transaction and wants it to be tried again"
-    ELSEWHERE = "the server undid it and accepts none for now; try another, or later"
+    AGAIN = "the server rolled the transaction back: try again"
+    ELSEWHERE = "the server accepts no changes for now: try another, or later"
     LOST = "this connection is broken; another may work"
     REFUSED = "the server rejects the statement, and would reject it again"
 
@@ -46,8 +46,8 @@ def is_of_driver(raised: BaseException) -> bool:
 def other_driver(conn: Any, wanted: str) -> StoreFault:
     """The fault of a connection of another driver."""
     found = type(conn).__module__.partition(".")[0]
-    more = ": hand in of_engine(engine)" if found == "sqlalchemy" else ""
-    return StoreFault(f"the driver is {found}, and {wanted} is wanted{more}")
+    more = ": pass of_engine(engine)" if found == "sqlalchemy" else ""
+    return StoreFault(f"the driver is {found} instead of {wanted}{more}")
 
 
 class Severity(enum.Enum):
