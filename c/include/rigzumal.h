@@ -143,15 +143,15 @@ enum rigzumal_fault {
 /* The version of the library in use, such as "0.2.0". */
 const char *rigzumal_version(void);
 
-/* Returns the memory that is kept between calls to the system, and answers its size. Running
+/* Gives the memory that is kept between calls back to the system, and returns its size. Running
  * calls keep theirs. Use it in a program that hashes seldom: the system maps and clears the memory
  * of the next call again, which needs longer. */
 size_t rigzumal_trim(void);
 
 /* Bounds the bytes that are kept from now on, in whole huge pages of 2 MiB: 0 keeps none, and
  * 134217728 keeps the table of RIGZUMAL_SCRYPT_COSTS, or the memory of two callers at once with
- * RIGZUMAL_ARGON2_COSTS. It returns the memory that is kept now to the system, and answers the old
- * bound: at the start RIGZUMAL_KEEP of the environment, or 64 MiB. */
+ * RIGZUMAL_ARGON2_COSTS. The memory that is kept now goes back to the system; the call returns the
+ * old bound: at the start RIGZUMAL_KEEP of the environment, or 64 MiB. */
 size_t rigzumal_keep(size_t most);
 
 /* The same for libargon2.so.1, the drop-in library, which has its own memory and no other call of
