@@ -25,6 +25,8 @@ pub enum FileFault {
     DamagedLog { before: u64, lost: u64 },
     /// The file can be read and written, but a sync of it failed.
     Unsynced,
+    /// It isn't known which user this is, since there is no /proc.
+    OwnUser(io::Error),
     System(io::Error),
 }
 
@@ -33,7 +35,8 @@ impl FileFault {
     pub fn status(&self) -> Status {
         match self {
             FileFault::NoFile => Status::Usage,
-            FileFault::System(error) if error.kind() == ErrorKind::OutOfMemory => Status::Memory,
+            FileFault::OwnUser(error) | FileFault::System(error)
+                if error.kind() == ErrorKind::OutOfMemory => { Status::Memory }
             _ => Status::Database,
         }
     }
@@ -67,6 +70,10 @@ impl fmt::Display for FileFault {
             FileFault::Unsynced => f.write_str(
                 "it wasn't opened, as the system didn't sync it, its log or its folder: look at \
                  the disk",
+            ),
+            FileFault::OwnUser(error) => write!(
+                f,
+                "this user isn't known, as /proc/self can't be read: {error}"
             ),
             FileFault::System(error) => write!(f, "{error}"),
         }
