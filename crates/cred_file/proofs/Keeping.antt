@@ -13,12 +13,12 @@ use Rattle.sqlite_schema.specs.declared.command.Command.{Command}
 use Rattle.sqlite.proofs.Callers.{IsPlain, command_of, statement_of, runs_as}
 use Rattle.cred_phc.specs.{Values.IsRecord, Values.RecordValue, Text.record_text, Reading.read_record}
 use Rattle.cred_phc.proofs.RecordLaws.{read_back}
-use Rattle.std.proofs.{Common.nat_lt, Common.◌<◌, Common.false, Common.◌||◌, Common.OnOk, Common.IfErr, Common.IfOk, lemmas.Bool.lt-ltb, lemmas.Bool.le-ltb}
+use Rattle.std.proofs.{Common.nat_lt, Common.◌<◌, Common.false, Common.◌||◌, Common.OnOk, Common.IfErr, Common.IfOk, Common.IfSome, lemmas.Bool.lt-ltb, lemmas.Bool.le-ltb}
 use Rattle.cred_book.specs.{Accounts.Accounts, Accounts.register_capacity, Calls.EntersWithin, Names.is_name, declared.error.BookError.BookError}
 use Rattle.sqlite_catalog.specs.Listing.{IsSound}
 use Rattle.cred_file.specs.Schema.{IsBookSchema, book_schema, statistics, insert_text, update_text, delete_text, rename_text}
-use Rattle.cred_file.specs.{Table.StandsFor, Table.IsTextOf, Table.Tells, Edits.after_attempt, Edits.renamed, Edits.PutsEntry}
-use Rattle.cred_file.specs.{Keeps.HoldsBook, Keeps.IsTableOf, Keeps.IsRenamable, Keeps.LeavesOnly, Keeps.Keeps, Keeps.IsOrWith, declared.fault.Lost.Lost}
+use Rattle.cred_file.specs.{Failures.Changes, Failures.IsLossOf, Failures.Refuses, Failures.Remembers, Kept.Kept, Table.StandsFor, Table.IsTextOf, Table.Tells, Edits.after_attempt, Edits.renamed, Edits.PutsEntry}
+use Rattle.cred_file.specs.{Keeps.HoldsBook, Keeps.IsTableOf, Keeps.IsRenamable, Keeps.LeavesOnly, Keeps.Keeps, Keeps.IsOrWith, declared.fault.Attempt.Attempt, declared.fault.Lost.Lost}
 use Rattle.sqlite_trees.specs.View.{doubt}
 use Rattle.cred_book.specs.declared.error.BookError.TheVariants as error
 use Rattle.cred_book.proofs.Rows.{no_some}
@@ -115,9 +115,23 @@ pub when_ok : {P : Type 0} (r : Result ℕ Error) → ((count : ℕ) → r ≡ O
 when_ok (Ok count) f = f count refl
 when_ok (Err e) f = tt
 
-pub when_err : {P : Error → Type 0} (r : Result ℕ Error) → ((e : Error) → r ≡ Err e → P e) → IfErr r P
+when_err : {P : Error → Type 0} (r : Result ℕ Error) → ((e : Error) → r ≡ Err e → P e) → IfErr r P
 when_err (Ok count) f = tt
 when_err (Err e) f = f e refl
+
+-- a statement that is a step from each book that fits
+pub changes : {S : Type 0} (g : Ghosts S) (old new : Held S) {sql : List ℕ} {params : Row} {command : Command} {Fits : Accounts → Type 0} {after : Accounts → Accounts} {Fails : Error → Type 0}
+    → ((book : Accounts) → Fits book → IsStep sql params command book (after book)) → ((e : Error) → Refuses g old new sql params e → Fails e) → (r : Result ℕ Error) → IsSettled (state g new)
+    → (HasCleanDisk (state g new) → Executes sql params (state g old) (state g new) r) → Survives (state g old) (state g new) (CommitsBy sql params (state g old)) → Changes g old new Fits after Fails r
+changes g old new {sql} {params} step fails r settled runs survives =
+    let was = state g old in
+    let now = state g new in
+    record {
+      done = λ clean. when_ok r (λ count is book fits held. step_done (step book fits) was now count settled held (subst (Executes sql params was now) is (runs clean)));
+      left = λ clean book fits held. step_left (step book fits) was now clean survives held;
+      refused = when_err r (λ e is. fails e (λ clean. subst (Executes sql params was now) is (runs clean)));
+      clean = survives.clean;
+    }
 
 module _ (book : Accounts) (name : List ℕ) where
   pub insert_step : (value : Value) (v : Option RecordValue) → IsTrue (is_name name) → Tells value v → fin.contains_key book name ≡ false
@@ -192,6 +206,17 @@ module _ {S : Type 0} (g : Ghosts S) (old new : Held S) (book : Accounts) (lost 
     table = λ late e. absurd cc;
     left = λ late. does late (keeps.table (early late) none);
   }))
+
+-- a change that is lost is told of, if none was lost before
+pub remembers_loss : {S : Type 0} {attempt : Attempt} {Fails : Error → Type 0} {old new : Kept S} {why : BookError} (loss : Lost) → new.lost ≡ Some loss → old.lost ≡ None → loss.attempt ≡ attempt → Fails loss.error
+    → Remembers attempt Fails old new (Err why)
+remembers_loss {attempt = attempt} {Fails = Fails} {new = new} loss is none same fails = record {
+  written = tt;
+  loses = record {
+    remembered = subst (λ l. IfSome l (λ x. new.lost ≡ Some x)) (sym none) tt;
+    lost = λ _. subst (λ l. IfSome l (IsLossOf attempt Fails)) (sym is) (record { attempt_is = same; error = fails });
+  };
+}
 
 -- how many accounts there are with a new name, and with an old one
 pub len_new : (book : Accounts) (name : List ℕ) (v : Option RecordValue) → fin.contains_key book name ≡ false → fin.len book < register_capacity → fin.len (fin.insert book name v) ≤ register_capacity

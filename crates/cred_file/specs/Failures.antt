@@ -1,13 +1,14 @@
 -- Why no book is begun, and what is said of a change that is lost.
-use Rattle.std.specs.Prelude.{◌≡◌, ◌≢◌, ℕ, Bool, if◌then◌else◌, List, [], ◌∷◌, Option, Some, None, IfSome, OnOk, Result, Err}
+use Rattle.std.specs.Prelude.{◌≡◌, ◌≢◌, ◌≤◌, ℕ, Bool, if◌then◌else◌, List, [], ◌∷◌, Option, Some, None, IfErr, IfSome, OnOk, Result, Err}
 use Rattle.sqlite.specs.{declared.error.Error.Error, declared.types.Value.Value, declared.types.Value.TheVariants.Text, Held.Held, Held.state, Order.Row}
 use Rattle.sqlite.specs.{State.Executes, State.HasCleanDisk, Store.Ghosts}
+use Rattle.sqlite_trees.specs.View.{doubt}
 use Rattle.cred_phc.specs.Values.{RecordValue}
-use Rattle.cred_book.specs.declared.error.BookError.{BookError}
+use Rattle.cred_book.specs.{Accounts.Accounts, declared.error.BookError.BookError}
 use Rattle.cred_file.specs.{declared.fault.Attempt.Attempt, declared.fault.Lost.Lost, declared.fault.OpenFault.OpenFault}
 use Rattle.cred_file.specs.declared.fault.OpenFault.TheVariants as fault
 use Rattle.cred_file.specs.{Kept.Kept, Schema.create_text, Schema.delete_text, Schema.insert_text, Schema.no_schema, Schema.rename_text, Schema.update_text}
-use Rattle.cred_file.specs.Table.{Tells}
+use Rattle.cred_file.specs.{Keeps.Makes, Keeps.MayMake, Table.Tells}
 
 -- if the disk returns what was written, the statement was run and this was its error
 abbrev pub Refuses : {S : Type 0} → Ghosts S → Held S → Held S → List ℕ → Row → Error → Type 0
@@ -41,6 +42,15 @@ FailsToDelete g old new name = Refuses g old new delete_text (Text name ∷ [])
 abbrev pub FailsToRename : {S : Type 0} → Ghosts S → Held S → Held S → List ℕ → List ℕ → Error
     → Type 0
 FailsToRename g old new name other = Refuses g old new rename_text (Text name ∷ Text other ∷ [])
+
+-- What a statement comes to that changes the table. Done, it makes one book of another; a crash
+-- leaves the one or the other; an error of it is of this kind.
+pub record Changes {S : Type 0} (g : Ghosts S) (old new : Held S) (Fits : Accounts → Type 0)
+    (after : Accounts → Accounts) (Fails : Error → Type 0) (r : Result ℕ Error) : Type 0 where
+  pub done : HasCleanDisk (state g new) → OnOk r (Makes (state g old) (state g new) Fits after)
+  pub left : HasCleanDisk (state g new) → MayMake (state g old) (state g new) Fits after
+  pub refused : IfErr r Fails
+  pub clean : doubt (state g old).is_clean ≤ doubt (state g new).is_clean
 
 -- what is lost is the change that was to be made, with the error of its statement
 pub record IsLossOf (attempt : Attempt) (Fails : Error → Type 0) (l : Lost) : Type 0 where

@@ -4,13 +4,12 @@ ghost use Rattle.std.specs.Prelude.{◌≡◌, ◌≤◌, [], true, false, Optio
 ghost use Rattle.std.specs.FinMap as fin;
 ghost use Rattle.cred_phc.specs.Values.{RecordValue};
 ghost use Rattle.cred_book.specs.Accounts.{register_capacity};
-ghost use Rattle.cred_file.specs.{Edits.renamed, Failures.FailsToDelete, Failures.FailsToPut, Failures.FailsToRename, Failures.Refuses};
+ghost use Rattle.cred_file.specs.{Edits.renamed, Failures.Changes, Failures.FailsToDelete, Failures.FailsToPut, Failures.FailsToRename, Failures.Refuses};
 ghost use Rattle.cred_file.specs.Schema.{IsBookSchema, create_text, no_schema};
-ghost use Rattle.cred_file.specs.Keeps.{Has, IsRenamable, IsTableOf, Lacks, Makes, MayBegin, MayMake};
+ghost use Rattle.cred_file.specs.Keeps.{Has, IsRenamable, IsTableOf, Lacks, MayBegin};
 ghost use Rattle.cred_file.specs.{Table.IsTextOf, Table.StandsFor, Table.Tells, Opening.IsFound, Opening.IsUnopened};
 ghost use Rattle.sqlite.specs.{State.HasCleanDisk, State.IsUnchanged, State.Survives, Held.state};
 ghost use Rattle.sqlite_value.specs.Value.{owned};
-ghost use Rattle.sqlite_trees.specs.View.{doubt};
 
 use crate::fault::OpenFault;
 use crate::reading::Draft;
@@ -47,18 +46,10 @@ pub(crate) fn insert_row<S: Alter>(
     name: &Name,
     value: ValueRef<'_>,
 ) -> Result<usize, Error>
-    ensures inserted { HasCleanDisk (state S.Store conn.new) → OnOk result
-        ((v : Option RecordValue) → Tells (owned value.entry) v
-        → Makes (state S.Store conn.old) (state S.Store conn.new) (Lacks name.now)
-        (λ book. fin.insert book name.now v)) }
-    ensures left { HasCleanDisk (state S.Store conn.new)
-        → (v : Option RecordValue) → Tells (owned value.entry) v
-        → MayMake (state S.Store conn.old) (state S.Store conn.new) (Lacks name.now)
-        (λ book. fin.insert book name.now v) }
-    ensures refused { (v : Option RecordValue) → Tells (owned value.entry) v
-        → IfErr result (FailsToPut S.Store conn.old conn.new false name.now v) }
-    ensures clean { doubt (state S.Store conn.old).is_clean
-        ≤ doubt (state S.Store conn.new).is_clean }
+    ensures { (v : Option RecordValue) → Tells (owned value.entry) v
+        → Changes S.Store conn.old conn.new (Lacks name.now)
+        (λ book. fin.insert book name.now v)
+        (FailsToPut S.Store conn.old conn.new false name.now v) result }
 {
     conn.execute(
         "INSERT INTO account (name, record) VALUES (?1, ?2)",
@@ -72,18 +63,10 @@ pub(crate) fn update_row<S: Alter>(
     name: &Name,
     value: ValueRef<'_>,
 ) -> Result<usize, Error>
-    ensures updated { HasCleanDisk (state S.Store conn.new) → OnOk result
-        ((v : Option RecordValue) → Tells (owned value.entry) v
-        → Makes (state S.Store conn.old) (state S.Store conn.new) (Has name.now)
-        (λ book. fin.insert book name.now v)) }
-    ensures left { HasCleanDisk (state S.Store conn.new)
-        → (v : Option RecordValue) → Tells (owned value.entry) v
-        → MayMake (state S.Store conn.old) (state S.Store conn.new) (Has name.now)
-        (λ book. fin.insert book name.now v) }
-    ensures refused { (v : Option RecordValue) → Tells (owned value.entry) v
-        → IfErr result (FailsToPut S.Store conn.old conn.new true name.now v) }
-    ensures clean { doubt (state S.Store conn.old).is_clean
-        ≤ doubt (state S.Store conn.new).is_clean }
+    ensures { (v : Option RecordValue) → Tells (owned value.entry) v
+        → Changes S.Store conn.old conn.new (Has name.now)
+        (λ book. fin.insert book name.now v)
+        (FailsToPut S.Store conn.old conn.new true name.now v) result }
 {
     conn.execute(
         "UPDATE account SET record = ?2 WHERE name = ?1",
@@ -93,15 +76,8 @@ pub(crate) fn update_row<S: Alter>(
 
 /// Deletes the row of an existing name.
 pub(crate) fn delete_row<S: Alter>(conn: &mut Connection<S>, name: &Name) -> Result<usize, Error>
-    ensures deleted { HasCleanDisk (state S.Store conn.new) → OnOk result
-        (Makes (state S.Store conn.old) (state S.Store conn.new) (Has name.now)
-        (λ book. fin.remove book name.now)) }
-    ensures left { HasCleanDisk (state S.Store conn.new)
-        → MayMake (state S.Store conn.old) (state S.Store conn.new) (Has name.now)
-        (λ book. fin.remove book name.now) }
-    ensures refused { IfErr result (FailsToDelete S.Store conn.old conn.new name.now) }
-    ensures clean { doubt (state S.Store conn.old).is_clean
-        ≤ doubt (state S.Store conn.new).is_clean }
+    ensures { Changes S.Store conn.old conn.new (Has name.now) (λ book. fin.remove book name.now)
+        (FailsToDelete S.Store conn.old conn.new name.now) result }
 {
     conn.execute(
         "DELETE FROM account WHERE name = ?1",
@@ -115,15 +91,9 @@ pub(crate) fn rename_row<S: Alter>(
     name: &Name,
     other: &Name,
 ) -> Result<usize, Error>
-    ensures renamed { HasCleanDisk (state S.Store conn.new) → OnOk result
-        (Makes (state S.Store conn.old) (state S.Store conn.new) (IsRenamable name.now other.now)
-        (λ book. renamed book name.now other.now)) }
-    ensures left { HasCleanDisk (state S.Store conn.new)
-        → MayMake (state S.Store conn.old) (state S.Store conn.new)
-        (IsRenamable name.now other.now) (λ book. renamed book name.now other.now) }
-    ensures refused { IfErr result (FailsToRename S.Store conn.old conn.new name.now other.now) }
-    ensures clean { doubt (state S.Store conn.old).is_clean
-        ≤ doubt (state S.Store conn.new).is_clean }
+    ensures { Changes S.Store conn.old conn.new (IsRenamable name.now other.now)
+        (λ book. renamed book name.now other.now)
+        (FailsToRename S.Store conn.old conn.new name.now other.now) result }
 {
     conn.execute(
         "UPDATE account SET name = ?2 WHERE name = ?1",

@@ -9,7 +9,7 @@ invariant_of-self g c =
     let book = c.self.inside.book in
     let name = c.args.name.now in
     keeps_done g.S.Store c.self.inside.conn c.delete_row.new.conn book _ c.self.invariant c.if-is_some.ensures c.in-Ok.ensures.clean _ (fin.remove book name) c.remove.ensures
-    (len_less book name (fits _ c.self.invariant c.if-is_some.ensures)) (λ clean was. c.in-Ok.ensures.deleted clean book (sym c.if-not-contains.ensures) was)
+    (len_less book name (fits _ c.self.invariant c.if-is_some.ensures)) (λ clean was. c.in-Ok.ensures.done clean book (sym c.if-not-contains.ensures) was)
 
 pub invariant_of-self-in-Err : goal.invariant_of-self-in-Err
 invariant_of-self-in-Err g c =

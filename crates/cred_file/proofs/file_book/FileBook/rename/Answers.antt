@@ -16,7 +16,7 @@ invariant_of-self-in-Ok-rename_row g c =
     let absent = c.in-Ok-enter.ensures.0 in
     let is = c.remove.ensures ∙ ap (λ (b : Accounts). fin.remove b name) c.in-Ok-enter.ensures.2 ∙ renamed_is book name other c.in-Ok.stored c.in-Ok.ensures absent in
     keeps_done g.S.Store c.self.inside.conn c.rename_row.new.conn book _ c.self.invariant c.if-is_some.ensures c.in-Ok-rename_row.ensures.clean _ (renamed book name other) is
-    (len_renamed book name other there absent (fits _ c.self.invariant c.if-is_some.ensures)) (λ clean was. c.in-Ok-rename_row.ensures.renamed clean book (there, absent_less book name other absent) was)
+    (len_renamed book name other there absent (fits _ c.self.invariant c.if-is_some.ensures)) (λ clean was. c.in-Ok-rename_row.ensures.done clean book (there, absent_less book name other absent) was)
 
 pub invariant_of-self-in-Err-rename_row : goal.invariant_of-self-in-Err-rename_row
 invariant_of-self-in-Err-rename_row g c =
