@@ -5,6 +5,7 @@ import base64
 import os
 import pathlib
 import re
+import socket
 import tempfile
 import unittest
 from typing import Any
@@ -27,6 +28,9 @@ SETTING = "$argon2id$v=19$m=256,t=2,p=1$c29tZXNhbHQ"
 # Of `password`, by the reference program of Argon2.
 TAG = "nf65EOgLrQMR/uIPnA4rEsF5h7TKyQwu9U1bMCHGi/4"
 RECORD = f"{SETTING}${TAG}"
+# The second vector of RFC 7914, section 12, to 32 bytes.
+SCRYPT = "$scrypt$ln=10,r=8,p=16$TmFDbA"
+SCRYPT_RECORD = f"{SCRYPT}$/bq+HJ00cgB4VucZDQHp/nxq18vII3gw53N2Y0s3MWI"
 
 PASSWORD = "cGFzc3dvcmQ"
 OTHER = "YmFk"
@@ -37,23 +41,70 @@ LONGEST_SCRIPT = 1048576
 
 NOT_UTF8 = b"\xff".decode(errors="surrogateescape")
 
+WORKERS = ["--workers 1", "--workers 64", "--workers 04", "--workers +4", "--workers=4"]
+
 RUNS = [
     (["run"], SCRIPT, Ended(0, ANSWERS)),
-    (["run", "--workers", "64"], SCRIPT, Ended(0, ANSWERS)),
+    *((["run", *it.split()], SCRIPT, Ended(0, ANSWERS)) for it in WORKERS),
     (["run"], "", Ended(0)),
+    (["run"], "\n", Ended(0, "bad 11 line\n")),
     (["run"], "account A\n", Ended(0, "bad 3 name\n")),
+    (["run"], "account a\nshow a", Ended(0, "ok\nnone\n")),
     (["hash", SETTING, PASSWORD], "", Ended(0, f"{RECORD}\n")),
+    (["hash", SETTING, PASSWORD, "--workers", "4"], "", Ended(0, f"{RECORD}\n")),
+    (["hash", SCRYPT, PASSWORD], "", Ended(0, f"{SCRYPT_RECORD}\n")),
+    (["hash", SETTING.replace("256", "7"), "!"], "", Ended(1, "", "credbook: 5 range\n")),
+    (["hash", SETTING.replace("v=19$", ""), PASSWORD], "", Ended(1, "", "credbook: 3 version\n")),
+    (["check", "--workers=4", SCRYPT_RECORD, PASSWORD], "", Ended(0, "yes\n")),
     (["check", RECORD, PASSWORD], "", Ended(0, "yes\n")),
     (["check", RECORD, OTHER], "", Ended(4, "no\n")),
     (["check", RECORD], "", Ended(4, "no\n")),
     (["hash", RECORD, PASSWORD], "", Ended(1, "", "credbook: 1 shape\n")),
     (["check", SETTING, PASSWORD], "", Ended(1, "", "credbook: 1 shape\n")),
     (["check", RECORD, "="], "", Ended(1, "", "credbook: 13 password\n")),
+    (["check", RECORD, "-"], "", Ended(1, "", "credbook: 13 password\n")),
     (["check", NOT_UTF8, PASSWORD], "", Ended(1, "", "credbook: a word is not UTF-8\n")),
     (["run"], "#" * (LONGEST_SCRIPT + 1), Ended(2, "", "credbook: toolong\n")),
 ]
-# Words that don't parse, and help: a text on standard error alone.
-REFUSED = ["", "ran", "run --workers 65", "run --workers 0", "hash", "--help", "--version"]
+# Words that don't parse, and help, with what stands on standard error alone.
+USAGE = "Usage: credbook <COMMAND>\n"
+CHECK_USAGE = "Usage: credbook check [OPTIONS] <RECORD> [PASSWORD]"
+MORE = "\nFor more information, try '--help'.\n"
+NO_WORKERS = ["run --workers" + it for it in (" 0", " 65", " x", "", " 4 --workers 4", "=")]
+REFUSED = [
+    (
+        "",
+        "error: 'credbook' requires a subcommand but one was not provided\n"
+        f"  [subcommands: run, hash, check, help]\n\n{USAGE}{MORE}",
+    ),
+    ("walk", f"error: unrecognized subcommand 'walk'\n\n{USAGE}{MORE}"),
+    (
+        "run --quiet",
+        "error: unexpected argument '--quiet' found\n\n" f"Usage: credbook run [OPTIONS]\n{MORE}",
+    ),
+    *((words, "error: ") for words in (*NO_WORKERS, "--workers 4 run", f"check {RECORD} x x")),
+    ("hash", "\n  <SETTING>\n"),
+    ("--version", "credbook 0.2.0\n"),
+    ("--help", f"\n{USAGE}"),
+    ("--help", "\nExit statuses:\n"),
+    ("--help", "\ndocs/ERRORS.md has them all, by word.\n"),
+    (
+        "run --help",
+        "Answers a script from standard input, on an empty book\n\n"
+        "Usage: credbook run [OPTIONS]\n\nOptions:\n      "
+        "--workers <N>  How many threads may hash at once, from 1 to 64 [default: 1]\n  "
+        "-h, --help         Print help\n",
+    ),
+    ("hash --help", "\nUsage: credbook hash [OPTIONS] <SETTING> [PASSWORD]\n"),
+    *((it, f"\n{CHECK_USAGE}\n") for it in ("check --help", "help check")),
+]
+# What is written before a write is refused.
+FRONTS = [
+    (["run"], "ok\nno"),
+    (["hash", SETTING, PASSWORD], SETTING),
+    (["check", RECORD, PASSWORD], "ye"),
+    (["check", RECORD], ""),
+]
 
 
 def credbook(*words: str, given: str = "", **options: Any) -> Ended:
@@ -67,11 +118,11 @@ class RunsTest(unittest.TestCase):
                 self.assertEqual(credbook(*words, given=given), wanted)
 
     def test_refused_words(self) -> None:
-        for words in REFUSED:
+        for words, told in REFUSED:
             with self.subTest(words=words):
                 done = credbook(*words.split(), given=SCRIPT)
                 self.assertEqual(done[:2], (1, ""))
-                self.assertNotEqual(done.faults, "")
+                self.assertIn(told, done.faults)
 
     def test_manual(self) -> None:
         """credbook(1) has each command and each option of the help, and no other."""
@@ -94,19 +145,40 @@ class RunsTest(unittest.TestCase):
                     done = credbook(*words, given=SCRIPT, stdout=full)
                     self.assertEqual(done, Ended(2, "", "credbook: write\n"))
 
+    def test_stopped_streams(self) -> None:
+        """Streams that fail in mid-stream: what had come is answered, and a front is written."""
+        ours, theirs = socket.socketpair()
+        with ours, theirs:
+            ours.sendall(b"account a\naccou")
+            # as this is left unread, the other end is reset once all is read there
+            theirs.send(b"x")
+            ours.close()
+            done = credbook("run", stdin=theirs)
+        self.assertEqual(done, Ended(2, "ok\n", "credbook: read\n"))
+        for words, front in FRONTS:
+            with self.subTest(words=words), tempfile.TemporaryFile() as written:
+                options = {"stdout": written, **helpers.small_files(len(front))}
+                done = credbook(*words, given="account a\nshow a\n", **options)
+                self.assertEqual(done, Ended(2, "", "credbook: write\n"))
+                written.seek(0)
+                self.assertEqual(written.read(), front.encode())
+
     def test_refused_memory(self) -> None:
         """Each request for memory refused in turn: status 3 with a front of the answers, or the
         whole run if it can do without."""
-        for words, given, written in (
-            (["run"], SCRIPT, ANSWERS),
-            (["check", RECORD, PASSWORD], "", "yes\n"),
+        for words, given, status, written in (
+            (["run", "--workers", "2"], SCRIPT, 0, ANSWERS),
+            (["hash", SETTING, PASSWORD], "", 0, f"{RECORD}\n"),
+            (["check", RECORD, PASSWORD], "", 0, "yes\n"),
+            (["check", RECORD], "", 4, "no\n"),
+            (["walk"], "", 1, ""),
         ):
             command = [program("credbook"), *words]
             ends = [*in_turn(lambda nth: helpers.without_request(nth, command, given))]
             self.assertIn(3, {done.status for done in ends})
             for nth, done in enumerate(ends, 1):
                 with self.subTest(words=words, request=nth):
-                    if done != Ended(0, written):
+                    if done[:2] != (status, written):
                         refused = (3, "credbook: memory\n")
                         self.assertEqual((done.status, done.faults), refused)
                         self.assertTrue(written.startswith(done.written), done.written)

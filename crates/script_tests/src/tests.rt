@@ -4,11 +4,9 @@
 mod committers;
 mod costs;
 mod dialogue;
-mod faulty;
 mod keep;
 mod memory;
 mod operations;
-mod program;
 mod refusals;
 mod watched;
 
@@ -23,10 +21,6 @@ use test_samples::{A, A_SETTING, B, B_SETTING, INDEPENDENT, OLD, OLD_WRITTEN, SC
 
 /// The password `password`.
 const PA: &str = "cGFzc3dvcmQ";
-
-/// The line of the record A.
-const A_LINE: &str =
-    "$argon2id$v=19$m=256,t=2,p=1$c29tZXNhbHQ$nf65EOgLrQMR/uIPnA4rEsF5h7TKyQwu9U1bMCHGi/4\n";
 
 /// The names that stand for these in scripts and answers.
 static PLACES: [(&str, &str); 9] = [

@@ -1,15 +1,15 @@
 //! What running out of memory leaves. These tests hold whichever request is refused:
 //! tools/refuse_memory.py refuses each in turn.
 use super::committers::run_on_committer;
-use super::{A_LINE, PA, hold_bytes, name, stored};
+use super::{hold_bytes, name, stored};
 use cred_book::{Book, BookError, Keeper, Register};
-use cred_cli::{CostBounds, End, ScriptFault, Tools, Watched, command, run_script, serve};
+use cred_cli::{CostBounds, End, ScriptFault, Tools, Watched, run_script, serve};
 use cred_phc::Record;
 use std::alloc::Global;
 use std::process::Abort;
 use std::sync::Wait;
 use std::thread::Threads;
-use test_samples::{A, A_SETTING, B};
+use test_samples::{A, B};
 
 /// A script, and what it is answered.
 const SCRIPT: &str = "\
@@ -169,47 +169,5 @@ fn refused_service(rt: HostRuntime) {
         hold_front(&rt, SERVED, &written);
     } else if written.as_slice() != STARVED.as_bytes() {
         hold_bytes(&rt, &written, SERVED);
-    }
-}
-
-/// Words, what the program prints, and its status.
-type Run<'a> = (&'a [&'a str], &'a str, u8);
-
-static RUNS: [Run<'static>; 5] = [
-    (&["run", "--workers", "2"], ANSWERS, 0),
-    (&["hash", A_SETTING, PA], A_LINE, 0),
-    (&["check", A, PA], "yes\n", 0),
-    (&["check", A], "no\n", 4),
-    (&["walk"], "", 1),
-];
-
-/// Holds the whole output and status of a run, or 3 with nothing but whole answers written.
-fn hold_ended<R: Abort>(rt: &R, ended: u8, written: &[u8], faults: &[u8], run: &Run) {
-    let (_, whole, status) = *run;
-    if ended == 3 {
-        hold_front(rt, whole, written);
-        // the text of the fault may itself be refused memory
-        assert!(rt; b"credbook: memory\n".starts_with(faults));
-    } else {
-        assert_eq!(rt; ended, status);
-        hold_bytes(rt, written, whole);
-    }
-}
-
-fn judge_run<R: Threads + Wait + Sync + Abort>(rt: &R, alloc: Global, run: &Run, room: Vec<u8>) {
-    let mut reader = Watched::new(SCRIPT.as_bytes());
-    let mut writer = Watched::new(room);
-    let mut faults = Vec::new(alloc);
-    let ended = command(rt, alloc, run.0, &mut reader, &mut writer, &mut faults);
-    let written = writer.into_inner();
-    hold_ended(rt, ended, &written, &faults, run);
-}
-
-#[test]
-fn refused_program(rt: HostRuntime) {
-    for run in &RUNS {
-        if let Ok(room) = Vec::with_capacity(rt.alloc(), 4096) {
-            judge_run(&rt, rt.alloc(), run, room);
-        }
     }
 }

@@ -1,5 +1,4 @@
 //! What a watched reader or writer passes on, counts and keeps in mind.
-use super::faulty::Faulty;
 use cred_cli::Watched;
 use std::io;
 use std::io::{Read, Write};
@@ -34,26 +33,59 @@ fn reads_are_counted(rt: HostRuntime) {
     hold_seen(&rt, after_read(&mut reader), (Some(0), 2, false));
 }
 
-/// One whose first call fails.
-fn stumbling<X>(inner: X) -> Watched<Faulty<X>> {
-    let then = Some(io::ErrorKind::Interrupted);
-    Watched::new(Faulty {
+/// Passes calls on behind the first one, which fails.
+#[derive(Drop)]
+struct Stumbling<X> {
+    inner: X,
+    has_failed: bool,
+}
+
+impl<X> Stumbling<X> {
+    fn step(&mut self) -> io::Result<()> {
+        if self.has_failed {
+            return Ok(());
+        }
+        self.has_failed = true;
+        Err(io::Error::from(io::ErrorKind::Interrupted))
+    }
+}
+
+impl<X: Read> Read for Stumbling<X> {
+    fn read(&mut self, buf: &mut [u8]) -> io::Result<usize> {
+        self.step()?;
+        self.inner.read(buf)
+    }
+}
+
+impl<X: Write> Write for Stumbling<X> {
+    fn write(&mut self, buf: &[u8]) -> io::Result<usize> {
+        self.step()?;
+        self.inner.write(buf)
+    }
+
+    fn flush(&mut self) -> io::Result<()> {
+        self.step()?;
+        self.inner.flush()
+    }
+}
+
+fn failing_once<X>(inner: X) -> Watched<Stumbling<X>> {
+    Watched::new(Stumbling {
         inner,
-        left: 0,
-        then,
+        has_failed: false,
     })
 }
 
 /// A call that fails is told of, and isn't made again.
 #[test]
 fn failures_are_told(rt: HostRuntime) {
-    let mut reader = stumbling(b"ab".as_slice());
+    let mut reader = failing_once(b"ab".as_slice());
     hold_seen(&rt, after_read(&mut reader), (None, 1, true));
-    hold_seen(&rt, after_read(&mut reader), (Some(1), 2, true));
-    let mut writer = stumbling::<Vec<u8>>(Vec::new(rt.alloc()));
+    hold_seen(&rt, after_read(&mut reader), (Some(2), 2, true));
+    let mut writer = failing_once::<Vec<u8>>(Vec::new(rt.alloc()));
     hold_seen(&rt, after_write(&mut writer, b"a"), (None, 1, true));
     hold_seen(&rt, after_write(&mut writer, b"a"), (Some(1), 2, true));
-    let mut writer = stumbling::<Vec<u8>>(Vec::new(rt.alloc()));
+    let mut writer = failing_once::<Vec<u8>>(Vec::new(rt.alloc()));
     hold_seen(&rt, after_flush(&mut writer), (None, 1, true));
     hold_seen(&rt, after_flush(&mut writer), (Some(0), 2, true));
 }
