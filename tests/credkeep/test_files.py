@@ -210,7 +210,7 @@ class NamesTest(BookTest):
         os.link(self.book.path, second.path)
         for book in (self.book, second):
             with self.subTest(book=book):
-                self.assertFails(book("list"), 5, "it has another name, by a hard link")
+                self.assertFails(book("list"), 5, "another hard link names the file")
 
 
 class LocksTest(BookTest):

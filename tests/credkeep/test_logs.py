@@ -58,7 +58,7 @@ class LogsTest(CopyTest):
             begin = 32 + (at - 32) // size * size
             whole = sum(end < begin for end in ends)
             behind = max(sum(end >= begin for end in commits_in(bytes(bad))), 1)
-            text = f"its log is damaged: {whole} changes in it can be read, and {behind} can't"
+            text = f"its log is damaged: {whole} changes can be read, and {behind} can't"
             for words in (["list"], ["verify"], ["backup", str(self.room / "copy.db")], ["serve"]):
                 with self.subTest(at=at, words=words):
                     done = book(*words)

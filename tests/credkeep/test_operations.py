@@ -115,7 +115,7 @@ class OperationsTest(BookTest):
         book, tagged = self.begun({"bob": ""}), ("serve", "--tagged")
         own = (*tagged, "--setting", WITHIN.rpartition("$")[0])
         self.assertEqual(book.script([*own, "--most-memory", "64"], ["t show bob"]), ["t none"])
-        why = "--setting: it asks for more than --most-memory or --most-work (18 costly)"
+        why = "--setting: its hash needs more than --most-memory or --most-work allows (18 costly)"
         for words in (
             (*own, "--most-memory", "63"),
             (*own, "--most-work", "63"),

@@ -75,29 +75,29 @@ CROWDED = [
     ("7", f" --setting {CHEAP}", 8),
     ("1M", " --setting $scrypt$ln=10,r=9,p=4", 1152),
 ]
-MEMORY = "--memory: it is less than a hash under --setting takes:"
+MEMORY = "--memory: a hash under --setting needs more:"
 
 # A slip in the words behind the file, or before it, and what is named of it.
 UNNAMED = "a word or an option too many, which isn't shown: it may be a password"
-NEAR = "an option that it doesn't have, which isn't shown;"
+NEAR = "an unknown option, which isn't shown;"
 SLIPS = [
     ("list --wait 5", "list: --wait stands before FILE"),
     ("list --wait=5", "list: --wait stands before FILE"),
-    ("list --waitt 5", f"list: {NEAR} --wait is near"),
-    ("list --cost", f"list: {NEAR} --costs is near"),
-    ("serve --most-memroy=5", f"serve: {NEAR} --most-memory is near"),
-    ("serve --most-wrok 5", f"serve: {NEAR} --most-work is near"),
+    ("list --waitt 5", f"list: {NEAR} --wait is similar"),
+    ("list --cost", f"list: {NEAR} --costs is similar"),
+    ("serve --most-memroy=5", f"serve: {NEAR} --most-memory is similar"),
+    ("serve --most-wrok 5", f"serve: {NEAR} --most-work is similar"),
     ("add ann --memory 256", "add: it has no option --memory"),
     ("list --quiet --setting x", "list: it has no option --setting"),
     ("check ann secret", f"check: {UNNAMED}\nA password is read from standard input."),
     ("check ann --secret", f"check: {UNNAMED}\nA password is read from standard input."),
     *(
-        (f"{it} passwd.txt", f"{it}: {UNNAMED}\nIt reads standard input: write < FILE")
+        (f"{it} passwd.txt", f"{it}: {UNNAMED}\nThe input is read from standard input: write < INPUT")
         for it in ("import", "run", "serve")
     ),
 ]
 EARLY = [
-    (["--waitt", "5"], f"list: {NEAR} --wait is near"),
+    (["--waitt", "5"], f"list: {NEAR} --wait is similar"),
     (["--costs"], "list: --costs stands behind list"),
     (["--update"], "list: it has no option --update"),
 ]
@@ -124,7 +124,7 @@ REFUSED = [
     *(
         (
             [*words.split(), str(it)],
-            f"credkeep: {words.split()[-1]}: it is a number from {low} to {high}",
+            f"credkeep: {words.split()[-1]}: give a number from {low} to {high}",
         )
         for words, low, high in NUMBERS
         for it in (-1, *range(low), high + 1, "forever")
@@ -219,7 +219,7 @@ class WordsTest(BookTest):
                 self.assertEqual(done[:2], (1, ""))
                 self.assertRegex(done.faults, rf"\A{form}\n\Z")
         for seconds in (-1, 3601, "forever"):
-            why = "--wait: it is a number from 0 to 3600"
+            why = "--wait: give a number from 0 to 3600"
             self.assertEqual(book("list", wait=seconds), fails(1, why))
         self.assertFalse(book.path.exists())
 

@@ -75,7 +75,7 @@ pub(crate) fn refuse_file<E: Into<BookFault>>(host: &HostRuntime, path: &str, wh
         BookFault::Database(error) => refuse(&mut host.stderr(), &OpenFault::Database(error)),
         BookFault::Book(why) => {
             let status = refuse(&mut host.stderr(), &why);
-            let _ = writeln!(host.stderr(), "credkeep: that is said of {path}");
+            let _ = writeln!(host.stderr(), "credkeep: the file is {path}");
             status
         }
     }

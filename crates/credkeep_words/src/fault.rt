@@ -45,7 +45,9 @@ impl FileFault {
 impl fmt::Display for FileFault {
     fn fmt<W: fmt::Write>(&self, f: &mut fmt::Formatter<W>) -> fmt::Result {
         match self {
-            FileFault::NoFile => f.write_str("it is no file; ./:memory: names one"),
+            FileFault::NoFile => {
+                f.write_str("FILE is empty, or :memory:, which names no file; ./:memory: names one")
+            }
             FileFault::Absent => f.write_str("there is no such file; init makes one"),
             FileFault::Irregular => f.write_str("it is a folder, a link or a device"),
             FileFault::Empty => f.write_str("it is empty; init begins a book in it"),
@@ -55,21 +57,21 @@ impl fmt::Display for FileFault {
             ),
             FileFault::Owner => f.write_str("another user owns it"),
             FileFault::Mode => f.write_str("others can read or write it; chmod 600 first"),
-            FileFault::Linked => f.write_str("it has another name, by a hard link; remove one"),
+            FileFault::Linked => f.write_str("another hard link names the file; remove one of the two"),
             FileFault::Busy => f.write_str("busy: another process has it open"),
-            FileFault::Same => f.write_str("it is the database itself"),
+            FileFault::Same => f.write_str("the copy would replace the book itself; name another file"),
             FileFault::OldLog => f.write_str(
                 "a log with changes lies beside it, at its name with -wal: it is in use, or it was \
                  removed without its log; restore puts a copy there, and takes the log away",
             ),
             FileFault::DamagedLog { before, lost } => write!(
                 f,
-                "its log is damaged: {before} changes in it can be read, and {lost} can't; keep a \
-                 copy of both files, and then restore it from itself, with the first ones alone",
+                "its log is damaged: {before} changes can be read, and {lost} can't; keep a copy of \
+                 both files, then restore the file from itself, which keeps the readable changes",
             ),
             FileFault::Unsynced => f.write_str(
-                "it wasn't opened, as the system didn't sync it, its log or its folder: look at \
-                 the disk",
+                "a sync of the file, its log or its folder failed, so the file wasn't opened: look \
+                 at the disk",
             ),
             FileFault::OwnUser(error) => write!(
                 f,

@@ -79,21 +79,21 @@ impl<'a> Refusal<'a> {
             ),
             Refusal::Number(option, low, high) => writeln!(
                 out,
-                "credkeep: --{option}: it is a number from {low} to {high}"
+                "credkeep: --{option}: give a number from {low} to {high}"
             ),
             Refusal::Costly => writeln!(
                 out,
-                "credkeep: --setting: it asks for more than --most-memory or --most-work \
-                 (18 costly)"
+                "credkeep: --setting: its hash needs more than --most-memory or --most-work \
+                 allows (18 costly)"
             ),
             Refusal::Crowded(kib) => writeln!(
                 out,
-                "credkeep: --memory: it is less than a hash under --setting takes: {kib} KiB \
-                 (4 memory)"
+                "credkeep: --memory: a hash under --setting needs more: {kib} KiB (4 memory)"
             ),
             Refusal::Existing => writeln!(
                 out,
-                "credkeep: --skip-existing and --update: an account that exists is left, or updated"
+                "credkeep: --skip-existing and --update exclude each other: an existing account is \
+                 left, or updated"
             ),
             Refusal::Words(_) | Refusal::Salt | Refusal::Memory => Ok(()),
         }
@@ -137,7 +137,7 @@ fn write_slip<W: Write>(out: &mut W, verb: Verb, slip: Slip) -> io::Result<()> {
         Slip::Elsewhere(option) => writeln!(out, "it has no option --{option}"),
         Slip::Misspelt(option) => writeln!(
             out,
-            "an option that it doesn't have, which isn't shown; --{option} is near"
+            "an unknown option, which isn't shown; --{option} is similar"
         ),
     }
 }
@@ -149,7 +149,7 @@ fn write_unnamed<W: Write>(out: &mut W, verb: Verb) -> io::Result<()> {
     )?;
     match verb {
         Verb::Run | Verb::Serve | Verb::Import => {
-            writeln!(out, "It reads standard input: write < FILE")
+            writeln!(out, "The input is read from standard input: write < INPUT")
         }
         _ => writeln!(out, "A password is read from standard input."),
     }
