@@ -57,9 +57,13 @@ impl fmt::Display for FileFault {
             ),
             FileFault::Owner => f.write_str("another user owns it"),
             FileFault::Mode => f.write_str("others can read or write it; chmod 600 first"),
-            FileFault::Linked => f.write_str("another hard link names the file; remove one of the two"),
+            FileFault::Linked => f.write_str(
+                "another hard link names the file; remove one of the two",
+            ),
             FileFault::Busy => f.write_str("busy: another process has it open"),
-            FileFault::Same => f.write_str("the copy would replace the book itself; name another file"),
+            FileFault::Same => f.write_str(
+                "the copy would replace the book itself; name another file",
+            ),
             FileFault::OldLog => f.write_str(
                 "a log with changes lies beside it, at its name with -wal: it is in use, or it was \
                  removed without its log; restore puts a copy there, and takes the log away",
