@@ -1,8 +1,9 @@
 -- What the commands on one account do.
 use Rattle.std.specs.Io.KnownBytes.{Keeps}
-use Rattle.std.specs.Prelude.{◌≡◌, ◌⊎◌, ℕ, ◌≤◌, List, Bool, Option, Some, None, Result, Ok, Err, IfErr, true, false}
+use Rattle.std.specs.Prelude.{◌≡◌, ◌⊎◌, ℕ, List, Bool, if◌then◌else◌, is_some, unwrap_or, Option, Some, None, Result, Ok, Err, IfErr, true, false}
 use Rattle.cred_phc.specs.Values.{RecordValue}
 use Rattle.cred_book.specs.{Accounts.Accounts, Works.is_for_current, Works.new_record, Works.seq, declared.reply.Reply.Reply}
+use Rattle.cred_file.specs.Edits.{has_room_for}
 use Rattle.cred_admin.specs.{Lines.IsMisread, Lines.Reads, Listing.Tells, Seen.Seen, Statuses.hint_of, Statuses.status_of, declared.command.Command.Command}
 use Rattle.cred_admin.specs.declared.command.Command.TheVariants.{Add, Check, Change, Reset, Upgrade, Remove}
 use Rattle.cred_admin.specs.{declared.fault.Fault.Fault, declared.operation.Operation.Operation, declared.password.Passwords.Passwords}
@@ -38,15 +39,15 @@ operation_of name Remove t = operation.Ask (request.Remove name t.first)
 
 -- ---- what is done
 
--- the record is put if there is none, at an account that is added if it isn't there
-abbrev pub enrolment_at : Accounts → List ℕ → RecordValue → Option (Option RecordValue)
-    → Reply × Accounts
-enrolment_at book name stored None = (reply.Enrolled, map.insert book name (Some stored))
-enrolment_at book name stored (Some None) = (reply.Enrolled, map.insert book name (Some stored))
-enrolment_at book name stored (Some (Some there)) = (reply.Exists, book)
+-- the account is there, with a record
+abbrev pub has_record : Accounts → List ℕ → Bool
+has_record book name = is_some (unwrap_or (map.get book name) None)
 
+-- the record is put if there is none, at an account that is added if it isn't there
 abbrev pub enrolment : Accounts → List ℕ → RecordValue → Reply × Accounts
-enrolment book name stored = enrolment_at book name stored (map.get book name)
+enrolment book name stored =
+    if has_record book name then (reply.Exists, book)
+    else (reply.Enrolled, map.insert book name (Some stored))
 
 -- the record is put at an account, whatever stands there
 abbrev pub reset_at : Accounts → List ℕ → RecordValue → Option (Option RecordValue)
@@ -58,16 +59,6 @@ reset_at book name stored (Some (Some there)) =
 
 abbrev pub reset_step : Accounts → List ℕ → RecordValue → Reply × Accounts
 reset_step book name stored = reset_at book name stored (map.get book name)
-
--- the account isn't there, and there is no room for it
-abbrev pub HasNoRoom : ℕ → Accounts → List ℕ → Type 0
-HasNoRoom capacity book name = (map.contains_key book name ≡ false) × (capacity ≤ map.len book)
-
--- the record was made, and there was no memory to put it at the new account, which is there without
-pub record IsBare (old new : Accounts) (name : List ℕ) (made told : RecordValue) : Type 0 where
-  pub absent : map.contains_key old name ≡ false
-  pub added : new ≡ map.insert old name None
-  pub told_is : told ≡ made
 
 -- the reply to a whole operation, and the book after it
 abbrev pub done : Accounts → Operation → Reply × Accounts
@@ -81,21 +72,17 @@ is_current_operation (operation.Ask request) = is_for_current request
 is_current_operation (operation.Enrol name setting pw) = true
 is_current_operation (operation.Reset name setting pw) = true
 
+-- it adds an account, for which there is no room
 abbrev pub FindsNoRoom : ℕ → Accounts → Operation → Type 0
-FindsNoRoom capacity book (operation.Enrol name setting pw) = HasNoRoom capacity book name
+FindsNoRoom capacity book (operation.Enrol name setting pw) =
+    has_room_for capacity book name ≡ false
 FindsNoRoom capacity book _ = ⊥
-
-abbrev pub LeavesBare : Accounts → Accounts → Operation → RecordValue → Type 0
-LeavesBare old new (operation.Enrol name setting pw) told =
-    IsBare old new name (new_record setting pw) told
-LeavesBare old new _ told = ⊥
 
 -- it is done, or not
 abbrev pub Works : ℕ → Accounts → Accounts → Operation → Result Reply Fault → Type 0
 Works capacity old new o (Ok r) = (r, new) ≡ done old o
 Works capacity old new o (Err fault.Memory) = new ≡ old
 Works capacity old new o (Err fault.Full) = FindsNoRoom capacity old o × (new ≡ old)
-Works capacity old new o (Err (fault.NoRecord made)) = LeavesBare old new o made
 Works capacity old new o (Err _) = ⊥
 
 -- ---- what comes of it

@@ -21,7 +21,6 @@ abbrev pub status_of_fault : Fault → Status
 status_of_fault fault.Read = Io
 status_of_fault fault.Write = Io
 status_of_fault fault.Memory = Memory
-status_of_fault (fault.NoRecord made) = Memory
 status_of_fault fault.Password = Data
 status_of_fault fault.NoPassword = Data
 status_of_fault fault.NoNewPassword = Data

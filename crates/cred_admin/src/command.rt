@@ -5,13 +5,14 @@ ghost use Rattle.cred_cli.specs.Watched.{Basis, failed_of, reading_on, writing_o
 ghost use Rattle.cred_admin.specs.{Commands.Obeys, Commands.is_current_operation, Commands.operation_of, Commands.passwords_of, Seen.FitsSince, Seen.seen};
 
 use crate::fault::Fault;
+use crate::host::Host;
 use crate::operation::Operation;
 use crate::password::{NewPassword, Passwords, Typed, read_passwords};
 use crate::printing::tell;
 use crate::setting::NewSetting;
 use crate::status::{Status, hint_of, status_of};
 use cred_book::{Name, Request};
-use cred_cli::{KeeperBy, Tools, Watched, reply_line};
+use cred_cli::{Tools, Watched, reply_line};
 use std::io::{Read, Write};
 use std::thread::Threads;
 
@@ -51,13 +52,12 @@ impl Command {
     /// Reads the passwords, does the whole operation, and then writes the reply: `noaccount` or
     /// `absent` where the account or its record is missing.
     ///
-    /// This waits only where a call of the reader, the writer or the keeper does. So over a keeper
-    /// whose changes wait for nobody every body of it returns, and is bound by this.
+    /// Only a call of the reader or the writer may wait: else every body returns, and is bound by
+    /// this.
     ///
     /// Errors: `Read`, `NoPassword`, `NoNewPassword`, `Password`, `Empty`, `Memory`, and `Full` if
-    /// the book has no room for an account: nothing is written or changed; `NoRecord`: the account
-    /// was added, and nothing written; `Write`.
-    pub fn carry_out<Way, T: Threads + Sync, K: KeeperBy<Way, T>, R: Read, W: Write>(
+    /// the book has no room for an account: nothing is written or changed; `Write`.
+    pub fn carry_out<T: Threads + Sync, K: Host, R: Read, W: Write>(
         &self,
         tools: &Tools<'_, T>,
         keeper: &mut K,

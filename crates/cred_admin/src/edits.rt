@@ -1,4 +1,4 @@
-//! The orders that change an account of a kept book without its password.
+//! The orders that change an account without its password.
 
 ghost use Rattle.std.specs.Prelude.{◌≡◌};
 ghost use Rattle.std.specs.FinMap as map;
@@ -10,6 +10,7 @@ ghost use Rattle.cred_admin.specs.declared.edits.Edit.TheVariants as change;
 use crate::detail::Detail;
 use crate::edit_reply::{EditReply, edit_line, edit_status};
 use crate::fault::Fault;
+use crate::host::Host;
 use crate::listing::{Line, line_of};
 use crate::printing::{tell, write_whole};
 use crate::status::Status;
@@ -36,16 +37,16 @@ pub enum Edit {
 ///
 /// Errors: `Memory`, and `Full` if an account would be renamed and the book has no room for one
 /// more name: nothing is written or changed; `Write`.
-pub fn edit_account<S: Alter, W: Write>(
-    book: &mut FileBook<S>,
+pub fn edit_account<K: Host, W: Write>(
+    keeper: &mut K,
     edit: &Edit,
     writer: &mut Watched<W>,
 ) -> Result<Status, Fault>
     ensures { (basis : Basis)
-        → Edits register_capacity book.old.book book.new.book edit.now
+        → Edits K.capacity (K.book keeper.old) (K.book keeper.new) edit.now
         (writing_on basis W.contents writer.old writer.new) result }
 {
-    let reply = make_edit(book, edit)?;
+    let reply = keeper.edit(edit)?;
     tell(edit_line(reply), edit_status(reply), writer)
 }
 
@@ -53,7 +54,10 @@ pub fn edit_account<S: Alter, W: Write>(
 ///
 /// Errors: `Full` if an account would be renamed, and the book has no room for one more name;
 /// `Memory`. The book stays.
-pub fn make_edit<S: Alter>(book: &mut FileBook<S>, edit: &Edit) -> Result<EditReply, BookError>
+pub(crate) fn make_edit<S: Alter>(
+    book: &mut FileBook<S>,
+    edit: &Edit,
+) -> Result<EditReply, BookError>
     ensures { EditsWithin register_capacity book.old.book book.new.book edit.now result }
 {
     match *edit {
@@ -120,24 +124,24 @@ fn rename<S: Alter>(
 ///
 /// The answer without a record is `absent` or `noaccount`. Errors: `Memory`, and `Write`: the
 /// account stays as it is.
-pub fn disable_shown<S: Alter, W: Write>(
+pub fn disable_shown<K: Host, W: Write>(
     alloc: Global,
-    book: &mut FileBook<S>,
+    keeper: &mut K,
     name: &Name,
     writer: &mut Watched<W>,
 ) -> Result<Status, Fault>
-    ensures { (basis : Basis) → DisablesShown book.old.book book.new.book name.now
-        (map.get book.old.book name.now)
+    ensures { (basis : Basis) → DisablesShown (K.book keeper.old) (K.book keeper.new) name.now
+        (map.get (K.book keeper.old) name.now)
         (writing_on basis W.contents writer.old writer.new) result }
 {
-    let stored = match book.book().show(name) {
+    let stored = match keeper.accounts().show(name) {
         Ok(Some(stored)) => stored,
         Ok(None) => return tell(edit_line(EditReply::Absent), Status::No(None), writer),
         Err(_) => return tell(edit_line(EditReply::NoAccount), Status::No(None), writer),
     };
     let line = line_of(alloc, Line::Passwd(Detail::Record), name, Some(stored))?;
     write_whole(writer, &line)?;
-    let Ok(()) = book.put(name, None) else {
+    let Ok(()) = keeper.put(name, None) else {
         return Err(Fault::Memory);
     };
     Ok(Status::Done)

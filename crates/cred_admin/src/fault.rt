@@ -5,7 +5,7 @@ ghost use Rattle.cred_admin.specs.{Statuses.fault_of_book, Statuses.status_of_fa
 
 use crate::status::Status;
 use cred_book::BookError;
-use cred_phc::{Record, TagError};
+use cred_phc::TagError;
 use std::alloc::AllocError;
 use thiserror::Error;
 
@@ -18,9 +18,6 @@ pub enum Fault {
     Write,
     #[error("out of memory")]
     Memory,
-    /// The account was added, and then memory for this record ran out.
-    #[error("out of memory: the name is there, with no record")]
-    NoRecord(Record),
     #[error("the password has over 256 bytes")]
     Password,
     #[error("no password on standard input")]
@@ -40,7 +37,7 @@ impl Fault {
     {
         match self {
             Fault::Read | Fault::Write => Status::Io,
-            Fault::Memory | Fault::NoRecord(_) => Status::Memory,
+            Fault::Memory => Status::Memory,
             Fault::Password
             | Fault::NoPassword
             | Fault::NoNewPassword

@@ -1,6 +1,6 @@
 //! What an administrator does with a book of accounts: add, check, change, upgrade, remove and
-//! reset by a password that is read from a reader; show and list; disable, delete and rename, for
-//! which a book is kept in a database; and what the lines of an import come to.
+//! reset by a password that is read from a reader; show and list; disable, delete and rename; and
+//! what the lines of an import come to.
 //!
 //! Each command reads, changes the book by its keeper, and then writes its answer: so an answer is
 //! never written before its change is made.
@@ -12,6 +12,7 @@ mod edit_reply;
 mod edits;
 mod entry;
 mod fault;
+mod host;
 mod import;
 mod laws;
 mod listing;
@@ -25,12 +26,14 @@ mod status;
 pub use command::Command;
 pub use detail::Detail;
 pub use edit_reply::{EditReply, edit_line};
-pub use edits::{Edit, disable_shown, edit_account, make_edit};
+pub use edits::{Edit, disable_shown, edit_account};
 pub use entry::LineFault;
 pub use fault::Fault;
+pub use host::Host;
 pub use import::{BadLine, Existing, Gathered, ImportFault, LockedRecords, Rules, gather};
 pub use laws::imports_are_of_their_lines;
 pub use listing::{Line, a_piece_has_64_kib, line_of, list};
+pub use operation::put_in_place;
 pub use password::{EmptyPassword, NewPassword, Passwords};
 pub use printing::tell;
 pub use setting::{NewSetting, setting_of};

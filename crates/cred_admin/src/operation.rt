@@ -1,16 +1,19 @@
 //! The work of a command after its passwords are read.
 
-ghost use Rattle.std.specs.Prelude.{◌≡◌, true};
+ghost use Rattle.std.specs.Prelude.{◌≡◌, IfOk, OnErr, true};
+ghost use Rattle.std.specs.FinMap as map;
 ghost use Rattle.cred_book.specs.Works.{is_for_current};
-ghost use Rattle.cred_admin.specs.Commands.{Works, is_current_operation};
+ghost use Rattle.cred_admin.specs.Commands.{Works, has_record, is_current_operation, reset_step};
 ghost use Rattle.cred_admin.specs.declared.operation.Operation.TheVariants as operation;
 
 use crate::fault::Fault;
+use crate::host::Host;
 use crate::setting::NewSetting;
-use cred_book::{Name, Reply, Request};
-use cred_cli::{KeeperBy, Tools};
-use cred_phc::Password;
+use cred_book::{Name, Register, Reply, Request};
+use cred_cli::Tools;
+use cred_phc::{Password, Record};
 use cred_pool::NoGate;
+use std::alloc::AllocError;
 use std::thread::Threads;
 
 /// A whole operation on one account.
@@ -35,8 +38,8 @@ pub(crate) enum Operation {
 impl Operation {
     /// Does the operation.
     ///
-    /// Errors: `Memory`, `Full`: nothing is changed; `NoRecord`: the account was added.
-    pub(crate) fn work<Way, T: Threads + Sync, K: KeeperBy<Way, T>>(
+    /// Errors: `Memory`, `Full`: nothing is changed.
+    pub(crate) fn work<T: Threads + Sync, K: Host>(
         &self,
         tools: &Tools<'_, T>,
         keeper: &mut K,
@@ -53,7 +56,7 @@ impl Operation {
 }
 
 /// Begins, hashes and commits, with nothing between that could change the record.
-fn settle<Way, T: Threads + Sync, K: KeeperBy<Way, T>>(
+fn settle<T: Threads + Sync, K: Host>(
     tools: &Tools<'_, T>,
     keeper: &mut K,
     request: Request,
@@ -62,19 +65,19 @@ fn settle<Way, T: Threads + Sync, K: KeeperBy<Way, T>>(
     ensures { Works K.capacity (K.book keeper.old) (K.book keeper.new)
         (operation.Ask request) result }
 {
-    let Ok(ticket) = keeper.begin(request) else {
+    let Ok(ticket) = keeper.accounts().begin(request) else {
         return Ok(Reply::NoAccount);
     };
     let Ok(worked) = ticket.work(tools.rt, tools.alloc, tools.workers, &NoGate) else {
         return Err(Fault::Memory);
     };
-    match keeper.commit_by(tools.rt, worked) {
+    match keeper.commit(worked) {
         Ok(reply) => Ok(reply),
         Err(_) => Err(Fault::Memory),
     }
 }
 
-fn enrol<Way, T: Threads + Sync, K: KeeperBy<Way, T>>(
+fn enrol<T: Threads + Sync, K: Host>(
     tools: &Tools<'_, T>,
     keeper: &mut K,
     name: &Name,
@@ -84,25 +87,25 @@ fn enrol<Way, T: Threads + Sync, K: KeeperBy<Way, T>>(
     ensures { Works K.capacity (K.book keeper.old) (K.book keeper.new)
         (operation.Enrol name.now setting.now pw.now) result }
 {
-    match keeper.show(name) {
-        Ok(Some(_)) => Ok(Reply::Exists),
-        Ok(None) => {
-            let stored = tools.hashing().made(&setting.setting(), pw)?;
-            keeper.load_by(tools.rt, name, stored)?;
-            Ok(Reply::Enrolled)
-        }
-        Err(_) => {
-            let stored = tools.hashing().made(&setting.setting(), pw)?;
-            keeper.admit_by(tools.rt, *name)?;
-            match keeper.load_by(tools.rt, name, stored) {
-                Ok(()) => Ok(Reply::Enrolled),
-                Err(_) => Err(Fault::NoRecord(stored)),
-            }
-        }
+    if has_record(keeper.accounts(), name) {
+        return Ok(Reply::Exists);
+    }
+    let stored = tools.hashing().made(&setting.setting(), pw)?;
+    keeper.put(name, Some(stored))?;
+    Ok(Reply::Enrolled)
+}
+
+/// Whether the account exists and has a record.
+fn has_record(accounts: &Register, name: &Name) -> bool
+    ensures { result ≡ has_record accounts.now name.now }
+{
+    match accounts.show(name) {
+        Ok(stored) => stored.is_some(),
+        Err(_) => false,
     }
 }
 
-fn reset<Way, T: Threads + Sync, K: KeeperBy<Way, T>>(
+fn reset<T: Threads + Sync, K: Host>(
     tools: &Tools<'_, T>,
     keeper: &mut K,
     name: &Name,
@@ -112,12 +115,33 @@ fn reset<Way, T: Threads + Sync, K: KeeperBy<Way, T>>(
     ensures { Works K.capacity (K.book keeper.old) (K.book keeper.new)
         (operation.Reset name.now setting.now pw.now) result }
 {
-    let reply = match keeper.show(name) {
-        Ok(Some(_)) => Reply::Replaced,
+    if !keeper.accounts().contains(name) {
+        return Ok(Reply::NoAccount);
+    }
+    let stored = tools.hashing().made(&setting.setting(), pw)?;
+    let reply = put_in_place(keeper, name, stored)?;
+    Ok(reply)
+}
+
+/// Gives the account this record, in place of any other. If memory runs out the book stays; it runs
+/// out only if the account exists.
+pub fn put_in_place<K: Host>(
+    keeper: &mut K,
+    name: &Name,
+    stored: Record,
+) -> Result<Reply, AllocError>
+    ensures done { IfOk result (λ reply.
+        (reply, K.book keeper.new) ≡ reset_step (K.book keeper.old) name.now stored) }
+    ensures refused { OnErr result (K.book keeper.new ≡ K.book keeper.old) }
+    ensures there { OnErr result (map.contains_key (K.book keeper.old) name.now ≡ true) }
+{
+    let reply = match keeper.accounts().show(name) {
         Ok(None) => Reply::Enrolled,
+        Ok(Some(_)) => Reply::Replaced,
         Err(_) => return Ok(Reply::NoAccount),
     };
-    let fresh = tools.hashing().made(&setting.setting(), pw)?;
-    keeper.load_by(tools.rt, name, fresh)?;
-    Ok(reply)
+    match keeper.load(name, stored) {
+        Ok(()) => Ok(reply),
+        Err(_) => Err(AllocError),
+    }
 }

@@ -8,7 +8,7 @@ ghost use Rattle.cred_keep.specs.Orders.{IsRefused, IsServed, Performs, is_scrip
 use crate::import::{Importing, import};
 use crate::outcome::{Ending, Failure, command_end, import_end, run_end};
 use crate::report::{refuse, tell_end};
-use crate::script::{AtOnce, run_on_file, serve_on_file};
+use crate::script::{run_on_file, serve_on_file};
 use cred_admin::{
     Command, Detail, Edit, Line, Status, disable_shown, edit_account, list, show, show_json,
 };
@@ -104,9 +104,7 @@ fn perform<T: Threads + Sync, S: Alter, R: Read, W: Write>(
         Order::Run => run_end(run_on_file(tools, book, reader, writer)),
         Order::Serve { most } => run_end(serve_on_file(tools, *most, book, reader, writer)),
         Order::Account { name, command } => {
-            command_end(command.carry_out::<AtOnce, T, FileBook<S>, R, W>(
-                tools, book, name, reader, writer,
-            ))
+            command_end(command.carry_out(tools, book, name, reader, writer))
         }
         Order::Edit { edit } => command_end(edit_account(book, edit, writer)),
         Order::DisableShown { name } => {

@@ -1,19 +1,17 @@
 //! Operations without hashing, each done in one go.
 
-ghost use Rattle.std.specs.Prelude.{◌≡◌, IfOk, OnErr, OnOk, Some, true};
+ghost use Rattle.std.specs.Prelude.{◌≡◌, IfOk, OnErr, OnOk, Some};
 ghost use Rattle.cred_phc.specs.Values.{RecordValue};
-ghost use Rattle.cred_admin.specs.{Commands.reset_step, Edits.disabling};
+ghost use Rattle.cred_admin.specs.Edits.{disabling};
 ghost use Rattle.cred_cli.specs.Answers.{line_bytes};
 ghost use Rattle.cred_many.specs.{Served.NeedsMemory, Served.disabled_line, Served.done, declared.ask.Ask.TheVariants.Quick};
 ghost use Rattle.std.specs.FinMap as map;
 
 use crate::ask::QuickAsk;
-use crate::host::Host;
 use crate::listing::names_line;
-use cred_admin::{Detail, Edit, EditReply, Line, edit_line, line_of};
-use cred_book::{BookError, Name, Reply};
+use cred_admin::{Detail, Edit, EditReply, Host, Line, edit_line, line_of};
+use cred_book::{BookError, Name};
 use cred_cli::{AnswerLine, Refusal};
-use cred_phc::Record;
 use std::alloc::{AllocError, Global};
 
 /// Does an operation that needs no hash. Without memory the book stays.
@@ -81,29 +79,6 @@ fn disable_shown<K: Host>(
     let line = line_of(alloc, Line::Passwd(Detail::Record), &name, Some(stored))?;
     match keeper.edit(&Edit::Disable(name)) {
         Ok(_) => Ok(AnswerLine::Made(line)),
-        Err(_) => Err(AllocError),
-    }
-}
-
-/// Gives the account this record, in place of any other. Without memory the book stays; memory runs
-/// out only if the account exists.
-pub(crate) fn put_in_place<K: Host>(
-    keeper: &mut K,
-    name: &Name,
-    stored: Record,
-) -> Result<Reply, AllocError>
-    ensures done { IfOk result (λ reply.
-        (reply, K.book keeper.new) ≡ reset_step (K.book keeper.old) name.now stored) }
-    ensures refused { OnErr result (K.book keeper.new ≡ K.book keeper.old) }
-    ensures there { OnErr result (map.contains_key (K.book keeper.old) name.now ≡ true) }
-{
-    let reply = match keeper.accounts().show(name) {
-        Ok(None) => Reply::Enrolled,
-        Ok(Some(_)) => Reply::Replaced,
-        Err(_) => return Ok(Reply::NoAccount),
-    };
-    match keeper.load(name, stored) {
-        Ok(()) => Ok(reply),
         Err(_) => Err(AllocError),
     }
 }

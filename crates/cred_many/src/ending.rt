@@ -4,10 +4,10 @@ ghost use Rattle.std.specs.Prelude.{◌≡◌};
 ghost use Rattle.cred_many.specs.Reading.{IsEnd};
 
 use crate::fault::ServiceFault;
-use crate::host::Host;
 use crate::sender::Gone;
 use crate::service_id::ServiceId;
 use crate::source::Source;
+use cred_admin::Host;
 use cred_cli::Watched;
 use std::io::Write;
 use std::marker::{Model, PhantomData};

@@ -1,11 +1,11 @@
 //! The work of the thread with the book on the messages of the others.
 
 use crate::group::MOST_TOGETHER;
-use crate::host::Host;
 use crate::job::{Hashed, Job, Message};
 use crate::open::MOST_OPEN;
 use crate::scribe::Scribe;
 use crate::service_id::ServiceId;
+use cred_admin::Host;
 use crossbeam_channel::{Receiver, Sender};
 use std::alloc::Global;
 use std::io::Write;

@@ -8,17 +8,17 @@ ghost use Rattle.cred_many.specs.Served.{HasCause, NeedsMemory, Stands, StandsAt
 
 mod groups;
 
-use crate::answer::{do_ask, put_in_place};
+use crate::answer::do_ask;
 use crate::ask::{Ask, QuickAsk};
 use crate::ending::{End, Ending, MOST_LINES, Served};
 use crate::fault::ServiceFault;
-use crate::host::Host;
 use crate::job::{Hashed, Job};
 use crate::line::Line;
 use crate::open::OpenLines;
 use crate::output::Output;
 use crate::service_id::ServiceId;
 use crate::source::Source;
+use cred_admin::{Host, put_in_place};
 use cred_book::{BookError, Reply, Request, Ticket, Worked};
 use cred_cli::{Refusal, Watched, reply_line};
 use std::alloc::Global;

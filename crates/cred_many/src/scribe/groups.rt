@@ -5,9 +5,9 @@ ghost use Rattle.cred_many.specs.{Scribe.IsGroup, Scribe.entries_of};
 
 use super::{Scribe, told_reply};
 use crate::group::{Group, MOST_TOGETHER};
-use crate::host::Host;
 use crate::job::Hashed;
 use crate::service_id::ServiceId;
+use cred_admin::Host;
 use cred_book::Change;
 use std::alloc::Global;
 use std::io::Write;

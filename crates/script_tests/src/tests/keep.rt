@@ -1,6 +1,6 @@
 //! What is said of each fault on standard error.
 
-use super::{hold_bytes, name, stored};
+use super::{hold_bytes, name};
 use cred_admin::{BadLine, Fault, ImportFault, LineFault};
 use cred_book::{BookError, Register};
 use cred_cli::ScriptFault;
@@ -10,7 +10,6 @@ use cred_phc::PhcError;
 use sqlite::{Error, ErrorCode};
 use std::alloc::Global;
 use std::process::Abort;
-use test_samples::A;
 
 /// Holds what is said of a failure against one line of the program's.
 fn hold_failure<R: Abort>(
@@ -40,10 +39,6 @@ fn texts_of_commands(rt: HostRuntime) {
             "the password is empty: --empty-password accepts it",
         ),
         (Fault::Full, "the book has no room for another account"),
-        (
-            Fault::NoRecord(stored(&rt, A)),
-            "out of memory: the name is there, with no record",
-        ),
     ] {
         hold_failure(&rt, rt.alloc(), &Failure::Command(fault), None, text);
     }

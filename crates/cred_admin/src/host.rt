@@ -1,12 +1,13 @@
-//! The keeper of a book that is served.
+//! The keeper of a book whose changes wait for nobody.
 
-use cred_admin::{Edit, EditReply, make_edit};
+use crate::edit_reply::EditReply;
+use crate::edits::{Edit, make_edit};
 use cred_book::{BookError, Name, Register, Reply, Worked};
 use cred_file::FileBook;
 use cred_phc::Record;
 use sqlite::Alter;
 
-/// A keeper whose book is served while it is in use, from a register in memory.
+/// A keeper whose book stands in a register in memory, and whose changes wait for nobody.
 ///
 /// Its calls return: none of them has a handle by which it may wait. They answer `Memory` if memory
 /// runs out and no other error is due; the book stays then.
@@ -14,7 +15,7 @@ pub trait Host {
     ghost use Rattle.std.specs.Prelude.{◌≡◌, ℕ, Bool};
     ghost use Rattle.cred_book.specs.{Accounts.Accounts, Accounts.most_accounts, Calls.AdmitsWithin, Calls.Loads, Commits.Commits};
     ghost use Rattle.cred_admin.specs.Edits.{EditsWithin};
-    ghost use Rattle.cred_file.specs.Edits.{TakesIn};
+    ghost use Rattle.cred_file.specs.Edits.{PutsEntry, TakesIn};
     ghost use Rattle.std.specs.FinMap as map;
 
     ghost book: { Self → Accounts };
@@ -40,6 +41,12 @@ pub trait Host {
     /// Errors: `NoAccount` if the book doesn't have the name; `Memory`.
     fn load(&mut self, name: &Name, stored: Record) -> Result<(), BookError>
         ensures { Loads (book self.old) (book self.new) name.now stored result };
+
+    /// Puts a record, or none, at a name, which is added if it doesn't exist, in one change.
+    ///
+    /// Errors: `Full` if the name doesn't exist and there is no room for it; `Memory`.
+    fn put(&mut self, name: &Name, stored: Option<Record>) -> Result<(), BookError>
+        ensures { PutsEntry capacity (book self.old) (book self.new) name.now stored result };
 
     /// Does the whole operation if the record still equals the copy, and otherwise nothing.
     ///
@@ -86,6 +93,10 @@ impl<S: Alter> Host for FileBook<S> {
 
     fn load(&mut self, name: &Name, stored: Record) -> Result<(), BookError> {
         FileBook::load(self, name, stored)
+    }
+
+    fn put(&mut self, name: &Name, stored: Option<Record>) -> Result<(), BookError> {
+        FileBook::put(self, name, stored)
     }
 
     fn commit(&mut self, worked: Worked) -> Result<Reply, (Worked, BookError)> {
