@@ -1,10 +1,9 @@
 //! A kept desk with one session, at which people sign up, records are loaded and names are taken
 //! away beside all other kinds of change; a log that is full, and a book that is.
 
-use super::ending::Left;
 use super::floor::{Answer, Step};
 use super::scene::{
-    DONE, EXISTS, FULL, LOG_FULL, Line, NO_ACCOUNT, Scene, judge, left_of, left_of_act, replied,
+    DONE, EXISTS, FULL, LOG_FULL, NO_ACCOUNT, Scene, judge, left_of, left_of_act, operates, replied,
 };
 use super::{
     NONE_STANDS, book_of, change, deletion, enrol, entry, judge_replayed, name, remove, stored,
@@ -13,8 +12,6 @@ use super::{
 use cred_book::{Book, Reply};
 use std::alloc::Global;
 use std::process::Abort;
-use std::sync::Wait;
-use std::thread::Threads;
 use test_samples::{A, A_SETTING, B, B_SETTING};
 
 /// The record of `drowssap` under `A_SETTING`, by the reference program of Argon2.
@@ -23,23 +20,6 @@ const C: &str =
 
 /// How many names a book has room for.
 const MOST_ACCOUNTS: usize = 4096;
-
-/// What is left of a desk on this book, whose log has room for so many entries. All lines are
-/// answered as they are to be.
-fn serve<R: Threads + Wait + Abort + Sync>(
-    rt: &R,
-    alloc: Global,
-    book: &Book,
-    room: usize,
-    lines: &[Line],
-) -> Left {
-    let acts = [lines];
-    let scene = Scene {
-        room,
-        ..Scene::new(1, &acts)
-    };
-    left_of(rt, alloc, book, &scene)
-}
 
 /// Each kind of change is refused once the log has no room, and then nothing has happened.
 #[test]
@@ -50,11 +30,7 @@ fn nothing_is_kept_in_a_full_log(rt: HostRuntime) {
         (0, Step::Load(c, stored(&rt, A)), NO_ACCOUNT),
         (0, Step::Admit(c), DONE),
         (0, Step::Admit(c), EXISTS),
-        (
-            0,
-            Step::Operate(enrol(&rt, "c", A_SETTING)),
-            replied(Reply::Enrolled),
-        ),
+        operates(0, enrol(&rt, "c", A_SETTING), Reply::Enrolled),
         (0, Step::Admit(d), LOG_FULL),
         (0, Step::Load(c, stored(&rt, B)), LOG_FULL),
         (0, Step::Delete(c), LOG_FULL),
@@ -64,7 +40,10 @@ fn nothing_is_kept_in_a_full_log(rt: HostRuntime) {
         (0, Step::Read, Ok(Answer::Copied(Some(stored(&rt, A))))),
         (0, Step::Close, replied(Reply::Yes)),
     ];
-    let left = serve(&rt, rt.alloc(), &book, 2, &lines);
+    let acts = [lines.as_slice()];
+    let mut scene = Scene::new(1, &acts);
+    scene.room = 2;
+    let left = left_of(&rt, rt.alloc(), &book, &scene);
     let journal = [entry(&rt, "c", None), entry(&rt, "c", Some(A))];
     judge(&rt, &left, &journal, &[1], &[1]);
     judge_replayed(&rt, &left);
@@ -77,29 +56,17 @@ fn deletions_are_kept(rt: HostRuntime) {
     let (a, c) = (name(&rt, "a"), name(&rt, "c"));
     let lines = [
         (0, Step::Admit(c), DONE),
-        (
-            0,
-            Step::Operate(enrol(&rt, "c", A_SETTING)),
-            replied(Reply::Enrolled),
-        ),
-        (
-            0,
-            Step::Operate(change(&rt, "c", A_SETTING)),
-            replied(Reply::Replaced),
-        ),
+        operates(0, enrol(&rt, "c", A_SETTING), Reply::Enrolled),
+        operates(0, change(&rt, "c", A_SETTING), Reply::Replaced),
         (0, Step::Load(a, stored(&rt, A)), DONE),
-        (
-            0,
-            Step::Operate(upgrade(&rt, "a", B_SETTING)),
-            replied(Reply::Upgraded),
-        ),
-        (0, Step::Operate(remove(&rt, "a")), replied(Reply::Removed)),
+        operates(0, upgrade(&rt, "a", B_SETTING), Reply::Upgraded),
+        operates(0, remove(&rt, "a"), Reply::Removed),
         (0, Step::Delete(a), DONE),
         (0, Step::Delete(a), NO_ACCOUNT),
         (0, Step::Delete(c), DONE),
         (0, Step::Load(c, stored(&rt, A)), NO_ACCOUNT),
     ];
-    let left = serve(&rt, rt.alloc(), &book, 8, &lines);
+    let left = left_of_act(&rt, rt.alloc(), &book, 1, &lines);
     let journal = [
         entry(&rt, "c", None),
         entry(&rt, "c", Some(A)),
@@ -139,7 +106,7 @@ fn full_book_of_long_names(rt: HostRuntime) {
         (0, Step::Load(last, stored(&rt, A)), DONE),
         (1, Step::Hear(0), Ok(Answer::Told(2))),
         (1, Step::Begin(verify(&rt, LAST)), DONE),
-        (0, Step::Operate(remove(&rt, LAST)), replied(Reply::Removed)),
+        operates(0, remove(&rt, LAST), Reply::Removed),
         (1, Step::Hear(0), Ok(Answer::Told(3))),
         (1, Step::Close, replied(Reply::Changed { now: None })),
         (0, Step::Delete(last), DONE),

@@ -2,7 +2,7 @@
 
 use super::ending::Ending;
 use super::floor::{Answer, Step};
-use super::scene::{DONE, Line, Scene, judge, judge_record, left_of, replied};
+use super::scene::{DONE, Line, Scene, judge, judge_record, left_of, operates, replied};
 use super::{
     CHEAP_SETTINGS, NONE_STANDS, ONE_STANDS, book_of, entry, judge_replayed, name, stored, upgrade,
     verify,
@@ -68,11 +68,7 @@ fn thousands<R: Abort>(rt: &R, alloc: Global) -> Result<Vec<Line>, AllocError> {
     load(rt, &mut lines, 0, 4_997)?;
     for turn in 0..300usize {
         let new = CHEAP_SETTINGS[turn % 2];
-        lines.push((
-            0,
-            Step::Operate(upgrade(rt, "a", new)),
-            replied(Reply::Upgraded),
-        ))?;
+        lines.push(operates(0, upgrade(rt, "a", new), Reply::Upgraded))?;
         let text = format!(in alloc; "n{turn}")?;
         lines.push((0, Step::Admit(name(rt, text.as_str())), DONE))?;
     }

@@ -5,7 +5,7 @@ ghost use Rattle.cred_desk.specs.Naming.{IsNamed, StartsAt};
 
 use super::ending::Left;
 use super::floor::{Answer, Step, begin};
-use super::scene::{DONE, Line, Scene, Slip, judge, replied, show};
+use super::scene::{DONE, Line, Scene, Slip, judge, operates, show};
 use super::{ONE_STANDS, book_of, deletion, entry, name, stored, upgrade};
 use cred_book::{Book, Keeper, Reply, Ticket, Worked};
 use cred_desk::{Committer, DeskError, Naming, Opened, Session};
@@ -114,12 +114,6 @@ fn refused_committer(rt: HostRuntime) {
     assert_eq!(rt; book.show(&name(&rt, "a")), Ok(Some(stored(&rt, A))));
 }
 
-/// The first session's upgrade of `a`.
-fn upgraded_to<R: Abort>(rt: &R, setting: &str) -> Line {
-    let step = Step::Operate(upgrade(rt, "a", setting));
-    (0, step, replied(Reply::Upgraded))
-}
-
 /// What a desk with one session leaves, each of whose refused steps is taken once more.
 fn shown_again<R: Threads + Wait + Sync>(
     rt: &R,
@@ -147,9 +141,9 @@ fn refused_desk(rt: HostRuntime) {
         (0, Step::Load(c, stored(&rt, A)), DONE),
         (0, Step::Delete(d), DONE),
         (0, Step::Delete(c), DONE),
-        upgraded_to(&rt, B_SETTING),
-        upgraded_to(&rt, A_SETTING),
-        upgraded_to(&rt, B_SETTING),
+        operates(0, upgrade(&rt, "a", B_SETTING), Reply::Upgraded),
+        operates(0, upgrade(&rt, "a", A_SETTING), Reply::Upgraded),
+        operates(0, upgrade(&rt, "a", B_SETTING), Reply::Upgraded),
     ];
     let journal = [
         entry(&rt, "c", None),

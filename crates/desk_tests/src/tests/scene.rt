@@ -7,7 +7,7 @@ use super::ending::{Ending, Journal, Left, end};
 use super::floor::{Answer, Floor, Step};
 use super::standing;
 use super::writer::{Log, Refused};
-use cred_book::{Book, BookError, Reply, Ticket};
+use cred_book::{Book, BookError, Reply, Request, Ticket};
 use cred_desk::{Entry, Handed, KeepError, KeptDesk, Naming, Opened, Session, Told};
 use crossbeam_channel::{Receiver, Sender, unbounded};
 use std::alloc::Global;
@@ -37,6 +37,11 @@ pub(super) const LOG_FULL: Outcome = Err(KeepError::Writer(Refused));
 
 pub(super) fn replied(reply: Reply) -> Outcome {
     Ok(Answer::Replied(reply))
+}
+
+/// A session's whole operation, with its reply.
+pub(super) fn operates(session: usize, request: Request, reply: Reply) -> Line {
+    (session, Step::Operate(request), replied(reply))
 }
 
 /// What is done at a desk.

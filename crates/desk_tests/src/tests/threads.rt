@@ -2,7 +2,7 @@
 //! meets.
 use super::ending::Left;
 use super::floor::{Answer, Step};
-use super::scene::{DONE, Line, Outcome, Scene, judge, judge_record, left_of, replied};
+use super::scene::{DONE, Line, Outcome, Scene, judge, judge_record, left_of, operates, replied};
 use super::{Accounts, BOTH_STAND, ONE_STANDS, book_of, entry, stored, upgrade, verify};
 use cred_book::Reply;
 use cred_desk::DeskError;
@@ -38,11 +38,7 @@ fn copied<R: Abort>(rt: &R, text: &str) -> Outcome {
 /// One session settles an upgrade and tells the other, which then reads it.
 #[test]
 fn told_and_read(rt: HostRuntime) {
-    let one = [(
-        0,
-        Step::Operate(upgrade(&rt, "a", B_SETTING)),
-        replied(Reply::Upgraded),
-    )];
+    let one = [operates(0, upgrade(&rt, "a", B_SETTING), Reply::Upgraded)];
     let other = [
         (0, Step::Learn, DONE),
         (0, Step::Begin(verify(&rt, "a")), DONE),
@@ -57,16 +53,8 @@ fn told_and_read(rt: HostRuntime) {
 /// After two threads have settled and ended, each session reads both changes with nothing learned.
 #[test]
 fn seen_after_settle(rt: HostRuntime) {
-    let one = [(
-        0,
-        Step::Operate(upgrade(&rt, "a", B_SETTING)),
-        replied(Reply::Upgraded),
-    )];
-    let other = [(
-        0,
-        Step::Operate(upgrade(&rt, "b", B_SETTING)),
-        replied(Reply::Upgraded),
-    )];
+    let one = [operates(0, upgrade(&rt, "a", B_SETTING), Reply::Upgraded)];
+    let other = [operates(0, upgrade(&rt, "b", B_SETTING), Reply::Upgraded)];
     let after = [
         (0, Step::Begin(verify(&rt, "a")), DONE),
         (0, Step::Read, copied(&rt, B)),
@@ -91,11 +79,7 @@ fn own_settle_is_read(rt: HostRuntime) {
     let lines = [
         (0, Step::Begin(verify(&rt, "zed")), missing),
         (1, Step::Begin(verify(&rt, "a")), DONE),
-        (
-            0,
-            Step::Operate(upgrade(&rt, "a", B_SETTING)),
-            replied(Reply::Upgraded),
-        ),
+        operates(0, upgrade(&rt, "a", B_SETTING), Reply::Upgraded),
         (0, Step::Begin(verify(&rt, "a")), DONE),
         (0, Step::Read, copied(&rt, B)),
         (1, Step::Learn, DONE),

@@ -23,11 +23,11 @@ const DEAR: &str = "$argon2id$v=19$m=256,t=4294967295,p=1$c29tZXNhbHQ$nf65EA";
 
 const DEAR_SETTING: &str = "$argon2id$v=19$m=256,t=4294967295,p=1$c29tZXNhbHQ";
 
-/// How much processor time a call may take at its quickest, in nanoseconds: fewer than a million
-/// cycles, so a million turns of a loop take more.
+/// How much processor time three calls may take at their quickest, in nanoseconds: fewer than a
+/// million cycles, so a million turns of a loop take more.
 const LIMIT: u128 = 200_000;
 
-/// How many calls are timed.
+/// How often they are timed.
 const TIMED: u32 = 40;
 
 /// Keeps nothing, and holds the lock of its desk until it is told to go on.
@@ -185,65 +185,49 @@ fn nothing_is_hashed_at_a_desk(rt: HostRuntime) {
     assert_eq!(rt; left.log.entries.len(), 1);
 }
 
-/// What the quickest begin, close and settle took of the thread's processor time, in nanoseconds.
-#[derive(Clone, Copy)]
-struct Quickest {
-    begin: u128,
-    close: u128,
-    settle: u128,
-}
-
 /// In nanoseconds.
 fn time_since<R: CpuClock>(rt: &R, start: Duration) -> Option<u128> {
     let now = rt.thread_cpu_time().ok()?;
     Some(now.as_nanos().saturating_sub(start.as_nanos()))
 }
 
-/// Times a verify's begin and close, and the settle of an upgrade to this setting.
+/// How long a verify's begin and close, and the settle of an upgrade to this setting, take.
 fn time_once<J: Naming, R: Threads + Wait + CpuClock + Abort + Sync>(
     rt: &R,
     alloc: Global,
     desk: &KeptDesk<J, Log>,
     session: &mut Session<J>,
     setting: &str,
-) -> Option<Quickest> {
+) -> Option<u128> {
     let (verify, upgrade) = (verify(rt, "a"), upgrade(rt, "a", setting));
     let mut open = None;
     let start = rt.thread_cpu_time().ok()?;
     begin(session, &mut open, verify);
-    let begin = time_since(rt, start)?;
+    let begun = time_since(rt, start)?;
     let verified = worked(rt, alloc, &mut open)?;
     let start = rt.thread_cpu_time().ok()?;
     close(session, verified);
-    let close = time_since(rt, start)?;
+    let closed = time_since(rt, start)?;
     let upgraded = work_of(rt, alloc, session, upgrade)?;
     let start = rt.thread_cpu_time().ok()?;
     let settled = settle(rt, desk, session, upgraded);
-    let settle = time_since(rt, start)?;
-    (settled == Answer::Replied(Reply::Upgraded)).then_some(Quickest {
-        begin,
-        close,
-        settle,
-    })
+    let took = time_since(rt, start)?
+        .saturating_add(begun)
+        .saturating_add(closed);
+    (settled == Answer::Replied(Reply::Upgraded)).then_some(took)
 }
 
+/// The least time of many.
 fn time_all<J: Naming, R: Threads + Wait + CpuClock + Abort + Sync>(
     rt: &R,
     alloc: Global,
     desk: &KeptDesk<J, Log>,
     session: &mut Session<J>,
-) -> Option<Quickest> {
-    let mut quickest = time_once(rt, alloc, desk, session, B_SETTING)?;
+) -> Option<u128> {
+    let mut quickest = u128::MAX;
     for number in 0..TIMED {
-        let setting = if number % 2 == 0 {
-            A_SETTING
-        } else {
-            B_SETTING
-        };
-        let took = time_once(rt, alloc, desk, session, setting)?;
-        quickest.begin = quickest.begin.min(took.begin);
-        quickest.close = quickest.close.min(took.close);
-        quickest.settle = quickest.settle.min(took.settle);
+        let setting = [B_SETTING, A_SETTING][number as usize % 2];
+        quickest = quickest.min(time_once(rt, alloc, desk, session, setting)?);
     }
     Some(quickest)
 }
@@ -253,7 +237,7 @@ fn timed<J: Naming, R: Threads + Wait + CpuClock + Abort + Sync>(
     alloc: Global,
     opened: Opened,
     book: &Book,
-) -> Option<Quickest>
+) -> Option<u128>
     requires name { IsNamed J.Naming opened }
     requires opening { StartsAt J.Naming book.now 1 }
 {
@@ -272,13 +256,6 @@ fn timed<J: Naming, R: Threads + Wait + CpuClock + Abort + Sync>(
 fn calls_are_quick(rt: HostRuntime) {
     let book = book_of(&rt, rt.alloc(), ONE_STANDS).expect(&rt, "a book");
     let found = timed::<Brand, _>(&rt, rt.alloc(), Opened::new(1), &book);
-    let Quickest {
-        begin,
-        close,
-        settle,
-    } = found.expect(&rt, "a desk");
-    assert!(rt;
-        begin < LIMIT && close < LIMIT && settle < LIMIT,
-        "{begin} {close} {settle}"
-    );
+    let took = found.expect(&rt, "a desk");
+    assert!(rt; took < LIMIT, "{took}");
 }
