@@ -68,6 +68,12 @@ def chosen_book() -> pathlib.Path:
         return FAST_BOOK
 
 
+def need_module(name: str) -> None:
+    """Skips a test of the server where its Python lacks a module."""
+    if subprocess.run([PYTHON, "-c", f"import {name}"], capture_output=True).returncode:
+        raise unittest.SkipTest(f"{PYTHON} has no {name}")
+
+
 def until(fact: Callable[[], bool], said: str, seconds: float = 20.0) -> None:
     """Waits for something."""
     end = time.monotonic() + seconds

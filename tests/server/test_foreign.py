@@ -3,6 +3,7 @@
 import base64
 import errno
 import hashlib
+import importlib
 import json
 import os
 import pathlib
@@ -12,8 +13,18 @@ import subprocess
 import threading
 from typing import Any
 
-from served import CHEAP, SECRET, WRONG, Case, Service, chosen_book, field_of, need, until
-from daemon import schemes
+from served import (
+    CHEAP,
+    SECRET,
+    WRONG,
+    Case,
+    Service,
+    chosen_book,
+    field_of,
+    need,
+    need_module,
+    until,
+)
 from tests.helpers import run
 
 SALT = bytes(range(8))
@@ -48,6 +59,7 @@ class Foreign(Case):
     def setUp(self) -> None:
         super().setUp()
         need("htpasswd")
+        need_module("passlib.hash")
         self.folder = self.room()
         self.file, self.moved = self.folder / "htpasswd", self.folder / "htpasswd.moved"
         self.file.write_text("# of the old site\n")
@@ -66,6 +78,7 @@ class Foreign(Case):
     def test_schemes(self) -> None:
         """Right and wrong passwords under each scheme's records, as other programs make them."""
         need("openssl", "mkpasswd")
+        is_right = importlib.import_module("daemon.schemes").is_right
         for password in ("", "secret", "y" * 16, "pä", "k" * 72, "m" * 127):
             records = {it: made_by(command, password) for it, command in MAKERS.items()}
             records["salted sha1"] = salted_sha1(password.encode())
@@ -75,7 +88,7 @@ class Foreign(Case):
                         continue  # it asks for one
                     typed, is_cut = password.encode(), len(password) > 72 and "bcrypt" in name
                     said = [
-                        schemes.is_right(record.encode(), it)
+                        is_right(record.encode(), it)
                         for it in (typed, typed + b"x", typed[:-1] or b"y", typed + b"\0")
                     ]
                     self.assertEqual(said, [not is_cut, False, False, False], record)

@@ -173,7 +173,7 @@ class Seen(Case):
         with mock.patch.object(tries, "REMEMBERED", 2):
             counted = tries.Tally(Options())
             for name in "abac":
-                counted.count(verify, name, 0, "yes")
+                counted.count(verify, [name], "yes")
         self.assertEqual([counted.last(name)[:4] for name in "abc"], ["last", "none", "last"])
 
 

@@ -111,7 +111,7 @@ class Endings(Case):
             with theirs:
                 theirs.sendall(b"a known ada\n")
                 ours.setblocking(False)
-                door.let_in(door.client(service, ours))
+                door.let_in(door.client(service, door, ours))
                 theirs.settimeout(10)
                 said = await asyncio.to_thread(theirs.recv, 100)
                 with self.assertRaises(ConnectionError):  # its line was never read

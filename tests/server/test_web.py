@@ -8,19 +8,13 @@ import pathlib
 import re
 import signal
 import socket
-import subprocess
 from typing import Any, Optional
 
 from machine import RUN, begun, in_namespaces, install, is_open, prepared, shell
-from served import PYTHON, Case, Service, need, ran, until
+from served import Case, Service, need, need_module, ran, until
 from test_sites import fetched, install_pages, web_logins
 
 BASIC = 'Basic realm="book", charset="UTF-8"'
-
-
-def need_h11() -> None:
-    if subprocess.run([PYTHON, "-c", "import h11"], capture_output=True).returncode:
-        raise Case.skipTest(Case(), "python3-h11 isn't installed")
 
 
 def basic(name: bytes, password: bytes) -> bytes:
@@ -52,7 +46,7 @@ class Connection(http.client.HTTPConnection):
 
 class Web(Case):
     def serving_web(self, *options: str, **fields: Any) -> Service:
-        need_h11()
+        need_module("h11")
         room = self.room()
         return self.serving("--http", f"{room}/http.sock", *options, folder=room, **fields)
 
@@ -186,7 +180,7 @@ class Web(Case):
     @in_namespaces
     def test_nginx(self, room: pathlib.Path) -> None:
         """The page's site: users, forty pictures for one hash, and what nginx says of 429 and 503."""
-        need_h11()
+        need_module("h11")
         need("nginx", "curl")
         prepared(room)
         server = begun("--http", f"{RUN}/http.sock")
@@ -213,7 +207,7 @@ class Web(Case):
 
     def test_addresses(self) -> None:
         """A port of 127.0.0.1, and no other address."""
-        need_h11()
+        need_module("h11")
         room = self.room()
         with socket.socket() as it:
             it.bind(("127.0.0.1", 0))

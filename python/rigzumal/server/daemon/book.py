@@ -3,17 +3,28 @@
 from __future__ import annotations
 
 import asyncio
+import base64
 import os
 import re
 import signal
 from asyncio.subprocess import PIPE
 from collections.abc import Sequence
 from contextlib import suppress
+from typing import Optional
 
 from .log import problems_at
 
 LONGEST_ANSWER = 65536  # bytes
 UNAVAILABLE = b"unavailable"
+
+
+def decoded(field: bytes) -> Optional[bytes]:
+    """The password that a field of a line has; none if it isn't base64."""
+    padded = field + b"=" * (-len(field) % 4)
+    try:
+        return b"" if field == b"-" else base64.b64decode(padded, validate=True)
+    except ValueError:
+        return None
 
 
 class Book:

@@ -1,10 +1,9 @@
-"""Connections to a socket, and clients that send lines."""
+"""Clients that send lines, and whose share of the server each has."""
 
 from __future__ import annotations
 
 import asyncio
 import re
-import select
 import socket
 import struct
 import time
@@ -16,11 +15,11 @@ if TYPE_CHECKING:
     from .service import Service
 
 LONGEST = 960  # bytes of a line
-IN_FLIGHT = 32  # a client's lines at once
 READ, WRITTEN = 4096, 16384  # bytes of a step
 # Seconds until a connection goes on behind an answer that took no work of the book, times
 # its user's connections: all of a user's get a thousand such answers a second.
 PAUSE = 0.001
+TAG = re.compile(rb"[a-z0-9]{1,20}")
 # The first two names of a control group: /system.slice/ssh.service,
 # /user.slice/user-1000.slice.
 GROUP = re.compile(rb"^\d+:(?:name=systemd)?:((?:/[^/\n]+){1,2})", re.M)
@@ -46,13 +45,15 @@ def group_of(pid: int, second: int) -> str:
     return found[1].decode(errors="replace") if found else ""
 
 
-class Connection:
-    """A client's socket, of which little is read at a time; a step takes one request.
+class Client:
+    """One that sends lines, and gets an answer to each, in any order.
 
-    No more is read while the client doesn't read its answers.
+    Little is read at a time, and nothing while answers are unread. A step takes one request.
     """
 
-    most = 1  # requests that run at once
+    most = 32  # requests that run at once
+    no_room = b"* unavailable\n"
+    is_cutting = False  # the rest of a line that is too long
 
     def __init__(self, service: Service, door: Door, sock: socket.socket) -> None:
         self.service, self.door, self.socket = service, door, sock
@@ -65,21 +66,28 @@ class Connection:
         self.is_watched = self.is_due = self.is_paused = False
         self.is_ending = self.is_gone = False
 
-    # ---- what the kinds of clients have of their own
+    # ---- requests
 
     def has_request(self) -> bool:
-        """Whether the input may have a request."""
-        raise NotImplementedError
+        """Whether the input may have one."""
+        return b"\n" in self.input or len(self.input) > LONGEST
 
     def take_request(self) -> None:
-        """Takes a request off the input, and submits it."""
-        raise NotImplementedError
+        """Submits a line; a long one is refused, and its rest passed over."""
+        size = self.input.find(b"\n")
+        line = bytes(self.input[: size if size >= 0 else None])
+        del self.input[: len(line) + 1]
+        if len(line) > LONGEST and not self.is_cutting:
+            tag = line.partition(b" ")[0]
+            self.refuse(tag if TAG.fullmatch(tag) else b"*", b"bad 16 long")
+        elif not self.is_cutting:
+            self.active = time.monotonic()
+            self.service.submit(self, line)
+        self.is_cutting = size < 0
 
     def reply(self, tag: bytes, answer: bytes) -> None:
         """Writes the answer to a request."""
-        raise NotImplementedError
-
-    # ---- steps
+        self.write(b"%b %b\n" % (tag, answer))
 
     def answer(self, tag: bytes, answer: bytes) -> None:
         """Answers a request that was running."""
@@ -92,12 +100,13 @@ class Connection:
         """Answers a request with which the book had no work, and pauses."""
         self.reply(tag, answer)
         self.is_paused = True
-        seconds = PAUSE * self.door.counts[self.user]
-        self.loop.call_later(seconds, self.end_pause)
+        self.loop.call_later(PAUSE * self.door.counts[self.user], self.end_pause)
 
     def end_pause(self) -> None:
         self.is_paused = False
         self.go_on()
+
+    # ---- steps
 
     def wake(self) -> None:
         """Reads a little, and has a step once it is its user's turn."""
@@ -139,27 +148,24 @@ class Connection:
         """Reads the input; at its end the client still gets its answers, if it can."""
         try:
             more = self.socket.recv(READ)
+            self.input += more
+            if not more:
+                self.is_ending = True
+                self.socket.send(b"")  # which fails where nobody reads any more
         except (BlockingIOError, InterruptedError):
             return
         except OSError:
-            return self.close()
-        self.input += more
-        if not more:
-            self.is_ending = True
-            poll = select.poll()
-            poll.register(self.socket, 0)
-            if any(events & select.POLLHUP for _, events in poll.poll(0)):
-                self.close()
+            self.close()
 
     def write(self, text: bytes) -> None:
-        """Sends an answer, and the rest of it once the client takes more."""
-        is_waiting = bool(self.output)
+        """Sends it, and what the client doesn't take now once it does."""
+        is_first = not self.output
         self.output += text
-        if not self.is_gone and not is_waiting and self.send():
+        if is_first and self.send():
             self.loop.add_writer(self.file, self.write_more)
 
     def write_more(self) -> None:
-        if not self.send() and not self.is_gone:
+        if not self.send():
             self.loop.remove_writer(self.file)
             self.active = time.monotonic()
             self.go_on()
@@ -197,29 +203,3 @@ class Connection:
         self.loop.remove_writer(self.file)
         self.socket.close()
         self.door.forget(self)
-
-
-class Client(Connection):
-    """A client that sends lines, and gets an answer to each, in any order."""
-
-    most = IN_FLIGHT
-    is_cutting = False  # the rest of a line that is too long
-
-    def has_request(self) -> bool:
-        return b"\n" in self.input or len(self.input) > LONGEST
-
-    def take_request(self) -> None:
-        """Submits a line; a long one is refused, and its rest passed over."""
-        size = self.input.find(b"\n")
-        line = bytes(self.input[: size if size >= 0 else None])
-        del self.input[: len(line) + 1]
-        if len(line) > LONGEST and not self.is_cutting:
-            tag = re.match(rb"[a-z0-9]{1,20}(?= )", line)
-            self.refuse(tag[0] if tag else b"*", b"bad 16 long")
-        elif not self.is_cutting:
-            self.active = time.monotonic()
-            self.service.submit(self, line)
-        self.is_cutting = size < 0
-
-    def reply(self, tag: bytes, answer: bytes) -> None:
-        self.write(b"%b %b\n" % (tag, answer))

@@ -13,7 +13,7 @@ from collections import Counter
 from dataclasses import dataclass, field
 from typing import TYPE_CHECKING, Hashable, Optional
 
-from .clients import Client, Connection
+from .clients import Client
 from .log import Problem, log_seldom, problems_at
 
 if TYPE_CHECKING:
@@ -28,14 +28,15 @@ class Door:
     """A socket, what its clients may ask for, and who they are."""
 
     name: str
-    path: str
+    path: str  # or 127.0.0.1:PORT, which each user of the machine may reach
     mode: int
     group: str
     operations: frozenset[bytes]
+    client: type[Client] = Client  # what its clients speak
+    port: Optional[int] = None
     listener: Optional[socket.socket] = None  # systemd's, or the server's own
-    clients: set[Connection] = field(default_factory=set)
+    clients: set[Client] = field(default_factory=set)
     counts: Counter[Hashable] = field(default_factory=Counter)  # clients of each user
-    no_room, family = b"* unavailable\n", socket.AF_UNIX
 
     def prepare(self) -> None:
         """Finds systemd's socket, or else takes the lock of its own."""
@@ -46,7 +47,8 @@ class Door:
         if self.name not in names:
             raise Problem(f"systemd handed over no socket with the name {self.name}")
         it = self.listener = socket.socket(fileno=3 + names.index(self.name))
-        if (it.type, it.family) != (socket.SOCK_STREAM, self.family):
+        family = socket.AF_INET if self.port else socket.AF_UNIX
+        if (it.type, it.family) != (socket.SOCK_STREAM, family):
             what = f"the socket {self.name} that systemd handed over"
             raise Problem(f"{what} is no stream")
 
@@ -60,6 +62,8 @@ class Door:
     def lock(self) -> None:
         """Takes the lock beside the socket, for as long as this process lives."""
         folder, path = os.path.dirname(self.path), f"{self.path}.lock"
+        if self.port:
+            return  # which is its server's alone
         with problems_at(f"{folder}, for a socket"):
             if not os.path.isdir(folder):
                 os.mkdir(folder)
@@ -72,7 +76,12 @@ class Door:
                 raise Problem(f"another server has {self.path}") from None
 
     def bound(self) -> socket.socket:
-        """A socket whose mode is set before it listens."""
+        """A socket of its own, whose mode is set before it listens."""
+        if self.port:
+            made = socket.socket()
+            made.setsockopt(socket.SOL_SOCKET, socket.SO_REUSEADDR, 1)
+            made.bind(("127.0.0.1", self.port))
+            return made
         made = socket.socket(socket.AF_UNIX)
         if pathlib.Path(self.path).is_socket():
             if made.connect_ex(self.path) == 0:
@@ -109,7 +118,7 @@ class Door:
             while time.monotonic() < end:
                 sock, _ = listening.accept()
                 sock.setblocking(False)
-                client = self.client(service, sock)
+                client = self.client(service, self, sock)
                 self.let_in(client)
                 let_in += 1
                 gone += client.is_gone
@@ -122,26 +131,22 @@ class Door:
             loop.remove_reader(listening)
             loop.call_later(0.1, self.watch, service)
 
-    def client(self, service: Service, sock: socket.socket) -> Connection:
-        return Client(service, self, sock)
-
-    def let_in(self, client: Connection) -> None:
+    def let_in(self, client: Client) -> None:
         """A user has at most half of the places that others leave."""
         own, is_ending = self.counts[client.user], client.service.is_ending
-        has_room = own + len(self.clients) + 2 <= CLIENTS and not is_ending
         self.clients.add(client)
         self.counts[client.user] += 1
-        if has_room:
+        if own + len(self.clients) < CLIENTS and not is_ending:
             client.read()  # it may have gone already
             return client.go_on()
-        client.write(self.no_room)
+        client.write(client.no_room)
         client.close()
         if not is_ending:
             text = "no more connections at %s for %s, which has %d"
             log_seldom(client.user, text, *client.user, own)
             client.service.tally.counts["refused"] += 1
 
-    def forget(self, client: Connection) -> None:
+    def forget(self, client: Client) -> None:
         self.clients.discard(client)
         self.counts[client.user] -= 1
         if not self.counts[client.user]:

@@ -12,18 +12,18 @@ import time
 from typing import TYPE_CHECKING
 from weakref import WeakValueDictionary
 
-from .book import UNAVAILABLE
+from .book import UNAVAILABLE, decoded
 from .journal import Marks, check_regular
 from .log import log, log_seldom, problems_at
-from .schemes import SCHEMES, crypt_r, decoded, is_right
+from .schemes import SCHEMES, crypt_r, is_right
 
 if TYPE_CHECKING:
     from .service import Request, Service
 
 NAME = re.compile(rb"[a-z0-9._-]{1,32}")  # of a book
-LACKS = frozenset((b"none", b"absent", b"noaccount", b"bad 5 noaccount"))
-HAS = frozenset(b"yes replaced upgraded kept".split())  # answered of a record alone
-SET = frozenset((b"enrolled", b"exists", b"replaced"))  # the book has a record
+LACKS = (b"absent", b"noaccount")
+HAS = (b"yes", b"replaced", b"upgraded", b"kept")  # answered of a record alone
+SET = (b"enrolled", b"exists", b"replaced")  # the book has a record
 # What an operation that makes a name is answered if the file has the name.
 TAKES = {b"account": b"bad 1 exists", b"rename": b"exists"}
 # What ends a name's record, and the answer where the file alone had one.
@@ -104,12 +104,12 @@ class Foreign:
                 if shown[:1] == b"$" and not await self.moved.put(name):
                     return UNAVAILABLE
         answer = await self.service.ask(request)
-        if answer in HAS and self.last_record(name):
+        if request.kind.hashes and answer in HAS and self.last_record(name):
             await self.moved.put(name)
         if answer not in LACKS or not (record := await self.record(name)):
             return answer
         if operation == b"known":
-            return b"$"
+            return b"yes"
         if operation == b"reset":
             return await self.reset(request)
         return await self.move(request, record) if request.kind.tries else answer

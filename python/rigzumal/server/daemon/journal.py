@@ -8,19 +8,17 @@ import json
 import os
 import re
 import stat
-from contextlib import suppress
-from typing import TYPE_CHECKING, Union
+from contextlib import ExitStack, suppress
+from typing import TYPE_CHECKING, Any
 
 from .log import log_seldom, problems_at, utc
+from .tries import TRIED
 
 if TYPE_CHECKING:
     from .service import Request
 
 MARKED = re.compile(rb"([^ \n]+)(?: ([a-z]+))? \d{4}-\d\d-\d\dT\d\d:\d\d:\d\dZ")
-# Answers to tries; and to lines that change nothing, whose name may be a password.
-RIGHT = frozenset((b"yes", b"expired"))
-FAILED = frozenset((b"no", b"wrong", b"absent", b"noaccount"))
-REFUSED = (b"noaccount", b"bad ", b"later")
+REFUSED = (b"noaccount", b"bad ", b"later")  # changes nothing; a name may be a password
 UNDOES = {b"unlock": b"lock", b"renew": b"expire"}  # a mark of these takes one back
 
 
@@ -84,7 +82,11 @@ class Journal:
                 text = text[file.write(text) :]
             os.fdatasync(file.fileno())
         if self.named != it.st_ino:
-            sync_folder(os.path.dirname(os.path.abspath(self.path)))
+            folder = os.path.dirname(os.path.abspath(self.path))
+            with ExitStack() as stack:
+                at = os.open(folder, os.O_DIRECTORY)
+                stack.callback(os.close, at)
+                os.fsync(at)
             self.named = it.st_ino
 
 
@@ -123,31 +125,21 @@ class Audit(Journal):
 
     def __init__(self, path: str, has_tries: bool) -> None:
         super().__init__(path)
-        self.noted_tries = RIGHT | FAILED if has_tries else RIGHT
+        self.has_tries = has_tries
         if path:
             self.begin()
 
     async def record(self, request: Request, answer: bytes) -> bool:
         """Adds a request and its answer, if it is one to be kept; false if it can't."""
         is_refused, kind = answer.startswith(REFUSED), request.kind
-        is_change = kind.changes and not is_refused
-        is_noted = is_change or kind.tries and answer in self.noted_tries
-        if not (is_noted and self.path):
+        tried = TRIED.get(answer.decode()) if kind.tries else None
+        is_noted = tried == "yes" or tried and self.has_tries
+        if not self.path or not (is_noted or kind.changes and not is_refused):
             return True
         client, (operation, *fields) = request.client, request.words
-        entry: dict[str, Union[str, int, None]] = {"time": utc()}
-        entry.update(door=client.door.name, uid=client.uid, pid=client.pid)
-        entry["operation"] = operation.decode()
+        entry: dict[str, Any] = {"time": utc(), "door": client.door.name}
+        entry.update(uid=client.uid, pid=client.pid, operation=operation.decode())
         for key, name in zip(("name", "new_name"), fields[: kind.names]):
             entry[key] = None if is_refused else name.decode(errors="replace")
         entry["answer"] = answer.decode()
         return await self.add(json.dumps(entry).encode())
-
-
-def sync_folder(path: str) -> None:
-    """Syncs the names of a folder's files to the disk."""
-    folder = os.open(path, os.O_RDONLY | os.O_DIRECTORY)
-    try:
-        os.fsync(folder)
-    finally:
-        os.close(folder)

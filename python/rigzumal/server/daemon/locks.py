@@ -14,7 +14,6 @@ if TYPE_CHECKING:
 # What an administrator marks a name by, and the answer.
 MARKS = {b"lock": b"locked", b"unlock": b"unlocked", b"expire": b"expired"}
 UNDONE = {b"lock": b"unlock", b"expire": b"renew"}
-RENEWS = frozenset((b"replaced", b"enrolled"))
 
 
 class Locks(Marks):
@@ -47,12 +46,11 @@ class Locks(Marks):
         if operation == b"rename" and name in self.of:
             return await self.rename(request)
         answer = await self.service.answer(request)
-        has_record = answer == b"yes" or operation == b"known" and answer[:1] == b"$"
-        if has_record and self.has(name, b"lock"):
-            return b"no" if answer == b"yes" else b"none"
-        if has_record and self.has(name, b"expire"):
+        if answer == b"yes" and self.has(name, b"lock"):
+            return b"absent" if operation == b"known" else b"no"
+        if answer == b"yes" and self.has(name, b"expire"):
             return b"expired"
-        if answer in RENEWS and self.has(name, b"expire"):
+        if answer in (b"replaced", b"enrolled") and self.has(name, b"expire"):
             return answer if await self.put(name, b"renew") else UNAVAILABLE
         if answer == b"deleted":
             await self.clear(name)
@@ -65,8 +63,8 @@ class Locks(Marks):
             return b"none"
         known = replace(request, words=[b"known", name])
         answer = await self.service.answer(known)
-        if answer[:1] != b"$" and answer != b"none":
-            return b"noaccount" if answer == b"bad 5 noaccount" else answer
+        if answer not in (b"yes", b"absent"):
+            return answer
         return MARKS[mark] if await self.put(name, mark) else UNAVAILABLE
 
     async def rename(self, request: Request) -> bytes:

@@ -2,6 +2,7 @@
 
 from __future__ import annotations
 
+import importlib
 import logging
 import os
 import re
@@ -29,9 +30,12 @@ def problems_at(path: str) -> Iterator[None]:
         raise Problem(f"{path}: {fault.strerror or fault}") from None
 
 
-def begin_logging() -> None:
-    logging.basicConfig(format="credkeep-server: %(message)s", level=logging.INFO)
-    logging.getLogger("asyncio").disabled = True  # what it says may quote a line
+def needed(module: str, option: str, package: str) -> Any:
+    """A module that an option needs, from a package of Debian's."""
+    try:
+        return importlib.import_module(module)
+    except ImportError:
+        raise Problem(f"{option} needs {package}") from None
 
 
 def log_fault(_: object, context: dict[str, Any]) -> None:

@@ -20,6 +20,7 @@ VERSION = "0.2.0"
 BOOKS, SOCKETS = pathlib.Path("/var/lib/rigzumal"), pathlib.Path("/run/rigzumal")
 LONGEST_PATH = 107  # bytes of a socket's path: unix(7)
 MOST_AT_ONCE = 254  # of a user: credkeep takes 255
+UNITS = {"": 1, "K": 1, "M": 1 << 10, "G": 1 << 20}  # KiB of a size, as credkeep has it
 
 
 @dataclass(frozen=True)
@@ -30,10 +31,11 @@ class Kind:
     hashes: bool = False
     changes: bool = False
     tries: bool = False  # it takes the present password, so it may be a guess
+    is_login: bool = False
 
 
 KINDS = {
-    "verify login": Kind(hashes=True, tries=True),
+    "verify login": Kind(hashes=True, tries=True, is_login=True),
     "change upgrade remove": Kind(hashes=True, tries=True, changes=True),
     "enrol reset": Kind(hashes=True, changes=True),
     "account load disable delete lock unlock expire": Kind(changes=True),
@@ -95,9 +97,7 @@ class Options:
     upgrade: str = option("new costs, to which a verify upgrades", "COSTS", "", costs)
     least_length: int = option("characters of a new password at least", "N", 0)
     setting: str = option("for credkeep: the costs of new records", "TEXT")
-    at_once: int = option(
-        "lines of a user hashed at once; 0: processors", "N", 0, places
-    )
+    at_once: int = option("hashes of a user at once; 0: processors", "N", 0, places)
     memory: str = option("for credkeep: memory for hashes, as 512M", "SIZE")
     most_memory: str = option("for credkeep: the bound of a record's memory", "SIZE")
     most_work: str = option("for credkeep: the bound of memory times passes", "N")
@@ -126,13 +126,6 @@ class Options:
         words = [self.credkeep, "--wait", self.wait, self.file, "serve", "--tagged"]
         words += [word for pair in given.items() if pair[1] for word in pair]
         return [str(word) for word in words]
-
-
-def kibibytes(size: str) -> int:
-    """A size as credkeep has it, such as 512M; very large if credkeep will refuse it."""
-    found = re.fullmatch("([0-9]{1,12})([KMG]?)", size)
-    units = {"": 1, "K": 1, "M": 1 << 10, "G": 1 << 20}
-    return int(found[1]) * units[found[2]] if found else 1 << 60
 
 
 def hash_memory(setting: str) -> int:
@@ -188,17 +181,16 @@ def door(name: str, path: str, mode: str, group: str, operations: str) -> Door:
     return Door(name, os.path.abspath(path), int(mode, 8), group, allowed)
 
 
-def web_door(address: str, login: Door) -> Door:
-    """The door of --http, whose mode and group are those of the login socket."""
-    web = importlib.import_module(".web", __package__)
-    path = os.path.abspath(address)
-    made: Door = web.WebDoor("http", path, login.mode, login.group, WEB)
-    if found := re.fullmatch(r"127\.0\.0\.1:([0-9]{1,5})", address):
-        made = web.LoopbackDoor("http", address, 0, "-", WEB, port=int(found[1]))
-    elif "/" not in address:
+def web_door(address: str, first: Door) -> Door:
+    """The door of --http, whose mode and group are those of the first socket."""
+    loopback = re.fullmatch(r"127\.0\.0\.1:([1-9][0-9]{0,4})", address)
+    port = int(loopback[1]) if loopback else None
+    if (port is None and "/" not in address) or (port or 0) > 65535:
         text = f"--http takes the path of a socket or 127.0.0.1:PORT, not {address!r}"
         raise Problem(text)
-    return made
+    client = importlib.import_module(".web", __package__).WebClient
+    path = address if port else os.path.abspath(address)
+    return Door("http", path, first.mode, first.group, WEB, client, port)
 
 
 def parse(words: Sequence[str]) -> Options:
@@ -213,7 +205,10 @@ def parse(words: Sequence[str]) -> Options:
     if not options.file:
         raise Problem("FILE is missing; --help shows all options")
     needed = hash_memory(options.upgrade or options.setting)
-    if options.memory and kibibytes(options.memory) < needed:
+    size = re.fullmatch(
+        "([0-9]{1,12})([KMG]?)", options.memory
+    )  # or credkeep refuses it
+    if size and int(size[1]) * UNITS[size[2]] < needed:
         text = "is less than a hash of a new record needs"
         raise Problem(f"--memory {options.memory} {text}: {needed}K")
     folder = folder_of(options.file)

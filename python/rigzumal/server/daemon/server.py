@@ -3,6 +3,7 @@
 from __future__ import annotations
 
 import asyncio
+import logging
 import os
 import resource
 import signal
@@ -10,7 +11,7 @@ import sys
 import time
 
 from .book import UNAVAILABLE
-from .log import Problem, begin_logging, log, log_fault, notify, watchdog_seconds
+from .log import Problem, log, log_fault, notify, watchdog_seconds
 from .options import Options, parse
 from .service import Service
 from .tries import metrics
@@ -22,7 +23,8 @@ UNREAD_SECONDS, LINES_SECONDS, LAST_SECONDS = 0.5, 18.0, 20.0
 
 def main() -> int:
     """Runs the program, and returns its status."""
-    begin_logging()
+    logging.basicConfig(format="credkeep-server: %(message)s", level=logging.INFO)
+    logging.getLogger("asyncio").disabled = True  # what it says may quote a line
     os.umask(0o177)
     signal.signal(signal.SIGHUP, signal.SIG_IGN)
     resource.setrlimit(resource.RLIMIT_CORE, (0, 0))
@@ -70,8 +72,7 @@ async def open_doors(service: Service) -> None:
     probing = asyncio.ensure_future(probe(service))
     while await service.book.ask(b"show", b"-") != UNAVAILABLE:
         notify("WATCHDOG=1")
-        service.tally.names.drop_expired()
-        service.tally.users.drop_expired()
+        service.tally.limiter.drop_expired()
         await asyncio.sleep(watchdog_seconds())
     await probing
 

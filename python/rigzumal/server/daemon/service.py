@@ -5,31 +5,27 @@ from __future__ import annotations
 import asyncio
 import base64
 import hashlib
+import importlib
 import random
 import re
 import time
 from collections import deque
 from dataclasses import dataclass, replace
 
+from .book import UNAVAILABLE, Book, decoded
+from .clients import LONGEST, TAG, Client
 from .journal import Audit
-from .book import UNAVAILABLE, Book
-from .clients import LONGEST, Connection
-from .foreign import Foreign
 from .locks import Locks
 from .log import log_seldom
 from .options import OPERATIONS, Kind, Options
-from .schemes import is_short
-from .tries import Tally
+from .tries import PEOPLE, TRIED, Tally
 from .turns import Places, Rota, Rounds
 
 NEW = {b"enrol": 2, b"reset": 2, b"change": 3}  # where a line has a new password
-TAG = re.compile(rb"[a-z0-9]{1,20}")
-LATER, NO_MEMORY = b"later", b"bad 4 memory"
+LATER = b"later"
 # What `known` says where `show` has no record.
 KNOWN = {b"none": b"absent", b"bad 5 noaccount": b"noaccount"}
-# Answers to a try that took a hash; of these, to one that took the costs of new records.
-HASHED = frozenset(b"yes no expired absent noaccount".split())
-HASHED_ANEW = (b"absent", b"noaccount")
+HASHED_ANEW = (b"absent", b"noaccount")  # took a hash of the costs of new records
 LOOKS, CHANGES = 16, 128  # places for lines that change nothing, and for quick changes
 SYNC = 0.01  # seconds that a change waits for the disk, more or less
 
@@ -38,7 +34,7 @@ SYNC = 0.01  # seconds that a change waits for the disk, more or less
 class Request:
     """A line that waits for its place, or for the book."""
 
-    client: Connection
+    client: Client
     tag: bytes
     words: list[bytes]  # the operation and its fields
     places: Places[Request]
@@ -49,13 +45,14 @@ class Request:
         return OPERATIONS[self.words[0]]
 
     @property
-    def name(self) -> str:
-        return self.words[1].decode(errors="replace")
-
-    @property
     def wrong(self) -> bytes:
         """The answer to a wrong password."""
         return b"wrong" if self.kind.changes else b"no"
+
+    def keys(self) -> list[str]:
+        """At what its failed try counts: its name, and its user if that is a person."""
+        users = [f"uid {self.client.uid}"] if self.client.uid in PEOPLE else []
+        return [self.words[1].decode(errors="replace"), *users]
 
     def without_record(self, answer: bytes) -> bytes:
         """An answer without the record that `disable NAME show` removes and shows."""
@@ -79,17 +76,18 @@ class Service:
         self.audit = Audit(options.audit, options.audit_tries)
         self.answer = self.ask  # or an old file's, where the book lacks the name
         if options.foreign:
-            self.answer = Foreign(self, options.foreign).answer
+            foreign = importlib.import_module(".foreign", __package__)
+            self.answer = foreign.Foreign(self, options.foreign).answer
         self.locks = Locks(self)
         self.tally.own[b"locks"] = self.locks.shown
 
-    def clients(self) -> list[Connection]:
+    def clients(self) -> list[Client]:
         return [client for door in self.options.doors for client in door.clients]
 
     # ---- before a line has a place
 
-    def submit(self, client: Connection, line: bytes) -> None:
-        """Has a line answered, at once or after it had a place."""
+    def submit(self, client: Client, line: bytes) -> None:
+        """Has a line answered, now or once it had a place."""
         tag, *words = line.split(b" ")
         words += [b"", b""][len(words) :]  # an operation, and one field at least
         if not TAG.fullmatch(tag):
@@ -108,8 +106,8 @@ class Service:
             request = Request(client, tag, words, places, time.monotonic())
             places.submit(client.user, client, request)
 
-    def own_answer(self, client: Connection, words: list[bytes]) -> bytes:
-        """The server's own answer to a line, or nothing if the book has to be asked."""
+    def own_answer(self, client: Client, words: list[bytes]) -> bytes:
+        """The server's answer to a line that the book needn't be asked for, or nothing."""
         kind = OPERATIONS.get(words[0])
         if kind is None or words[0] not in client.door.operations:
             what = words[0].decode() if kind else "an unknown operation"
@@ -124,10 +122,14 @@ class Service:
             return b"bad 16 long"
         if own := self.tally.own.get(words[0]):
             return own(name).encode()
-        if kind.tries and self.tally.seconds_to_wait(name, client.uid):
+        if kind.tries and self.tally.limiter.rest(name, f"uid {client.uid}"):
             return LATER
-        new, least = words[NEW.get(words[0], LONGEST) :][:1], self.options.least_length
-        return b"short" if any(is_short(it, least) for it in new) else b""
+        for field in words[NEW.get(words[0], LONGEST) :][:1]:
+            password = decoded(field)  # if it is none, the book refuses it
+            letters = (password or b"").decode(errors="surrogateescape")
+            if password is not None and len(letters) < self.options.least_length:
+                return b"short"
+        return b""
 
     def in_book(self, name: bytes) -> bytes:
         """The book's form of a name; "@", which is no name, for a refused one."""
@@ -149,12 +151,12 @@ class Service:
             return self.hashes
         return self.changes if kind.changes else self.looks
 
-    # ---- once it has one
-
     def dispatch(self, request: Request) -> None:
         task = asyncio.ensure_future(self.process(request))
         self.tasks.add(task)
         task.add_done_callback(self.tasks.discard)
+
+    # ---- once it has one
 
     async def process(self, request: Request) -> None:
         """Has a request answered, unless its client has gone and it changes nothing."""
@@ -176,35 +178,35 @@ class Service:
 
     async def attempt(self, request: Request) -> bytes:
         """The answer, which is counted. Guesses at a name wait for one another."""
-        who = (request.kind, request.name, request.client.uid)
-        limits = self.tally.limits(*who)
-        if not await self.tally.begin(limits):
+        keys, kind, limiter = request.keys(), request.kind, self.tally.limiter
+        tries = keys if kind.tries else []
+        if not await limiter.begin(*tries):
             self.tally.counts["later"] += 1
             return LATER
         try:
             answer = await self.locks.answer(request)
         finally:
-            self.tally.end(limits)
-        if request.words[0] == b"known":
-            answer = b"yes" if answer[:1] == b"$" else KNOWN.get(answer, answer)
-        elif answer in HASHED:
+            limiter.end(*tries)
+        said = request.without_record(answer).decode()
+        if kind.is_login and said in TRIED:
             self.login_seconds.append(time.monotonic() - request.came)
-        elif answer == NO_MEMORY:
-            text = "no memory for a hash: see --memory, and the machine's"
-            log_seldom(answer, text)
-        self.tally.count(*who, request.without_record(answer).decode())
+        elif said == "bad 4 memory":
+            log_seldom(said, "no memory for a hash: see --memory, and the machine's")
+        self.tally.count(kind, keys, said)
         return answer
 
     async def ask(self, request: Request) -> bytes:
         """The book's answer."""
         operation, *fields = request.words
-        words = [b"show" if operation == b"known" else operation, *fields]
-        if request.kind.hashes and not request.kind.changes:
-            return await self.log_in(*words)
+        if operation == b"known":
+            answer = await self.book.ask(b"show", *fields)
+            return b"yes" if answer[:1] == b"$" else KNOWN.get(answer, answer)
+        if request.kind.is_login:
+            return await self.log_in(*request.words)
         if request.places is not self.changes:
-            return await self.book.ask(*words)
+            return await self.book.ask(*request.words)
         await self.rounds.begin(is_alone=not request.kind.hashes)
-        answer = await self.book.ask(*words)
+        answer = await self.book.ask(*request.words)
         self.rounds.end()
         return answer
 

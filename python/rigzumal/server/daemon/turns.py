@@ -9,7 +9,7 @@ from collections.abc import Callable
 from typing import TYPE_CHECKING, Generic, Hashable, TypeVar
 
 if TYPE_CHECKING:
-    from .clients import Connection
+    from .clients import Client
 
 SLICE = 0.001  # seconds of steps in a pass of the loop: then it looks at the sockets
 REST, LONGEST_REST = 1.5, 0.1  # of the time that a round took, and seconds
@@ -28,15 +28,13 @@ class Queue(Generic[Item]):
 
     def pop(self, user: Hashable) -> Item:
         """The next item of a user, whose next turn is behind the others'."""
-        clients = self.users[user]
-        client, items = next(iter(clients.items()))
+        clients = self.users.pop(user)
+        client, items = clients.popitem(last=False)
         item = items.popleft()
-        clients.move_to_end(client)
-        self.users.move_to_end(user)
-        if not items:
-            del clients[client]
-        if not clients:
-            del self.users[user]
+        if items:
+            clients[client] = items
+        if clients:
+            self.users[user] = clients
         return item
 
 
@@ -73,8 +71,8 @@ class Places(Queue[Item]):
             self.start(self.pop(user))
 
 
-class Rota(Queue["Connection"]):
-    """Connections that are due. A step of a connection takes one request.
+class Rota(Queue["Client"]):
+    """Connections that are due. A step of one takes one request.
 
     So a newcomer waits for a slice, and for a step of each other user, whatever these
     send.
@@ -82,15 +80,14 @@ class Rota(Queue["Connection"]):
 
     is_begun = False
 
-    def add(self, connection: Connection) -> None:
-        """Has a connection wait for its step."""
-        if not connection.is_due:
-            connection.is_due = True
-            self.put(connection.user, connection, connection)
+    def add(self, client: Client) -> None:
+        """Has a connection wait for its step, in the next pass of the loop."""
+        if not client.is_due:
+            client.is_due = True
+            self.put(client.user, client, client)
             self.begin()
 
     def begin(self) -> None:
-        """Has a slice run in the next pass of the loop."""
         if not self.is_begun:
             self.is_begun = True
             asyncio.get_running_loop().call_soon(self.run)
@@ -99,9 +96,9 @@ class Rota(Queue["Connection"]):
         """Goes on with the waiting connections, for a slice."""
         end, self.is_begun = time.monotonic() + SLICE, False
         while self.users and time.monotonic() < end:
-            connection = self.pop(next(iter(self.users)))
-            connection.is_due = False
-            connection.step()
+            client = self.pop(next(iter(self.users)))
+            client.is_due = False
+            client.step()
         if self.users:
             self.begin()
 

@@ -3,25 +3,16 @@
 from __future__ import annotations
 
 import base64
-import importlib
 import math
 import re
-import socket
 import time
 from collections.abc import Sequence
-from dataclasses import dataclass
 from typing import Any, Optional
 
-from .clients import Connection
-from .doors import Door
-from .log import Problem, problems_at
-from .service import Service
+from .clients import Client
+from .log import needed
 
-try:
-    h11 = importlib.import_module("h11")
-except ImportError:
-    raise Problem("--http needs h11: python3-h11") from None
-
+h11 = needed("h11", "--http", "python3-h11")
 MOST_HEAD = 8192  # bytes of a request
 # A right password that must be changed is `expired`; what is in none of these is 503.
 STATUSES = {b"yes": 200, b"expired": 403, b"denied": 403, b"later": 429}
@@ -50,13 +41,16 @@ def credentials(headers: Sequence[tuple[bytes, bytes]]) -> Optional[bytes]:
     return name + b" " + (base64.b64encode(password).rstrip(b"=") or b"-")
 
 
-class WebClient(Connection):
-    """A client that sends requests, each answered before the next is read."""
+class WebClient(Client):
+    """One that sends requests. It gets the answer to each before the next is read."""
 
-    def __init__(self, service: Service, door: Door, sock: socket.socket) -> None:
-        super().__init__(service, door, sock)
+    most = 1
+    no_room = b"HTTP/1.1 503 Service Unavailable\r\nContent-Length: 0\r\nConnection: close\r\n\r\n"
+    name, has_more = b"", False
+
+    def __init__(self, *words: Any) -> None:
+        super().__init__(*words)
         self.http: Any = h11.Connection(h11.SERVER, max_incomplete_event_size=MOST_HEAD)
-        self.name, self.has_more = b"", False
 
     def has_request(self) -> bool:
         return bool(self.input) or self.has_more
@@ -95,7 +89,7 @@ class WebClient(Connection):
         headers = [("Content-Length", "0"), *HEADERS.get(status, ())]
         if status == 429:
             name = self.service.in_book(self.name).decode(errors="replace")
-            seconds = self.service.tally.seconds_to_wait(name, self.uid)
+            seconds = self.service.tally.limiter.rest(name, f"uid {self.uid}")
             headers.append(("Retry-After", str(max(1, math.ceil(seconds)))))
         head = h11.Response(status_code=status, headers=headers)
         self.write(self.http.send(head) + self.http.send(h11.EndOfMessage()))
@@ -108,30 +102,3 @@ class WebClient(Connection):
     def end(self) -> None:
         self.has_more = False
         super().end()
-
-
-class WebDoor(Door):
-    """A Unix socket whose clients send HTTP."""
-
-    no_room = b"HTTP/1.1 503 Service Unavailable\r\nContent-Length: 0\r\nConnection: close\r\n\r\n"
-
-    def client(self, service: Service, sock: socket.socket) -> Connection:
-        return WebClient(service, self, sock)
-
-
-@dataclass(eq=False)
-class LoopbackDoor(WebDoor):
-    """A port of 127.0.0.1 for HTTP, which each user of the machine may reach."""
-
-    port: int = 0
-    family = socket.AF_INET
-
-    def lock(self) -> None:
-        """The port itself is its server's alone."""
-
-    def bound(self) -> socket.socket:
-        made = socket.socket()
-        made.setsockopt(socket.SOL_SOCKET, socket.SO_REUSEADDR, 1)
-        with problems_at(self.path):
-            made.bind(("127.0.0.1", self.port))
-        return made
