@@ -46,11 +46,7 @@ class Journal:
         self.lines, self.one_at_a_time = list[bytes](), asyncio.Lock()
 
     def begin(self) -> None:
-        """Makes the file if it doesn't exist.
-
-        Raises:
-            Problem: it can't be written.
-        """
+        """Makes the file if it doesn't exist; a Problem if it can't be written."""
         with problems_at(self.path):
             self.append(b"")
 

@@ -110,10 +110,6 @@ class Options:
         """The lines that the book hashes at once: one more, for another user."""
         return 1 + min(self.at_once or len(os.sched_getaffinity(0)), MOST_AT_ONCE)
 
-    def book_name(self) -> str:
-        """The book's name, as metrics have it: that of its sockets' folder."""
-        return re.sub("[^A-Za-z0-9_.-]", "_", folder_of(self.file).name)
-
     def book_words(self) -> list[str]:
         """The book's command."""
         given = {
@@ -194,11 +190,7 @@ def web_door(address: str, first: Door) -> Door:
 
 
 def parse(words: Sequence[str]) -> Options:
-    """The options of a command line.
-
-    Raises:
-        Problem: they lack FILE, or contradict each other.
-    """
+    """The options of a command line; a Problem if they can't be meant."""
     options = parser().parse_args(words, Options())
     if options.metrics:
         return options

@@ -45,11 +45,7 @@ def is_right(record: bytes, password: Optional[bytes]) -> bool:
 
 @functools.lru_cache(1)
 def crypt_r() -> Any:
-    """crypt(3), for many threads.
-
-    Raises:
-        Problem: this machine lacks crypt(3).
-    """
+    """crypt(3), for many threads; a Problem where the machine has none."""
     for name in LIBRARIES:
         with suppress(OSError, AttributeError):
             found = ctypes.CDLL(name).crypt_r

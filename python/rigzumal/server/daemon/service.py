@@ -49,11 +49,6 @@ class Request:
         """The answer to a wrong password."""
         return b"wrong" if self.kind.changes else b"no"
 
-    def keys(self) -> list[str]:
-        """At what its failed try counts: its name, and its user if that is a person."""
-        users = [f"uid {self.client.uid}"] if self.client.uid in PEOPLE else []
-        return [self.words[1].decode(errors="replace"), *users]
-
     def without_record(self, answer: bytes) -> bytes:
         """An answer without the record that `disable NAME show` removes and shows."""
         is_shown = self.words[0] == b"disable" and b":" in answer
@@ -102,7 +97,11 @@ class Service:
             seconds = random.choice(self.login_seconds or [self.hash_seconds])
             client.loop.call_later(seconds, client.answer, tag, answer)
         else:
-            places = self.places(OPERATIONS[words[0]])
+            kind = OPERATIONS[words[0]]
+            is_quick = kind.changes and self.hash_seconds <= SYNC
+            # A line waits for a hash, for the disk, or for neither.
+            places = self.changes if kind.changes else self.looks
+            places = self.hashes if kind.hashes and not is_quick else places
             request = Request(client, tag, words, places, time.monotonic())
             places.submit(client.user, client, request)
 
@@ -144,13 +143,6 @@ class Service:
         digest = hashlib.blake2b(local + b"@" + domain.lower(), digest_size=20).digest()
         return b"e." + base64.b32encode(digest)[:30].lower()
 
-    def places(self, kind: Kind) -> Places[Request]:
-        """The places that a line waits for: of hashes, of the disk, or of neither."""
-        is_quick = kind.changes and self.hash_seconds <= SYNC
-        if kind.hashes and not is_quick:
-            return self.hashes
-        return self.changes if kind.changes else self.looks
-
     def dispatch(self, request: Request) -> None:
         task = asyncio.ensure_future(self.process(request))
         self.tasks.add(task)
@@ -178,7 +170,11 @@ class Service:
 
     async def attempt(self, request: Request) -> bytes:
         """The answer, which is counted. Guesses at a name wait for one another."""
-        keys, kind, limiter = request.keys(), request.kind, self.tally.limiter
+        uid, kind, limiter = request.client.uid, request.kind, self.tally.limiter
+        keys = [
+            request.words[1].decode(errors="replace")
+        ]  # at which a failed try counts
+        keys += [f"uid {uid}"] if uid in PEOPLE else []
         tries = keys if kind.tries else []
         if not await limiter.begin(*tries):
             self.tally.counts["later"] += 1

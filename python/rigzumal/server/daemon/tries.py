@@ -12,7 +12,7 @@ from dataclasses import dataclass
 from itertools import islice
 
 from .log import Problem, log, problems_at, utc
-from .options import Kind, Options
+from .options import Kind, Options, folder_of
 
 REMEMBERED = 65536  # names and users
 LONGEST_WAIT, FORGOTTEN = 900.0, 3600.0  # seconds
@@ -150,7 +150,7 @@ class Tally:
 
     def __init__(self, options: Options) -> None:
         self.limiter = Limiter(options.tries, options.uid_tries)
-        self.book, self.doors = options.book_name(), options.doors
+        self.book, self.doors = folder_of(options.file).name, options.doors
         self.counts, self.waited = Counter[str](), 0.0
         self.logins = OrderedDict[str, float]()
         # What an administrator asks the server itself for.
@@ -183,7 +183,7 @@ class Tally:
         now: dict[str, object] = {**self.counts, "waited": f"{self.waited:.3f}"}
         now["clients"] = sum(len(door.clients) for door in self.doors)
         now["waits"] = sum("=" not in it for it in self.limiter.waits())
-        now["book"] = self.book
+        now["book"] = re.sub("[^A-Za-z0-9_.-]", "_", self.book)
         return " ".join(["stats", *(f"{it}={now.get(it, 0)}" for it in COUNTED)])
 
     def waits(self, _: str) -> str:
