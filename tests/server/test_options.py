@@ -83,6 +83,18 @@ class Mistakes(Case):
         version = (TOP / "VERSION").read_text().strip()
         self.assertEqual(ran("--version"), (0, f"credkeep-server {version}\n", ""))
 
+    def test_packages_that_are_lacking(self) -> None:
+        """An option that needs another package of Debian's names it, and nothing starts."""
+        room = self.room()
+        for module, option in (("passlib", "--foreign"), ("h11", "--http")):
+            (room / f"{module}.py").write_text("raise ImportError")
+            given = {"environment": {"PYTHONPATH": str(room)}, "waits": False, "folder": room}
+            (room / "old").touch()
+            service = self.serving(option, f"{room}/old", **given)
+            self.assertEqual(service.process.wait(timeout=40), 1)
+            said = f"credkeep-server: {option} needs python3-{module}\n"
+            self.assertEqual(service.log(), said)
+
     def test_spaces_in_a_path(self) -> None:
         """FILE may have spaces, and anything else."""
         folder = self.room() / "my folder %s $x"

@@ -219,7 +219,8 @@ class Web(Case):
         self.assertEqual(client.getresponse().status, 200)
         client.close()
         (room / "users.db").touch()
-        for address in ("8080", "0.0.0.0:8080", "127.0.0.1:", "localhost:80", "[::1]:80", "x.sock"):
+        addresses = "8080 0.0.0.0:8080 127.0.0.1: 127.0.0.1:0 127.0.0.1:65536 127.0.0.1:99999"
+        for address in (*addresses.split(), "localhost:80", "[::1]:80", "x.sock"):
             status, _, said = ran("--http", address, str(room / "users.db"))
             self.assertEqual(status, 1)
             self.assertIn("--http takes the path of a socket or 127.0.0.1:PORT", said)
