@@ -13,6 +13,13 @@ if TYPE_CHECKING:
 class Frozen:
     """Values that are equal, and have one hash, if all of their attributes are."""
 
+    def __init__(self, *values: object, **named: object) -> None:
+        """Of a class that refuses no value: all of its attributes, as it lists them."""
+        given = dict(zip(self.__annotations__, values), **named)
+        if given.keys() != self.__annotations__.keys():
+            raise TypeError(f"the values are {', '.join(self.__annotations__)}")
+        self._set(**given)
+
     def _set(self, **values: object) -> None:
         """Gives the attributes, in the order in which they are shown."""
         vars(self).update(values)

@@ -41,6 +41,9 @@ class _Hasher(Frozen):
 
     hash_len: int
     salt_len: int
+    secret: Optional[bytes] = None
+    secrets: tuple[bytes, ...] = ()
+    threads: int = 1
     _LEAST_SALT: int
 
     def _check_sizes(self, hash_len: int, salt_len: int) -> None:
@@ -58,10 +61,7 @@ class _Hasher(Frozen):
 
     def _secrets(self) -> tuple[Optional[bytes], ...]:
         """The secret of new records, and those of older ones."""
-        return (None,)
-
-    def _threads(self) -> int:
-        return 1
+        return self.secrets or (self.secret,)
 
     def hash(self, password: Secret, *, salt: Optional[Bytes] = None) -> str:
         """A new record of the password.
@@ -80,14 +80,8 @@ class _Hasher(Frozen):
         if salt is not None:
             chosen = _library.data_of(salt)
             in_range("the salt's length", len(chosen), self._LEAST_SALT, 48, _SALT)
-        return _library.record(
-            self.costs,
-            chosen,
-            self.hash_len,
-            password,
-            self._secrets()[0],
-            self._threads(),
-        )
+        given = (self.costs, chosen, self.hash_len, password)
+        return _library.record(*given, self._secrets()[0], self.threads)
 
     def verify(self, hash: Secret, password: Secret) -> Literal[True]:
         """True if the password is the record's.
@@ -104,7 +98,7 @@ class _Hasher(Frozen):
         """The place of the secret that the record was made with, from 0."""
         for place, secret in enumerate(self._secrets()):
             # Without a secret records of scrypt are verified too, and with one they aren't.
-            fault = _library.check(hash, password, secret or None, self._threads())
+            fault = _library.check(hash, password, secret or None, self.threads)
             if fault not in (_library.MISMATCH, _library.SCHEME):
                 break
         _library.raise_fault(fault, hash)
@@ -168,9 +162,6 @@ class PasswordHasher(_Hasher):
     memory_cost: int
     parallelism: int
     type: Type
-    secret: Optional[bytes]
-    threads: int
-    secrets: tuple[bytes, ...]
     _LEAST_SALT = 8
 
     def __init__(
@@ -220,12 +211,6 @@ class PasswordHasher(_Hasher):
     def _shown(self) -> dict[str, object]:
         hidden = ("secret", "secrets")
         return {name: it for name, it in vars(self).items() if name not in hidden}
-
-    def _secrets(self) -> tuple[Optional[bytes], ...]:
-        return self.secrets or (self.secret,)
-
-    def _threads(self) -> int:
-        return self.threads
 
     @property
     def costs(self) -> str:

@@ -215,7 +215,6 @@ def _load() -> Any:
     library.rigzumal_parts.argtypes = [ctypes.POINTER(RecordNumbers), pointer]
     argon2, scrypt = ctypes.POINTER(Argon2Numbers), ctypes.POINTER(ScryptNumbers)
     library.rigzumal_argon2_threads.argtypes = [*data, argon2, *data * 4, threads]
-    library.rigzumal_argon2_write.argtypes = [*data, argon2, *data * 2]
     library.rigzumal_scrypt.argtypes = [*data, scrypt, *data * 2]
     return library
 
@@ -349,15 +348,6 @@ def raw_argon2(
     given = (tag, tag_size, costs, *inputs, checked(threads))
     raise_fault(_library.rigzumal_argon2_threads(*given))
     return tag.raw
-
-
-def written_argon2(numbers: tuple[int, ...], salt: bytes, tag: bytes) -> str:
-    """rigzumal_argon2_write."""
-    text = ctypes.create_string_buffer(TEXT_SIZE)
-    costs = ctypes.byref(Argon2Numbers(*map(checked, numbers)))
-    given = (text, TEXT_SIZE, costs, *pair(salt), *pair(tag))
-    raise_fault(_library.rigzumal_argon2_write(*given))
-    return text.value.decode()
 
 
 def raw_scrypt(

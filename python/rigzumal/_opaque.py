@@ -2,18 +2,14 @@
 
 from __future__ import annotations
 
-TYPE_CHECKING = False
-if TYPE_CHECKING:
-    from typing import Final
-
 # The categories of RFC 8264's FreeformClass, section 4.3: what a person may type.
-_ALLOWED: Final = frozenset(
+_ALLOWED = frozenset(
     "Ll Lu Lo Nd Lm Mn Mc Lt Nl No Me Sm Sc Sk So Pc Pd Ps Pe Pi Pf Po Zs".split()
 )
 
 # Default_Ignorable_Code_Point in these categories, which unicodedata doesn't tell, and
 # conjoining Hangul (sections 9.9 and 9.13).
-_IGNORED: Final = (
+_IGNORED = (
     (0x034F, 0x034F),
     (0x1100, 0x11FF),
     (0x17B4, 0x17B5),
@@ -27,12 +23,10 @@ _IGNORED: Final = (
 )
 
 # Section 2.6 of RFC 5892: never, though their categories are allowed.
-_EXCEPTIONS: Final = frozenset(
-    "\u0640\u07fa\u302e\u302f\u3031\u3032\u3033\u3034\u3035\u303b"
-)
+_EXCEPTIONS = frozenset("\u0640\u07fa\u302e\u302f\u3031\u3032\u3033\u3034\u3035\u303b")
 
 # Emoji are typed with these: which shape they have, and which belong together.
-_OF_EMOJI: Final = frozenset("\ufe0e\ufe0f\u200d\u200c")
+_OF_EMOJI = frozenset("\ufe0e\ufe0f\u200d\u200c")
 
 
 def opaque_string(text: str) -> str:

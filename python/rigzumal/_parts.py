@@ -1,16 +1,14 @@
-"""The numbers of a record, read without its password."""
+"""The numbers of a record, read without its password, and its base64 without padding."""
 
 from __future__ import annotations
+
+from binascii import a2b_base64, b2a_base64
 
 from rigzumal import _library
 from rigzumal._frozen import Frozen
 from rigzumal._library import Secret
 
-TYPE_CHECKING = False
-if TYPE_CHECKING:
-    from typing import Final
-
-_SCHEMES: Final = ("argon2d", "argon2i", "argon2id", "scrypt")
+_SCHEMES = ("argon2d", "argon2i", "argon2id", "scrypt")
 
 
 class Parts(Frozen):
@@ -34,26 +32,6 @@ class Parts(Frozen):
     salt_size: int
     tag_size: int
 
-    def __init__(
-        self,
-        scheme: str,
-        version: int,
-        memory: int,
-        passes: int,
-        lanes: int,
-        salt_size: int,
-        tag_size: int,
-    ) -> None:
-        self._set(
-            scheme=scheme,
-            version=version,
-            memory=memory,
-            passes=passes,
-            lanes=lanes,
-            salt_size=salt_size,
-            tag_size=tag_size,
-        )
-
     @property
     def costs(self) -> tuple[str, int, int, int, int]:
         """Scheme, version and numbers, which decide about a rehash."""
@@ -71,9 +49,22 @@ def parts(record: Secret) -> Parts:
     return Parts(_SCHEMES[scheme], *numbers)
 
 
+def encoded(data: bytes) -> str:
+    """The letters of some bytes."""
+    return b2a_base64(data, newline=False).rstrip(b"=").decode()
+
+
+def decoded(letters: str) -> bytes:
+    """The bytes of letters; raises ValueError if no bytes have these."""
+    data = a2b_base64(letters + "=" * (-len(letters) % 4))
+    if encoded(data) != letters:
+        raise ValueError("a salt or a tag is not base64")
+    return data
+
+
 # As other programs begin a record: $2b$.., or Django's pbkdf2_sha256$... Nothing else is
 # shown, since the text may be a password.
-_OTHERS: Final = (
+_OTHERS = (
     r"\$([A-Za-z0-9-]{1,20})\$"
     r"|((?:pbkdf2|bcrypt|argon2|scrypt|md5|sha1)[a-z0-9_]{0,9})\$"
 )

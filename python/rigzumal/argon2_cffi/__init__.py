@@ -12,7 +12,7 @@ processors, and none below 4 MiB. The exceptions are those of `rigzumal` too.
 """
 
 from rigzumal.argon2_cffi import exceptions, low_level, profiles
-from rigzumal.argon2_cffi._parameters import Parameters, extract_parameters
+from rigzumal.argon2_cffi._encoded import Parameters, extract_parameters
 from rigzumal.argon2_cffi._password_hasher import (
     DEFAULT_HASH_LENGTH,
     DEFAULT_MEMORY_COST,

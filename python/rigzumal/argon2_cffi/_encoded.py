@@ -3,22 +3,23 @@
 from __future__ import annotations
 
 import re
-from binascii import a2b_base64, b2a_base64
+from dataclasses import dataclass
 from enum import Enum
-from typing import Final, NamedTuple, Optional
+from typing import Final, NamedTuple, Optional, Union
 
-RANGE: Final = 5
-"""The fault of a record with a number that the library doesn't take."""
+from rigzumal import _library
+from rigzumal._parts import decoded, encoded
+from rigzumal.argon2_cffi.exceptions import InvalidHashError
 
-LONG: Final = (6, 7, 9)
-"""The faults of a record whose salt, tag or text is longer than the library reads, or too short."""
-
-_NUMBER: Final = rb"(0|[1-9][0-9]{0,9})"
-_BASE64: Final = rb"([A-Za-z0-9+/]*)"
+_NUMBER: Final = "(0|[1-9][0-9]{0,9})"
+_BASE64: Final = "([A-Za-z0-9+/]*)"
 _FORM: Final = re.compile(
-    rb"\$argon2(d|i|id)(?:\$v=%b)?\$m=%b,t=%b,p=%b\$%b\$%b"
-    % ((_NUMBER,) * 4 + (_BASE64,) * 2)
+    rf"\$argon2(d|i|id)(?:\$v={_NUMBER})?"
+    rf"\$m={_NUMBER},t={_NUMBER},p={_NUMBER}\${_BASE64}\${_BASE64}"
 )
+_VERSIONS: Final = (0x10, 0x13)
+_NO_VERSION: Final = 18
+"""What argon2-cffi calls the version of a hash that names none; it is 0x10."""
 
 
 class Type(Enum):
@@ -39,18 +40,6 @@ class Numbers(NamedTuple):
     parallelism: int
 
 
-def _base64(data: bytes) -> bytes:
-    return b2a_base64(data, newline=False).rstrip(b"=")
-
-
-def _data(letters: bytes) -> Optional[bytes]:
-    """The bytes of base64 without padding; None for letters that encode no bytes."""
-    if len(letters) % 4 == 1:
-        return None
-    data = a2b_base64(letters + b"=" * (-len(letters) % 4))
-    return data if _base64(data) == letters else None
-
-
 class Encoded(NamedTuple):
     """A hash, read."""
 
@@ -62,20 +51,78 @@ class Encoded(NamedTuple):
         """The encoded hash."""
         it = self.numbers
         costs = f"m={it.memory_cost},t={it.time_cost},p={it.parallelism}"
-        front = f"$argon2{it.type.name.lower()}$v={it.version}${costs}".encode()
-        return b"$".join((front, _base64(self.salt), _base64(self.tag)))
+        front = f"$argon2{it.type.name.lower()}$v={it.version}${costs}"
+        return f"{front}${encoded(self.salt)}${encoded(self.tag)}".encode()
 
     @classmethod
     def read(cls, text: bytes) -> Optional[Encoded]:
         """The parts of an encoded hash, or None; its costs may be out of range."""
-        found = _FORM.fullmatch(text)
+        found = _FORM.fullmatch(text.decode("latin1"))
         if found is None:
             return None
         kind, *numbers, salt, tag = found.groups()
         version, *costs = (0x10 if it is None else int(it) for it in numbers)
-        salt, tag = _data(salt), _data(tag)
-        if salt is None or tag is None:
-            return None
         if max(version, *costs) >= 2**32:
             return None
-        return cls(Numbers(Type[kind.decode().upper()], version, *costs), salt, tag)
+        try:
+            data = decoded(salt), decoded(tag)
+        except ValueError:
+            return None
+        return cls(Numbers(Type[kind.upper()], version, *costs), *data)
+
+
+@dataclass
+class Parameters:
+    """The parameters that an Argon2 hash was made with.
+
+    Attributes:
+        type: the kind.
+        version: 19, or 16 for old hashes; 18 for old ones that don't say so.
+        salt_len: bytes of the salt.
+        hash_len: bytes of the tag.
+        time_cost: passes.
+        memory_cost: in KiB.
+        parallelism: lanes.
+    """
+
+    type: Type
+    version: int
+    salt_len: int
+    hash_len: int
+    time_cost: int
+    memory_cost: int
+    parallelism: int
+
+
+def extract_parameters(hash: Union[str, bytes]) -> Parameters:
+    """The parameters of an encoded hash.
+
+    Raises:
+        InvalidHashError: it is no hash of Argon2.
+    """
+    try:
+        text = _library.bytes_of(hash)
+    except ValueError:  # it has no form in UTF-8
+        raise InvalidHashError from None
+    read = Encoded.read(text)
+    if read is None or read.numbers.version not in _VERSIONS:
+        raise InvalidHashError(number=_fault_of(text))
+    it = read.numbers
+    return Parameters(
+        type=it.type,
+        version=it.version if b"$v=" in text else _NO_VERSION,
+        salt_len=len(read.salt),
+        hash_len=len(read.tag),
+        time_cost=it.time_cost,
+        memory_cost=it.memory_cost,
+        parallelism=it.parallelism,
+    )
+
+
+def _fault_of(text: bytes) -> int:
+    """The fault of a record that is no hash here."""
+    try:
+        _library.parts(text)
+    except _library.InvalidRecordError as fault:
+        return fault.number
+    return _library.SCHEME

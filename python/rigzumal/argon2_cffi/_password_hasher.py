@@ -7,8 +7,7 @@ from operator import attrgetter
 from typing import Any, Final, Literal, Optional, Union
 
 from rigzumal.argon2_cffi import profiles
-from rigzumal.argon2_cffi._encoded import Type
-from rigzumal.argon2_cffi._parameters import Parameters, extract_parameters
+from rigzumal.argon2_cffi._encoded import Parameters, Type, extract_parameters
 from rigzumal.argon2_cffi.exceptions import InvalidHashError
 from rigzumal.argon2_cffi.low_level import hash_secret, verify_secret
 

@@ -7,12 +7,9 @@ from typing import Final, Literal, Optional
 
 from rigzumal import _library
 from rigzumal._library import RigzumalError
-from rigzumal.argon2_cffi._encoded import LONG, RANGE, Encoded, Numbers, Type
-from rigzumal.argon2_cffi.exceptions import (
-    HashingError,
-    VerificationError,
-    VerifyMismatchError,
-)
+from rigzumal.argon2_cffi._encoded import Encoded, Numbers, Type
+from rigzumal.argon2_cffi.exceptions import HashingError, VerificationError
+from rigzumal.argon2_cffi.exceptions import VerifyMismatchError
 
 __all__ = [
     "ARGON2_VERSION",
@@ -26,8 +23,11 @@ __all__ = [
 ARGON2_VERSION = 19
 """The version of Argon2 (RFC 9106)."""
 
-
 _MOST_LANES: Final = 255
+
+# Faults of a record that the library may not read and argon2-cffi does: by a number, or
+# by the length of its salt, its tag or its text.
+_OF_OURS: Final = (5, 6, 7, 9)
 
 # libargon2's messages, from 0 down to -35.
 _MESSAGES: Final = (
@@ -79,10 +79,6 @@ def error_to_str(error: int) -> str:
     return _MESSAGES[-error] if known else "Unknown error code"
 
 
-def _message_of(fault: RigzumalError) -> str:
-    return error_to_str(_NUMBERS.get(fault.number, -31))
-
-
 def _first_fault(
     salt: bytes, time_cost: int, memory_cost: int, parallelism: int, hash_len: int
 ) -> Optional[int]:
@@ -123,7 +119,8 @@ def hash_secret_raw(
     try:
         return _library.raw_argon2(costs, secret, salt, b"", b"", hash_len, parallelism)
     except RigzumalError as fault:
-        raise HashingError(_message_of(fault), fault.number) from None
+        said = error_to_str(_NUMBERS.get(fault.number, -31))
+        raise HashingError(said, fault.number) from None
 
 
 def hash_secret(
@@ -146,12 +143,6 @@ def hash_secret(
     tag = hash_secret_raw(
         secret, salt, time_cost, memory_cost, parallelism, hash_len, type, version
     )
-    costs = (type.value, version, memory_cost, time_cost, parallelism)
-    try:
-        return _library.written_argon2(costs, salt, tag).encode()
-    except RigzumalError as fault:
-        if fault.number not in LONG:
-            raise HashingError(_message_of(fault), fault.number) from None
     numbers = Numbers(type, version, memory_cost, time_cost, parallelism)
     return Encoded(numbers, salt, tag).text()
 
@@ -182,7 +173,7 @@ def verify_secret(hash: bytes, secret: bytes, type: Type) -> Literal[True]:
 def _verdict(hash: bytes, secret: bytes) -> int:
     """The library's, which reads no salt of over 48 bytes and no tag of over 64; else ours."""
     fault = _library.check(hash, secret, threads=_MOST_LANES)
-    read = Encoded.read(hash) if fault in (RANGE, *LONG) else None
+    read = Encoded.read(hash) if fault in _OF_OURS else None
     if read is None:
         return fault
     it, salt, tag = read

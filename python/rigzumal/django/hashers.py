@@ -9,8 +9,6 @@ Django's page "Password management" shows: its own `algorithm` and `encode` are 
 
 from __future__ import annotations
 
-import base64
-import binascii
 import copy
 import hmac
 import math
@@ -21,6 +19,7 @@ from django.contrib.auth import hashers
 from django.contrib.auth.hashers import BasePasswordHasher
 
 import rigzumal
+from rigzumal._parts import decoded, encoded
 from rigzumal.django.apps import require_app
 from rigzumal.django.records import hidden
 
@@ -38,16 +37,9 @@ one with Django's own hasher would rehash each other's records by turns."""
 _NUMBER = r"[1-9]\d{0,9}"
 
 
-def _unbase64(text: str) -> bytes:
-    """The bytes of base64, with its padding or without it, in their one spelling."""
-    letters = text.rstrip("=")
-    try:
-        found = base64.b64decode(letters + "=" * (-len(letters) % 4), validate=True)
-    except binascii.Error:
-        found = b""
-    if not found or base64.b64encode(found).decode().rstrip("=") != letters:
-        raise ValueError("a salt or a tag is not base64")
-    return found
+def _tag(record: str) -> bytes:
+    """The tag at a record's end, which scrypt's pads."""
+    return decoded(record.rpartition("$")[2].rstrip("="))
 
 
 class _RecordHasher(BasePasswordHasher):
@@ -69,7 +61,7 @@ class _RecordHasher(BasePasswordHasher):
         parts: dict[str, Any] = {"algorithm": name, **found.groupdict()}
         for number in self._numbers:
             parts[number] = int(parts[number])
-        _unbase64(parts["hash"])
+        _tag(parts["hash"])
         return parts
 
     def _made(self, password: Password, parts: dict[str, Any]) -> bytes:
@@ -90,7 +82,7 @@ class _RecordHasher(BasePasswordHasher):
         except (ValueError, OverflowError):
             self.encode(b"", self.salt())
             return False
-        return hmac.compare_digest(made, _unbase64(parts["hash"]))
+        return hmac.compare_digest(made, _tag(parts["hash"]))
 
     def safe_summary(self, encoded: str) -> dict[str, Any]:
         """The parts of a record that may be shown; of a broken one, its fault."""
@@ -160,15 +152,14 @@ class Argon2PasswordHasher(_RecordHasher):
             hash_len=self.hash_len,
         )
         costs = f"m={self.memory_cost},t={self.time_cost},p={self.parallelism}"
-        letters = [base64.b64encode(it).decode() for it in (salt.encode(), tag)]
-        parts = [self.algorithm, "argon2id", "v=19", costs, *letters]
-        return "$".join(it.rstrip("=") for it in parts)
+        letters = encoded(salt.encode()), encoded(tag)
+        return "$".join((self.algorithm, "argon2id", "v=19", costs, *letters))
 
     def decode(self, encoded: str) -> dict[str, Any]:
         """The parts of a record; ValueError for another text, which it doesn't show."""
         parts = super().decode(encoded)
         parts["version"] = int(parts["version"] or 16)
-        parts["salt"] = _unbase64(parts["salt"]).decode("latin1")
+        parts["salt"] = decoded(parts["salt"]).decode("latin1")
         return parts
 
     def _made(self, password: Password, parts: dict[str, Any]) -> bytes:
@@ -178,16 +169,15 @@ class Argon2PasswordHasher(_RecordHasher):
             of_record = copy.copy(self)
             for name in ("memory_cost", "time_cost", "parallelism"):
                 setattr(of_record, name, parts[name])
-            of_record.hash_len = len(_unbase64(parts["hash"]))
-            made = of_record.encode(password, parts["salt"])
-            return _unbase64(made.rpartition("$")[2])
+            of_record.hash_len = len(_tag(parts["hash"]))
+            return _tag(of_record.encode(password, parts["salt"]))
         return rigzumal.argon2(
             password,
             parts["salt"].encode("latin1"),
             time_cost=parts["time_cost"],
             memory_cost=parts["memory_cost"],
             parallelism=parts["parallelism"],
-            hash_len=len(_unbase64(parts["hash"])),
+            hash_len=len(_tag(parts["hash"])),
             type=rigzumal.Type[parts["variety"].replace("argon2", "").upper()],
             version=parts["version"],
         )
@@ -197,7 +187,7 @@ class Argon2PasswordHasher(_RecordHasher):
         return (
             super()._is_old(parts)
             or (parts["variety"], parts["version"]) != ("argon2id", 19)
-            or len(_unbase64(parts["hash"])) < min(self.hash_len, _TAG_OF_CFFI)
+            or len(_tag(parts["hash"])) < min(self.hash_len, _TAG_OF_CFFI)
             or bits < self.salt_entropy
         )
 
@@ -238,17 +228,16 @@ class ScryptPasswordHasher(_RecordHasher):
         _check_salt(salt)
         n, r, p = n or self.work_factor, r or self.block_size, p or self.parallelism
         parts = {"work_factor": n, "block_size": r, "parallelism": p, "salt": salt}
-        key = base64.b64encode(self._key(password, parts, _KEY_SIZE)).decode()
-        return f"{self.algorithm}${n}${salt}${r}${p}${key}"
+        key = encoded(self._key(password, parts, _KEY_SIZE))
+        return f"{self.algorithm}${n}${salt}${r}${p}${key}=="
 
     def _made(self, password: Password, parts: dict[str, Any]) -> bytes:
-        length = len(_unbase64(parts["hash"]))
+        length = len(_tag(parts["hash"]))
         if length != _KEY_SIZE:
             return self._key(password, parts, length)
         # By `encode`, since a subclass may wrap an old hash there.
         numbers = (parts["work_factor"], parts["block_size"], parts["parallelism"])
-        made = self.encode(password, parts["salt"], *numbers)
-        return _unbase64(made.rpartition("$")[2])
+        return _tag(self.encode(password, parts["salt"], *numbers))
 
     def _key(self, password: Password, parts: dict[str, Any], length: int) -> bytes:
         work_factor = parts["work_factor"]
