@@ -7,7 +7,6 @@
 
 from __future__ import annotations
 
-from collections.abc import Awaitable
 from typing import Any, Optional
 
 from django.contrib.auth import get_user_model, hashers
@@ -62,9 +61,8 @@ class CompareAndSetBackend(ModelBackend):
         except passwords.RecordChanged:
             return None
 
-    def aauthenticate(self, *args: Any, **credentials: Any) -> Awaitable[Any]:
-        """`authenticate`, in a thread; Django calls it from 5.2 on."""
-        return records.in_thread(lambda: self.authenticate(*args, **credentials))
+    # Django calls it from 5.2 on.
+    aauthenticate = records.awaited(lambda self, *a, **b: self.authenticate(*a, **b))
 
 
 @hidden

@@ -12,7 +12,6 @@ Each may raise:
 
 from __future__ import annotations
 
-from collections.abc import Awaitable
 from typing import Any, Optional
 
 from django.contrib.auth import hashers, password_validation
@@ -91,21 +90,9 @@ def set_password(user: Any, new_password: Any) -> None:
         password_validation.password_changed(new_password, user)
 
 
-def acheck_password(user: Any, password: Any) -> Awaitable[bool]:
-    """`check_password`, in a thread."""
-    return records.in_thread(lambda: check_password(user, password))
-
-
-def achange_password(
-    user: Any, old_password: Any, new_password: Any
-) -> Awaitable[bool]:
-    """`change_password`, in a thread."""
-    return records.in_thread(lambda: change_password(user, old_password, new_password))
-
-
-def aset_password(user: Any, new_password: Any) -> Awaitable[None]:
-    """`set_password`, in a thread."""
-    return records.in_thread(lambda: set_password(user, new_password))
+acheck_password = records.awaited(check_password)
+achange_password = records.awaited(change_password)
+aset_password = records.awaited(set_password)
 
 
 def _copy_of(user: Any, database: str) -> Copy:

@@ -13,6 +13,7 @@ process writes before it does.
 
 from __future__ import annotations
 
+import functools
 from collections.abc import Awaitable, Callable, Sequence
 from dataclasses import dataclass, field
 from typing import Any, Optional, TypeVar, cast
@@ -207,9 +208,18 @@ def judge_change(
     return _at_what_stands(user, judge)
 
 
-def in_thread(work: Callable[[], T]) -> Awaitable[T]:
-    """The work's answer, from a thread. An error report shows the frames that wait, so
-    none of them has a password: the work has no argument, and no coroutine makes it.
+def awaited(function: Callable[..., T]) -> Callable[..., Awaitable[T]]:
+    """The same function in a thread, for `await`.
+
+    An error report shows the frames that wait, so none of them has a password: the work
+    has no argument, and no coroutine makes it.
     """
-    answer: Awaitable[T] = sync_to_async(hidden(work))()
-    return answer
+    concealed = hidden(function)
+
+    @functools.wraps(function)
+    def asynchronous(*args: Any, **kwargs: Any) -> Awaitable[T]:
+        work = hidden(lambda: concealed(*args, **kwargs))
+        answer: Awaitable[T] = sync_to_async(work)()
+        return answer
+
+    return asynchronous

@@ -11,7 +11,7 @@ A project with Django's own User sets RIGZUMAL_USER_COMPARES = True: see `make_c
 from __future__ import annotations
 
 import contextlib
-from collections.abc import Awaitable, Collection, Iterable, Iterator
+from collections.abc import Collection, Iterable, Iterator
 from typing import Any, Optional
 
 from django.contrib.auth import hashers
@@ -76,9 +76,9 @@ class CompareAndSetMixin(models.Model):
             return bool(hashers.check_password(raw_password, self.password))
         return records.judge_login(self, raw_password).right
 
-    def acheck_password(self, raw_password: Any) -> Awaitable[bool]:
-        """`check_password`, in a thread."""
-        return records.in_thread(lambda: self.check_password(raw_password))
+    acheck_password = records.awaited(
+        lambda self, raw_password: bool(self.check_password(raw_password))
+    )
 
     @hidden
     def set_password(self, raw_password: Any) -> None:
