@@ -71,8 +71,9 @@ class Accounts(Operations[Pool]):
             bytes nor text; no row was read. A hook gave an answer that it may not give,
             or `also` has ended the transaction; no record was written.
         ValueError: a new password is too short, has over 256 bytes or no UTF-8, or is
-            refused by `prepare`; no row was read. As a present password it is a wrong
-            one, after one hash.
+            refused by `prepare`, or the name of an enrolment is empty or has a blank at
+            its ends; no row was read. As a present password it is a wrong one, after one
+            hash.
         StoreFault: the table, the server or the connection has a fault.
         InvalidRecordError: the record is of another scheme, and no hook judges it.
         Unavailable: no server did it in time, and no change was made.

@@ -1,4 +1,4 @@
-"""Accounts out of a file, for the command: whole batches; existing accounts stay."""
+"""The rows of a table, for the command: all of them, and a file's accounts in batches."""
 
 from __future__ import annotations
 
@@ -14,10 +14,9 @@ from typing import Any, Final, Optional
 
 from rigzumal import _library
 from rigzumal._library import InvalidRecordError
-from rigzumal._parts import none_of_ours, parts
+from rigzumal._parts import none_of_ours
 from rigzumal._commands import Refusal, Status, say
 from rigzumal.accounts._accounts import Accounts
-from rigzumal.accounts._report import numbers_of
 from rigzumal.accounts._session import Session, run
 from rigzumal.accounts.dialects._dialect import ANOTHER_RECORD, Dialect
 from rigzumal.accounts.types import Key, Kind, Reply, Request, StoreFault, Ticket
@@ -31,6 +30,48 @@ Line = tuple[Key, str]
 _NO_UTF8: Final = re.compile("[\udc80-\udcff]")
 
 
+@dataclass(frozen=True)
+class Rows:
+    """The rows of a table."""
+
+    pool: Pool
+    dialect: Dialect
+
+    def every(self) -> Iterator[tuple[Any, Optional[str]]]:
+        """Each name with its record, in the order of the names."""
+        with self.pool() as conn:
+            cursor = conn.cursor()
+            cursor.execute(self.dialect.every)
+            yield from iter(cursor.fetchone, None)
+            cursor.close()
+
+    def delete(self, key: Key) -> bool:
+        """Deletes the account with its row; False if it doesn't exist."""
+        table, name, mark = self.dialect.table, self.dialect.key, self.dialect.mark
+        return self._changed(f"DELETE FROM {table} WHERE {name} = {mark}", key)
+
+    def rename(self, key: Key, new: Key) -> bool:
+        """Gives the account another name; False if it doesn't exist.
+
+        Raises:
+            Exception: the driver's IntegrityError, if another account has the name.
+        """
+        table, name, mark = self.dialect.table, self.dialect.key, self.dialect.mark
+        sql = f"UPDATE {table} SET {name} = {mark} WHERE {name} = {mark}"
+        return self._changed(sql, new, key)
+
+    def _changed(self, sql: str, *values: Key) -> bool:
+        """Whether a statement changed a row, in a transaction that is committed."""
+        if not all(map(self.dialect.can_stand, values)):
+            return False
+        with self.pool() as conn:
+            session = Session(conn)
+            run(self.dialect.start(session))
+            affected = run(session.execute(sql, *values)).affected
+            run(self.dialect.commit(session))
+        return affected > 0
+
+
 @dataclass
 class Import:
     """Adds accounts with their records, in transactions of a batch each."""
@@ -39,6 +80,7 @@ class Import:
     dialect: Dialect
     pool: Pool
     takes_foreign: bool = False  # records of other schemes, for a hook to judge
+    are_new: bool = True  # the names, so far
 
     def take(self, file: pathlib.Path, key_of: Callable[[str], Key]) -> dict[str, int]:
         """Adds the accounts of lines "NAME RECORD", and counts the outcomes.
@@ -82,16 +124,10 @@ class Import:
     def _record(self, line: str, key_of: Callable[[str], Key]) -> Line:
         name, _, record = line.rpartition(" ")
         if not line.isascii() and _NO_UTF8.search(line):
-            raise Refusal("the line is not UTF-8")
-        if line.startswith("\ufeff"):
-            raise Refusal("the line begins with a byte order mark")
+            raise Refusal("it is not in UTF-8")
         if not name.strip():
-            raise Refusal('a line is "NAME RECORD", with a space and no colon')
-        if name != name.strip():
-            raise Refusal("the name begins or ends with a blank")
+            raise Refusal('it is no "NAME RECORD": a space is between, and no colon')
         key = key_of(name)
-        if not self.dialect.can_stand(key):
-            raise Refusal("the column can't hold this name")
         try:
             _library.check_text(record)
         except InvalidRecordError as fault:
@@ -104,31 +140,44 @@ class Import:
     def put(self, batch: Sequence[Line]) -> list[str]:
         """Adds a batch in one transaction: "added", "there" or "another" for each."""
         with self.pool() as conn:
-            session, words = Session(conn), list[str]()
+            session = Session(conn)
             run(self.dialect.start(session))
-            try:
-                for start in range(0, len(batch), SHARE):
-                    words += self._put_at_once(session, batch[start : start + SHARE])
-            except Exception:
-                # Line by line it is done, or shows at which account it isn't.
-                run(self.dialect.undo(session))
-                run(self.dialect.start(session))
-                words = [self._named(session, *line) for line in batch]
+            words = self._by_shares(session, batch)
             run(self.dialect.commit(session))
         return words
 
+    def _by_shares(self, session: Session, batch: Sequence[Line]) -> list[str]:
+        """Puts a batch by large statements: as if all names were new, and then as they stand.
+
+        Line by line it is done in the end, or shows at which account it isn't.
+        """
+        shares = [batch[it : it + SHARE] for it in range(0, len(batch), SHARE)]
+        while True:
+            try:
+                said = (self._put_at_once(session, share) for share in shares)
+                return [*itertools.chain.from_iterable(said)]
+            except Exception:
+                run(self.dialect.undo(session))
+                run(self.dialect.start(session))
+            if not self.are_new:
+                return [self._named(session, *line) for line in batch]
+            self.are_new = False
+
     def _put_at_once(self, session: Session, share: Sequence[Line]) -> list[str]:
-        """Adds lines by few statements; StoreFault if other records exist then."""
-        stands = self._standing(session, [key for key, _ in share])
+        """Puts some lines by a few statements; StoreFault if other records stand then."""
+        keys = [] if self.are_new else [key for key, _ in share]
+        stands = self._standing(session, keys)
         new: dict[Key, str] = {}
         for key, record in share:
             if stands.get(key) is None:
                 new.setdefault(key, record)
-        added = [(key, new[key]) for key in new if key not in stands]
-        enrolled = [(key, new[key]) for key in new if key in stands]
+        added = [it for it in new.items() if it[0] not in stands]
+        enrolled = [it for it in new.items() if it[0] in stands]
         if added:
             sql = self.dialect.add(len(added))
-            run(session.execute(sql, *itertools.chain(*added)))
+            result = run(session.execute(sql, *itertools.chain(*added)))
+            if self.are_new and result.affected != len(added):
+                raise StoreFault(ANOTHER_RECORD)
         for start in range(0, len(enrolled), FEW):
             few = enrolled[start : start + FEW]
             sql, keys = self.dialect.enrol(len(few)), [key for key, _ in few]
@@ -149,10 +198,9 @@ class Import:
         """The rows of these keys: their records, or None."""
         if not keys:
             return {}
-        dialect = self.dialect
-        k, r = dialect.quoted(dialect.key_name), dialect.quoted(dialect.record_name)
-        marks = ", ".join([dialect.mark] * len(keys))
-        sql = f"SELECT {k}, {r} FROM {dialect.table} WHERE {k} IN ({marks})"
+        table, k, r = self.dialect.table, self.dialect.key, self.dialect.record
+        marks = ", ".join([self.dialect.mark] * len(keys))
+        sql = f"SELECT {k}, {r} FROM {table} WHERE {k} IN ({marks})"
         return {key: record for key, record in run(session.execute(sql, *keys)).rows}
 
     def _named(self, session: Session, key: Key, record: str) -> str:
@@ -177,19 +225,17 @@ class Import:
         raise Refusal(f"the server keeps {kept} {shown(key)}", Status.DATABASE)
 
 
+def line_of(name: object, record: Optional[str]) -> str:
+    """The line of an import; empty of an account without a record, or if it fits none."""
+    text, line = str(name), f"{name} {record}"
+    fits = record and line.isprintable() and " " not in record and text == text.strip()
+    return line if fits else ""
+
+
 def shown(name: object) -> str:
     """A name that is safe on a terminal, whatever characters its owner chose."""
     text = str(name)
     return text if text.isprintable() else ascii(text)
-
-
-def costs_of(record: Optional[str]) -> Optional[str]:
-    """Costs such as "$argon2id$v=19$m=65536,t=3,p=4"; None without a record of ours."""
-    try:
-        found = parts(record or "")
-    except InvalidRecordError:
-        return None
-    return f"${found.scheme}${numbers_of(found).replace(' ', '$')}"
 
 
 def why(record: object, fault: InvalidRecordError) -> str:

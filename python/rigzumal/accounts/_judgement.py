@@ -2,7 +2,6 @@
 
 from __future__ import annotations
 
-import base64
 import ctypes
 import os
 from collections.abc import Awaitable, Callable, Iterable
@@ -11,7 +10,7 @@ from typing import Final, Optional, Union
 from rigzumal import _library
 from rigzumal._hashers import PasswordHasher, ScryptHasher
 from rigzumal._library import InvalidRecordError, Secret, text_bytes
-from rigzumal._parts import Parts, parts
+from rigzumal._parts import Parts, encoded, parts
 from rigzumal.accounts.types import Copy, Kind, Reply, Request, Ticket, Worked
 from rigzumal.accounts.types import bytes_of_password
 
@@ -59,9 +58,9 @@ class Judge:
         # b"" among older secrets stands for records without one.
         self._secrets = tuple(it or None for it in hasher._secrets())
         self._secret = self._secrets[0]
-        self.sample = f"{self._setting()}${_base64(os.urandom(_TAG_SIZE))}"
+        self.sample = f"{self._setting()}${encoded(os.urandom(_TAG_SIZE))}"
         self._parts = parts(self.sample)
-        rest = f"${'A' * 22}${_base64(bytes(_TAG_SIZE))}"
+        rest = f"${'A' * 22}${encoded(bytes(_TAG_SIZE))}"
         self._old = frozenset(parts(costs + rest).costs for costs in upgrade_from)
         if self._parts.costs in self._old:
             fault = "an upgrade would be from the hasher's costs to themselves"
@@ -138,8 +137,8 @@ class Judge:
         """The step's answer under the first secret, and the record after it."""
         kind, password, secret = request.kind, request.password, self._secret
         if kind is Kind.UPGRADE and copy is not None and not self._is_upgraded(copy):
-            reply, _ = step(Kind.VERIFY, copy, password, b"", "", secret)
-            return (Reply.KEPT if reply is Reply.YES else Reply.WRONG), copy
+            is_kept = is_right(copy, password, secret)
+            return (Reply.KEPT if is_kept else Reply.WRONG), copy
         if kind in (Kind.VERIFY, Kind.REMOVE):
             return step(kind, copy, password, b"", "", secret)
         new, setting = request.new_password, self._setting()
@@ -170,7 +169,7 @@ class Judge:
 
     def _setting(self) -> str:
         salt = os.urandom(self._hasher.salt_len)
-        return f"{self._hasher.costs}${_base64(salt)}"
+        return f"{self._hasher.costs}${encoded(salt)}"
 
     def _is_upgraded(self, record: str) -> bool:
         """Whether an upgrade replaces a record, which its costs decide."""
@@ -226,10 +225,6 @@ def _dearness(found: Parts) -> tuple[int, int, int]:
     return found.version, found.memory, found.memory * found.passes
 
 
-def _base64(data: bytes) -> str:
-    return base64.b64encode(data).decode().rstrip("=")
-
-
 class _StepInputs(ctypes.Structure):
     """struct rigzumal_step_inputs."""
 
@@ -245,6 +240,12 @@ class _StepInputs(ctypes.Structure):
         ("secret_size", ctypes.c_size_t),
         ("threads", ctypes.c_uint32),
     ]
+
+
+_library._library.rigzumal_step_from.argtypes = [
+    *_library._library.rigzumal_step.argtypes[:3],
+    ctypes.POINTER(_StepInputs),
+]
 
 
 def step(
@@ -266,12 +267,11 @@ def step(
     record = None if copy is None else text_bytes(copy)
     passwords = (password, len(password), new_password, len(new_password))
     words = (number, record, *passwords, setting.encode())
-    made = (text, ctypes.c_size_t(size), ctypes.byref(answer))
     if secret is None:
-        fault = _library._library.rigzumal_step(*made, *words)
+        fault = _library._library.rigzumal_step(text, size, answer, *words)
     else:
-        inputs = ctypes.byref(_StepInputs(*words, secret, len(secret), 1))
-        fault = _library._library.rigzumal_step_from(*made, inputs)
+        inputs = _StepInputs(*words, secret, len(secret), 1)
+        fault = _library._library.rigzumal_step_from(text, size, answer, inputs)
     if fault != _library.OK:
         if copy is not None:
             _library.check_text(copy)  # raises the record's own fault

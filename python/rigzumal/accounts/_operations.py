@@ -145,24 +145,21 @@ class Operations(Generic[AnyPool]):
     async def _first_copy(
         self, request: Request, patience: Optional[float] = None
     ) -> tuple[Copy, bool]:
-        """A copy, and whether it was read at the primary."""
-        self._dialect.check_key(request.key)
-        has_replica = self._connections.replica is not None
-        if has_replica and self._dialect.can_stand(request.key):
-            found = await self._connections.at_replica(self._looking(request.key))
+        """A copy to work at, and whether it was read at the primary."""
+        key, connections = request.key, self._connections
+        self._dialect.check_key(key)
+        if not self._dialect.can_stand(key):
+            return NO_ROW, True
+        if request.kind is Kind.ENROL:
+            self._dialect.check_new_key(key)
+        if connections.replica is not None:
+            found = await connections.at_replica(self._looking(key))
             if not isinstance(found, Undone):
                 return found, False
         # No replica exists, or it is away: logins go on.
-        return await self._look(request.key, patience), True
+        return await connections.patiently(self._looking(key), patience), True
 
-    async def _look(self, key: Key, patience: Optional[float] = None) -> Copy:
-        """The record at the primary."""
-        if not self._dialect.can_stand(key):
-            return NO_ROW
-        copy: Copy = await self._connections.patiently(self._looking(key), patience)
-        return copy
-
-    def _looking(self, key: Key) -> Job[Any]:
+    def _looking(self, key: Key) -> Job[Copy]:
         return lambda session: self._table.look(session, key)
 
     async def _commit(
@@ -173,7 +170,8 @@ class Operations(Generic[AnyPool]):
         if also is None and not self._dialect.can_stand(key):
             return Answer(Reply.NO_ACCOUNT, NO_ROW, NO_ROW)
         if also is None and not self._table.writes(worked):
-            return judged(worked, await self._look(key, patience))
+            look = self._looking(key)
+            return judged(worked, await self._connections.patiently(look, patience))
         try:
             return await self._change(worked, also, patience)
         except Broken as broken:
@@ -225,7 +223,7 @@ class Operations(Generic[AnyPool]):
             OutcomeUnknown: the row has neither the copy nor the new record.
         """
         copy, after, request = worked.ticket.copy, worked.after, worked.ticket.request
-        now = await self._look(request.key)
+        now = await self._connections.patiently(self._looking(request.key))
         if now == after and after is not None:
             again = Worked(Ticket(request, after), worked.reply, after)
             also = None  # they were committed with it

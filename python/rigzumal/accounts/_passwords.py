@@ -5,7 +5,7 @@ from __future__ import annotations
 import copy
 from collections.abc import Callable
 from dataclasses import dataclass
-from typing import Any, Optional
+from typing import Any, Final, Optional
 
 from rigzumal._library import Secret, whole_number
 from rigzumal.accounts.types import LONGEST_PASSWORD, Kind, Request, bytes_of_password
@@ -15,6 +15,13 @@ Prepare = Callable[[str], str]
 
 Its ValueError says that no account has such a password.
 """
+
+# The password of a request that its account is to get.
+_NEW: Final = {
+    Kind.ENROL: "password",
+    Kind.CHANGE: "new_password",
+    Kind.RESET: "new_password",
+}
 
 
 @dataclass(frozen=True)
@@ -48,19 +55,18 @@ class Passwords:
 
     def of(self, request: Request) -> Request:
         """The request with its passwords as they are hashed; raises as `new` does."""
+        new = _NEW.get(request.kind)
+        if new is None and self.prepare is None:
+            return request
         changed: dict[str, Any] = {}
-        if request.kind is Kind.ENROL:
-            changed["password"] = self.new(request.password)
-        elif request.kind in (Kind.CHANGE, Kind.RESET):
-            changed["new_password"] = self.new(request.new_password)
+        if new is not None:
+            changed[new] = self.new(getattr(request, new))
         is_present = request.kind not in (Kind.ENROL, Kind.RESET)
         if self.prepare is not None and is_present and request.can_be_right:
             try:
                 changed["password"] = self._prepared(request.password)
             except ValueError:  # anybody may try a password, and gets an answer
                 changed.update(password=b"", can_be_right=False)
-        if not changed:
-            return request
         made = copy.copy(request)
         vars(made).update(changed)
         return made

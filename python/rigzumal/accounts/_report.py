@@ -7,7 +7,7 @@ from collections import Counter
 from collections.abc import Callable, Iterable, Iterator
 from typing import Any, NamedTuple, Optional
 
-from rigzumal._library import InvalidRecordError
+from rigzumal._library import InvalidRecordError, check_text
 from rigzumal._parts import Parts, parts, scheme_of_another
 
 
@@ -37,21 +37,22 @@ def group_of(record: Optional[str], is_old: Callable[[Parts], bool]) -> Group:
     """The group of a record."""
     if record is None:
         return Group(State.ABSENT, "", "")
-    try:
-        found = parts(record)
-    except InvalidRecordError:
+    costs = costs_of(record)
+    if costs is None:
         scheme = scheme_of_another(record)
         return Group(State.FOREIGN if scheme else State.UNREADABLE, scheme, "")
-    state = State.REHASH if is_old(found) else State.CURRENT
-    return Group(state, found.scheme, numbers_of(found))
+    _, scheme, numbers = costs.split("$", 2)
+    state = State.REHASH if is_old(parts(record)) else State.CURRENT
+    return Group(state, scheme, numbers.replace("$", " "))
 
 
-def numbers_of(found: Parts) -> str:
-    """As "v=19 m=65536,t=3,p=4"."""
-    names = ("ln", "r", "p") if found.scheme == "scrypt" else ("m", "t", "p")
-    values = (found.memory, found.passes, found.lanes)
-    numbers = ",".join(f"{name}={value}" for name, value in zip(names, values))
-    return f"v={found.version} {numbers}" if found.version else numbers
+def costs_of(record: str) -> Optional[str]:
+    """Costs such as "$argon2id$v=19$m=65536,t=3,p=4"; None of another text."""
+    try:
+        check_text(record)
+    except InvalidRecordError:
+        return None
+    return record.rsplit("$", 2)[0]
 
 
 def report(

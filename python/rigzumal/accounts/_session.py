@@ -13,7 +13,7 @@ import time
 from collections.abc import AsyncGenerator, Awaitable, Callable, Coroutine, Generator
 from collections.abc import Iterable, Mapping
 from concurrent.futures import ThreadPoolExecutor
-from typing import Any, NamedTuple, Optional, TypeVar
+from typing import Any, Final, NamedTuple, Optional, TypeVar, Union
 
 from rigzumal.accounts.types import Reply, StoreFault
 from rigzumal.accounts.pools import lent
@@ -90,7 +90,7 @@ class AsyncSession(Session):
 
 
 def _result(cursor: Any, fetched: Any) -> Result:
-    rows = list(fetched)
+    rows = [*fetched]
     if rows and type(rows[0]) is not tuple:
         rows = [_values(row) for row in rows]
     return Result(rows, cursor.rowcount, getattr(cursor, "statusmessage", None))
@@ -107,15 +107,6 @@ Job = Callable[[Session], Coroutine[Any, Any, T]]
 """What is done on one connection."""
 
 
-async def _note(job: Job[T], session: Session, ends: list[Any]) -> None:
-    """Does a job, and notes its answer or exception."""
-    try:
-        ends.append(await job(session))
-    except BaseException as error:
-        ends.append(error)
-        raise
-
-
 def run(coroutine: Coroutine[Any, Any, T]) -> T:
     """The result of a coroutine over a blocking driver."""
     try:
@@ -129,6 +120,16 @@ def run(coroutine: Coroutine[Any, Any, T]) -> T:
         coroutine.close()
         error = TypeError("a blocking operation has awaited: use AsyncAccounts")
     raise error
+
+
+_NO_CONNECTION: Final = object()
+
+
+def _answer(end: Union[T, BaseException]) -> T:
+    """What a job has answered; raises what it has raised."""
+    if isinstance(end, BaseException):
+        raise end
+    return end
 
 
 class Runtime:
@@ -155,21 +156,19 @@ class Runtime:
         A pool that rolls back a broken connection raises its own error instead of the
         job's, and "COMMIT had no answer" would be taken for "nothing was done".
         """
-        ends: list[Any] = []
+        end: Any = _NO_CONNECTION
         try:
-            await self._enter(pool, job, ends)
+            with lent(pool, "__enter__") as conn:
+                try:
+                    end = await job(self._session(conn, self._options))
+                except BaseException as error:
+                    end = error
+                    raise
         except Exception:
-            if not ends:
-                raise  # the pool gave no connection
-        (end,) = ends
-        if isinstance(end, BaseException):
-            raise end
-        answer: T = end
+            if end is _NO_CONNECTION:
+                raise
+        answer: T = _answer(end)
         return answer
-
-    async def _enter(self, pool: Any, job: Job[T], ends: list[Any]) -> None:
-        with lent(pool, "__enter__") as conn:
-            await _note(job, self.session(conn), ends)
 
     async def pause(self, seconds: float) -> None:
         """Waits so long."""
@@ -190,9 +189,20 @@ class AsyncRuntime(Runtime):
     _session = AsyncSession
     _executors = (ThreadPoolExecutor,)
 
-    async def _enter(self, pool: Any, job: Job[T], ends: list[Any]) -> None:
-        async with lent(pool, "__aenter__") as conn:
-            await _note(job, self.session(conn), ends)
+    async def use(self, pool: Any, job: Job[T]) -> T:
+        end: Any = _NO_CONNECTION
+        try:
+            async with lent(pool, "__aenter__") as conn:
+                try:
+                    end = await job(self._session(conn, self._options))
+                except BaseException as error:
+                    end = error
+                    raise
+        except Exception:
+            if end is _NO_CONNECTION:
+                raise
+        answer: T = _answer(end)
+        return answer
 
     async def pause(self, seconds: float) -> None:
         await asyncio.sleep(seconds)

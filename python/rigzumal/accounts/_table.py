@@ -52,17 +52,20 @@ class Table:
 
     def writes(self, worked: Worked) -> bool:
         """Whether the operation writes, if only the copy over itself."""
-        is_there = worked.ticket.copy is not NO_ROW
-        return worked.reply.makes_change or (self.confirm and is_there)
+        if worked.reply.makes_change:
+            return True
+        return self.confirm and worked.ticket.copy is not NO_ROW
 
     async def look(self, session: Session, key: Key) -> Copy:
         """The present record."""
         self.dialect.fresh(session.conn)
         try:
             await self.dialect.prepare(session)
-            return await self.one(session, self.dialect.select, key)
+            return _record((await session.execute(self.dialect.select, key)).rows)
         except Exception as error:
             caught = error
+        if self.dialect.lacks_key(caught):
+            return NO_ROW
         self._raise(caught)
 
     async def one(self, session: Session, sql: str, key: Key) -> Copy:
@@ -241,8 +244,8 @@ class Table:
         except StoreFault as raised:
             fault = str(raised)
         except Exception as raised:
-            fault = f"no record can be written: {self.name(raised)}"
-        await self.dialect.undo(session)
+            fault = f"no record can be put: {self.name(raised)}"
+        await self._is_undone(session)
         return fault
 
     async def _row(self, session: Session) -> Optional[Key]:
@@ -258,8 +261,8 @@ class Table:
         # The role adds no rows, they have columns of their own, or a key is padded.
         await dialect.undo(session)
         await dialect.start(session)
-        k, t = dialect.quoted(dialect.key_name), dialect.table
-        found = await session.execute(dialect.alone(f"SELECT {k} FROM {t} LIMIT 1"))
+        sql = dialect.alone(f"SELECT {dialect.key} FROM {dialect.table} LIMIT 1")
+        found = await session.execute(sql)
         return found.rows[0][0] if found.rows else None
 
     async def _hook_failed(self, session: Session, error: Exception) -> Undone:
@@ -268,13 +271,10 @@ class Table:
         The operation is tried again only for errors of this connection: the hook may
         have used others, whose errors look alike.
         """
-        verdict, is_open = Verdict.REFUSED, True
+        verdict = Verdict.REFUSED
         if self.dialect.is_drivers(error):
             verdict = self.dialect.verdict(error)
-        try:
-            await self.dialect.undo(session)
-        except Exception:
-            is_open = False
+        is_open = await self._is_undone(session)
         if verdict is Verdict.AGAIN and is_open:
             return Undone(error)
         if verdict is Verdict.REFUSED or (verdict is Verdict.LOST and is_open):
@@ -284,15 +284,18 @@ class Table:
     async def _undone(self, session: Session, error: Exception) -> Undone:
         """Rolls back after an error, which means another try or is raised."""
         verdict = self.dialect.verdict(error) if is_of_driver(error) else None
-        is_kept = verdict is not Verdict.LOST
-        if is_kept:
-            try:
-                await self.dialect.undo(session)
-            except Exception:
-                is_kept = False  # the pool gives up a connection that a job raised on
+        is_kept = verdict is not Verdict.LOST and await self._is_undone(session)
         if verdict is Verdict.AGAIN and is_kept:
             return Undone(error)
         self._raise(error)
+
+    async def _is_undone(self, session: Session) -> bool:
+        """Rolls back, if it can be; the pool gives up a connection that a job raised on."""
+        try:
+            await self.dialect.undo(session)
+        except Exception:
+            return False
+        return True
 
     def _raise(self, error: Exception) -> NoReturn:
         """Raises the exception that an error means.

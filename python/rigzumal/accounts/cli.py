@@ -16,6 +16,7 @@ import argparse
 import contextlib
 import functools
 import json
+import re
 from collections.abc import Callable, Iterator, Sequence
 from typing import Final, Optional
 
@@ -23,9 +24,8 @@ from rigzumal import RigzumalError, opaque_string
 from rigzumal._library import InvalidRecordError
 from rigzumal._commands import Refusal, Status, hint, say, status_of
 from rigzumal.accounts._accounts import Accounts
-from rigzumal.accounts._import import Import, costs_of, shown, why
-from rigzumal.accounts._report import as_prometheus, report
-from rigzumal.accounts._rows import Rows, line_of
+from rigzumal.accounts._import import Import, Rows, line_of, shown, why
+from rigzumal.accounts._report import as_prometheus, costs_of, report
 from rigzumal.accounts._session import Session, run
 from rigzumal.accounts._words import accounts_hasher, old_and_new, parser
 from rigzumal.accounts._words import password_of
@@ -129,16 +129,19 @@ class _Command:
     def key(self, name: str) -> Key:
         if not self.args.numbers:
             return name
-        try:
-            return int(name)
-        except ValueError:
-            raise Refusal(f"{name!r} is no whole number", Status.WORDS) from None
+        if not re.fullmatch("-?[0-9]{1,19}", name):
+            raise Refusal(f"{name!r} is no whole number", Status.WORDS)
+        return int(name)
 
     def new_key(self, name: str) -> Key:
-        """A name that an account may get."""
+        """A name that a new account may get."""
         key = self.key(name)
         if not self.dialect.can_stand(key):
             raise Refusal("the column can't hold this name", Status.WORDS)
+        try:
+            self.dialect.check_new_key(key)
+        except ValueError as fault:
+            raise Refusal(str(fault), Status.WORDS) from None
         return key
 
     def copy(self, key: Key) -> Copy:
@@ -222,13 +225,13 @@ class _Command:
 
     def delete(self) -> int:
         """Delete an account with its row"""
-        if not self.rows.delete(self.new_key(self.args.name)):
+        if not self.rows.delete(self.name):
             return self.say(Reply.NO_ACCOUNT)
         return self.write("deleted", reply="deleted")
 
     def rename(self) -> int:
         """Give an account another name"""
-        key, new = self.new_key(self.args.name), self.new_key(self.args.new)
+        key, new = self.name, self.new_key(self.args.new)
         try:
             is_done = self.rows.rename(key, new)
         except Exception:
@@ -243,7 +246,7 @@ class _Command:
         """Add a file's new accounts, of a bad file none"""
         args = self.args
         importing = Import(self.accounts, self.dialect, self.pool, args.foreign)
-        counts = importing.take(args.file, self.key)
+        counts = importing.take(args.file, self.new_key)
         text = f"{counts['added']} added, {counts['there']} there already"
         another = counts["another"]
         if another:
@@ -267,7 +270,7 @@ class _Command:
     def show(self) -> int:
         """Write each account, and the costs of its record"""
         for name, record in self.rows.every():
-            costs = costs_of(record)
+            costs = costs_of(record or "")
             fields = {"name": name, "costs": costs}
             text = costs[1:].replace("$", " ") if costs else "no record"
             if record is not None and costs is None:

@@ -84,7 +84,7 @@ Copy = Union[str, None, NoRow]
 
 def bytes_of_password(password: Secret) -> bytes:
     """The bytes of a password that an account may have; raises as `new_record` does."""
-    found = bytes_of(password)
+    found = password if type(password) is bytes else bytes_of(password)
     if len(found) > LONGEST_PASSWORD:
         raise ValueError(f"a password has up to {LONGEST_PASSWORD} bytes")
     return found
@@ -117,14 +117,15 @@ class Request:
             if kind is Kind.ENROL:
                 raise
             present, can_be_right = b"", False
-        if isinstance(key, str):
+        if type(key) is not str and isinstance(key, str):
             # As a driver sees it, whatever its class makes of it.
             key = str.__str__(key)
         passwords = {"password": present, "new_password": new}
-        vars(self).update(passwords, kind=kind, key=key, can_be_right=can_be_right)
+        self.__dict__.update(passwords, kind=kind, key=key, can_be_right=can_be_right)
 
 
-@dataclass(frozen=True)
+# Not frozen: that is slow, and each login makes three.
+@dataclass
 class Ticket:
     """A request that was begun, with the copy of the account's record."""
 
@@ -132,7 +133,7 @@ class Ticket:
     copy: Copy = field(repr=False)
 
 
-@dataclass(frozen=True)
+@dataclass
 class Worked:
     """The effect of the whole operation at the copy: its reply, and the record after it."""
 
@@ -141,7 +142,7 @@ class Worked:
     after: Copy = field(repr=False)
 
 
-@dataclass(frozen=True)
+@dataclass
 class Answer:
     """A reply, the record at which it was judged, and the record after it."""
 

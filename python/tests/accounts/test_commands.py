@@ -375,8 +375,14 @@ class Commands(Base):
             said = self.run_command("import", self.file(*lines))
         self.assertEqual(said, "1200 added, 0 there already\n")
         share, mixed = ["SELECT", "INSERT", "SELECT"], ["SELECT", "INSERT", "UPDATE", "SELECT"]
-        first = ["BEGIN", "SELECT", "UPDATE", "UPDATE", "SELECT", *mixed, "COMMIT"]
-        self.assertEqual(found, first + ["BEGIN", *share, *share, "COMMIT"] * 2)
+        first = "BEGIN INSERT ROLLBACK BEGIN SELECT UPDATE UPDATE SELECT".split()
+        again = ["BEGIN", *share, *share, "COMMIT"] * 2
+        self.assertEqual(found, [*first, *mixed, "COMMIT", *again])
+        with sent() as found:
+            said = self.run_command("import", self.file(*(f"b{it}" for it in lines[:600])))
+        self.assertEqual(said, "600 added, 0 there already\n")
+        new = ["INSERT", "SELECT"]
+        self.assertEqual(found, ["BEGIN", *new, *new, "COMMIT", "BEGIN", *new, "COMMIT"])
         two = LOW.hash("two")
         lines[7] = lines[901] = f"user7@x {two}"
         file = pathlib.Path(self.file())
@@ -418,8 +424,8 @@ class Commands(Base):
             (f"  {RECORD}", 'a line is "NAME RECORD"'),
             (f"ann  {RECORD}", "the name begins or ends with a blank"),
             (f"\u00a0ann {RECORD}", "the name begins or ends with a blank"),
-            (f"\ufeffann {RECORD}", "the line begins with a byte order mark"),
-            (f"\udcff {RECORD}", "the line is not UTF-8"),
+            (f"\ufeffann {RECORD}", "the name begins with a byte order mark"),
+            (f"\udcff {RECORD}", "it is not in UTF-8"),
             (f"be\0n {RECORD}", "the column can't hold this name"),
             ("ann $2b$12$R9h/cIPz0gi.URNNX3kh2O", "the record's scheme is 2b, and "),
             ("ann pbkdf2_sha256$260000$abc$def", "the record's scheme is pbkdf2_sha256"),

@@ -13,7 +13,11 @@ CASE, BLANKS = "differ in case", "differ by blanks at the end"
 ACCENTS, CUT = "differ by accents", "record-type: record is {}: a record has up to 152 bytes"
 SHORTER = "record-length: record is {}: another program's record has up to 512 bytes"
 LATIN = "key-not-unicode: names outside of {} are no accounts"
-NOT_UNIQUE, PUT = "no unique index of its own", "no record can be written: "
+NOT_UNIQUE = "no unique index of its own: two rows may have one name, and are then refused"
+SLOW, PUT = "key-not-indexed: no index finds name", "no record can be put: "
+# Where equal keys are equal, and where others may be too, or equal ones may differ.
+OF_ONE_CASE = ("lower(name)", "upper(name)", "LOWER ( name )")
+OF_MORE = ("lower(record)", "lower(name || record)", "coalesce(record, lower(name))")
 SHORT = "CHECK (length(record) < 60)"
 
 
@@ -73,7 +77,8 @@ class OnSqlite(Said, engines.OnSqlite, support.Base):
             (f"name TEXT COLLATE NOCASE, record TEXT; {index} (name COLLATE BINARY)", CASE),
             (f"name TEXT, record TEXT; {index} (name) WHERE record IS NULL", NOT_UNIQUE),
             (f"name TEXT, record TEXT; {index} (name, lower(record))", NOT_UNIQUE),
-            (f"name TEXT, record TEXT; {index} (lower(name))", NOT_UNIQUE),
+            *((f"name TEXT, record TEXT; {index} ({it})", SLOW) for it in OF_ONE_CASE),
+            *((f"name TEXT, record TEXT; {index} ({it})", NOT_UNIQUE) for it in OF_MORE),
             (f"name TEXT, record TEXT; {index} (NAME)",),
             # Rows that the trial can't make: it is done at one that is there.
             (f"{key}, mail TEXT NOT NULL",),
@@ -257,7 +262,12 @@ class OnPostgres(OnServer, engines.OnPostgres, support.Base):
             ("name text COLLATE ai PRIMARY KEY, record text", ACCENTS),
             ("name name PRIMARY KEY, record text",),
             (f"name text, record text; {index} (name) WHERE record IS NULL", NOT_UNIQUE),
-            (f"name text, record text; {index} (lower(name))", NOT_UNIQUE),
+            *((f"name text, record text; {index} ({it})", SLOW) for it in OF_ONE_CASE),
+            *((f"name text, record text; {index} (({it}))", NOT_UNIQUE) for it in OF_MORE),
+            (f"name varchar(90), record text; {index} (lower(name))", SLOW),
+            ("name text, record text, EXCLUDE (name WITH =)",),
+            ("name text, record text, EXCLUDE (name WITH =) WHERE (record = 'x')", NOT_UNIQUE),
+            ("name text, record text, EXCLUDE (record WITH =)", NOT_UNIQUE),
             (f"name text, record text; {index} (name) INCLUDE (record)",),
             (f"{record} char(300)", "character(300)", "than the one that was written"),
             (f"{record} bytea", "record is bytea, not text", "the record is no text"),
@@ -358,7 +368,8 @@ class OnMariaDB(OnServer, engines.OnMariaDB, support.Base):
             (key.format("ascii", "ascii_bin"), LATIN.format("ascii"), BLANKS),
             (key.format("ascii", "ascii_nopad_bin"), LATIN.format("ascii")),
             (key.format("utf8mb3", "utf8mb3_nopad_bin"), LATIN.format("utf8mb3")),
-            (f"{name}, UNIQUE (name(5))", NOT_UNIQUE),
+            (f"{name}, UNIQUE (name(5))",),
+            (f"{name}, UNIQUE (name(5), record(5))", NOT_UNIQUE),
             (f"{name}, KEY (name)", NOT_UNIQUE),
             (f"{record} TINYTEXT", SHORTER.format("tinytext(255)")),
             (f"{record} CHAR(255)", SHORTER.format("char(255)")),
@@ -420,6 +431,12 @@ class OnMariaDB(OnServer, engines.OnMariaDB, support.Base):
             said = f"no-transactions: users is of {engine}"
             self.each_table((table.format(engine) + insert, said))
             self.assertEqual(self.stands(), "old")
+
+    def test_views(self):
+        self.execute("CREATE VIEW people AS SELECT * FROM users")
+        self.addCleanup(self.execute, "DROP VIEW people")
+        accounts = self.accounts(dialect=self.another_dialect(table="people"))
+        self.assert_faults([NOT_UNIQUE, "not-a-table: people is no table"], accounts)
 
     def test_settings(self):
         name = "innodb_flush_log_at_trx_commit"

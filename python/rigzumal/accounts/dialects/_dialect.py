@@ -5,7 +5,8 @@ from __future__ import annotations
 import enum
 import functools
 import re
-from collections.abc import Container, Iterable, Iterator, Mapping, Sequence
+from collections.abc import Collection, Container, Iterable, Iterator, Mapping
+from collections.abc import Sequence
 from dataclasses import dataclass
 from typing import Any, ClassVar, Final, NamedTuple
 
@@ -111,6 +112,7 @@ class Dialect:
             too.
 
     Attributes:
+        key, record: the columns, as a statement has them.
         select: the statement that reads the record of a key.
         locked: the same, with the UPDATE's lock on the row until the transaction ends. A
             weaker one, which two logins hold, deadlocks if both then update the row.
@@ -143,7 +145,8 @@ class Dialect:
         self.table_name, self.key_name, self.record_name = table, key, record
         self.key_type = key_type
         self.table = t = ".".join(map(self.quoted, table.split(".")))
-        k, r, m = self.quoted(key), self.quoted(record), self.mark
+        self.key, self.record = k, r = self.quoted(key), self.quoted(record)
+        m = self.mark
         same = self._same.format(r=r, m=m)
         self.select = f"SELECT {r} FROM {t} WHERE {k} = {m}"
         self.locked = self.select + self._lock
@@ -159,15 +162,14 @@ class Dialect:
 
     def add(self, count: int) -> str:
         """The statement that adds accounts with their records, but for those that exist."""
-        k, r, m = self.quoted(self.key_name), self.quoted(self.record_name), self.mark
-        rows = ", ".join([f"({m}, {m})"] * count)
-        unless = self._unless_exists.format(k=k)
-        return f"INSERT INTO {self.table} ({k}, {r}) VALUES {rows}{unless}"
+        rows = ", ".join([f"({self.mark}, {self.mark})"] * count)
+        unless = self._unless_exists.format(k=self.key)
+        columns = f"{self.key}, {self.record}"
+        return f"INSERT INTO {self.table} ({columns}) VALUES {rows}{unless}"
 
     def enrol(self, count: int) -> str:
-        """The statement that writes records for accounts without one: of keys with
-        theirs, and the keys."""
-        k, r, m = self.quoted(self.key_name), self.quoted(self.record_name), self.mark
+        """The statement that puts records where none stand: of keys with theirs, and the keys."""
+        k, r, m = self.key, self.record, self.mark
         record = f"CASE {k}{f' WHEN {m} THEN {m}' * count} END"
         keys = ", ".join([m] * count)
         return f"UPDATE {self.table} SET {r} = {record} WHERE {k} IN ({keys}) AND {r} IS NULL"
@@ -194,9 +196,21 @@ class Dialect:
 
     def can_stand(self, key: object) -> bool:
         """Whether a column can hold the key; otherwise no such account exists."""
-        if isinstance(key, str):
-            return not _IN_NO_COLUMN.search(key)
+        if type(key) is str:
+            return key.isprintable() or not _IN_NO_COLUMN.search(key)
         return not isinstance(key, int) or -_BIGINT <= key < _BIGINT
+
+    def check_new_key(self, key: object) -> None:
+        """Raises ValueError at a name that no new account gets; old ones may have it."""
+        if not isinstance(key, str):
+            return
+        bare = key.strip()
+        if not bare:
+            raise ValueError("the name is empty")
+        if key != bare:
+            raise ValueError("the name begins or ends with a blank")
+        if key[0] == "\ufeff":
+            raise ValueError("the name begins with a byte order mark")
 
     # ---- connections
 
@@ -279,11 +293,10 @@ class Dialect:
 
     def create(self) -> str:
         """The statement that creates a table as it should be."""
-        k, r = self.quoted(self.key_name), self.quoted(self.record_name)
         kinds = {str: self.key_sql, int: "BIGINT", bytes: self.bytes_sql}
-        kind = kinds.get(self.key_type, "UUID")
-        columns = f"{k} {kind} NOT NULL PRIMARY KEY, {r} VARCHAR({LONGEST_RECORD})"
-        return self.alone(f"CREATE TABLE {self.table} ({columns})")
+        key = f"{self.key} {kinds.get(self.key_type, 'UUID')} NOT NULL PRIMARY KEY"
+        record = f"{self.record} VARCHAR({LONGEST_RECORD})"
+        return self.alone(f"CREATE TABLE {self.table} ({key}, {record})")
 
     async def examine(self, session: Session) -> Findings:
         """The faults that the catalogue and the settings show."""
@@ -299,14 +312,29 @@ class Dialect:
             if name not in found
         ]
 
-    def common_faults(self, nullable: bool, unique: bool) -> Iterator[Fault]:
-        """The faults that a table of any engine may have."""
+    def common_faults(self, nullable: bool, unique: Collection[str]) -> Iterator[Fault]:
+        """The faults that a table of any engine may have.
+
+        `unique` has what each unique index of one part is of: "" for the key as it is.
+        """
         if not nullable:
             text = f"{self.record_name} is NOT NULL: no account can be without a record"
             yield warning(NOT_NULL, f"{text}, so `remove` is refused")
-        if not unique:
+        if "" in unique:
+            return
+        if any(self._is_of_one_case(it) for it in unique):
+            text = f"no index finds {self.key_name}: each look reads the whole table"
+            yield warning("key-not-indexed", text)
+        else:
             text = f"{self.key_name} has no unique index of its own"
-            yield error("key-not-unique", text)
+            said = "two rows may have one name, and are then refused"
+            yield error("key-not-unique", f"{text}: {said}")
+
+    def _is_of_one_case(self, indexed: str) -> bool:
+        """Whether it is lower(key) or upper(key): there no two rows have one key either."""
+        name = rf"\(?[\"`\[]?{re.escape(self.key_name)}[\"`\]]?\)?"
+        form = rf"(^|ON[^()]*\()(lower|upper)\({name}(::text)?\)\)?$"
+        return bool(re.search(form, "".join(indexed.split()), re.I))
 
     def after_triggers(self, rows: Iterable[Sequence[object]]) -> Iterator[Fault]:
         """The trial shows what a trigger before the write does to a record."""
@@ -346,10 +374,10 @@ class Dialect:
         The column of a union has the collation of its first part, so no row is needed.
         """
         faults: list[Fault] = []
-        k, t = self.quoted(self.key_name), self.table
+        none = f"SELECT {self.key} FROM {self.table} WHERE 1 = 0"
         for found, how, name in _FOLDED if self.key_type is str else ():
-            sample = f"SELECT {k} FROM {t} WHERE 1 = 0 UNION ALL SELECT 'rigzumal'"
-            sql = f"SELECT {k} = '{name}' FROM ({sample}) AS sample"
+            sample = f"({none} UNION ALL SELECT 'rigzumal') AS sample"
+            sql = f"SELECT {self.key} = '{name}' FROM {sample}"
             try:
                 ((is_same,),) = (await session.execute(self.alone(sql))).rows
             except Exception:

@@ -167,13 +167,16 @@ class MariaDB(Dialect):
             return Findings(missing, is_usable=False)
         unique = await session.execute(_UNIQUE, schema, t, self.key_name)
         *record, nullable = columns[self.record_name]
-        faults = [*self.common_faults(nullable == "YES", bool(unique.rows))]
+        faults = [*self.common_faults(nullable == "YES", [it for (it,) in unique.rows])]
         key, _, charset, _ = columns[self.key_name]
         faults += self._type_faults(key, *record)
         ((engine,),) = (await session.execute(_ENGINE, schema, t)).rows
-        if engine != "InnoDB":
+        if engine is None:
+            faults.append(error("not-a-table", f"{t} is no table"))
+        elif engine != "InnoDB":
             text = f"{t} is of {engine}, which has no transactions"
-            faults.append(error("no-transactions", text))
+            said = "a change that fails, or a hook's rows, may stand all the same"
+            faults.append(error("no-transactions", f"{text}: {said}"))
         rows = (await session.execute("SHOW SESSION VARIABLES")).rows
         seen = {name: value for name, value in rows}
         for name in dict.fromkeys((charset, seen["character_set_client"])):
@@ -248,9 +251,9 @@ _COLUMNS: Final = (
     "SELECT column_name, data_type, character_maximum_length, character_set_name,"
     f" is_nullable FROM information_schema.columns WHERE {_OF}"
 )
+# If the first letters are unique, the whole names are.
 _UNIQUE: Final = (
-    f"SELECT index_name FROM information_schema.statistics WHERE {_OF} AND non_unique = 0"
+    f"SELECT '' FROM information_schema.statistics WHERE {_OF} AND non_unique = 0"
     " GROUP BY index_name HAVING COUNT(*) = 1 AND MAX(column_name) = %s"
-    " AND MAX(sub_part) IS NULL"
 )
 _ENGINE: Final = f"SELECT engine FROM information_schema.tables WHERE {_OF}"

@@ -22,6 +22,10 @@ _ELSEWHERE: Final = frozenset({"25006", "53300"})
 _LOST: Final = ("08", "57P0", "25P03")
 _UNKNOWN: Final = "40003"  # the server doesn't know whether what was sent was done
 _LACKS: Final = ("22P05", "22021")  # characters that the server's encoding doesn't have
+STATEMENT_MODE: Final = (
+    "PgBouncer's pool_mode is statement, which has no transactions: set it to transaction"
+    " or session"
+)
 
 
 class Postgres(Dialect):
@@ -68,9 +72,12 @@ class Postgres(Dialect):
         try:
             return await super().start(session)
         except Exception as raised:
-            if self.number(raised) != "0A000":
+            is_of_statements = "statement pooling mode" in str(raised)
+            if self.number(raised) != "0A000" and not is_of_statements:
                 raise
             caught = raised
+        if is_of_statements:
+            raise StoreFault(STATEMENT_MODE)
         # A standby never writes, and says so in its own way; it may be promoted.
         raise ConnectionError("the server is a standby") from caught
 
@@ -158,9 +165,9 @@ class Postgres(Dialect):
         missing = self.missing(columns)
         if missing:
             return Findings(missing, is_usable=False)
-        unique = await session.execute(_UNIQUE, t, self.key_name)
+        unique = (await session.execute(_UNIQUE, self.key_name, t)).rows
         kind, bound = columns[self.record_name]
-        faults = [*self.common_faults(not bound, bool(unique.rows))]
+        faults = [*self.common_faults(not bound, [it for (it,) in unique])]
         faults += self._type_faults(columns[self.key_name][0], kind)
         triggers = await session.execute(_TRIGGERS, t)
         faults += self.after_triggers(triggers.rows)
@@ -224,11 +231,15 @@ _TABLE: Final = (
     " (SELECT 1 FROM pg_inherits WHERE inhparent = c.oid) AS has_heirs"
     " FROM pg_class AS c WHERE oid = to_regclass(%s)"
 )
+# An EXCLUDE by = alone is as good as UNIQUE.
 _UNIQUE: Final = (
-    "SELECT 1 FROM pg_index i JOIN pg_attribute a ON a.attrelid = i.indrelid"
-    " AND a.attnum = i.indkey[0] WHERE i.indrelid = to_regclass(%s)"
-    " AND i.indisunique AND i.indisvalid AND i.indpred IS NULL"
-    " AND i.indnkeyatts = 1 AND a.attname = %s"
+    "SELECT CASE WHEN a.attnum = i.indkey[0] THEN ''"
+    " ELSE pg_get_indexdef(i.indexrelid, 1, true) END"
+    " FROM pg_index i JOIN pg_attribute a ON a.attrelid = i.indrelid AND a.attname = %s"
+    " LEFT JOIN pg_constraint c ON c.conindid = i.indexrelid AND c.contype = 'x'"
+    " LEFT JOIN pg_operator o ON o.oid = c.conexclop[1]"
+    " WHERE i.indrelid = to_regclass(%s) AND i.indisvalid AND i.indpred IS NULL"
+    " AND i.indnkeyatts = 1 AND (i.indisunique OR o.oprname = '=')"
 )
 _DURABLE: Final = (
     ("synchronous_commit", ("on", "remote_apply")),

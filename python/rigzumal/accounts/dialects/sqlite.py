@@ -27,14 +27,20 @@ class Sqlite(Dialect):
 
     def mode(self, conn: Any) -> Mode:
         # SQLAlchemy's own connections have a method of this name.
-        if not isinstance(getattr(conn, "in_transaction", None), bool):
+        has_transaction = getattr(conn, "in_transaction", None)
+        if not isinstance(has_transaction, bool):
             raise other_driver(conn, "sqlite3")
         # From Python 3.12 on there is an attribute; -1 stands for the older way.
         autocommit = getattr(conn, "autocommit", -1)
-        is_autocommit = autocommit is True or (
-            autocommit == -1 and conn.isolation_level is None
-        )
-        return Mode(is_autocommit, conn.in_transaction)
+        if autocommit == -1:
+            autocommit = conn.isolation_level is None
+        return Mode(autocommit is True, has_transaction)
+
+    def fresh(self, conn: Any) -> None:
+        # Of sqlite3's own this is all, and it is asked for each login.
+        is_own = type(conn) is sqlite3.Connection
+        if not is_own or conn.in_transaction or conn.isolation_level is not None:
+            super().fresh(conn)
 
     async def within(self, session: Session) -> None:
         # Out of autocommit too, no transaction is open before the first change.
@@ -75,14 +81,17 @@ class Sqlite(Dialect):
             return Findings(missing, is_usable=False)
         kind, _, _ = columns[self.key_name]
         nullable = not columns[self.record_name][1]
-        unique = [name for name, row in columns.items() if row[2]] == [self.key_name]
-        sql = _UNIQUE.format(*(", ?", ", ?") if schema else ("", ""))
-        keys = await session.execute(sql, *of, self.key_name.lower(), *of[1:])
+        master = f"{self.quoted(schema or 'main')}.sqlite_master"
+        sql = _UNIQUE.format(master=master, of=", ?" if schema else "")
+        found = await session.execute(sql, *of, *of[1:])
+        name = self.key_name.lower()
+        unique = ["" if of_column == name else text for of_column, text in found.rows]
+        if [name for name, row in columns.items() if row[2]] == [self.key_name]:
+            unique.append("")  # INTEGER PRIMARY KEY has no index
         faults = [*self._type_faults(kind)]
-        faults += self.common_faults(nullable, unique or bool(keys.rows))
-        master = self.quoted(schema or "main")
+        faults += self.common_faults(nullable, unique)
         triggers = await session.execute(
-            f"SELECT name FROM {master}.sqlite_master WHERE type = 'trigger'"
+            f"SELECT name FROM {master} WHERE type = 'trigger'"
             " AND lower(tbl_name) = lower(?) AND upper(sql) LIKE '%AFTER%'",
             t,
         )
@@ -107,11 +116,12 @@ class Sqlite(Dialect):
         yield from self.key_faults(declared, holds in fits.get(self.key_type, (holds,)))
 
 
-# An index of the key alone, and of all rows; a part of it that is an expression has no name.
+# Indexes of all rows, by one part, which has no name if it is an expression.
 _UNIQUE: Final = (
-    'SELECT 1 FROM pragma_index_list(?{}) AS i WHERE i."unique" AND NOT i.partial AND'
-    " (SELECT count(*) = 1 AND max(lower(name)) = ? FROM pragma_index_xinfo(i.name{})"
-    " WHERE key = 1)"
+    "SELECT lower(x.name), coalesce(m.sql, '-') FROM pragma_index_list(?{of}) AS i"
+    " JOIN pragma_index_xinfo(i.name{of}) AS x ON x.key = 1"
+    " LEFT JOIN {master} AS m ON m.name = i.name"
+    ' WHERE i."unique" AND NOT i.partial GROUP BY i.name HAVING count(*) = 1'
 )
 _PRAGMAS: Final = ("synchronous", "busy_timeout", "journal_mode", "read_uncommitted")
 
