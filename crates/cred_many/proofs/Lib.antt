@@ -6,4 +6,3 @@ pub mod Seen
 pub mod Serving
 pub mod Groups
 pub mod Shares
-pub mod Telling

@@ -1,5 +1,5 @@
 -- A share of the memory that covers a job covers each of its hashes.
-use Rattle.std.proofs.Common.{◌≡◌, ℕ, ◌≤◌, Some, None, max}
+use Rattle.std.proofs.Common.{◌≡◌, ℕ, ◌≤◌, Some, None}
 use Rattle.std.proofs.Math.Nat.{le-max_left, le-max_right, le_trans}
 use Rattle.cred_phc.specs.declared.scheme.Scheme.{Scheme}
 use Rattle.cred_book.specs.Works.{Task}

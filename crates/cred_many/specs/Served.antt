@@ -164,8 +164,8 @@ pub record IsWritten (capacity : ℕ) (opening : Accounts) (before now : Option 
       length (answers capacity opening (take (length list - most_together) list)) ≤ bytes
 
 -- It answers no more since a call on the source, the writer or the keeper failed; since as many
--- lines came as are read; or since one that came has no answer. Of memory and of threads nothing is
--- said.
+-- lines came as are read; or since one that came has no answer. Of memory nothing is said, and of
+-- threads that no call on the source failed.
 abbrev pub HasCause : Option (List ℕ) → Bool → Bool → Bool → List ℕ → ℕ → Option ServiceFault
     → Type 0
 HasCause input source writer keeper pending came None = Unit {0}
@@ -176,7 +176,7 @@ HasCause input source writer keeper pending came (Some fault.TooLong) = 2 ^ 63 �
 HasCause input source writer keeper pending came (Some fault.Lost) =
     (pending ≢ []) ⊎ IfSome input (λ bytes. came ≢ length (lines_of bytes))
 HasCause input source writer keeper pending came (Some fault.Memory) = Unit {0}
-HasCause input source writer keeper pending came (Some fault.Threads) = Unit {0}
+HasCause input source writer keeper pending came (Some fault.Threads) = source ≡ false
 
 -- what a scribe has at a moment: the book; what its writer holds, if that is known; whether a call on
 -- the source, the writer or the keeper has failed; why it answers no more; the lines that came and

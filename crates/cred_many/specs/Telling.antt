@@ -1,6 +1,5 @@
 -- Of which accounts the answer to a line tells, and what counts of its passwords.
-use Rattle.std.specs.Prelude.{◌≡◌, ℕ, List, [], ◌∷◌, All, nat_lt, Option, Some, None, IfSome, length}
-use Rattle.cred_phc.specs.Values.{SettingValue}
+use Rattle.std.specs.Prelude.{◌≡◌, ℕ, List, [], ◌∷◌, All, nat_lt, IfSome, length}
 use Rattle.cred_book.specs.{Accounts.Accounts, Passwords.KeepsTags, Passwords.made_setting, Works.name_of}
 use Rattle.cred_admin.specs.declared.edits.Edit.TheVariants.{Disable, Delete, Rename}
 use Rattle.cred_many.specs.{Asks.hashed_for, Served.name_asked, Served.record_at, declared.ask.Ask.Ask}

@@ -102,6 +102,8 @@ impl<J: ServiceId, K: Host, W: Write> Scribe<J, K, W> {
             (left_of K.book K.failed W.contents S.failed result) ∥₁ }
         ensures all { result.fault ≡ None
             → IfSome J.service.input (λ all. result.lines ≡ length (lines_of all)) }
+        ensures read { self.output.fault ≡ None → numbers self.output.pending ≡ []
+            → IfSome result.source (λ _. result.fault ≡ Some ServiceFault.Read) }
     {
         self.lose_pending();
         match ending.end() {
@@ -126,6 +128,8 @@ impl<J: ServiceId, K: Host, W: Write> Scribe<J, K, W> {
     /// Notes that a pending line has no answer, unless a fault is noted already.
     fn lose_pending(&mut self)
         ensures idle { self.new.output.fault ≡ None → numbers self.new.output.pending ≡ [] }
+        ensures same { numbers self.old.output.pending ≡ []
+            → self.new.output.fault ≡ self.old.output.fault }
         ensures came { self.new.came ≡ self.old.came }
     {
         if self.output.fault.is_none() && !self.output.pending.is_empty() {
@@ -142,6 +146,8 @@ impl<J: ServiceId, K: Host, W: Write> Scribe<J, K, W> {
             (left_of K.book K.failed W.contents S.failed result) ∥₁ }
         ensures lines { result.lines ≡ self.came }
         ensures why { result.fault ≡ None → why ≡ None }
+        ensures told { self.output.fault ≡ None → result.fault ≡ why }
+        ensures source { result.source ≡ source }
     {
         let Scribe {
             keeper,
