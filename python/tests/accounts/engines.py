@@ -6,7 +6,8 @@ import sqlite3
 import uuid
 
 import servers
-from support import CHECK_FAILED, LOW, Awaiting, Base
+from support import CHECK_FAILED, HIGH, LOW, Awaiting, Base
+from rigzumal import ScryptHasher
 from rigzumal.accounts import AsyncAccounts, MariaDB, MySQL, Postgres, Sqlite
 from rigzumal.accounts.pools import PerUse
 
@@ -56,6 +57,14 @@ class OnSqlite:
             conn = self.connect()
             conn.row_factory = factory
             yield conn
+
+
+class OnSqliteWithPepper(OnSqlite):
+    low, high = (it.replace(secret=b"new") for it in (LOW, HIGH))
+
+
+class OnSqliteWithScrypt(OnSqlite):
+    low, high = ScryptHasher(log2_n=4), ScryptHasher(log2_n=5)
 
 
 class OnServer:

@@ -1,11 +1,14 @@
 """What every engine does with a caller's hook: classes of tests, as those of of_engines.py."""
 
 import contextlib
+import itertools
 
-from of_engines import CALLS, called
+from of_engines import CALLS
 from servers import SqliteFile
-from support import HIGH, LOW, after_hash, in_threads
+from support import after_hash, called, each, in_threads
 from rigzumal.accounts import OutcomeUnknown, Reply, StoreFault, Unavailable
+
+CHANGES = ("change ann one two", "login ann one", "remove ann one")
 
 
 class RowsOfOnesOwn:
@@ -21,62 +24,58 @@ class RowsOfOnesOwn:
         self.calls.append(reply)
         self.execute("INSERT INTO sessions VALUES ('ann', %s)", reply.value, conn=conn)
 
-    def begin(self, record):
-        """With this record and no row."""
-        self.put(record)
+    def begin(self, password="one"):
+        """With a record of this password and no row; the record."""
         self.execute("DELETE FROM sessions")
         self.calls.clear()
+        return self.give(password)
 
     def rows(self):
         return [value for (value,) in self.execute("SELECT reply FROM sessions")]
 
-    def test_each_reply(self):
+    @each(*CALLS, ("low", None, "login b\0b one", "noaccount"))
+    def test_each_reply(self, costs, stands, text, reply):
         """It is told what its caller is, and its row is committed."""
-        for hasher, stands, text, reply in (*CALLS, (LOW, None, "login b\0b one", "noaccount")):
-            self.begin(stands and LOW.hash(stands))
-            with self.subTest(text=text):
-                self.assertEqual(called(self.accounts(hasher), text, also=self.also), reply)
-                self.assertEqual(self.calls, [Reply(reply)])
-                self.assertEqual(self.rows(), [reply])
+        self.begin(stands)
+        accounts = self.accounts(getattr(self, costs))
+        self.assertEqual(called(accounts, text, also=self.also), reply)
+        self.assertEqual(self.calls, [Reply(reply)])
+        self.assertEqual(self.rows(), [reply])
 
     def test_an_exception_undoes_all(self):
         """It comes through as it is, be it a driver's, and nothing stands."""
-        record = LOW.hash("one")
         accounts = self.accounts(patience=60.0)
+        # A mail server's looks as a connection's, and another's refusal as this server's.
+        network = (ConnectionRefusedError("mine"), TimeoutError("mine"), self.broken)
+        others = (StoreFault("mine"), Unavailable("mine"), OutcomeUnknown("mine"))
+        errors = (KeyError("mine"), FileNotFoundError("mine"), *network, *others, None)
+        for error, text in itertools.product(errors, CHANGES):
 
-        def raising(error):
             def raises(conn, reply):
                 self.also(conn, reply)
                 if error is None:
                     self.execute("INSERT INTO nowhere VALUES (1)", conn=conn)
                 raise error
 
-            return raises
-
-        # A mail server's looks as a connection's, and another's refusal as this server's.
-        network = (ConnectionRefusedError("mine"), TimeoutError("mine"), self.broken)
-        others = (StoreFault("mine"), Unavailable("mine"), OutcomeUnknown("mine"))
-        for error in (KeyError("mine"), FileNotFoundError("mine"), *network, *others, None):
-            also = raising(error)
-            for text in ("change ann one two", "login ann one", "remove ann one"):
-                self.begin(record)
+            record = self.begin()
+            with self.subTest(error=error, text=text):
                 with self.assertRaises(Exception) as raised:
-                    called(accounts, text, also=also)
+                    called(accounts, text, also=raises)
                 self.assertIs(raised.exception, error or raised.exception)
                 if error is None:
                     self.assertNotIsInstance(raised.exception, StoreFault)
                 self.assertEqual(len(self.calls), 1)
                 self.assertEqual((self.rows(), self.stands()), ([], record))
-        self.assertIs(accounts.verify("ann", "one"), Reply.YES)
+        self.assert_replies("verify ann one yes", accounts)
 
-    def test_it_is_called_again_at_each_turn(self):
+    @each(("login ann one", "no"), ("change ann one x", "wrong"))
+    def test_it_is_called_again_at_each_turn(self, text, reply):
         """Another record stands at the first commit: its row was undone with it."""
-        accounts, owner = self.accounts(HIGH), self.accounts()
-        for text, reply in (("login ann one", "no"), ("change ann one x", "wrong")):
-            self.begin(LOW.hash("one"))
-            after_hash(accounts, lambda: owner.reset("ann", "two"))
-            self.assertEqual(called(accounts, text, also=self.also), reply)
-            self.assertEqual(self.rows(), [reply])
+        accounts, owner = self.accounts(self.high), self.accounts()
+        self.begin()
+        after_hash(accounts, lambda: owner.reset("ann", "two"))
+        self.assertEqual(called(accounts, text, also=self.also), reply)
+        self.assertEqual(self.rows(), [reply])
 
     def test_what_may_pass_is_done_again(self):
         """From its BEGIN: what the server undid, and what broke with its connection."""
@@ -89,70 +88,74 @@ class RowsOfOnesOwn:
             self.end_sessions()
             self.execute("SELECT 1", conn=conn)
 
-        ways = (undone,) if self.kind is SqliteFile else (undone, killed)
-        for fail in ways:
-            self.begin(LOW.hash("one"))
+        for fail in (undone,) if self.kind is SqliteFile else (undone, killed):
+            self.begin()
 
             def fails(conn, reply):
                 self.also(conn, reply)
                 if len(self.calls) == 1:
                     fail(conn)
 
-            self.assertIs(accounts.change("ann", "one", "two", also=fails), Reply.REPLACED)
+            self.assert_replies("change ann one two replaced", accounts, also=fails)
             self.assertEqual(self.rows(), ["replaced"])
             self.assertEqual(len(self.calls), 2)
 
     def test_a_hook_that_does_not_keep_to_its_transaction(self):
         """It is told so, and was called once; no record was written."""
         accounts = self.accounts(patience=60.0)
-        record = LOW.hash("one")
 
         def rewrites(conn):
-            self.execute("UPDATE users SET record = %s", LOW.hash("x"), conn=conn)
+            self.execute("UPDATE users SET record = %s", self.low.hash("x"), conn=conn)
 
         def nests(conn):
             with contextlib.suppress(Exception):
                 accounts.verify("ann", "one")
             accounts.verify("ann", "one")
 
-        for act, said in (
-            (lambda conn: conn.commit(), "has ended the operation's transaction"),
-            (lambda conn: conn.rollback(), "has ended the operation's transaction"),
-            (lambda conn: conn.close(), "closed its connection"),
-            (rewrites, "has changed the account's own record"),
-            (nests, "connection is in use"),
-            (lambda conn: (it for it in ()), "a generator, which nobody runs"),
+        async def awaited():
+            raise AssertionError
+
+        for (act, said), text in itertools.product(
+            (
+                (lambda conn: conn.commit(), "has ended the operation's transaction"),
+                (lambda conn: conn.rollback(), "has ended the operation's transaction"),
+                (lambda conn: conn.close(), "closed its connection"),
+                (rewrites, "has changed the account's own record"),
+                (nests, "connection is in use"),
+                # A generator function is its own answer, as is a coroutine function.
+                (lambda conn: (it for it in ()), "a generator, which nobody runs"),
+                (lambda conn: awaited(), "use AsyncAccounts"),
+            ),
+            CHANGES,
         ):
-            # A generator function is its own answer.
+
             def also(conn, reply):
                 self.calls.append(reply)
                 return act(conn)
 
-            for text in ("change ann one two", "login ann one", "remove ann one"):
-                self.begin(record)
+            record = self.begin()
+            with self.subTest(said=said, text=text):
                 with self.assertRaisesRegex(TypeError, said):
                     called(accounts, text, also=also)
                 self.assertEqual((len(self.calls), self.stands()), (1, record))
-        self.assertIs(accounts.verify("ann", "one"), Reply.YES)
+        self.assert_replies("verify ann one yes", accounts)
 
     def test_a_nested_call_leaves_the_transaction_alone(self):
         """If the hook goes on, so does the operation."""
+        accounts = self.accounts()
 
         def nests(conn, reply):
             with self.assertRaisesRegex(TypeError, "use its argument"):
                 accounts.verify("ann", "one")
             self.also(conn, reply)
 
-        self.begin(LOW.hash("one"))
-        accounts = self.accounts()
-        self.assertIs(accounts.change("ann", "one", "two", also=nests), Reply.REPLACED)
+        self.assert_replies("change ann one two replaced", accounts, also=nests)
         self.assertEqual(self.rows(), ["replaced"])
 
     def test_strangers_guesses_beside_the_owner(self):
         """Each writes the account's own row, as a counter of failures does: nobody is told to
         come again, and no hook is called twice for an operation."""
         self.execute("ALTER TABLE users ADD failures INT DEFAULT 0")
-        self.begin(LOW.hash("one"))
         accounts = self.accounts(connect=self.patient, patience=0.0)
 
         def counts(conn, reply):
@@ -169,39 +172,41 @@ class RowsOfOnesOwn:
         self.assertEqual(len(self.calls), 60)
         self.assertEqual(self.execute("SELECT failures FROM users"), [(60,)])
 
-    def test_a_trigger_that_empties(self):
-        """What stands isn't what was put, so nothing is."""
-        for sql in self.emptying:
+    @each(
+        ("shouting", "than the one that was written"),
+        ("ignoring", "an UPDATE doesn't change it"),
+        ("emptying", "another record|doesn't change it"),
+    )
+    def test_triggers(self, name, said):
+        """What one makes of a record is undone with all, and said without the record."""
+        self.create()
+        accounts, confirming = self.accounts(), self.accounts(confirm=True)
+        for sql in getattr(self, name):
             self.execute(sql)
-        for text in ("change ann one two", "reset ann two", "enrol ann two"):
-            for more in ({}, {"also": self.also}):
-                record = None if "enrol" in text else LOW.hash("one")
-                self.begin(record)
-                with self.subTest(text=text, more=more):
-                    with self.assertRaisesRegex(StoreFault, "another record|doesn't change it"):
-                        called(self.accounts(), text, **more)
-                    self.assertEqual((self.stands(), self.rows()), (record, []))
+        if not getattr(self, name):
+            return  # no trigger here does so
+        texts = ("change ann one two", "reset ann two", "enrol ann two")
+        calls = [*itertools.product([accounts], texts, ({}, {"also": self.also}))]
+        for of, text, more in (*calls, (confirming, "verify ann one", {})):
+            # Put as another writes it, past the trigger.
+            record = self.begin(None if "enrol" in text else "one")
+            with self.subTest(text=text, more=more):
+                with self.assertRaisesRegex(StoreFault, said) as raised:
+                    called(of, text, **more)
+                self.assert_no_record(raised.exception)
+                self.assertEqual((self.stands(), self.rows()), (record, []))
+        self.assertRegex(self.said(accounts), said)
 
-    def test_a_commit_without_an_answer(self):
+    @each(True, False)
+    def test_a_commit_without_an_answer(self, before):
         """Of a change one row stands, as the record does; otherwise nobody knows."""
-        for before in (True, False):
-            self.begin(LOW.hash("one"))
-            reply = self.losing(before).change("ann", "one", "two", also=self.also)
-            self.assertIs(reply, Reply.REPLACED)
-            self.assertEqual(self.rows(), ["replaced"])
-            self.assertTrue(self.is_right("two"))
-            self.execute("DELETE FROM sessions")
-            for name in ("login", "verify"):
-                with self.assertRaises(OutcomeUnknown):
-                    getattr(self.losing(before), name)("ann", "two", also=self.also)
-            self.assertEqual(self.rows(), [] if before else ["yes"] * 2)
-
-    def test_a_coroutine_is_refused(self):
-        self.put(LOW.hash("one"))
-
-        async def awaited(conn, reply):
-            raise AssertionError
-
-        with self.assertRaisesRegex(TypeError, "AsyncAccounts"):
-            self.accounts().change("ann", "one", "two", also=awaited)
-        self.assertTrue(self.is_right("one"))
+        self.begin()
+        losing = self.losing(before)
+        self.assert_replies("change ann one two replaced", losing, also=self.also)
+        self.assertEqual(self.rows(), ["replaced"])
+        self.assertTrue(self.is_right("two"))
+        self.execute("DELETE FROM sessions")
+        for name in ("login", "verify"):
+            with self.assertRaises(OutcomeUnknown):
+                getattr(self.losing(before), name)("ann", "two", also=self.also)
+        self.assertEqual(self.rows(), [] if before else ["yes"] * 2)

@@ -227,13 +227,13 @@ class PostgresServer(OfPostgres):
         self.run(self.bin / "pg_ctl", "-D", self.folder, "-w", "promote")
 
 
-class PgBouncer(OfPostgres):
-    """A pooler before a PostgreSQL, which gives sessions out for a transaction each."""
+class PooledPostgres(OfPostgres):
+    """A PostgreSQL behind PgBouncer, which gives sessions out for a transaction each."""
 
-    def __init__(self, name, of):
+    def __init__(self, name):
         self.program = need(psycopg, "python3-psycopg", "pgbouncer")
         super().__init__(name)
-        self.of, self.port = of, free_port()
+        self.of, self.port = PostgresServer(f"{name}-behind"), free_port()
         self.file = ROOM / f"{name}.ini"
 
     def words(self):
@@ -246,22 +246,13 @@ class PgBouncer(OfPostgres):
         self.file.chmod(0o644)
         return [self.program, self.file]
 
-
-class PooledPostgres(PgBouncer):
-    """A PostgreSQL of its own behind a pooler."""
-
-    def __init__(self, name):
-        super().__init__(name, PostgresServer(f"{name}-behind"))
-
     def start(self, *more, wait=120.0):
         self.of.start()
         return super().start(*more, wait=wait)
 
-    def connect(self, **more):
-        """The tests' own statements aren't prepared either."""
-        conn = super().connect(**more)
-        conn.prepare_threshold = None
-        return conn
+    def connect(self, prepare_threshold=None, **more):
+        """The tests' own statements aren't prepared either, if they name no threshold."""
+        return super().connect(prepare_threshold=prepare_threshold, **more)
 
 
 class OfMySql(Server):

@@ -3,6 +3,7 @@
 import concurrent.futures
 import contextlib
 import importlib
+import io
 import logging
 import os
 import pathlib
@@ -18,11 +19,11 @@ sys.path[:0] = str(PACKAGE), str(PACKAGE.parent)
 os.environ["PYTHONPATH"] = f"{PACKAGE}:{os.environ.get('PYTHONPATH', '')}".rstrip(":")
 
 import servers
-import tests.helpers  # noqa: F401: unittest as in Python 3.11
 from rigzumal import PasswordHasher, VerifyMismatchError
 from rigzumal.accounts import Accounts, PerThread, Sqlite, _judgement
 from rigzumal.accounts._session import Session, run  # noqa: F401: of each test
 from rigzumal.accounts.types import Kind, Request
+from tests.helpers import each  # noqa: F401: of each test
 
 # Of sqlite3's errors, which have their names from Python 3.11 on.
 CHECK_FAILED, FOREIGN_KEY_FAILED = (
@@ -62,9 +63,11 @@ def module(name):
 
 
 class Base(unittest.TestCase):
-    """A table of accounts on an engine: on SQLite, if a class names no other."""
+    """A table of accounts on an engine (on SQLite, if a class names no other), in which `ann` has
+    the password "one"."""
 
     kind, dialect = servers.SqliteFile, Sqlite("users", "name", "record")
+    low, high = LOW, HIGH
     broken = sqlite3.OperationalError("disk I/O error")
 
     def setUp(self):
@@ -76,6 +79,7 @@ class Base(unittest.TestCase):
         self.addCleanup(self.conn.close)
         self.dialect = self.another_dialect()
         self.create()
+        self.give("one")
 
     def another_dialect(self, **names):
         """One that a test may bend."""
@@ -159,6 +163,12 @@ class Base(unittest.TestCase):
             with pool() as conn:
                 self.assertIsNot(conn, made[0])
 
+    def give(self, password, name="ann"):
+        """Gives an account this password, or no record; the record."""
+        record = None if password is None else self.low.hash(password)
+        self.put(record, name)
+        return record
+
     def put(self, record, name="ann"):
         self.execute("DELETE FROM users WHERE name = %s", name)
         self.execute("INSERT INTO users (name, record) VALUES (%s, %s)", name, record)
@@ -169,12 +179,34 @@ class Base(unittest.TestCase):
 
     def is_right(self, password, name="ann"):
         try:
-            return LOW.verify(self.stands(name), password)
+            return self.low.verify(self.stands(name), password)
         except VerifyMismatchError:
             return False
 
     def worked(self, accounts, kind, password, new=""):
         return accounts.work(accounts.begin(Request(kind, "ann", password, new)))
+
+    def assert_replies(self, calls, accounts=None, **more):
+        """Calls as "verify ann one yes; change ann two x wrong", one after another."""
+        accounts = accounts or self.accounts()
+        for call in calls.split("; "):
+            text, _, reply = call.rpartition(" ")
+            with self.subTest(call=call):
+                self.assertEqual(called(accounts, text, **more), reply)
+
+    @contextlib.contextmanager
+    def hashes(self, count):
+        """So many turns of hashing are within."""
+        with counted() as found:
+            yield
+        self.assertEqual(len(found), count, found)
+
+    @contextlib.contextmanager
+    def statements(self, words, kind=Session):
+        """What is sent within are statements with these first words."""
+        with sent(kind) as found:
+            yield
+        self.assertEqual(" ".join(found), words)
 
     def said(self, accounts):
         return "; ".join(map(str, accounts.examine()))
@@ -184,6 +216,25 @@ class Base(unittest.TestCase):
         self.assertNotIn(
             "$argon2", "".join(traceback.format_exception(type(error), error, error.__traceback__))
         )
+
+
+def called(accounts, text, **more):
+    """The reply's value, of a call such as "change ann one two"."""
+    name, key, *given = text.split()
+    if accounts._dialect.key_type is int:
+        key = int(key)
+    return getattr(accounts, name)(key, *given, **more).value
+
+
+def commanded(main, *words, given=b"", status=0):
+    """What a command writes on both streams, if it ends with this status."""
+    said, stdin = io.StringIO(), mock.Mock(buffer=io.BytesIO(given), isatty=lambda: False)
+    with contextlib.redirect_stdout(said), contextlib.redirect_stderr(said):
+        with mock.patch.object(sys, "stdin", stdin):
+            found = main([*map(str, words)])
+    if found != status:
+        raise AssertionError(f"{words}: status {found}\n{said.getvalue()}")
+    return said.getvalue()
 
 
 def closed(conn):

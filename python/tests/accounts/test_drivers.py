@@ -4,13 +4,12 @@ import asyncio
 import contextlib
 import threading
 import unittest
-from collections import Counter
 
 import engines
 import servers
 import support
 from engines import Awaited
-from support import LOW, module
+from support import LOW, called, module
 from rigzumal.accounts import Accounts, AsyncAccounts, MariaDB, Postgres, Reply, Sqlite, StoreFault
 from rigzumal.accounts import Unavailable, of_engine
 from rigzumal.accounts.types import Kind, Request, Ticket
@@ -78,7 +77,6 @@ class Engines:
     def setUp(self):
         super().setUp()
         self.sqlalchemy = module("sqlalchemy")
-        self.execute(self.dialect.insert, "ann")
 
     def engine(self, **given):
         given = {"isolation_level": "AUTOCOMMIT", **given}
@@ -98,10 +96,9 @@ class Engines:
             accounts = self.over(engine)
             self.assertEqual(accounts.examine(), [])
             for _ in range(3):
-                self.assertIn(accounts.reset("ann", "one"), (Reply.ENROLLED, Reply.REPLACED))
-                self.assertIs(accounts.change("ann", "one", "two"), Reply.REPLACED)
-                self.assertIs(accounts.login("ann", "two"), Reply.YES)
-                self.assertIs(accounts.login("ann", "one"), Reply.NO)
+                self.assert_replies("reset ann one replaced", accounts)
+                self.assert_replies("login ann one yes; change ann one two replaced", accounts)
+                self.assert_replies("login ann two yes; login ann one no", accounts)
             self.assertEqual(engine.pool.checkedout(), 0)
 
     def test_pools_that_will_not_do(self):
@@ -126,7 +123,7 @@ class Engines:
         with of_engine(engine)():
             with self.assertRaisesRegex(Unavailable, "no connection was free: QueuePool limit"):
                 self.over(engine, patience=60.0).verify("ann", "one")
-        self.assertIs(self.over(engine).verify("ann", "one"), Reply.ABSENT)
+        self.assert_replies("verify ann one yes", self.over(engine))
 
 
 class AwaitedEngines(Engines):
@@ -141,7 +138,7 @@ class AwaitedEngines(Engines):
             engine = create_async_engine(self.asynchronous_url, **given)
             pool = of_engine(engine)
             accounts = AsyncAccounts(pool, self.dialect, LOW)
-            self.assertIs(await accounts.reset("ann", "one"), Reply.ENROLLED)
+            self.assertIs(await accounts.reset("ann", "one"), Reply.REPLACED)
             self.assertIs(await accounts.change("ann", "one", "two"), Reply.REPLACED)
             said = await asyncio.gather(*(accounts.login("ann", it) for it in ("one", "two")))
             self.assertEqual(said, [Reply.NO, Reply.YES])
@@ -184,7 +181,7 @@ class EnginesOfMariaDB(Engines, engines.OnMariaDB, support.Base):
     def test_a_restart(self):
         """The server is waited for: its refusals are the driver's, not SQLAlchemy's."""
         accounts = self.over(self.engine(), patience=20.0)
-        accounts.reset("ann", "one")
+        self.assert_replies("login ann one yes", accounts)
         self.server.end()
         timer = threading.Timer(1.0, self.server.start)
         timer.start()
@@ -221,32 +218,20 @@ class Prepared(engines.OnPostgres, support.Base):
         self.assertEqual(conn.prepare_threshold, 5)
 
 
-class Pooler(unittest.TestCase):
+class Pooler(engines.OnPgBouncer, support.Base):
     """PgBouncer, whose sessions are another's from one transaction to the next."""
 
     def test_no_statement_is_prepared(self):
         """By psycopg's defaults, which prepare a statement at its sixth use."""
-        of, dialect = support.server(servers.PostgresServer), Postgres("bounced", "name", "record")
-        bouncer = servers.PgBouncer("bouncer", of).start()
-        self.addCleanup(bouncer.end)
-        with of.connect() as conn:
-            conn.execute("DROP TABLE IF EXISTS bounced")
-            conn.execute(dialect.create())
-            for number in range(4):
-                conn.execute(dialect.insert, (f"user{number}",))
-        said, pool = Counter(), support.PerThread(bouncer.connect)
-        accounts = Accounts(pool, dialect, LOW, patience=5.0)
+        accounts = self.accounts(connect=lambda: self.connect(prepare_threshold=5))
+        calls = "reset {0} a; change {0} a b; login {0} b; remove {0} b; enrol {0} a".split("; ")
+        for number in range(4):
+            self.give("a", f"user{number}")
 
         def act(number):
-            name = f"user{number}"
-            for _ in range(12):
-                said[accounts.reset(name, "a")] += 1
-                said[accounts.change(name, "a", "b")] += 1
-                said[accounts.login(name, "b")] += 1
-                said[accounts.remove(name, "b")] += 1
-                said[accounts.enrol(name, "a")] += 1
-            pool.close()
+            said = [called(accounts, it.format(f"user{number}")) for it in calls * 12]
+            accounts._connections.primary.close()
+            return said
 
-        support.in_threads(act, 4)
-        counts = {Reply.ENROLLED: 48 + 4, Reply.REPLACED: 48 - 4 + 48}
-        self.assertEqual(said, {**counts, Reply.YES: 48, Reply.REMOVED: 48})
+        replies = ["replaced", "replaced", "yes", "removed", "enrolled"]
+        self.assertEqual(support.in_threads(act, 4), [replies * 12] * 4)

@@ -1,18 +1,17 @@
 """The operations on each engine; their traps are in files of their own."""
 
-import contextlib
-import io
-
 import engines
 import of_engines
 import of_hooks
-from support import Base
+import of_tables
+from support import Base, commanded
 from rigzumal.accounts import cli
 from torture import __main__ as torture
 
 SERVERS = (engines.OnPostgres, engines.OnMariaDB, engines.OnMySQL)
 ENGINES = (engines.OnSqlite, *SERVERS)
 TASKS = (engines.OnSqliteTasks, engines.OnPostgresTasks)
+HASHERS = (engines.OnSqliteWithPepper, engines.OnSqliteWithScrypt)
 # Where a connection isn't one session, or a lock isn't seen at the other node.
 SHARED = (engines.OnPgBouncer, engines.OnGalera)
 
@@ -20,9 +19,10 @@ SHARED = (engines.OnPgBouncer, engines.OnGalera)
 globals().update(
     engines.made(suite, engine)
     for suite, on in (
-        (of_engines.Operations, (*ENGINES, *TASKS, *SHARED)),
+        (of_engines.Operations, (*ENGINES, *TASKS, *SHARED, *HASHERS)),
         (of_engines.LostAnswers, (*ENGINES, *TASKS, *SHARED)),
-        (of_engines.Connections, ENGINES),
+        (of_tables.Connections, ENGINES),
+        (of_tables.Tables, ENGINES),
         (of_engines.Confirmed, (*ENGINES, *SHARED)),
         (of_hooks.RowsOfOnesOwn, (*ENGINES, *SHARED)),
         (of_engines.OnServers, SERVERS),
@@ -35,11 +35,8 @@ globals().update(
 class TheCommandOnMySQL(engines.OnMySQL, Base):
     def test_a_table_and_a_torture(self):
         """It makes a table, and a torture of it is legal."""
-        given = ["--database", self.server.url]
-        said = io.StringIO()
-        with contextlib.redirect_stdout(said):
-            self.assertEqual(cli.main([*given, "--table", "made", "init"]), 0)
-            words = ["--seconds", "3", "--processes", "4", "--kill"]
-            self.assertEqual(torture.main([*given, *words]), 0)
-        self.assertIn("legal: ", said.getvalue())
+        given = ("--database", self.server.url)
+        commanded(cli.main, *given, "--table", "made", "init")
+        words = "--seconds 3 --processes 4 --kill".split()
+        self.assertIn("legal: ", commanded(torture.main, *given, *words))
         self.execute("DROP TABLE made")

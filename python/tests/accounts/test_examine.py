@@ -90,7 +90,7 @@ class OnSqlite(Said, engines.OnSqlite, support.Base):
     def test_schemas_and_spellings(self):
         """As a statement finds the table, so it is examined."""
         self.execute("CREATE TRIGGER tr AFTER UPDATE ON users BEGIN SELECT 1; END")
-        self.put(LOW.hash("one"))
+        self.give("one")
         for names in (
             {"table": "main.users"},
             {"table": "Users", "key": "NAME", "record": "Record"},
@@ -311,9 +311,8 @@ class OnPostgres(OnServer, engines.OnPostgres, support.Base):
                     unicode = [LATIN.format(encoding)] if is_ascii else words
                     self.assert_faults(unicode if more else words, accounts)
                     for text in ("an\U0001f600", "\u0436ora", "\u0e01"):
-                        with support.counted() as hashes:
+                        with self.hashes(1):
                             self.assertIs(accounts.login(text, "x"), Reply.NO_ACCOUNT)
-                        self.assertEqual(len(hashes), 1)
                         self.assertIs(accounts.reset(text, "x"), Reply.NO_ACCOUNT)
 
     def test_tables(self):
@@ -376,7 +375,7 @@ class OnMariaDB(OnServer, engines.OnMariaDB, support.Base):
             (f"{record} TEXT CHARACTER SET ucs2", "is in ucs2"),
             (f"{record} VARBINARY(512)", "is varbinary, not text", "bytes"),
         )
-        self.put(LOW.hash("one"))
+        self.give("one")
         self.assertRaises(StoreFault, self.accounts().verify, "ann", "one")
 
     def test_keys_that_are_padded(self):
@@ -415,9 +414,7 @@ class OnMariaDB(OnServer, engines.OnMariaDB, support.Base):
 
     def test_blanks_are_of_a_name(self):
         """In the table that is made for accounts, 'ann ' is another name than 'ann'."""
-        self.execute(self.dialect.insert, "ann")
         accounts = self.accounts()
-        self.assertIs(accounts.enrol("ann", "one"), Reply.ENROLLED)
         for name in ("ann ", " ann", "ANN", "ann\t", "\u00e4nn"):
             self.assertIs(accounts.verify(name, "one"), Reply.NO_ACCOUNT)
             self.execute(self.dialect.insert, name)

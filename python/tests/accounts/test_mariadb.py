@@ -17,7 +17,7 @@ from rigzumal.accounts.types import Kind
 
 class OnMariaDB(engines.OnMariaDB, Base):
     def test_a_callers_repeatable_read(self):
-        self.put(LOW.hash("old"))
+        self.give("old")
         accounts = self.accounts()
         caller = self.another(autocommit=False)
         ((copy,),) = self.execute("SELECT record FROM users", conn=caller)
@@ -35,7 +35,6 @@ class OnMariaDB(engines.OnMariaDB, Base):
 
     def test_uncommitted_reads(self):
         """Refused by a look and by a commit, of one statement or of a transaction."""
-        self.put(LOW.hash("one"))
         connect = self.setting("SET SESSION TRANSACTION ISOLATION LEVEL READ UNCOMMITTED")
         accounts, kept = self.accounts(connect=connect), connect()
         self.addCleanup(kept.close)
@@ -82,7 +81,7 @@ class OnMariaDB(engines.OnMariaDB, Base):
     def test_found_rows(self):
         from pymysql.constants import CLIENT
 
-        self.put(LOW.hash("one"))
+        self.give("one")
         accounts = self.accounts(connect=self.setting(client_flag=CLIENT.FOUND_ROWS))
         self.assertIs(accounts.change("ann", "one", "one"), Reply.REPLACED)
         slow = self.worked(accounts, Kind.CHANGE, "one", "two")
@@ -131,7 +130,7 @@ class OnMariaDB(engines.OnMariaDB, Base):
             ("NOT ATOMIC", "NO ATOMS", False),
             ("SET touched", "SIGNAL SQLSTATE '45000'; SET touched", True),
         ):
-            self.put(LOW.hash("one"))
+            self.give("one")
             self.dialect = self.another_dialect()
             self.dialect.at_once = self.dialect.at_once.replace(old, new, 1)
             accounts, both = self.kept(), f"SELECT {self.one} {self.several}"

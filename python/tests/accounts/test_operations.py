@@ -3,18 +3,23 @@
 import asyncio
 import base64
 import contextlib
+import functools
 import os
 import sqlite3
 import threading
 from unittest import mock
 
-from support import FOREIGN_KEY_FAILED, HIGH, LOW, Awaiting, Base, Scripted, after_hash, counted
-from support import sent
-from rigzumal import OutOfMemoryError, ScryptHasher
+import engines
+from support import FOREIGN_KEY_FAILED, HIGH, LOW, Awaiting, Base, Scripted, after_hash, called
+from support import each
+from rigzumal import OutOfMemoryError
 from rigzumal.accounts import Accounts, AsyncAccounts, MariaDB, Reply, Sqlite, StoreFault
 from rigzumal.accounts import Unavailable, _connections, parts, types
 from rigzumal.accounts._session import Result, run
-from rigzumal.accounts.types import Kind, Request, Ticket, Worked
+from rigzumal.accounts.types import Answer, Kind, Request, Ticket, Worked
+
+
+ENROLLED = "remove ann one removed; enrol ann x enrolled"
 
 
 class Operations(Base):
@@ -22,38 +27,22 @@ class Operations(Base):
         for name in ("Request", "Kind", "Reply", "NO_ROW", "StoreFault"):
             self.assertIs(getattr(parts, name), getattr(types, name))
 
-    def test_scrypt(self):
-        self.put(None)
-        accounts = self.accounts(ScryptHasher(log2_n=4))
-        self.assertIs(accounts.enrol("ann", "one"), Reply.ENROLLED)
-        self.assertIs(accounts.upgrade("ann", "one"), Reply.KEPT)
-        listed = self.accounts(LOW, upgrade_from=["$scrypt$ln=5,r=8,p=1"])
-        for accounts, costs in (
-            (self.accounts(LOW), "$scrypt$ln=4,"),
-            (self.accounts(ScryptHasher(log2_n=5)), "$scrypt$ln=5,"),
-            (listed, "$argon2id$"),
-        ):
-            self.assertIs(accounts.login("ann", "one"), Reply.YES)
-            self.assertIn(costs, self.stands())
-
-    def test_passwords_are_their_bytes(self):
+    @each(
+        ("caf\u00e9", ("cafe\u0301", "cafe", b"caf\xe9")),
+        ("\ufb01x", ("fix",)),
+        ("One ", ("One", "one ", " One ", "One  ")),
+        (b"\xff\0", (b"\xff", b"\0", b"")),
+        ("x" * 256, ("x" * 255, "x" * 72, "X" * 256)),
+    )
+    def test_passwords_are_their_bytes(self, password, others):
         """Two spellings of one letter are two passwords; blanks and case count."""
-        self.put(None)
         accounts = self.accounts()
-        for password, others in (
-            ("caf\u00e9", ("cafe\u0301", "cafe", b"caf\xe9")),
-            ("\ufb01x", ("fix",)),
-            ("One ", ("One", "one ", " One ", "One  ")),
-            (b"\xff\0", (b"\xff", b"\0", b"")),
-            ("x" * 256, ("x" * 255, "x" * 72, "X" * 256)),
-        ):
-            accounts.reset("ann", password)
-            self.assertIs(accounts.verify("ann", password), Reply.YES)
-            given = password.encode() if isinstance(password, str) else password
-            self.assertIs(accounts.verify("ann", given), Reply.YES)
-            for other in others:
-                self.assertIs(accounts.verify("ann", other), Reply.NO, other)
-                self.assertIs(accounts.change("ann", other, "new"), Reply.WRONG, other)
+        accounts.reset("ann", password)
+        for same in (password, password.encode() if isinstance(password, str) else password):
+            self.assertIs(accounts.verify("ann", same), Reply.YES)
+        for other in others:
+            self.assertIs(accounts.verify("ann", other), Reply.NO, other)
+            self.assertIs(accounts.change("ann", other, "new"), Reply.WRONG, other)
 
     def test_changed_after_so_many_tries(self):
         """An upgrade that never stood is no yes; what changes nothing is answered as it was
@@ -62,45 +51,44 @@ class Operations(Base):
 
         def changed():
             turns.append(self.stands())
-            self.put(LOW.hash("one"))
+            self.give("one")
 
         after_hash(accounts, changed, 99)
-        for act, reply, count in (
-            (lambda: accounts.remove("ann", "one"), Reply.CHANGED, 3),
-            (lambda: accounts.change("ann", "one", "two"), Reply.CHANGED, 3),
-            (lambda: accounts.login("ann", "one"), Reply.CHANGED, 3),
-            (lambda: accounts.login("ann", "two"), Reply.NO, 1),
-            (lambda: accounts.verify("ann", "one"), Reply.YES, 1),
+        for text, reply, count in (
+            ("remove ann one", "changed", 3),
+            ("change ann one two", "changed", 3),
+            ("login ann one", "changed", 3),
+            ("login ann two", "no", 1),
+            ("verify ann one", "yes", 1),
         ):
-            self.put(LOW.hash("one"))
+            self.give("one")
             turns.clear()
-            self.assertIs(act(), reply)
-            self.assertEqual(len(set(turns)), count)
-            self.assertIn("m=64,", self.stands())
+            with self.subTest(text=text):
+                self.assertEqual(called(accounts, text), reply)
+                self.assertEqual(len(set(turns)), count)
+                self.assertIn("m=64,", self.stands())
         answer = accounts.perform(Request(Kind.CHANGE, "ann", "one", "two"))
         self.assertEqual((answer.reply, answer.after), (Reply.CHANGED, self.stands()))
 
-    def test_what_an_update_found(self):
+    @each(
+        (None, 0, None, StoreFault),
+        (None, 0, "other", Reply.CHANGED),
+        ("copy", 0, None, Reply.CHANGED),
+        ("copy", 0, "other", Reply.CHANGED),
+        ("copy", 0, "copy", StoreFault),
+        ("copy", -1, "copy", StoreFault),
+        ("copy", 2, "copy", StoreFault),
+    )
+    def test_what_an_update_found(self, copy, count, stands, reply):
         """It found a record, which was removed before the row was read; a driver that doesn't
         count; a key of more than one row."""
-        table = self.accounts()._table
-        for copy, count, stands, reply in (
-            (None, 0, None, StoreFault),
-            (None, 0, "other", Reply.CHANGED),
-            ("copy", 0, None, Reply.CHANGED),
-            ("copy", 0, "other", Reply.CHANGED),
-            ("copy", 0, "copy", StoreFault),
-            ("copy", -1, "copy", StoreFault),
-            ("copy", 2, "copy", StoreFault),
-        ):
-            ticket = Ticket(Request(Kind.RESET, "ann", "", "x"), copy)
-            session = Scripted(*[Result([], count), Result([(stands,)], 1)] * 2)
-            job = table.compare(session, Worked(ticket, Reply.REPLACED, "new"))
-            if reply is StoreFault:
-                self.assertRaises(StoreFault, run, job)
-            else:
-                answer = run(job)
-                self.assertEqual((answer.reply, answer.after), (reply, stands))
+        ticket = Ticket(Request(Kind.RESET, "ann", "", "x"), copy)
+        session = Scripted(*[Result([], count), Result([(stands,)], 1)] * 2)
+        job = self.accounts()._table.compare(session, Worked(ticket, Reply.REPLACED, "new"))
+        if reply is StoreFault:
+            self.assertRaises(StoreFault, run, job)
+        else:
+            self.assertEqual(run(job), Answer(reply, stands, stands))
 
     def test_replicas_may_lag(self):
         """A copy that is gone is no answer: the primary is looked at."""
@@ -108,7 +96,7 @@ class Operations(Base):
         stale.execute("ATTACH ':memory:' AS old")
         stale.execute("CREATE TABLE old.users (name TEXT PRIMARY KEY, record TEXT)")
         stale.execute("INSERT INTO old.users VALUES ('ann', ?)", (LOW.hash("old"),))
-        self.put(LOW.hash("new"))
+        self.give("new")
         dialect = Sqlite("users", "name", "record")
 
         @contextlib.contextmanager
@@ -125,26 +113,23 @@ class Operations(Base):
         )
         # What has no record there, or no row, may have one by now.
         for sql, password, calls in (
-            (one, "new", "verify old no; verify new yes"),
-            (one, "new", "change old x wrong; change new newer replaced"),
-            (one, None, "verify old absent; remove old absent; enrol x enrolled"),
-            (none, "new", "verify new yes; login old no; enrol x exists"),
-            (gone, "new", "login new yes; verify old no; reset x replaced"),
+            (one, "new", "verify ann old no; verify ann new yes"),
+            (one, "new", "change ann old x wrong; change ann new newer replaced"),
+            (one, None, "verify ann old absent; remove ann old absent; enrol ann x enrolled"),
+            (none, "new", "verify ann new yes; login ann old no; enrol ann x exists"),
+            (gone, "new", "login ann new yes; verify ann old no; reset ann x replaced"),
         ):
             stale.execute(sql)
-            self.put(password and LOW.hash(password))
-            for call in calls.split("; "):
-                name, *given, reply = call.split()
-                self.assertEqual(getattr(accounts, name)("ann", *given).value, reply, (sql, call))
+            self.give(password)
+            with self.subTest(sql=sql[:30]):
+                self.assert_replies(calls, accounts)
         self.conn.execute("DELETE FROM users")
-        self.assertIs(accounts.verify("ann", "old"), Reply.NO_ACCOUNT)
+        self.assert_replies("verify ann old noaccount", accounts)
         stale.execute("INSERT INTO old.users VALUES ('ann', ?)", (LOW.hash("old"),))
-        self.assertIs(accounts.enrol("ann", "old"), Reply.NO_ACCOUNT)
-        self.assertIs(accounts.verify("ann", "old"), Reply.NO_ACCOUNT)
+        self.assert_replies("enrol ann old noaccount; verify ann old noaccount", accounts)
 
     def test_copies_are_read_from_the_replica(self):
         """One look each, and everything else at the primary."""
-        self.put(LOW.hash("one"))
         uses = []
 
         @contextlib.contextmanager
@@ -157,40 +142,33 @@ class Operations(Base):
             with used(name) as conn:
                 yield Awaiting(conn)
 
-        def over(kind, pool):
-            more = {"replica": lambda: pool("replica")}
-            return kind(lambda: pool("primary"), self.dialect, LOW, **more)
+        for kind, pool in ((Accounts, used), (AsyncAccounts, awaited)):
+            more = {"replica": functools.partial(pool, "replica")}
+            made = kind(functools.partial(pool, "primary"), self.dialect, LOW, **more)
+            accounts = engines.Awaited(made) if kind is AsyncAccounts else made
+            for text in ("verify ann one yes", "login ann one yes", "change ann one one replaced"):
+                uses.clear()
+                self.assert_replies(text, accounts)
+                self.assertEqual(uses, ["replica", "primary"])
 
-        threads, tasks = over(Accounts, used), over(AsyncAccounts, awaited)
-        for act in (
-            lambda: threads.verify("ann", "one"),
-            lambda: threads.login("ann", "one"),
-            lambda: threads.change("ann", "one", "two"),
-            lambda: asyncio.run(tasks.change("ann", "two", "one")),
-        ):
-            uses.clear()
-            act()
-            self.assertEqual(uses, ["replica", "primary"])
+    def test_a_replica_that_is_down(self):
+        """Logins go on at the primary, and so do changes."""
+        away = mock.Mock(side_effect=ConnectionRefusedError("nobody there"))
+        accounts = self.accounts(replica=away, patience=0.0)
+        self.assert_replies("login ann one yes; verify ann two no", accounts)
+        self.assert_replies("change ann one two replaced; reset ann one replaced", accounts)
+        self.assertEqual(away.call_count, 4)
 
-    def test_salts_are_the_systems_random_bytes(self):
+    @each("upgrade ann one upgraded", "change ann one x replaced", "reset ann x replaced", ENROLLED)
+    def test_salts_are_the_systems_random_bytes(self, calls):
         """Sixteen for each record: by them one knows whether a lost COMMIT was done."""
-        self.put(LOW.hash("old"))
-        accounts = self.accounts(HIGH)
-        for number, act in enumerate(
-            (
-                lambda: accounts.upgrade("ann", "old"),
-                lambda: accounts.change("ann", "old", "new"),
-                lambda: accounts.reset("ann", "old"),
-                lambda: (accounts.remove("ann", "old"), accounts.enrol("ann", "x")),
-            ),
-            1,
-        ):
-            drawn = bytes([number]) * 16
-            with mock.patch.object(os, "urandom", return_value=drawn) as urandom:
-                act()
-            self.assertEqual(urandom.call_args.args, (16,))
-            salt = base64.b64encode(drawn).decode().rstrip("=")
-            self.assertEqual(self.stands().split("$")[4], salt)
+        self.give("one")
+        accounts, drawn = self.accounts(HIGH), bytes([len(calls)]) * 16
+        with mock.patch.object(os, "urandom", return_value=drawn) as urandom:
+            self.assert_replies(calls, accounts)
+        self.assertEqual(urandom.call_args.args, (16,))
+        salt = base64.b64encode(drawn).decode().rstrip("=")
+        self.assertEqual(self.stands().split("$")[4], salt)
 
     def test_a_new_record(self):
         """For an INSERT of one's own; each has a salt of its own."""
@@ -200,7 +178,7 @@ class Operations(Base):
         for record in records:
             self.put(record)
             self.assertIn("m=128,", record)
-            self.assertIs(accounts.login("ann", "one"), Reply.YES)
+            self.assert_replies("login ann one yes", accounts)
             self.assertEqual(self.stands(), record)
 
     # ---- servers that fail, and connections that break
@@ -223,7 +201,6 @@ class Operations(Base):
 
     def test_a_connection_that_is_not_rolled_back_is_given_up(self):
         """Where the server wants the transaction anew, and ROLLBACK fails."""
-        self.put(LOW.hash("one"))
         made = []
         accounts = self.accounts(connect=lambda: made.append(self.connect()) or made[-1])
         table, compare, undo = accounts._table, accounts._table.compare, self.dialect.undo
@@ -246,19 +223,17 @@ class Operations(Base):
         """SQLite leaves the transaction open: it is rolled back, and said at once."""
         self.conn.execute("CREATE TABLE known (record TEXT UNIQUE)")
         self.table("TEXT REFERENCES known (record) DEFERRABLE INITIALLY DEFERRED")
-        self.put(LOW.hash("one"))
+        self.give("one")
         accounts = self.accounts(connect=self.setting("PRAGMA foreign_keys = ON"), patience=60.0)
-        with sent() as found, self.assertRaisesRegex(StoreFault, FOREIGN_KEY_FAILED):
-            accounts.change("ann", "one", "two")
-        self.assertEqual(found[-2:], ["COMMIT", "ROLLBACK"])
+        with self.statements("SELECT BEGIN UPDATE SELECT COMMIT ROLLBACK"):
+            with self.assertRaisesRegex(StoreFault, FOREIGN_KEY_FAILED):
+                accounts.change("ann", "one", "two")
         self.assertTrue(self.is_right("one"))
 
     def test_a_login_goes_on(self):
         """What is unknown of the upgrade is no matter of the answer."""
-        self.put(LOW.hash("one"))
         accounts = self.losing(before=True, times=1000, hasher=HIGH)
-        self.assertIs(accounts.login("ann", "one"), Reply.YES)
-        self.assertIs(accounts.login("ann", "two"), Reply.NO)
+        self.assert_replies("login ann one yes; login ann two no", accounts)
         self.assertIn("m=64,", self.stands())
         full = self.accounts(HIGH)
         error = sqlite3.OperationalError("database or disk is full")
@@ -276,29 +251,17 @@ class Operations(Base):
 
     def test_a_missing_table(self):
         self.conn.execute("DROP TABLE users")
-        for act in ("verify", "login"):
-            with counted() as hashes, self.assertRaisesRegex(StoreFault, r"see examine\(\)"):
-                getattr(self.accounts(), act)("ann", "one")
-            self.assertEqual(hashes, [])
+        for text in ("verify ann one", "login ann one"):
+            with self.hashes(0), self.assertRaisesRegex(StoreFault, r"see examine\(\)"):
+                called(self.accounts(), text)
 
 
-class Awaited(Base):
+class Tasks(engines.OnSqliteTasks, Base):
     """What is particular over coroutines."""
-
-    def setUp(self):
-        super().setUp()
-        self.put(LOW.hash("one"))
-
-    def awaiting(self):
-        @contextlib.asynccontextmanager
-        async def pool():
-            yield Awaiting(self.conn)
-
-        return AsyncAccounts(pool, self.dialect, LOW)
 
     def test_a_hash_holds_up_no_task(self):
         """It is made in another thread, one operation's beside the next one's."""
-        accounts, threads = self.awaiting(), set()
+        accounts, threads = self.accounts().core, set()
         work = accounts._judge.work
         both = threading.Barrier(2, timeout=20)
 
@@ -318,10 +281,10 @@ class Awaited(Base):
     def test_rows_of_ones_own(self):
         """`also` may be awaited: its row is committed with the reply, or not at all."""
         self.conn.execute("CREATE TABLE sessions (reply TEXT)")
-        accounts, told = self.awaiting(), []
+        accounts, told = self.accounts(), []
 
         def plain(conn, reply):
-            told.append(reply)
+            told.append(reply.value)
             conn.of.execute("INSERT INTO sessions VALUES (?)", (reply.value,))
 
         async def awaited(conn, reply):
@@ -336,14 +299,13 @@ class Awaited(Base):
             return asyncio.ensure_future(awaited(conn, reply))
 
         for also in (plain, awaited, future):
-            reply = asyncio.run(accounts.change("ann", "one", "one", also=also))
-            self.assertIs(reply, Reply.REPLACED)
-            self.assertIs(asyncio.run(accounts.login("ann", "one", also=also)), Reply.YES)
-        self.assertRaises(KeyError, asyncio.run, accounts.change("ann", "one", "two", also=fails))
+            self.assert_replies("change ann one one replaced; login ann one yes", also=also)
+        with self.assertRaises(KeyError):
+            accounts.change("ann", "one", "two", also=fails)
         self.assertTrue(self.is_right("one"))
         rows = [row for (row,) in self.conn.execute("SELECT reply FROM sessions")]
         self.assertEqual(rows, ["replaced", "yes"] * 3)
-        self.assertEqual(told, [Reply.REPLACED, Reply.YES] * 3 + [Reply.REPLACED])
+        self.assertEqual(told, [*rows, "replaced"])
 
     def test_a_hook_that_ends_the_transaction(self):
         """It is told so, and no record was written."""
@@ -356,5 +318,5 @@ class Awaited(Base):
 
         for also, fault in ((ends, "has ended"), (writes, "a generator")):
             with self.assertRaisesRegex(TypeError, fault):
-                asyncio.run(self.awaiting().change("ann", "one", "two", also=also))
+                self.accounts().change("ann", "one", "two", also=also)
         self.assertTrue(self.is_right("one"))

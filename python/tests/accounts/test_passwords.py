@@ -30,8 +30,8 @@ class Rules(Base):
 
     def set_up(self, **rules):
         accounts = self.accounts(**rules)
-        self.put(None, "ben")
-        self.put(LOW.hash("one"))
+        self.give(None, "ben")
+        self.give("one")
         return accounts
 
     def test_a_new_one_is_long_enough(self):
@@ -62,8 +62,8 @@ class Rules(Base):
         accounts = self.set_up(prepare=opaque_string)
         for typed in (APART, APART.encode(), APART.replace(" ", "\u00a0")):
             for setter in self.setters(accounts):
-                self.put(LOW.hash("one"))
-                self.put(None, "ben")
+                self.give("one")
+                self.give(None, "ben")
                 made = setter(typed)
                 record = made if isinstance(made, str) else None
                 stand = [record, self.stands(), self.stands("ben")]
@@ -83,9 +83,8 @@ class Rules(Base):
     def test_a_present_one_that_nobody_has_is_wrong_after_one_hash(self):
         accounts = self.set_up(prepare=opaque_string)
         for refused in ("one\t", "", "x" * 257):
-            with counted() as made:
+            with self.hashes(1):
                 self.assertIs(accounts.verify("ann", refused), Reply.NO)
-            self.assertEqual(len(made), 1)
 
     def test_bytes_that_are_no_text_stay(self):
         accounts = self.set_up(prepare=opaque_string)

@@ -105,7 +105,7 @@ class Endings:
     def each(self):
         for self.way in (*WAYS, raises_a_base_exception):
             with self.subTest(pool=self.way.__name__):
-                self.put(LOW.hash("old"))
+                self.give("old")
                 yield Alarm if self.way is raises_a_base_exception else StoreFault
 
     def test_a_fault_is_said(self):
@@ -130,7 +130,7 @@ class Endings:
         """The change is settled by nobody."""
         self.way = raises_a_base_exception
         for before in (True, False):
-            self.put(LOW.hash("old"))
+            self.give("old")
             self.assertRaises(Alarm, self.losing(before).change, "ann", "old", "new")
             self.assertTrue(self.is_right("old" if before else "new"))
 
@@ -178,7 +178,7 @@ class Cancellations(Base):
             with self.assertRaises(asyncio.CancelledError):
                 await task
 
-        self.put(LOW.hash("old"))
+        self.give("old")
         asyncio.run(act())
 
     def test_at_the_pools_way_back(self):
@@ -283,13 +283,13 @@ class Openings(Base):
             logins = [accounts.login("ann", "one") for _ in range(30)]
             return {*await asyncio.gather(*logins)}
 
-        self.assertEqual(asyncio.run(act()), {Reply.NO_ACCOUNT})
+        self.assertEqual(asyncio.run(act()), {Reply.YES})
         self.assertEqual((len(most), max(most)), (30, 4))
 
     def test_aiosqlite(self):
         """Cancelled at each request to the driver's thread, no thread and no file is left."""
         aiosqlite = module("aiosqlite")
-        self.put(LOW.hash("one"))
+        self.give("one")
         execute, requests, stop = aiosqlite.core.Connection._execute, [], {}
 
         def files():
@@ -362,7 +362,6 @@ class OpenTransactions(Base):
 
     def test_what_is_left_open_is_said(self):
         """After an interrupt it is the pool that rolls back."""
-        self.put(LOW.hash("one"))
         accounts = self.kept(conn=self.conn)
         accounts._table.before_commit = interrupted
         self.assertRaises(Alarm, accounts.change, "ann", "one", "two")
@@ -383,7 +382,6 @@ class OnePerThread(Base):
         return os.waitstatus_to_exitcode(os.waitpid(pid, 0)[1])
 
     def test_a_forked_child_makes_its_own(self):
-        self.put(LOW.hash("one"))
         made = []
         accounts = self.accounts(connect=lambda: made.append(os.getpid()) or self.connect())
         self.assertIs(accounts.verify("ann", "one"), Reply.YES)
@@ -439,7 +437,7 @@ class OnePerThread(Base):
             return Awaiting(made[-1])
 
         accounts = Awaited(AsyncAccounts(PerUse(connect), self.dialect, LOW))
-        self.assertIs(accounts.verify("ann", "one"), Reply.NO_ACCOUNT)
+        self.assertIs(accounts.verify("ann", "one"), Reply.YES)
         self.conn.execute("DROP TABLE users")
         self.assertRaises(StoreFault, accounts.verify, "ann", "one")
         self.assertEqual(len(made), 2)

@@ -31,7 +31,6 @@ class OnPostgres(engines.OnPostgres, Base):
 
     def test_a_constraint_that_is_judged_at_commit(self):
         """The server has rolled back: nothing is sent again, nor is it unknown."""
-        self.put(LOW.hash("one"))
         when = "ON users DEFERRABLE INITIALLY DEFERRED"
         refuses = "RAISE EXCEPTION USING MESSAGE = NEW.record;"
         self.trigger(refuses, f"CONSTRAINT TRIGGER tr AFTER UPDATE {when}")
@@ -43,7 +42,6 @@ class OnPostgres(engines.OnPostgres, Base):
 
     def test_a_trigger_that_comes_after(self):
         """RETURNING doesn't see what it writes, so `examine` has to name it."""
-        self.put(LOW.hash("one"))
         self.trigger(
             "IF pg_trigger_depth() = 1 THEN UPDATE users SET record = upper(record); END IF;"
             " RETURN NULL;",
@@ -64,7 +62,7 @@ class OnPostgres(engines.OnPostgres, Base):
             (" ISOLATION LEVEL SERIALIZABLE", False),
             ("", True),
         ):
-            self.put(LOW.hash("old"))
+            self.give("old")
             for kind, new in ((Kind.VERIFY, ""), (Kind.CHANGE, "new")):
                 worked = self.worked(accounts, kind, "old", new)
                 caller.execute(f"BEGIN{level}")
@@ -79,7 +77,7 @@ class OnPostgres(engines.OnPostgres, Base):
 
     def test_a_session_that_an_old_snapshot_does_not_see(self):
         """Under READ COMMITTED the change that waited ends it."""
-        self.put(LOW.hash("old"))
+        self.give("old")
         self.execute("DROP TABLE IF EXISTS sessions")
         self.execute("CREATE TABLE sessions (name text)")
         accounts = self.accounts()
@@ -100,7 +98,6 @@ class OnPostgres(engines.OnPostgres, Base):
     def test_a_commit_that_answers_rollback(self):
         """Who swallows a statement's error has a transaction that has failed, whose COMMIT
         raises nothing: that is a fault at once, and nothing was done or is looked for."""
-        self.put(LOW.hash("one"))
         accounts, calls = self.accounts(patience=60.0), []
 
         def swallows(conn, reply):
@@ -135,7 +132,7 @@ class OnPostgres(engines.OnPostgres, Base):
         """The usual updated_at is no fault: what it does was tried."""
         self.execute("ALTER TABLE users ADD updated_at timestamptz")
         self.trigger("NEW.updated_at = now(); RETURN NEW;")
-        self.put(LOW.hash("one"))
+        self.give("one")
         self.assertEqual(self.accounts().examine(), [])
         self.assertIs(self.accounts().change("ann", "one", "two"), Reply.REPLACED)
 
@@ -167,7 +164,6 @@ class OnPostgres(engines.OnPostgres, Base):
 
     def test_a_wait_for_the_standby_that_is_cancelled(self):
         """COMMIT answers with a warning: what was put isn't safe, and never passes."""
-        self.put(LOW.hash("one"))
         with self.cancelled_waits() as cancelled:
             with self.assertRaises(OutcomeUnknown):
                 self.accounts(patience=2.0).change("ann", "one", "two")
@@ -175,7 +171,6 @@ class OnPostgres(engines.OnPostgres, Base):
 
     def test_it_waits_for_the_standby(self):
         """A look answers by what may not be there; a confirmed one never does."""
-        self.put(LOW.hash("one"))
         plain, confirming = self.accounts(), self.accounts(confirm=True, patience=0.5)
         with self.cancelled_waits() as cancelled:
             self.assertIs(plain.verify("ann", "one"), Reply.YES)
@@ -190,7 +185,7 @@ class OnPostgres(engines.OnPostgres, Base):
             from psycopg_pool import AsyncConnectionPool
         except ImportError:
             self.skipTest("python3-psycopg-pool is not there")
-        self.put(LOW.hash("one"))
+        self.give("one")
 
         async def act():
             given = {"kwargs": {"autocommit": True}, "min_size": 2, "max_size": 4}
@@ -207,7 +202,6 @@ class OnPostgres(engines.OnPostgres, Base):
 
     def test_asyncio(self):
         """A caller's own transaction; the engines' tests have the rest."""
-        self.put(LOW.hash("one"))
 
         def connect(autocommit=True):
             return psycopg.AsyncConnection.connect(self.server.url, autocommit=autocommit)

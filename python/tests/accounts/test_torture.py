@@ -9,8 +9,8 @@ import re
 import sqlite3
 from unittest import mock
 
-import torture
 from support import Base, losing
+import torture
 from rigzumal.accounts import Reply, StoreFault
 from rigzumal.accounts._table import Table
 from rigzumal.accounts.types import Answer, Kind

@@ -1,0 +1,217 @@
+"""What every engine does with its connections and tables: classes of tests, as those of
+of_engines.py."""
+
+import itertools
+import threading
+import time
+
+from of_engines import CALLS
+from support import LOW, called, each, in_threads
+from rigzumal.accounts import Reply, StoreFault, Unavailable
+from rigzumal.accounts.types import Kind, Request, Ticket
+
+
+class Connections:
+    """What a connection is in, and what is sent on it."""
+
+    def test_modes(self):
+        """Connections that aren't in autocommit, or have a transaction open."""
+        worked = self.worked(self.accounts(), Kind.CHANGE, "one", "two")
+        manual, opened = "the connections of the pool have to be in auto", "transaction is open"
+        modes = (
+            (False, "", manual),
+            (False, "SELECT 1", manual),
+            (True, self.dialect.begin, opened),
+        )
+        acts = (("verify", "ann", "one"), ("change", "ann", "one", "two"), ("commit", worked))
+        for (autocommit, begin, said), (name, *given) in itertools.product(
+            modes, (*acts, ("examine",))
+        ):
+            conn = self.another(autocommit=autocommit)
+            if begin:
+                self.execute(begin, conn=conn)
+            accounts = self.accounts(connect=lambda: conn)
+            with self.subTest(autocommit=autocommit, begin=begin, name=name):
+                self.assertRaisesRegex(StoreFault, said, getattr(accounts, name), *given)
+        # Out of autocommit too none is open on SQLite before the first change.
+        lone = [self.conn, *([self.another(autocommit=False)] if self.begins_late else [])]
+        looked = self.worked(self.accounts(), Kind.VERIFY, "one")
+        for conn, of in itertools.product(lone, (worked, looked)):
+            with self.assertRaisesRegex(StoreFault, "no transaction is open"):
+                self.accounts().commit_in(conn, of)
+        self.assertTrue(self.is_right("one"))
+
+    def test_a_callers_transaction(self):
+        """All or nothing; and a copy that is gone is not put."""
+        accounts, caller = self.accounts(), self.another()
+        worked = self.worked(accounts, Kind.CHANGE, "one", "two")
+        for end, reply, right in (
+            ("ROLLBACK", Reply.REPLACED, "one"),
+            ("COMMIT", Reply.REPLACED, "two"),
+            ("ROLLBACK", Reply.CHANGED, "two"),
+        ):
+            self.execute(self.dialect.begin, conn=caller)
+            self.assertIs(accounts.commit_in(caller, worked).reply, reply)
+            self.execute(end, conn=caller)
+            self.assertTrue(self.is_right(right))
+
+    def test_a_session_beside_a_verify(self):
+        """It stands before a change, or isn't there."""
+        accounts, owner, caller, done = self.accounts(), self.accounts(), self.another(), []
+        worked = self.worked(accounts, Kind.VERIFY, "one")
+        self.execute(self.dialect.begin, conn=caller)
+        self.assertIs(accounts.commit_in(caller, worked).reply, Reply.YES)
+        thread = threading.Thread(target=lambda: done.append(owner.change("ann", "one", "two")))
+        thread.start()
+        time.sleep(0.5)
+        self.assertEqual(done, [])
+        self.execute("COMMIT", conn=caller)
+        thread.join()
+        self.assertEqual(done, [Reply.REPLACED])
+
+    @each(*CALLS)
+    def test_what_is_sent(self, costs, stands, text, reply):
+        """No statement too many: docs/SCALE.md has these lists. Of none to a record, and of a
+        record to none, what stands wouldn't tell enough for one statement."""
+        hasher, conn, several = getattr(self, costs), self.another(), self.several
+        plain, confirming = (self.kept(hasher, conn, confirm=it) for it in (False, True))
+        begin, _, rest = several.partition(" ")
+        # Locked for `also`, and compared after it.
+        own = {"also": lambda conn, reply: None}
+        changed, looked = f"{begin} SELECT {rest}", f"{begin} SELECT SELECT COMMIT"
+        changes = Reply(reply).makes_change or (costs == "high" and reply == "yes")
+        at_once = self.one if stands and "remove" not in text else several
+        confirmed = "" if reply == "noaccount" else self.confirmed
+        for accounts, more, words in (
+            (plain, {}, at_once if changes else ""),
+            (plain, own, changed if changes else looked),
+            (confirming, {}, at_once if changes else confirmed),
+        ):
+            record = self.give(stands)
+            with self.subTest(words=words), self.statements(f"SELECT {words}".rstrip()):
+                self.assertEqual(called(accounts, text, **more), reply)
+            if not changes:
+                self.assertEqual(self.stands(), record)
+
+    def test_changes_at_any_level(self):
+        """Of eight changes of one record one is made, whatever the session's level is; of eight
+        logins all are let in, and the record has the higher costs."""
+        for setting in self.levels:
+            connect = self.setting(setting)
+            self.give("one")
+            accounts = self.accounts(connect=connect)
+            said = in_threads(lambda n: accounts.change("ann", "one", f"new{n}").value, 8)
+            self.assertEqual(sorted(said), ["replaced"] + ["wrong"] * 7, setting)
+            self.give("one")
+            accounts = self.accounts(self.high, connect=connect)
+            self.assertEqual(in_threads(lambda n: accounts.login("ann", "one"), 8), [Reply.YES] * 8)
+            self.assertIn("m=128,", self.stands())
+
+    def test_a_connection_is_as_before(self):
+        """No transaction is open after a change, a refusal or another's change."""
+        self.table("VARCHAR(512) CHECK (record LIKE '%m=64,%')")
+        self.give("one")
+        conn = self.another()
+        accounts, dearer = self.kept(conn=conn), self.kept(self.high, conn)
+        worked = self.worked(accounts, Kind.CHANGE, "one", "two")
+        self.assert_replies("change ann one one replaced", accounts)
+        self.assertIs(accounts.commit(worked).reply, Reply.CHANGED)
+        for _ in range(2):
+            with self.assertRaisesRegex(StoreFault, self.check_number) as raised:
+                dearer.change("ann", "one", "two")
+            self.assert_no_record(raised.exception)
+            self.assert_replies("login ann one yes", dearer)
+
+    def test_waits_that_the_engine_ends(self):
+        """Of a lock, and of a statement that takes too long: what was sent is undone, so it is
+        tried again within patience, on the same connection and with the same hash; then nothing
+        was done. A login goes on."""
+        settings = {self.lock_timeout, self.statement_timeout}
+        for setting, stands in itertools.product(settings, ("one", None)):
+            connect, made, record = self.setting(setting), [], self.give(stands)
+            patient = self.accounts(connect=lambda: made.append(1) or connect(), patience=20.0)
+            impatient = self.accounts(self.high, connect=connect, patience=0.8)
+            holder = self.another()
+            self.execute(self.dialect.begin, conn=holder)
+            self.execute(self.holding, conn=holder)
+            self.assertRaises(Unavailable, impatient.reset, "ann", "two")
+            self.assert_replies(f"login ann one {'yes' if stands else 'absent'}", impatient)
+            self.assertEqual(self.stands(), record)
+            timer = threading.Timer(0.6, lambda: self.execute("ROLLBACK", conn=holder))
+            timer.start()
+            with self.subTest(setting=setting, stands=stands), self.hashes(1):
+                reply = "replaced" if stands else "enrolled"
+                self.assert_replies(f"reset ann two {reply}", patient)
+            timer.join()
+            self.assertEqual(len(made), 1)
+
+
+class Tables:
+    """What a table makes of a record, and which ones there are."""
+
+    def test_rows_as_dictionaries(self):
+        for conn in self.as_dictionaries():
+            self.give("one")
+            accounts = self.accounts(connect=lambda: conn)
+            self.assert_replies("change ann one two replaced; remove ann two removed", accounts)
+            self.assertEqual(accounts.examine(), [])
+
+    def test_keys_of_other_types(self):
+        for column, kind, key, other in self.keys:
+            self.dialect = self.another_dialect(key_type=kind)
+            for make in (self.create, lambda: self.table(key=column)):
+                make()
+                accounts = self.accounts()
+                self.assertEqual(accounts.examine(), [])
+                self.execute(self.dialect.insert, key)
+                self.assertIs(accounts.enrol(key, "one"), Reply.ENROLLED)
+                self.assertIs(accounts.login(key, "one"), Reply.YES)
+                self.assertIs(accounts.login(other, "one"), Reply.NO_ACCOUNT)
+                self.assertRaises(TypeError, accounts.login, str(key), "one")
+
+    def test_a_key_of_two_rows(self):
+        self.execute("DROP TABLE users")
+        self.execute("CREATE TABLE users (name VARCHAR(90), record VARCHAR(512))")
+        record = LOW.hash("one")
+        for _ in range(2):
+            self.execute("INSERT INTO users VALUES ('ann', %s)", record)
+        accounts = self.accounts()
+        self.assertRaises(StoreFault, accounts.verify, "ann", "one")
+        worked = accounts.work(Ticket(Request(Kind.CHANGE, "ann", "one", "two"), record))
+        self.assertRaises(StoreFault, accounts.commit, worked)
+        self.assertEqual(self.execute("SELECT record FROM users"), [(record,)] * 2)
+
+    def test_names_with_signs(self):
+        """Of a table and columns, in statements with values and without."""
+        dialect = self.another_dialect(table='a"`b%c', key="k%`1", record='r "s', key_type=int)
+        self.execute(f"DROP TABLE IF EXISTS {dialect.table}".replace("%%", "%"))
+        self.execute(dialect.create())
+        self.execute(dialect.insert, 7)
+        accounts = self.accounts(dialect=dialect)
+        self.assertEqual(accounts.examine(), [])
+        self.assert_replies("enrol 7 one enrolled; change 7 one two replaced", accounts)
+        self.assert_replies("verify 7 two yes; verify 8 two noaccount", accounts)
+        ((key, record),) = self.execute(dialect.every)
+        self.assertEqual((key, record[:9]), (7, "$argon2id"))
+
+    def test_bytes_are_compared(self):
+        """Under each collation that takes other texts for the same."""
+        copies = ("ABCdef", "abcDEF ", "abcdef", "\u00e4bcDEF", "abcDEF")
+        for column, copy in itertools.product(self.folding, copies):
+            self.table(column)
+            self.put("abcDEF")
+            cursor = self.conn.cursor()
+            cursor.execute(self.dialect.update, ("x", "ann", copy))
+            self.assertEqual(cursor.rowcount, copy == "abcDEF", (column, copy))
+            cursor.close()
+
+    def test_columns_that_change_a_record(self):
+        """They are found as a record is put, and none stands."""
+        for column, mode, stands in itertools.product(self.changing, self.modes, ("short", None)):
+            self.table(column)
+            self.put(stands)
+            accounts, before = self.accounts(connect=self.setting(mode)), self.stands()
+            ticket = Ticket(Request(Kind.RESET, "ann", "", "two"), stands)
+            with self.subTest(column=column, mode=mode, stands=stands):
+                self.assertRaises(StoreFault, accounts.commit, accounts.work(ticket))
+                self.assertEqual(self.stands(), before)

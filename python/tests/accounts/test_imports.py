@@ -1,0 +1,210 @@
+"""The command over whole tables: imports, exports, lists, reports, and its lines of JSON."""
+
+import json
+from unittest import mock
+
+from commands import FOREIGN, RECORD, TWO, Commands
+from support import HIGH, each
+from rigzumal import parts
+from rigzumal.accounts import _import
+
+SAME = "v=19 m=64,t=1,p=1"
+ANOTHER = "another record, which stays"
+
+
+class Imports(Commands):
+    def test_batches(self):
+        """Whole ones, by lines of any end; of few statements, however many lines."""
+        self.enterContext(mock.patch.multiple(_import, BATCH=400, SHARE=200, FEW=150))
+        self.insert({f"user{it}@x": None for it in range(300)})
+        lines = [f"user{number}@x {RECORD}" for number in range(1200)]
+        share, mixed = "SELECT INSERT SELECT", "SELECT INSERT UPDATE SELECT"
+        first = f"BEGIN SELECT UPDATE UPDATE SELECT {mixed} COMMIT"
+        with self.statements(f"{first} {' '.join([f'BEGIN {share} {share} COMMIT'] * 2)}"):
+            self.assert_answers((f"import {self.file(*lines)}", "", "1200 added, 0 there already"))
+        lines[7] = lines[901] = f"user7@x {TWO}"
+        more = (f"new {RECORD}", f"new {TWO}", f"new {RECORD}")
+        said, error = self.streams("import", self.file(*lines, *more, end="\r\n"), status=4)
+        self.assertEqual(said, f"1 added, 1199 there already, 3 with {ANOTHER}\n")
+        places = ((8, "user7@x"), (902, "user7@x"), (1202, "new"))
+        named = "".join(f"rigzumal: line {at}: {it} has {ANOTHER}\n" for at, it in places)
+        self.assertEqual(error, named)
+        self.assert_answers(("check user7@x", "one", "yes"))
+
+    def test_one_that_fails(self):
+        """Its batch is undone, the ones before it stay, and the lines are named."""
+        self.enterContext(mock.patch.object(_import, "BATCH", 500))
+        self.conn.execute(
+            "CREATE TRIGGER tr BEFORE INSERT ON accounts WHEN NEW.name = 'user700'"
+            " BEGIN SELECT RAISE(ABORT, 'not this one'); END"
+        )
+        file = self.file(*(f"user{it} {RECORD}" for it in range(1200)))
+        said, error = self.streams("import", file, status=5)
+        self.assertEqual(said, "")
+        named = "rigzumal: stopped at the account user700\n"
+        self.assertIn(f"{named}rigzumal: no line from 501 on is known to be taken\n", error)
+        self.assertIn("not this one", error)
+        self.assertEqual(len(self.rows()), 500)
+
+    def test_a_long_one_shows_how_far_it_is(self):
+        self.enterContext(mock.patch.object(_import, "BATCH", 500))
+        file = self.file(*(f"user{it} {RECORD}" for it in range(1200)))
+        said, shown = self.streams("import", file, shows=True)
+        self.assertEqual(said, "1200 added, 0 there already\n")
+        self.assertIn("500 of 1200", shown)
+        self.assertIn(f"[{'#' * 40}] 1200 of 1200", shown)
+
+    @each(0, 1, 499, 500, 501, 1001)
+    def test_a_bad_line_anywhere_imports_nothing(self, at):
+        """All lines are read before the first is put, past every batch too."""
+        good = [f"user{number} {RECORD}" for number in range(1001)]
+        file = self.file(*good[:at], "ann garbage", *good[at:])
+        self.assertIn(f"line {at + 1}:", self.run_command("import", file, status=6))
+        self.assertEqual(self.rows(), {})
+
+    @each(
+        ("ann", ""),
+        (f" {RECORD}", 'it is no "NAME RECORD"'),
+        (f"  {RECORD}", 'it is no "NAME RECORD"'),
+        (f"ann  {RECORD}", "the name begins or ends with a blank"),
+        (f"\u00a0ann {RECORD}", "the name begins or ends with a blank"),
+        (f"\ufeffann {RECORD}", "it begins with a byte order mark"),
+        (f"\udcff {RECORD}", "it is not in UTF-8"),
+        (f"be\0n {RECORD}", "the column can't hold this name"),
+        ("ann $2b$12$R9h/cIPz0gi.URNNX3kh2O", "the record's scheme is 2b, and "),
+        ("ann pbkdf2_sha256$260000$abc$def", "the record's scheme is pbkdf2_sha256"),
+        ("ann argon2$argon2id$v=19$m=8,t=1$c$d", "the record's scheme is argon2, and "),
+        ("ann $6$rounds=5000$salt$hash", "the record's scheme is 6, and "),
+        ("ann hunter2", ""),
+        ("ann $hunter2", ""),
+        ("ann hunter2$x$y", ""),
+        ("ann $argon2id$v=19$m=hunter2", ""),
+    )
+    def test_what_is_wrong_with_a_line(self, bad, said):
+        """A check says it of a record as an import does, and neither says the record."""
+        found = self.run_command("import", self.file(f"user0 {RECORD}", bad), status=6)
+        self.assertIn(f"line 2: {said}", found)
+        self.assertEqual(self.rows(), {})
+        if said.startswith("the record's") or "hunter2" in bad:
+            self.insert({"ann": bad[4:]})
+            found += self.run_command("check", "ann", given="x", status=5)
+            self.assertEqual(found.count(said), 2 if said else found.count(said))
+            self.conn.execute("DELETE FROM accounts")
+        self.assertNotIn("hunter2", found)
+
+    def test_names_with_spaces(self):
+        """They may be meant, or be a field of another file: they are named."""
+        file = self.file(f"ann {RECORD}", f"ben lee {RECORD}", f"cid x {RECORD}")
+        said, error = self.streams("import", file)
+        self.assertEqual(said, "3 added, 0 there already\n")
+        self.assertEqual(error, "rigzumal: line 2: 'ben lee' has a space; names with a space: 2\n")
+
+    def test_records_of_other_schemes_are_taken_if_asked_for(self):
+        taken = {"ann": FOREIGN, "bob": RECORD, "cid": "x" * 512}
+        file = self.file(*(f"{name} {record}" for name, record in taken.items()))
+        for count in ("3 added, 0", "0 added, 3"):
+            self.assert_answers((f"import --foreign {file}", "", f"{count} there already"))
+        self.assertEqual(self.rows(), taken)
+        for bad in ("x" * 513, "a\u00e9", "a\0b", "a\tb", "a\x7f", ""):
+            file = self.file(f"eve {RECORD}", f"dan {bad}")
+            self.assertIn("line 2:", self.run_command("import", "--foreign", file, status=6))
+        self.assertEqual(self.rows(), taken)
+
+
+class Exports(Commands):
+    def test_an_export_is_an_import(self):
+        """Of all accounts that have a record, and none is left out without a word."""
+        rows = {"ann": RECORD, "b\u00e9 two": TWO, "cid": FOREIGN}
+        self.insert({**rows, "none": None})
+        said, error = self.streams("export")
+        self.assertEqual((len(said.splitlines()), error), (3, ""))
+        self.conn.execute("DELETE FROM accounts")
+        self.run_command("import", "--foreign", self.file(*said.splitlines()))
+        self.assertEqual(self.rows(), rows)
+        odd = {"a\nroot": RECORD, " x": RECORD, "x ": RECORD, "dan": "a b", "eve": "a\nb"}
+        self.insert(odd)
+        found, error = self.streams("export", status=5)
+        self.assertEqual((found, error.split()[1]), (said, str(len(odd))))
+        found = [json.loads(it) for it in self.run_command("--json", "export").splitlines()]
+        self.assertEqual({it["name"]: it["record"] for it in found}, {**rows, **odd})
+
+    def test_what_was_disabled_comes_back(self):
+        self.assert_answers(("add ann", "one", "enrolled"))
+        kept = self.run_command("disable", "--show", "ann").rstrip("\n")
+        self.assert_answers(
+            ("check ann", "one", "no record"),
+            (f"import {self.file(kept)}", "", "1 added, 0 there already"),
+            ("check ann", "one", "yes"),
+        )
+
+
+class Json(Commands):
+    """The same answers, with the same statuses."""
+
+    def told(self, words, given="", status=0):
+        said, _ = self.streams("--json", *words.split(), given=given, status=status)
+        return [json.loads(it) for it in said.splitlines()]
+
+    def test_answers(self):
+        file = self.file(f"ann {RECORD}", f"b\u00e9 {RECORD}", f"cid {FOREIGN}")
+        counts = {"added": 3, "there": 0, "another": 0}
+        self.assertEqual(self.told(f"import --foreign {file}"), [counts])
+        counts = {"added": 0, "there": 0, "another": 1}
+        self.assertEqual(self.told(f"import {self.file(f'ann {TWO}')}", status=4), [counts])
+        for words, given, reply in (
+            ("add dan", "one", "enrolled"),
+            ("check dan", "one", "yes"),
+            ("check eve", "x", "noaccount"),
+            ("change dan", "one\ntwo", "replaced"),
+        ):
+            status = 4 * (reply == "noaccount")
+            self.assertEqual(self.told(words, given, status), [{"reply": reply}])
+        (kept,) = self.told("disable --show dan")
+        self.assertEqual((kept["reply"], parts(kept["record"]).memory), ("disabled", 64))
+        for words, reply in (("rename dan dot", "renamed"), ("delete dot", "deleted")):
+            self.assertEqual(self.told(words), [{"reply": reply}])
+
+    def test_lists_and_faults(self):
+        self.insert({"ann": RECORD, "b\u00e9": RECORD, "cid": FOREIGN, "eve": None})
+        costs = {"costs": f"$argon2id${SAME.replace(' ', '$')}"}
+        self.assertEqual(
+            self.told("list"),
+            [
+                {"name": "ann", **costs},
+                {"name": "b\u00e9", **costs},
+                {"name": "cid", "costs": None, "foreign": True},
+                {"name": "eve", "costs": None},
+            ],
+        )
+        self.conn.execute("DROP TABLE accounts")
+        self.assertEqual(self.told("init"), [])
+        self.conn.execute("DROP TABLE accounts")
+        self.conn.execute("CREATE TABLE accounts (name TEXT, record)")
+        found = [(it["severity"], it["code"]) for it in self.told("examine", status=5)]
+        self.assertIn(("error", "key-not-unique"), found)
+
+    def test_a_report_counts_what_a_login_makes_of_records(self):
+        records = (HIGH.hash("x"), f"$argon2i${SAME.replace(' ', '$')}$c29tZXNhbHQ$AAAAAA", FOREIGN)
+        records += ("pbkdf2_sha256$1000$x$y", "hunter2", "$argon2id$v=19$m=64", None)
+        self.insert({**dict.fromkeys("abc", RECORD), **dict(zip("defghij", records))})
+        lines = [
+            ("current", 1, "argon2id", "v=19 m=128,t=1,p=1"),
+            ("current", 1, "argon2i", SAME),
+            ("rehash", 3, "argon2id", SAME),
+            ("foreign", 1, "2y", ""),
+            ("foreign", 1, "pbkdf2_sha256", ""),
+            ("unreadable", 2, "", ""),
+            ("absent", 1, "", ""),
+        ]
+        # An upgrade goes to higher costs of one scheme alone.
+        dear = "report --memory 128"
+        said = self.run_command(*dear.split()).splitlines()
+        wanted = [f"{count} {state} {scheme} {costs}" for state, count, scheme, costs in lines]
+        self.assertCountEqual([it.split() for it in said], [it.split() for it in wanted])
+        names = ("state", "count", "scheme", "costs")
+        self.assertCountEqual(self.told(dear), [dict(zip(names, it)) for it in lines])
+        about, kind, *said = self.run_command(*dear.split(), "--prometheus").splitlines()
+        self.assertEqual((about[:7], kind), ("# HELP ", "# TYPE rigzumal_accounts gauge"))
+        label = 'rigzumal_accounts{{state="{}",scheme="{}",costs="{}"}} {}'
+        self.assertCountEqual(said, [label.format(it[0], *it[2:], it[1]) for it in lines])
+        self.assertNotIn("hunter2", "".join(said))
