@@ -11,6 +11,7 @@ import sys
 import time
 
 import servers
+from support import server
 import torture
 from rigzumal.accounts import Accounts, MariaDB, PerThread, Reply
 from torture import logs
@@ -74,21 +75,8 @@ def refused(start, turns=8):
     raise AssertionError(f"the history is legal: {summary}")
 
 
-@functools.cache
-def postgres():
-    return servers.PostgresServer("postgres").start()
-
-
-@functools.cache
-def maria():
-    return servers.MariaServer("maria").start()
-
-
-@functools.cache
-def maria_without_log():
-    made = servers.MariaServer("plain")
-    made.has_binary_log = False
-    return made.start()
+class WithoutLog(servers.MariaServer):
+    has_binary_log = False
 
 
 @functools.cache
@@ -96,7 +84,11 @@ def galera():
     return servers.galera()
 
 
-# What has the URL of each engine; the server is started when it is asked for.
+# Each engine's server, which is started when it is asked for, and its URL.
+postgres, maria, maria_without_log = (
+    functools.partial(server, it)
+    for it in (servers.PostgresServer, servers.MariaServer, WithoutLog)
+)
 SQLITE = lambda: servers.SqliteFile().url
 POSTGRES = lambda: postgres().url
 MARIADB = lambda: maria().url

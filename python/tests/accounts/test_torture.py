@@ -9,7 +9,7 @@ import re
 import sqlite3
 from unittest import mock
 
-from support import Base, losing
+from support import Base, commanded, each, losing
 import torture
 from rigzumal.accounts import Reply, StoreFault
 from rigzumal.accounts._table import Table
@@ -25,11 +25,8 @@ class Tortures(Base):
 
     def command(self, *words, status=0):
         """What the command prints on both streams."""
-        said = io.StringIO()
-        given = ["--database", self.server.url, "--seconds=1", "--accounts=2"]
-        with contextlib.redirect_stdout(said), contextlib.redirect_stderr(said):
-            self.assertEqual(command.main([*given, *words]), status, said.getvalue())
-        return said.getvalue()
+        given = ("--database", self.server.url, "--seconds=1", "--accounts=2")
+        return commanded(command.main, *given, *words, status=status)
 
     def run_one(self, **given):
         """The logs of a short run of two processes, as read."""
@@ -63,20 +60,18 @@ class Tortures(Base):
             said = self.command("--processes=2", "--kill", status=4)
         self.assertIn("no process was killed", said)
 
-    def test_kills_before_a_commit(self):
+    @each(*_torture.WAYS)
+    def test_kills_before_a_commit(self, way):
         """Each process ends between its first UPDATE and COMMIT: nothing was done."""
-        for way in _torture.WAYS:
-            given = {"kill": True, "ways": (way,), "table": way, "mix": {"reset": 1}}
-            self.logs = pathlib.Path(f"{self.server.path}.{way}")
-            with mock.patch.object(_torture, "RISK", 1.0):
-                with mock.patch.object(_torture.random, "random", return_value=0.9):
-                    accounts = self.run_one(folder=self.logs, **given)
-            self.assertGreater(self.torture.killed, 0)
-            ends = [it[-1]["event"] for it in self.lines() if it]
-            self.assertGreaterEqual(ends.count("try"), self.torture.killed - 2)
-            self.assertIsNone(torture.verdict(accounts))
-            done = [it for it in self.operations(accounts) if it.makes_change]
-            self.assertEqual(done, [], way)
+        self.logs = pathlib.Path(f"{self.server.path}.{way}")
+        with mock.patch.object(_torture, "RISK", 1.0):
+            with mock.patch.object(_torture.random, "random", return_value=0.9):
+                accounts = self.run_one(kill=True, ways=(way,), table=way, mix={"reset": 1})
+        self.assertGreater(self.torture.killed, 0)
+        ends = [it[-1]["event"] for it in self.lines() if it]
+        self.assertGreaterEqual(ends.count("try"), self.torture.killed - 2)
+        self.assertIsNone(torture.verdict(accounts))
+        self.assertEqual([it for it in self.operations(accounts) if it.makes_change], [])
 
     def test_kills_after_a_commit(self):
         """Each ends between its first COMMIT and the answer: it was done, unseen."""
@@ -96,23 +91,25 @@ class Tortures(Base):
 
     # ---- what is noted
 
-    def test_everything_is_called(self):
-        """The whole, one with a statement of its own, the parts, a caller's transaction
-        and the login; an exception of a process is a fault."""
+    def test_all_kinds_and_ways(self):
         self.assertEqual(set(_torture.WAYS), {"whole", "also", "parts", "within"})
         self.assertEqual(set(_torture.MIX), {"login", *(it.value for it in Kind)})
-        ways = [("perform", "whole"), ("perform", "also"), ("login", "whole")]
-        ways += [(it, "parts") for it in ("begin", "work", "commit")]
-        for name, way in (*ways, ("commit_in", "within")):
 
-            def broken(accounts):
-                setattr(accounts, name, mock.Mock(side_effect=RuntimeError))
+    @each(
+        *(("perform", "whole"), ("perform", "also"), ("login", "whole"), ("commit_in", "within")),
+        *((it, "parts") for it in ("begin", "work", "commit")),
+    )
+    def test_everything_is_called(self, name, way):
+        """The whole, one with a statement of its own, the parts, a caller's transaction
+        and the login; an exception of a process is a fault."""
 
-            mix = {"login" if name == "login" else "change": 1}
-            given = {"table": f"t{name}{way}", "seconds": 10, "ways": (way,), "mix": mix}
-            with self.subTest(name=name, way=way):
-                with self.assertRaisesRegex(StoreFault, "2 processes ended by an exception"):
-                    self.run_one(alter=broken, **given)
+        def broken(accounts):
+            setattr(accounts, name, mock.Mock(side_effect=RuntimeError))
+
+        mix = {"login" if name == "login" else "change": 1}
+        given = {"table": f"t{name}{way}", "seconds": 10, "ways": (way,), "mix": mix}
+        with self.assertRaisesRegex(StoreFault, "2 processes ended by an exception"):
+            self.run_one(alter=broken, **given)
 
     def test_an_unknown_outcome_is_no_failure(self):
         def unknown(accounts):
@@ -158,14 +155,12 @@ class Tortures(Base):
     def test_logs(self):
         """One of a run alone, and files that are none."""
         self.command("--processes=2", f"--logs={self.logs}")
-        with contextlib.redirect_stdout(io.StringIO()) as said:
-            self.assertEqual(command.main([*map(str, self.logs.iterdir())]), 0)
-        self.assertTrue(said.getvalue().startswith("legal: "))
+        said = commanded(command.main, *self.logs.iterdir())
+        self.assertTrue(said.startswith("legal: "), said)
         file = pathlib.Path(f"{self.logs}.none")
-        self.assertEqual(command.main([str(file)]), 2)
         for line in ("x", "[]", "{}", '{"event": "answer", "id": "1"}', '{"event": "seed"}'):
             file.write_text(f"{line}\n")
-            self.assertEqual(command.main([str(file)]), 6)
+            self.assertRaises(ValueError, command.main, [str(file)])
 
     def test_the_end_is_read_where_it_is_said(self):
         """After a failover that is another server than the first."""

@@ -4,7 +4,6 @@ from __future__ import annotations
 
 import collections
 import math
-from collections.abc import Iterable, Sequence
 from dataclasses import dataclass, field
 from typing import NamedTuple, Optional
 
@@ -40,7 +39,7 @@ class Operation:
     found_out: bool = False
 
     @classmethod
-    def seed(cls, record: Record, password: Optional[str], costs: float = 0) -> Operation:
+    def seed(cls, record, password, costs=0):
         """What stood at first."""
         first = -math.inf
         made = cls("seed", "seed", password, first, None, costs, first, "seed")
@@ -48,25 +47,25 @@ class Operation:
         return made
 
     @classmethod
-    def end(cls, record: Record, time: float) -> Operation:
+    def end(cls, record, time):
         """What stands when all is over."""
         return cls("end", "end", None, time, reply="end", before=record, after=record)
 
     @property
-    def makes_change(self) -> bool:
+    def makes_change(self):
         return self.reply in CHANGES or (self.kind == "seed" and self.after is not None)
 
     @property
-    def password_after(self) -> Optional[str]:
+    def password_after(self):
         """The password of the record that this operation put."""
         return self.new_password if self.kind in ("change", "reset") else self.password
 
-    def took_place(self, end: float) -> None:
+    def took_place(self, end):
         """Notes that its last attempt was made before the end, and its answer was lost."""
         self.before, self.after, self.reply = self.attempts[-1]
         self.answered, self.found_out = end, True
 
-    def __str__(self) -> str:
+    def __str__(self):
         if self.kind in ("seed", "end"):
             return f"{self.kind}: {self.before or self.after or 'no record'}"
         span = f"{self.called:.0f} to {self.answered:.0f}"
@@ -81,7 +80,7 @@ class _Conflict(Exception):
     """Operations that contradict each other."""
 
 
-def conflict(events: Sequence[Operation]) -> Optional[str]:
+def conflict(events):
     """Why these operations have no legal order, or None if they have one."""
     try:
         _one_after_another(_Records(events).spans())
@@ -90,7 +89,7 @@ def conflict(events: Sequence[Operation]) -> Optional[str]:
     return None
 
 
-def possible(it: Operation, record: Record, maker: Optional[Operation]) -> set[str]:
+def possible(it, record, maker):
     """The replies that an operation may have at a record that the maker put."""
     if record is None:
         return {"enrolled" if it.kind in ("enrol", "reset") else "absent"}
@@ -121,11 +120,9 @@ class _Span(NamedTuple):
 class _Records:
     """What was done at each record, and who put and replaced it."""
 
-    def __init__(self, events: Iterable[Operation]) -> None:
-        self.maker: dict[str, Operation] = {}
-        self.replacer: dict[str, Operation] = {}
-        self.looks: dict[str, list[Operation]] = collections.defaultdict(list)
-        self.at_none: list[Operation] = []
+    def __init__(self, events):
+        self.maker, self.replacer, self.at_none = {}, {}, []
+        self.looks = collections.defaultdict(list)
         events = list(events)
         for it in events:
             if it.makes_change:
@@ -137,7 +134,7 @@ class _Records:
         for it in events:
             self._judge(it)
 
-    def _note_change(self, it: Operation) -> None:
+    def _note_change(self, it):
         for record, known, word in (
             (it.after, self.maker, "put"),
             (it.before, self.replacer, "replaced"),
@@ -146,7 +143,7 @@ class _Records:
             if other is not it:
                 raise _Conflict(f"{other.id} and {it.id} both {word} {record}")
 
-    def _judge(self, it: Operation) -> None:
+    def _judge(self, it):
         """Refuses a reply that isn't that of the whole operation at the record."""
         record, by = it.before or "no record", self.replacer.get(it.before or "")
         if it.kind == "end" and by is not None:
@@ -160,7 +157,7 @@ class _Records:
             put = it.after or "no record"
             raise _Conflict(f"{it.id} was answered {it.reply}, and put {put}")
 
-    def spans(self) -> list[_Span]:
+    def spans(self):
         """The spans of the chains, and of what was done where no record stood."""
         records = self.maker.keys() | self.replacer.keys() | self.looks.keys()
         spans, walked = [], 0
@@ -174,13 +171,13 @@ class _Records:
             raise _Conflict("records replaced each other in a ring")
         return spans + [_Span(it.answered, it.called, it.id) for it in self.at_none]
 
-    def _walk(self, record: str, maker: Optional[Operation]) -> tuple[_Span, int]:
+    def _walk(self, record, maker):
         """A chain's span and number of records, if the earliest moments are in time."""
         moment = latest = -math.inf if maker is None else maker.called
         first = math.inf if maker is None else maker.answered
         late = maker
         start, length = record, 0
-        current: Record = record
+        current = record
         while current is not None:
             length += 1
             by = self.replacer.get(current)
@@ -198,7 +195,7 @@ class _Records:
         return _Span(first, latest, f"the chain from {start}"), length
 
 
-def _one_after_another(spans: list[_Span]) -> None:
+def _one_after_another(spans):
     """Refuses two spans of which neither can come before the other.
 
     If each two have an order, that of their middles is one of all.

@@ -1,7 +1,5 @@
 """What is done to a database, and by how many."""
 
-from __future__ import annotations
-
 import asyncio
 import dataclasses
 import functools
@@ -12,16 +10,12 @@ import sys
 import tempfile
 import time
 from collections.abc import Callable, Mapping
-from multiprocessing.process import BaseProcess
 from typing import Any, Optional
 
-from rigzumal.accounts._accounts import Accounts
-from rigzumal.accounts.types import StoreFault
+from rigzumal.accounts import Accounts, PerThread, StoreFault
 from rigzumal.accounts.database import Database
-from rigzumal.accounts.dialects import Dialect
 from rigzumal.accounts.types import Kind, Request
-from rigzumal.accounts.pools import PerThread
-from torture import history, logs
+from torture import logs
 from torture._worker import LOW, Worker, hasher
 
 MIX = {
@@ -56,7 +50,7 @@ class Torture:
     settings: tuple[str, ...] = ()  # SQL for each blocking connection to begin with
     killed: int = 0  # how many processes were killed
 
-    def run(self) -> dict[Any, history.Account]:
+    def run(self):
         """Runs it, and returns what was logged.
 
         Raises:
@@ -73,31 +67,31 @@ class Torture:
             raise StoreFault(f"{faults} processes ended by an exception")
         return logs.read(map(str, self.folder.glob("log-*")))
 
-    def drop(self) -> None:
+    def drop(self):
         """Drops the table."""
         conn = Database(self.end_url or self.url).connect()
         conn.cursor().execute(f"DROP TABLE {self.dialect().table}")
         conn.close()
 
-    def dialect(self) -> Dialect:
+    def dialect(self):
         """A dialect for the table, of whatever engine is there."""
         return self._kind(self.table, "name", "record", str)
 
     @functools.cached_property
-    def _kind(self) -> type[Dialect]:
+    def _kind(self):
         return Database(self.url).dialect_kind()
 
-    def made(self, kind: Any, pool: Any, memory: int, replica: Any = None) -> Any:
+    def made(self, kind, pool, memory, replica=None):
         """Accounts of a process or of a task."""
         given = {"patience": self.patience, "confirm": self.confirm, "tries": 50}
         return kind(pool, self.dialect(), hasher(memory), replica=replica, **given)
 
-    def is_awaited(self, number: int) -> bool:
+    def is_awaited(self, number):
         """Whether a process is one of asyncio: every fourth one, on PostgreSQL."""
         is_postgres = self.url.startswith("postgres")
         return is_postgres and self.tasks > 0 and number % 4 == 3
 
-    def _fill(self, names: list[str], top: logs.Log) -> None:
+    def _fill(self, names, top):
         conn = Database(self.url).connect()
         if self.url.startswith("sqlite"):
             conn.execute("PRAGMA journal_mode = WAL")
@@ -111,14 +105,14 @@ class Torture:
             top.write("seed", key=name, record=record, password="one", costs=LOW)
         conn.close()
 
-    def _read_ends(self, names: list[str], top: logs.Log) -> None:
+    def _read_ends(self, names, top):
         pool = PerThread(Database(self.end_url or self.url).connect)
         accounts = self.made(Accounts, pool, LOW)
         for name in names:
             record = accounts.begin(Request(Kind.VERIFY, name)).copy
             top.write("end", key=name, time=time.monotonic_ns(), record=record)
 
-    def _load(self, names: list[str]) -> int:
+    def _load(self, names):
         """Runs the processes; returns how many ended by an exception.
 
         If they are killed, the first of them is so at its first change.
@@ -146,10 +140,10 @@ class Torture:
                     faults += 1
         return faults
 
-    def _start(self, number: int, names: list[str], end: float, risk: float) -> BaseProcess:
+    def _start(self, number, names, end, risk):
         """A process by fork, so that it begins at once; no connection is open here."""
 
-        def work() -> None:
+        def work():
             asyncio.run(Worker(self, number, risk).work(names, end))
 
         process = multiprocessing.get_context("fork").Process(target=work)

@@ -1,7 +1,5 @@
 """One process of a torture: what it asks of accounts whose operations are logged."""
 
-from __future__ import annotations
-
 import asyncio
 import importlib
 import inspect
@@ -9,55 +7,48 @@ import os
 import random
 import sys
 import time
-from collections.abc import Iterator
 from contextlib import contextmanager
-from typing import TYPE_CHECKING, Any, Optional, Union
 
-from rigzumal._hashers import PasswordHasher
-from rigzumal.accounts._accounts import Accounts, AsyncAccounts
+from rigzumal import PasswordHasher
+from rigzumal.accounts import Accounts, AccountsError, AsyncAccounts, OutcomeUnknown, PerThread
+from rigzumal.accounts import Reply, Unavailable
 from rigzumal.accounts._connections import LOGGER
 from rigzumal.accounts._operations import Operations
-from rigzumal.accounts._session import Hook, Session, run
-from rigzumal.accounts.types import AccountsError, Answer, Kind, OutcomeUnknown, Reply
-from rigzumal.accounts.types import Request, Unavailable, Worked
+from rigzumal.accounts._session import Session, run
 from rigzumal.accounts.database import Database
 from rigzumal.accounts.dialects._dialect import Verdict, is_of_driver
-from rigzumal.accounts.pools import PerThread, PerUse
+from rigzumal.accounts.pools import PerUse
+from rigzumal.accounts.types import Answer, Kind, Request
 from torture.logs import Log
-
-if TYPE_CHECKING:
-    from torture._torture import Torture
 
 LOW, HIGH = 64, 72  # KiB of the two costs between which upgrades go
 PASSWORDS = ("one", "two")
 PATIENT, HASTY = 60.0, 0.02  # seconds after which a task of asyncio is cancelled
 
 
-def hasher(memory: int) -> PasswordHasher:
+def hasher(memory):
     """A hasher that costs next to nothing; memory is in KiB."""
     return PasswordHasher(time_cost=1, memory_cost=memory, parallelism=1)
 
 
-async def done(said: Any) -> Any:
+async def done(said):
     """What was said, or is once it was awaited."""
     return await said if inspect.isawaitable(said) else said
 
 
-class Logged(Operations[Any]):
-    """Operations that are written down."""
+class Logged(Operations):
+    """Operations that are written down: in `log`, with `memory` as the costs of new records;
+    `last` is what was answered last."""
 
-    log: Log
-    memory: int  # the costs of new records
-    last: Answer  # what was answered last
     _name = ""
 
-    def _before_commit(self, worked: Worked) -> None:
+    def _before_commit(self, worked):
         self.log.tried(self._name, worked)
 
     @contextmanager
-    def call(self, request: Request) -> Iterator[list[Answer]]:
+    def call(self, request):
         """Logs a call, and what is put into the list within as its answer."""
-        said: list[Answer] = []
+        said = []
         name = self._name = self.log.begin(request, self.memory)
         try:
             yield said
@@ -67,9 +58,7 @@ class Logged(Operations[Any]):
             raise
         self.log.answered(name, said[0])
 
-    async def _perform(
-        self, request: Request, also: Hook = None, patience: Optional[float] = None
-    ) -> Answer:
+    async def _perform(self, request, also=None, patience=None):
         with self.call(request) as said:
             said.append(await super()._perform(request, also, patience))
         self.last = said[0]
@@ -84,15 +73,11 @@ class LoggedAsyncAccounts(Logged, AsyncAccounts):
     """For asyncio."""
 
 
-AnyAccounts = Union[LoggedAccounts, LoggedAsyncAccounts]
-
-
 class Worker:
     """One process of it."""
 
-    def __init__(self, torture: Torture, number: int, risk: float) -> None:
+    def __init__(self, torture, number, risk):
         self.torture = torture
-        assert torture.folder is not None
         LOGGER.disabled = True  # its warnings are what a torture is made of
         name = f"{number}-{os.getpid()}"
         self.log = Log(torture.folder / f"log-{name}", name, risk)
@@ -102,11 +87,11 @@ class Worker:
         if torture.replica and not self.is_awaited:
             self.replica = PerThread(Database(torture.replica, number).connect)
 
-    async def work(self, names: list[str], end: float) -> None:
+    async def work(self, names, end):
         count = self.torture.tasks if self.is_awaited else 1
         await asyncio.gather(*(self._task(names, end) for _ in range(count)))
 
-    async def _task(self, names: list[str], end: float) -> None:
+    async def _task(self, names, end):
         rng = random.Random(os.urandom(8))
         accounts = {memory: self._accounts(memory) for memory in (LOW, HIGH)}
         kinds, weights = zip(*self.torture.mix.items())
@@ -129,7 +114,7 @@ class Worker:
 
     # ---- the ways of doing an operation
 
-    async def _login(self, accounts: AnyAccounts, request: Request) -> None:
+    async def _login(self, accounts, request):
         """Logged as an upgrade, perhaps a verify after it, and what its caller is told: as
         of a verify, at the record which it leaves."""
         with accounts.call(request) as said:
@@ -137,25 +122,25 @@ class Worker:
             stands = accounts.last.after
             said.append(Answer(reply, stands, stands))
 
-    async def _whole(self, accounts: AnyAccounts, request: Request) -> None:
+    async def _whole(self, accounts, request):
         await done(accounts.perform(request))
 
-    async def _also(self, accounts: AnyAccounts, request: Request) -> None:
+    async def _also(self, accounts, request):
         """With a statement of its own in the transaction."""
         await done(accounts.perform(request, also=_looks))
 
-    async def _parts(self, accounts: AnyAccounts, request: Request) -> None:
+    async def _parts(self, accounts, request):
         with accounts.call(request) as said:
             worked = await self._worked(accounts, request)
             said.append(await done(accounts.commit(worked)))
 
-    async def _within(self, accounts: AnyAccounts, request: Request) -> None:
+    async def _within(self, accounts, request):
         """In a transaction of the caller's."""
         dialect, name = accounts._dialect, accounts._table.name
 
-        async def job(session: Session) -> Answer:
+        async def job(session):
             await dialect.start(session)
-            answer: Answer = await done(accounts.commit_in(session.conn, worked))
+            answer = await done(accounts.commit_in(session.conn, worked))
             if answer.reply is Reply.CHANGED:
                 await dialect.undo(session)
                 return answer
@@ -178,37 +163,36 @@ class Worker:
                     raise
                 raise Unavailable(name(error)) from error
 
-    async def _worked(self, accounts: AnyAccounts, request: Request) -> Worked:
+    async def _worked(self, accounts, request):
         ticket = await done(accounts.begin(request))
-        worked: Worked = await done(accounts.work(ticket))
-        return worked
+        return await done(accounts.work(ticket))
 
     # ---- what it asks
 
-    def _accounts(self, memory: int) -> AnyAccounts:
+    def _accounts(self, memory):
         kind, pool = (
             (LoggedAsyncAccounts, PerUse(self._connect_awaited))
             if self.is_awaited
             else (LoggedAccounts, PerThread(self._connect))
         )
-        made: AnyAccounts = self.torture.made(kind, pool, memory, self.replica)
+        made = self.torture.made(kind, pool, memory, self.replica)
         made.log, made.memory = self.log, memory
         if self.torture.alter is not None:
             self.torture.alter(made)
         return made
 
-    def _connect(self) -> Any:
+    def _connect(self):
         conn = self.database.connect()
         for sql in self.torture.settings:
             run(Session(conn).execute(sql))
         return conn
 
-    async def _connect_awaited(self) -> Any:
+    async def _connect_awaited(self):
         psycopg = importlib.import_module("psycopg")
         return await psycopg.AsyncConnection.connect(self.torture.url, autocommit=True)
 
 
-def _looks(conn: Any, reply: Reply) -> Any:
+def _looks(conn, reply):
     """A statement of a caller's own: over asyncio it is awaited."""
     cursor = conn.cursor()
     said = cursor.execute("SELECT 1")

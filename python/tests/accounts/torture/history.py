@@ -22,14 +22,10 @@ was answered wants it: a record that somebody was told of had been put, and one 
 gone had been replaced.
 """
 
-from __future__ import annotations
-
 import collections
-from collections.abc import Iterable, Mapping, Sequence
 from dataclasses import dataclass, field
-from typing import Any, Optional
 
-from torture._order import Operation, Record, conflict, possible
+from torture._order import Operation, conflict, possible
 
 NO_EFFECT = frozenset({"failed", "changed"})
 
@@ -50,13 +46,13 @@ class Illegal(Exception):
     its operations the rest has one.
     """
 
-    def __init__(self, reason: str, part: Sequence[Operation]) -> None:
+    def __init__(self, reason, part):
         self.reason, self.part = reason, tuple(part)
         lines = [reason, *(f"  {operation}" for operation in self.part)]
         super().__init__("\n".join(lines))
 
 
-def verdict(accounts: Mapping[Any, Account]) -> Optional[Illegal]:
+def verdict(accounts):
     """What is illegal, with the name of the first account of which something is."""
     for key, account in accounts.items():
         try:
@@ -66,7 +62,7 @@ def verdict(accounts: Mapping[Any, Account]) -> Optional[Illegal]:
     return None
 
 
-def check(account: Account) -> None:
+def check(account):
     """Raises Illegal unless the account's history is legal; notes which lost changes were
     made."""
     account.operations.sort(key=lambda operation: operation.called)
@@ -81,11 +77,11 @@ def check(account: Account) -> None:
     raise Illegal(conflict(part) or reason, part)
 
 
-def _effective(operations: Iterable[Operation]) -> list[Operation]:
+def _effective(operations):
     return [it for it in operations if it.reply and it.reply not in NO_EFFECT]
 
 
-def _settle(account: Account) -> None:
+def _settle(account):
     """Notes which operations without an answer took place, by their last attempts.
 
     A record that an answer names was put, and so was the one that it replaced. A record
@@ -110,20 +106,18 @@ def _settle(account: Account) -> None:
 class _Lost:
     """Operations that had no answer, by what their last attempts were to put."""
 
-    def __init__(self, operations: Iterable[Operation]) -> None:
-        self.putting: dict[Record, Operation] = {}
-        self._at: dict[Record, list[Operation]] = collections.defaultdict(list)
+    def __init__(self, operations):
+        self.putting, self._at = {}, collections.defaultdict(list)
         for it in operations:
             if not it.reply and it.attempts:
                 self._at[it.attempts[-1].before].append(it)
                 if it.attempts[-1].after is not None:
                     self.putting[it.attempts[-1].after] = it
 
-    def way_out(self, record: Record, maker: Operation) -> list[Operation]:
+    def way_out(self, record, maker):
         """What led from a record to none; of several ways the one whose last call is first,
         since nobody was told of what stood between."""
-        found: list[list[Operation]] = []
-        ways = [(record, maker, list[Operation]())]
+        found, ways = [], [(record, maker, [])]
         while ways:
             at, maker, way = ways.pop()
             for it in self._at.get(at, ()):
@@ -138,14 +132,14 @@ class _Lost:
         return min(found, key=lambda way: max(it.called for it in way), default=[])
 
 
-def _unreplaced(account: Account) -> dict[Record, Operation]:
+def _unreplaced(account):
     """The records that are gone though nothing replaced them, with their makers."""
     changes = [it for it in (account.seed, *account.operations) if it.makes_change]
     replaced = {it.before for it in changes} | {account.end.before}
     return {it.after: it for it in changes if it.after and it.after not in replaced}
 
 
-def _complete(account: Account, events: Sequence[Operation]) -> None:
+def _complete(account, events):
     """Refuses a record that nobody put, and one that is gone and wasn't replaced."""
     put = {it.after for it in events if it.makes_change}
     for it in events:
@@ -158,7 +152,7 @@ def _complete(account: Account, events: Sequence[Operation]) -> None:
         )
 
 
-def _shrunk(events: Sequence[Operation]) -> list[Operation]:
+def _shrunk(events):
     """A part that has no legal order, and has one without any one of its operations."""
     part, size = list(events), max(len(events) // 2, 1)
     while size:

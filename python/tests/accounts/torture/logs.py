@@ -16,18 +16,14 @@ may be "unknown" (none came) or "failed" (surely nothing was done). Costs are nu
 an upgrade is answered "kept" unless its costs are above the record's.
 """
 
-from __future__ import annotations
-
 import json
 import math
 import os
 import random
 import signal
 import time
-from collections.abc import Iterable, Iterator
-from typing import Any
 
-from rigzumal.accounts.types import NO_ROW, Answer, Request, Worked
+from rigzumal.accounts.types import NO_ROW
 from torture._order import Attempt, Operation
 from torture.history import Account, verdict
 
@@ -39,21 +35,21 @@ class Log:
     COMMIT, and between a COMMIT and its answer.
     """
 
-    def __init__(self, path: Any, name: str = "", risk: float = 0.0) -> None:
+    def __init__(self, path, name="", risk=0.0):
         self._file = os.open(path, os.O_WRONLY | os.O_CREAT | os.O_APPEND, 0o600)
         self._name, self._count, self.risk = name, 0, risk
 
-    def begin(self, request: Request, memory: int) -> str:
+    def begin(self, request, memory):
         """Writes a call; the answer is its name."""
         self._count += 1
         name = f"{self._name}-{self._count}"
         words = ("password", "new_password")
-        said: dict[str, Any] = {it: getattr(request, it).decode() for it in words}
+        said = {it: getattr(request, it).decode() for it in words}
         said |= {"kind": request.kind.value, "key": request.key, "costs": memory}
         self.write("call", id=name, time=time.monotonic_ns(), **said)
         return name
 
-    def tried(self, name: str, worked: Worked) -> None:
+    def tried(self, name, worked):
         """Writes that a change is about to be committed."""
         before, after = worked.ticket.copy, worked.after
         if before != after:
@@ -61,7 +57,7 @@ class Log:
             self.write("try", id=name, **said)
             self._dare()
 
-    def answered(self, name: str, answer: Answer) -> None:
+    def answered(self, name, answer):
         """Writes what was answered, at which record and with which after it."""
         if answer.reply.makes_change:
             self._dare()
@@ -70,19 +66,19 @@ class Log:
             records = dict.fromkeys(records)
         self.end(name, answer.reply.value, **records)
 
-    def end(self, name: str, reply: str, **said: object) -> None:
+    def end(self, name, reply, **said):
         self.write("answer", id=name, time=time.monotonic_ns(), reply=reply, **said)
 
-    def write(self, event: str, **said: object) -> None:
+    def write(self, event, **said):
         """Writes a line."""
         os.write(self._file, (json.dumps({"event": event, **said}) + "\n").encode())
 
-    def _dare(self) -> None:
+    def _dare(self):
         if random.random() < self.risk:
             os.kill(os.getpid(), signal.SIGKILL)
 
 
-def read(paths: Iterable[str]) -> dict[Any, Account]:
+def read(paths):
     """The accounts' histories out of the logs of all processes.
 
     The last line of a file may be unfinished, as by a killed process; of any other that
@@ -94,11 +90,8 @@ def read(paths: Iterable[str]) -> dict[Any, Account]:
         raise ValueError(f"a line is none of a log: {fault}") from None
 
 
-def _read(lines: Iterable[dict[str, Any]]) -> dict[Any, Account]:
-    seeds: dict[Any, Operation] = {}
-    ends: dict[Any, Operation] = {}
-    operations: dict[str, tuple[Any, Operation]] = {}
-    answers = []
+def _read(lines):
+    seeds, ends, operations, answers = {}, {}, {}, []
     for line in lines:
         event = line["event"]
         if event == "seed":
@@ -124,19 +117,19 @@ def _read(lines: Iterable[dict[str, Any]]) -> dict[Any, Account]:
     return accounts
 
 
-def _lines(path: str) -> Iterator[dict[str, Any]]:
+def _lines(path):
     with open(path, "rb") as file:
         for line in file:
             if line.endswith(b"\n"):
                 yield json.loads(line)
 
 
-def _called(line: dict[str, Any]) -> Operation:
+def _called(line):
     given = line["id"], line["kind"], line["password"], line["time"]
     return Operation(*given, line.get("new_password"), line.get("costs") or 0)
 
 
-def _note(operation: Operation, line: dict[str, Any]) -> None:
+def _note(operation, line):
     if line["event"] == "try":
         operation.attempts.append(Attempt(line["before"], line["after"], line["reply"]))
     elif line["reply"] != "unknown":
@@ -144,7 +137,7 @@ def _note(operation: Operation, line: dict[str, Any]) -> None:
         operation.before, operation.after = line.get("before"), line.get("after")
 
 
-def summary(accounts: Iterable[Account]) -> str:
+def summary(accounts):
     """How much was judged, in one line."""
     every = [it for account in accounts for it in account.operations]
     lost = [it for it in every if it.answered == math.inf or it.found_out]
@@ -160,7 +153,7 @@ def summary(accounts: Iterable[Account]) -> str:
     return ", ".join(f"{count} {name}" for name, count in counts.items())
 
 
-def is_legal(accounts: dict[Any, Account], more: str = "") -> bool:
+def is_legal(accounts, more=""):
     """Prints the verdict, and how much was judged."""
     found = verdict(accounts)
     legal = f"legal: {summary(accounts.values())}{more}"
