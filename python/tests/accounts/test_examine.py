@@ -5,7 +5,7 @@ from unittest import mock
 
 import engines
 import support
-from support import CHECK_FAILED, LOW
+from support import CHECK_FAILED, LOW, each
 from rigzumal.accounts import PerThread, Reply, StoreFault
 from rigzumal.accounts.types import Kind
 
@@ -99,43 +99,43 @@ class OnSqlite(Said, engines.OnSqlite, support.Base):
             self.assert_faults(["trigger tr"], accounts)
             self.assertIs(accounts.verify("ann", "one"), Reply.YES)
 
-    def test_what_is_an_error_and_what_a_warning(self):
+    @each(
+        ("name TEXT, record TEXT", "key-not-unique", True),
+        ("name INTEGER PRIMARY KEY, record TEXT", "key-type", True),
+        ("login TEXT PRIMARY KEY, record TEXT", "no-column", True),
+        ("name TEXT PRIMARY KEY, record TEXT CHECK (record = 'x')", "no-update", True),
+        ("name TEXT PRIMARY KEY, record TEXT NOT NULL", "record-not-null", None),
+        ("name TEXT COLLATE NOCASE PRIMARY KEY, record TEXT", "names-folded", False),
+        ("name TEXT COLLATE RTRIM PRIMARY KEY, record TEXT", "names-folded", True),
+    )
+    def test_what_is_an_error_and_what_a_warning(self, columns, code, is_error):
         """Each by its code; samples stop at errors alone."""
-        for columns, code, is_error in (
-            ("name TEXT, record TEXT", "key-not-unique", True),
-            ("name INTEGER PRIMARY KEY, record TEXT", "key-type", True),
-            ("login TEXT PRIMARY KEY, record TEXT", "no-column", True),
-            ("name TEXT PRIMARY KEY, record TEXT CHECK (record = 'x')", "no-update", True),
-            ("name TEXT PRIMARY KEY, record TEXT NOT NULL", "record-not-null", None),
-            ("name TEXT COLLATE NOCASE PRIMARY KEY, record TEXT", "names-folded", False),
-            ("name TEXT COLLATE RTRIM PRIMARY KEY, record TEXT", "names-folded", True),
-        ):
-            self.execute("DROP TABLE users")
-            self.execute(self.table_of.format(columns))
-            (fault,) = self.accounts().examine()
-            (of_remove,) = self.accounts().examine(Kind.REMOVE)
-            self.assertEqual(of_remove.is_error, is_error in (True, None))
-            self.assertEqual((fault.code, fault.is_error), (code, bool(is_error)), columns)
-            self.assertEqual(fault.severity.value, "error" if is_error else "warning")
-            self.assertEqual(str(fault), fault.text)
+        self.execute("DROP TABLE users")
+        self.execute(self.table_of.format(columns))
+        (fault,) = self.accounts().examine()
+        (of_remove,) = self.accounts().examine(Kind.REMOVE)
+        self.assertEqual(of_remove.is_error, is_error in (True, None))
+        self.assertEqual((fault.code, fault.is_error), (code, bool(is_error)))
+        self.assertEqual(fault.severity.value, "error" if is_error else "warning")
+        self.assertEqual(str(fault), fault.text)
 
-    def test_types_of_keys(self):
-        for column, kind, words in (
-            ("TEXT", str, ""),
-            ("TEXT", int, "name is TEXT, and keys are int"),
-            ("VARCHAR(9)", bytes, ""),
-            ("BIGINT", int, ""),
-            ("INTEGER", str, "name is INTEGER, and keys are str"),
-            ("DECIMAL(9)", str, "name is DECIMAL(9), and keys are str"),
-            ("DECIMAL(9)", int, ""),
-            ("BLOB", str, ""),
-            ("BLOB", int, ""),
-            ("", str, ""),
-            ("TEXT COLLATE NOCASE", bytes, ""),
-        ):
-            self.table(key=column)
-            said = self.said(self.accounts(dialect=self.another_dialect(key_type=kind)))
-            self.assertEqual(said[: len(words)] if words else said, words, column)
+    @each(
+        ("TEXT", str, ""),
+        ("TEXT", int, "name is TEXT, and keys are int"),
+        ("VARCHAR(9)", bytes, ""),
+        ("BIGINT", int, ""),
+        ("INTEGER", str, "name is INTEGER, and keys are str"),
+        ("DECIMAL(9)", str, "name is DECIMAL(9), and keys are str"),
+        ("DECIMAL(9)", int, ""),
+        ("BLOB", str, ""),
+        ("BLOB", int, ""),
+        ("", str, ""),
+        ("TEXT COLLATE NOCASE", bytes, ""),
+    )
+    def test_types_of_keys(self, column, kind, words):
+        self.table(key=column)
+        said = self.said(self.accounts(dialect=self.another_dialect(key_type=kind)))
+        self.assertEqual(said[: len(words)] if words else said, words)
 
     def test_settings(self):
         power, busy = "not-durable: synchronous is below FULL", "busy-timeout: the busy timeout"
@@ -178,22 +178,21 @@ class OnSqlite(Said, engines.OnSqlite, support.Base):
 class OnServer(Said):
     """What both servers' tables have in common."""
 
-    def test_roles(self):
-        table = "name VARCHAR(150) PRIMARY KEY, record VARCHAR(512)"
-        for more, grants, *words in (
-            ("", "SELECT", PUT),
-            ("", "SELECT, INSERT", PUT),
-            ("", "SELECT, INSERT, UPDATE"),
-            ("", "SELECT, UPDATE"),
-            (", mail INT NOT NULL", "SELECT", PUT),
-            (", mail INT NOT NULL", "SELECT, INSERT, UPDATE"),
-        ):
-            with self.subTest(more=more, grants=grants):
-                self.execute("DROP TABLE IF EXISTS users")
-                self.execute(self.table_of.format(table + more))
-                mail = ", 1" if more else ""
-                self.execute(f"INSERT INTO users VALUES ('ann', NULL{mail})")
-                self.assert_faults(words, self.accounts(connect=self.of_role(grants)))
+    @each(
+        ("", "SELECT", PUT),
+        ("", "SELECT, INSERT", PUT),
+        ("", "SELECT, INSERT, UPDATE"),
+        ("", "SELECT, UPDATE"),
+        (", mail INT NOT NULL", "SELECT", PUT),
+        (", mail INT NOT NULL", "SELECT, INSERT, UPDATE"),
+    )
+    def test_roles(self, row):
+        more, grants, *words = row
+        self.execute("DROP TABLE IF EXISTS users")
+        table = f"name VARCHAR(150) PRIMARY KEY, record VARCHAR(512){more}"
+        self.execute(self.table_of.format(table))
+        self.execute(f"INSERT INTO users VALUES ('ann', NULL{', 1' if more else ''})")
+        self.assert_faults(words, self.accounts(connect=self.of_role(grants)))
 
     def test_names_of_tables_and_columns(self):
         """As a statement finds the table, so it is examined."""

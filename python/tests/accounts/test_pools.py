@@ -12,8 +12,7 @@ from unittest import mock
 
 import engines
 import of_engines
-from engines import Awaited
-from support import LOW, Awaiting, Base, module
+from support import LOW, Awaiting, Base, each, module
 from rigzumal.accounts import Accounts, AsyncAccounts, PerThread, Reply, StoreFault, Unavailable
 from rigzumal.accounts.pools import PerUse
 
@@ -102,37 +101,34 @@ class OfTasks(OfThreads, engines.OnSqliteTasks):
 class Endings:
     """What a pool does at its end changes nothing of what its caller is told."""
 
-    def each(self):
-        for self.way in (*WAYS, raises_a_base_exception):
-            with self.subTest(pool=self.way.__name__):
-                self.give("old")
-                yield Alarm if self.way is raises_a_base_exception else StoreFault
-
-    def test_a_fault_is_said(self):
+    @each(*WAYS, raises_a_base_exception)
+    def test_a_fault_is_said(self, way):
         """What a job raised is what its caller is told, and an interrupt above it."""
-        for wanted in self.each():
-            accounts = self.accounts()
-            self.conn.execute("ALTER TABLE users RENAME TO gone")
-            self.assertRaises(wanted, accounts.verify, "ann", "old")
-            self.assertEqual(self.pool.uses, 1)
-            self.conn.execute("ALTER TABLE gone RENAME TO users")
+        self.way = way
+        accounts = self.accounts()
+        self.conn.execute("ALTER TABLE users RENAME TO gone")
+        wanted = Alarm if way is raises_a_base_exception else StoreFault
+        self.assertRaises(wanted, accounts.verify, "ann", "one")
+        self.assertEqual(self.pool.uses, 1)
+        self.conn.execute("ALTER TABLE gone RENAME TO users")
 
-    def test_an_interrupt_is_no_lost_connection(self):
+    @each(*WAYS, raises_a_base_exception)
+    def test_an_interrupt_is_no_lost_connection(self, way):
         """It comes through, whatever the pool makes of it; nothing is sent again."""
-        for _ in self.each():
-            accounts = self.accounts()
-            accounts._table.before_commit = interrupted
-            self.assertRaises(Alarm, accounts.change, "ann", "old", "new")
-            self.assertEqual(self.pool.uses, 2)
-            self.assertTrue(self.is_right("old"))
+        self.way = way
+        accounts = self.accounts()
+        accounts._table.before_commit = interrupted
+        self.assertRaises(Alarm, accounts.change, "ann", "one", "two")
+        self.assertEqual(self.pool.uses, 2)
+        self.assertTrue(self.is_right("one"))
 
-    def test_an_interrupt_after_a_lost_answer(self):
+    @each((True, "one"), (False, "two"))
+    def test_an_interrupt_after_a_lost_answer(self, before, right):
         """The change is settled by nobody."""
         self.way = raises_a_base_exception
-        for before in (True, False):
-            self.give("old")
-            self.assertRaises(Alarm, self.losing(before).change, "ann", "old", "new")
-            self.assertTrue(self.is_right("old" if before else "new"))
+        self.give("one")
+        self.assertRaises(Alarm, self.losing(before).change, "ann", "one", "two")
+        self.assertTrue(self.is_right(right))
 
     def test_a_pool_that_gives_nothing(self):
         """What it raises before a job was begun comes through, and nothing was done."""
@@ -172,13 +168,12 @@ class Cancellations(Base):
             waiting = asyncio.Event()
             pool = functools.partial(pool_of, waiting)
             accounts = AsyncAccounts(pool, self.dialect, LOW, patience=0.5)
-            task = asyncio.create_task(accounts.change("ann", "old", "new"))
+            task = asyncio.create_task(accounts.change("ann", "one", "two"))
             await asyncio.wait_for(waiting.wait(), 60)
             task.cancel()
             with self.assertRaises(asyncio.CancelledError):
                 await task
 
-        self.give("old")
         asyncio.run(act())
 
     def test_at_the_pools_way_back(self):
@@ -216,7 +211,7 @@ class Cancellations(Base):
 
         self.cancelled(pool)
         self.assertEqual(len(uses), 2)
-        self.assertTrue(self.is_right("old"))
+        self.assertTrue(self.is_right("one"))
 
 
 class Openings(Base):
@@ -261,10 +256,13 @@ class Openings(Base):
                 for _ in range(10):
                     await asyncio.sleep(0)
                 self.assertEqual((len(opened), opened), (len(closed), closed), place)
+            with self.assertRaises(StoreFault):
+                async with pool():
+                    raise StoreFault
 
         for _ in range(2):
             asyncio.run(act())
-        self.assertEqual(len(closed), 8)
+        self.assertEqual((len(closed), opened), (10, closed))
 
     def test_few_are_opened_at_a_time(self):
         """Each holds the loop up for its part, and what else is ready waits for all."""
@@ -357,19 +355,6 @@ class Shut(Base):
             self.assertEqual(len(opened), count)
 
 
-class OpenTransactions(Base):
-    """A pool that keeps its connections finds none of ours open."""
-
-    def test_what_is_left_open_is_said(self):
-        """After an interrupt it is the pool that rolls back."""
-        accounts = self.kept(conn=self.conn)
-        accounts._table.before_commit = interrupted
-        self.assertRaises(Alarm, accounts.change, "ann", "one", "two")
-        self.assertTrue(self.conn.in_transaction)
-        with self.assertRaisesRegex(StoreFault, "pool closes what it gave out"):
-            accounts.verify("ann", "one")
-
-
 class OnePerThread(Base):
     def forked(self, act):
         """The status of a child that does this."""
@@ -427,19 +412,3 @@ class OnePerThread(Base):
             raise KeyError
         self.assertRaises(sqlite3.ProgrammingError, conn.execute, "SELECT 1")
         pool.close()
-
-    def test_a_connection_for_each_use_is_closed(self):
-        """Of a task, after a fault too."""
-        made = []
-
-        async def connect():
-            made.append(self.connect())
-            return Awaiting(made[-1])
-
-        accounts = Awaited(AsyncAccounts(PerUse(connect), self.dialect, LOW))
-        self.assertIs(accounts.verify("ann", "one"), Reply.YES)
-        self.conn.execute("DROP TABLE users")
-        self.assertRaises(StoreFault, accounts.verify, "ann", "one")
-        self.assertEqual(len(made), 2)
-        for conn in made:
-            self.assertRaises(sqlite3.ProgrammingError, conn.execute, "SELECT 1")
