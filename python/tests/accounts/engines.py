@@ -14,7 +14,7 @@ from rigzumal.accounts.pools import PerUse
 DISK = sqlite3.OperationalError("disk I/O error")
 DISK.sqlite_errorcode, DISK.sqlite_errorname = 10, "SQLITE_IOERR"
 NUMBERS = itertools.count()
-IGNORING = "CREATE TRIGGER tr BEFORE UPDATE ON users"
+BEFORE_UPDATE = "CREATE TRIGGER tr BEFORE UPDATE ON users"
 
 
 class OnSqlite:
@@ -35,7 +35,7 @@ class OnSqlite:
         "CREATE TRIGGER tr AFTER UPDATE ON users WHEN NEW.record LIKE '%m=%' BEGIN"
         " UPDATE users SET record = upper(NEW.record) WHERE name = NEW.name; END",
     )
-    ignoring = (f"{IGNORING} BEGIN SELECT RAISE(IGNORE); END",)
+    ignoring = (f"{BEFORE_UPDATE} BEGIN SELECT RAISE(IGNORE); END",)
     emptying = (
         "CREATE TRIGGER tr AFTER UPDATE ON users BEGIN"
         " UPDATE users SET record = NULL WHERE name = NEW.name; END",
@@ -77,6 +77,12 @@ class OnServer:
         return self.connect()
 
 
+def postgres_trigger(body, when=BEFORE_UPDATE):
+    """The statements that create a trigger of this body."""
+    function = "CREATE OR REPLACE FUNCTION made() RETURNS trigger LANGUAGE plpgsql"
+    return f"{function} AS 'BEGIN {body} END'", f"{when} FOR EACH ROW EXECUTE FUNCTION made()"
+
+
 class OnPostgres(OnServer):
     kind, dialect = servers.PostgresServer, Postgres("users", "name", "record")
     one, several, confirmed = "UPDATE", "BEGIN UPDATE COMMIT", "BEGIN UPDATE COMMIT"
@@ -93,21 +99,9 @@ class OnPostgres(OnServer):
     check_number = "23514"
     lock_timeout = "SET lock_timeout = '300ms'"
     statement_timeout = "SET statement_timeout = '200ms'"
-    shouting = (
-        "CREATE OR REPLACE FUNCTION shout() RETURNS trigger LANGUAGE plpgsql AS"
-        " 'BEGIN NEW.record = upper(NEW.record); RETURN NEW; END'",
-        f"{IGNORING} FOR EACH ROW EXECUTE FUNCTION shout()",
-    )
-    ignoring = (
-        "CREATE OR REPLACE FUNCTION nothing() RETURNS trigger LANGUAGE plpgsql AS"
-        " 'BEGIN RETURN NULL; END'",
-        f"{IGNORING} FOR EACH ROW EXECUTE FUNCTION nothing()",
-    )
-    emptying = (
-        "CREATE OR REPLACE FUNCTION empty() RETURNS trigger LANGUAGE plpgsql AS"
-        " 'BEGIN NEW.record = NULL; RETURN NEW; END'",
-        f"{IGNORING} FOR EACH ROW EXECUTE FUNCTION empty()",
-    )
+    shouting = postgres_trigger("NEW.record = upper(NEW.record); RETURN NEW;")
+    ignoring = postgres_trigger("RETURN NULL;")
+    emptying = postgres_trigger("NEW.record = NULL; RETURN NEW;")
     folding, changing = ("text COLLATE ci", "citext", "char(20)"), ("char(300)", "varchar(60)")
     modes = ("SELECT 1",)
 
@@ -166,8 +160,8 @@ class OnMariaDB(OnServer):
     check_number = "4025"
     lock_timeout = "SET innodb_lock_wait_timeout = 1"
     statement_timeout = "SET SESSION max_statement_time = 0.2"
-    shouting = (f"{IGNORING} FOR EACH ROW SET NEW.record = UPPER(NEW.record)",)
-    emptying = (f"{IGNORING} FOR EACH ROW SET NEW.record = NULL",)
+    shouting = (f"{BEFORE_UPDATE} FOR EACH ROW SET NEW.record = UPPER(NEW.record)",)
+    emptying = (f"{BEFORE_UPDATE} FOR EACH ROW SET NEW.record = NULL",)
     ignoring = ()
     folding = ("TEXT CHARACTER SET utf8mb4 COLLATE utf8mb4_general_ci",)
     changing = ("VARCHAR(60)", "VARCHAR(90)")

@@ -178,10 +178,7 @@ class Base(unittest.TestCase):
         return record
 
     def is_right(self, password, name="ann"):
-        try:
-            return self.low.verify(self.stands(name), password)
-        except VerifyMismatchError:
-            return False
+        return is_right(self.stands(name), password, self.low)
 
     def worked(self, accounts, kind, password, new=""):
         return accounts.work(accounts.begin(Request(kind, "ann", password, new)))
@@ -216,6 +213,14 @@ class Base(unittest.TestCase):
         self.assertNotIn(
             "$argon2", "".join(traceback.format_exception(type(error), error, error.__traceback__))
         )
+
+
+def is_right(record, password, hasher=LOW):
+    """Whether a record is one of this password, by itself."""
+    try:
+        return hasher.verify(record, password)
+    except VerifyMismatchError:
+        return False
 
 
 def called(accounts, text, **more):

@@ -405,10 +405,9 @@ class OnMariaDB(OnServer, engines.OnMariaDB, support.Base):
             with self.subTest(charset=charset, connection=connection):
                 self.assertIn(f"names outside of {lacking}", self.said(accounts))
                 for more in ({}, {"also": lambda conn, reply: None}):
-                    with support.counted() as hashes:
+                    with self.hashes(1):
                         reply = accounts.login("an\U0001f600", "x", **more)
                     self.assertIs(reply, Reply.NO_ACCOUNT)
-                    self.assertEqual(len(hashes), 1)
                 self.assertIs(accounts.reset("an\U0001f600", "x"), Reply.NO_ACCOUNT)
 
     def test_blanks_are_of_a_name(self):

@@ -13,7 +13,7 @@ import time
 import unittest
 from collections import Counter
 
-import support  # noqa: F401: finds the package
+from support import each
 from torture import _order, history, logs
 from torture._order import Attempt, Operation
 from torture.history import Account, Illegal
@@ -317,20 +317,18 @@ ILLEGAL = (
 
 
 class Said(unittest.TestCase):
-    def test_what_took_place(self):
-        for first, last, text, found_out in LEGAL:
-            with self.subTest(text):
-                of = account(first, last, text)
-                history.check(of)
-                self.assertEqual({it.id for it in of.operations if it.found_out}, set(found_out))
+    @each(*LEGAL)
+    def test_what_took_place(self, first, last, text, found_out):
+        of = account(first, last, text)
+        history.check(of)
+        self.assertEqual({it.id for it in of.operations if it.found_out}, set(found_out))
 
-    def test_what_shows_it(self):
-        for first, last, text, words, part in ILLEGAL:
-            with self.subTest(text[:80]):
-                with self.assertRaises(Illegal) as raised:
-                    history.check(account(first, last, text))
-                self.assertIn(words, str(raised.exception))
-                self.assertEqual([it.id for it in raised.exception.part], part.split())
+    @each(*ILLEGAL)
+    def test_what_shows_it(self, first, last, text, words, part):
+        with self.assertRaises(Illegal) as raised:
+            history.check(account(first, last, text))
+        self.assertIn(words, str(raised.exception))
+        self.assertEqual([it.id for it in raised.exception.part], part.split())
 
     def test_every_account_is_judged(self):
         good, bad = account("x", "x", ""), account("x", "y", "")

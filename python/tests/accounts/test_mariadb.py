@@ -1,14 +1,12 @@
 """What goes wrong on a real server of MariaDB, trap by trap."""
 
-import contextlib
-import io
 import tempfile
 from unittest import mock
 
 import engines
 import support
 import torture
-from support import LOW, Base, Scripted, run, sent
+from support import LOW, Base, Scripted, commanded, run
 from rigzumal.accounts import AsyncAccounts, MariaDB, Reply, StoreFault, cli
 from rigzumal.accounts._session import Result
 from rigzumal.accounts.dialects import mariadb
@@ -57,10 +55,9 @@ class OnMariaDB(engines.OnMariaDB, Base):
         """For its level; Python gives another the number of one that is gone: it is asked anew."""
         for _ in range(3):
             conn = self.connect()
-            with sent() as asked:
+            with self.statements("SHOW"):
                 for _ in range(2):
                     run(self.dialect.prepare(support.Session(conn)))
-            self.assertEqual(asked, ["SHOW"])
             conn.close()
             del conn
 
@@ -99,10 +96,9 @@ class OnMariaDB(engines.OnMariaDB, Base):
             file.write(f"{'n' * 300} {LOW.hash('x')}\n")
             file.flush()
             for words in (("add", "m" * 300), ("import", file.name)):
-                said, stdin = io.StringIO(), mock.Mock(buffer=io.BytesIO(b"pw"), isatty=lambda: 0)
-                with contextlib.redirect_stderr(said), mock.patch("sys.stdin", stdin):
-                    self.assertEqual(cli.main(["--database", self.server.url, *words]), 5)
-                self.assertIn("the server keeps another name", said.getvalue())
+                given = ("--database", self.server.url, *words)
+                said = commanded(cli.main, *given, given=b"pw", status=5)
+                self.assertIn("the server keeps another name", said)
                 self.assertEqual(self.execute("SELECT * FROM accounts"), [])
 
     def test_what_examine_says_of_a_session(self):
@@ -138,9 +134,8 @@ class OnMariaDB(engines.OnMariaDB, Base):
                 ("one", both),
                 ("two", both if is_again else f"SELECT {self.several}"),
             ):
-                with sent() as found:
-                    reply = accounts.change("ann", password, "two")
-                self.assertEqual((reply, " ".join(found)), (Reply.REPLACED, words))
+                with self.statements(words):
+                    self.assert_replies(f"change ann {password} two replaced", accounts)
             self.assertTrue(self.is_right("two"))
 
     def test_what_is_shown_early(self):
@@ -153,15 +148,14 @@ class OnMariaDB(engines.OnMariaDB, Base):
             ({"log_bin": "OFF", "wsrep_on": "ON"}, ()),
         ):
             self.assertEqual(tuple(map(str, mariadb.shown_early(seen))), words)
-        printed, early = io.StringIO(), (mariadb.error("shown-early", "early"),)
-        given = ["--database", self.server.url, "--table", "users"]
+        early = (mariadb.error("shown-early", "early"),)
+        given = ("--database", self.server.url, "--table", "users")
         with mock.patch.object(mariadb, "shown_early", return_value=early):
             self.assertEqual(self.accounts().examine(), [*early])
             self.assertEqual(self.accounts(confirm=True).examine(), [])
-            with contextlib.redirect_stdout(printed):
-                self.assertEqual(cli.main([*given, "examine"]), 5)
-                self.assertEqual(cli.main([*given, "--confirm", "examine"]), 0)
-        self.assertEqual(printed.getvalue(), "error: early\n")
+            said = commanded(cli.main, *given, "examine", status=5)
+            self.assertEqual(said, "error: early\n")
+            self.assertEqual(commanded(cli.main, *given, "--confirm", "examine"), "")
         for confirm in (False, True):
             tortured = torture.Torture(self.server.url, confirm=confirm)
             made = tortured.made(AsyncAccounts, self.no_connection, 64)

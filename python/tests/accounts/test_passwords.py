@@ -3,8 +3,8 @@
 import inspect
 import unicodedata
 
-from support import HIGH, LOW, Base, counted
-from rigzumal import VerifyMismatchError, opaque_string
+from support import HIGH, LOW, Base, is_right
+from rigzumal import opaque_string
 from rigzumal.accounts import Accounts, AsyncAccounts, Reply
 from rigzumal.accounts.types import Kind, Request
 
@@ -67,14 +67,14 @@ class Rules(Base):
                 made = setter(typed)
                 record = made if isinstance(made, str) else None
                 stand = [record, self.stands(), self.stands("ben")]
-                self.assertTrue(any(it and _is_right(it, COMPOSED) for it in stand))
+                self.assertTrue(any(it and is_right(it, COMPOSED) for it in stand))
         for kind in (Kind.VERIFY, Kind.UPGRADE, Kind.CHANGE, Kind.REMOVE):
             for typed in (APART, COMPOSED):
-                self.put(LOW.hash(COMPOSED))
+                self.give(COMPOSED)
                 new = "new" if kind is Kind.CHANGE else ""
                 reply = accounts.perform(Request(kind, "ann", typed, new)).reply
                 self.assertNotIn(reply, (Reply.NO, Reply.WRONG), kind)
-        self.put(LOW.hash(COMPOSED))
+        self.give(COMPOSED)
         dear = self.accounts(HIGH, prepare=opaque_string)
         self.assertIs(dear.login("ann", APART), Reply.YES)
         self.assertIs(dear.verify("ann", COMPOSED), Reply.YES)
@@ -104,10 +104,3 @@ class Rules(Base):
     def test_both_kinds_of_accounts_take_the_same(self):
         of = [{*inspect.signature(it).parameters} for it in (Accounts, AsyncAccounts)]
         self.assertEqual(of[0], of[1])
-
-
-def _is_right(record, password):
-    try:
-        return LOW.verify(record, password)
-    except VerifyMismatchError:
-        return False

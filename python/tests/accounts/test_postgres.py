@@ -13,7 +13,7 @@ import engines
 import servers
 import torture
 from servers import psycopg
-from support import LOW, Base, Session, run, sent
+from support import LOW, Base, Session, each, run
 from rigzumal import InvalidRecordError
 from rigzumal.accounts import AsyncAccounts, OutcomeUnknown, Reply, StoreFault, Unavailable
 from rigzumal.accounts.types import Kind, Request
@@ -22,21 +22,18 @@ from torture import _worker
 
 
 class OnPostgres(engines.OnPostgres, Base):
-    def trigger(self, body, when="TRIGGER tr BEFORE UPDATE ON users"):
-        self.execute(
-            "CREATE OR REPLACE FUNCTION made() RETURNS trigger LANGUAGE plpgsql"
-            f" AS 'BEGIN {body} END'"
-        )
-        self.execute(f"CREATE {when} FOR EACH ROW EXECUTE FUNCTION made()")
+    def trigger(self, *given):
+        for sql in engines.postgres_trigger(*given):
+            self.execute(sql)
 
     def test_a_constraint_that_is_judged_at_commit(self):
         """The server has rolled back: nothing is sent again, nor is it unknown."""
         when = "ON users DEFERRABLE INITIALLY DEFERRED"
         refuses = "RAISE EXCEPTION USING MESSAGE = NEW.record;"
-        self.trigger(refuses, f"CONSTRAINT TRIGGER tr AFTER UPDATE {when}")
-        with sent() as found, self.assertRaisesRegex(StoreFault, "P0001") as raised:
-            self.accounts().change("ann", "one", "two")
-        self.assertEqual(found, ["SELECT", "UPDATE", "ROLLBACK"])
+        self.trigger(refuses, f"CREATE CONSTRAINT TRIGGER tr AFTER UPDATE {when}")
+        with self.statements("SELECT UPDATE ROLLBACK"):
+            with self.assertRaisesRegex(StoreFault, "P0001") as raised:
+                self.accounts().change("ann", "one", "two")
         self.assert_no_record(raised.exception)
         self.assertTrue(self.is_right("one"))
 
@@ -45,35 +42,33 @@ class OnPostgres(engines.OnPostgres, Base):
         self.trigger(
             "IF pg_trigger_depth() = 1 THEN UPDATE users SET record = upper(record); END IF;"
             " RETURN NULL;",
-            "TRIGGER tr AFTER UPDATE ON users",
+            "CREATE TRIGGER tr AFTER UPDATE ON users",
         )
         self.assertIn("trigger tr", self.said(self.accounts()))
         self.assertIs(self.accounts().change("ann", "one", "two"), Reply.REPLACED)
         self.assertRaises(InvalidRecordError, self.accounts().verify, "ann", "two")
 
-    def test_levels_of_a_callers_transaction(self):
+    @each(
+        (" ISOLATION LEVEL READ UNCOMMITTED", False),
+        (" ISOLATION LEVEL READ COMMITTED", False),
+        (" ISOLATION LEVEL REPEATABLE READ", True),
+        (" ISOLATION LEVEL SERIALIZABLE", False),
+        ("", True),
+    )
+    def test_levels_of_a_callers_transaction(self, level, is_refused):
         """A change with an old snapshot wouldn't see the sessions that it has to end."""
         accounts, caller = self.accounts(), self.another()
         self.execute("SET default_transaction_isolation = 'repeatable read'", conn=caller)
-        for level, refused in (
-            (" ISOLATION LEVEL READ UNCOMMITTED", False),
-            (" ISOLATION LEVEL READ COMMITTED", False),
-            (" ISOLATION LEVEL REPEATABLE READ", True),
-            (" ISOLATION LEVEL SERIALIZABLE", False),
-            ("", True),
-        ):
-            self.give("old")
-            for kind, new in ((Kind.VERIFY, ""), (Kind.CHANGE, "new")):
-                worked = self.worked(accounts, kind, "old", new)
-                caller.execute(f"BEGIN{level}")
-                with self.subTest(level=level, kind=kind):
-                    if refused:
-                        with self.assertRaisesRegex(StoreFault, "REPEATABLE READ"):
-                            accounts.commit_in(caller, worked)
-                    else:
-                        answer = accounts.commit_in(caller, worked)
-                        self.assertIs(answer.reply, worked.reply)
-                caller.execute("ROLLBACK")
+        for kind, new in ((Kind.VERIFY, ""), (Kind.CHANGE, "new")):
+            worked = self.worked(accounts, kind, "one", new)
+            caller.execute(f"BEGIN{level}")
+            with self.subTest(kind=kind):
+                if is_refused:
+                    with self.assertRaisesRegex(StoreFault, "REPEATABLE READ"):
+                        accounts.commit_in(caller, worked)
+                else:
+                    self.assertIs(accounts.commit_in(caller, worked).reply, worked.reply)
+            caller.execute("ROLLBACK")
 
     def test_a_session_that_an_old_snapshot_does_not_see(self):
         """Under READ COMMITTED the change that waited ends it."""

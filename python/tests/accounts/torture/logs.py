@@ -1,7 +1,5 @@
 """The logs of what was asked and answered, as `history` takes them.
 
-    /usr/bin/python3 python/tests/accounts/torture LOG..
-
 The logs are lines of JSON, of any number of processes and of one clock
 (CLOCK_MONOTONIC):
 
