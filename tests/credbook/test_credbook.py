@@ -1,7 +1,6 @@
 """How each run of credbook ends, and on which stream it writes what: no contract says what a
 process gives its shell."""
 
-import base64
 import os
 import pathlib
 import re
@@ -11,26 +10,9 @@ import unittest
 from typing import Any
 
 from tests import helpers
-from tests.helpers import (
-    TOP,
-    Ended,
-    counts,
-    each,
-    ended,
-    in_turn,
-    instructions,
-    manual,
-    options_in,
-    program,
-)
-
-SETTING = "$argon2id$v=19$m=256,t=2,p=1$c29tZXNhbHQ"
-# Of `password`, by the reference program of Argon2.
-TAG = "nf65EOgLrQMR/uIPnA4rEsF5h7TKyQwu9U1bMCHGi/4"
-RECORD = f"{SETTING}${TAG}"
-# The second vector of RFC 7914, section 12, to 32 bytes.
-SCRYPT = "$scrypt$ln=10,r=8,p=16$TmFDbA"
-SCRYPT_RECORD = f"{SCRYPT}$/bq+HJ00cgB4VucZDQHp/nxq18vII3gw53N2Y0s3MWI"
+from tests.credkeep.books import RECORD, SETTING, altered
+from tests.helpers import TOP, Ended, counts, each, ended, in_turn, instructions, manual, options_in
+from tests.helpers import program
 
 PASSWORD = "cGFzc3dvcmQ"
 OTHER = "YmFk"
@@ -38,6 +20,7 @@ OTHER = "YmFk"
 SCRIPT = f"account a\nbegin 1 enrol a {PASSWORD} {SETTING}\ncommit 1\nshow a\n"
 ANSWERS = f"ok\nbegun\nenrolled\n{RECORD}\n"
 LONGEST_SCRIPT = 1048576
+HUGE, ARENAS = "glibc.malloc.hugetlb=1", "glibc.malloc.arena_max=2"
 
 NOT_UTF8 = b"\xff".decode(errors="surrogateescape")
 
@@ -66,45 +49,6 @@ RUNS = [
     (["check", NOT_UTF8, PASSWORD], "", Ended(1, "", "credbook: a word is not UTF-8\n")),
     (["run"], "#" * (LONGEST_SCRIPT + 1), Ended(2, "", "credbook: toolong\n")),
 ]
-# Words that don't parse, and help, with what stands on standard error alone.
-USAGE = "Usage: credbook <COMMAND>\n"
-CHECK_USAGE = "Usage: credbook check [OPTIONS] <RECORD> [PASSWORD]"
-MORE = "\nFor more information, try '--help'.\n"
-NO_WORKERS = ["run --workers" + it for it in (" 0", " 65", " x", "", " 4 --workers 4", "=")]
-REFUSED = [
-    (
-        "",
-        "error: 'credbook' requires a subcommand but one was not provided\n"
-        f"  [subcommands: run, hash, check, help]\n\n{USAGE}{MORE}",
-    ),
-    ("walk", f"error: unrecognized subcommand 'walk'\n\n{USAGE}{MORE}"),
-    (
-        "run --quiet",
-        "error: unexpected argument '--quiet' found\n\n" f"Usage: credbook run [OPTIONS]\n{MORE}",
-    ),
-    *((words, "error: ") for words in (*NO_WORKERS, "--workers 4 run", f"check {RECORD} x x")),
-    ("hash", "\n  <SETTING>\n"),
-    ("--version", "credbook 0.2.0\n"),
-    ("--help", f"\n{USAGE}"),
-    ("--help", "\nExit statuses:\n"),
-    ("--help", "\ndocs/ERRORS.md has them all, by word.\n"),
-    (
-        "run --help",
-        "Answers a script from standard input, on an empty book\n\n"
-        "Usage: credbook run [OPTIONS]\n\nOptions:\n      "
-        "--workers <N>  How many threads may hash at once, from 1 to 64 [default: 1]\n  "
-        "-h, --help         Print help\n",
-    ),
-    ("hash --help", "\nUsage: credbook hash [OPTIONS] <SETTING> [PASSWORD]\n"),
-    *((it, f"\n{CHECK_USAGE}\n") for it in ("check --help", "help check")),
-]
-# What is written before a write is refused.
-FRONTS = [
-    (["run"], "ok\nno"),
-    (["hash", SETTING, PASSWORD], SETTING),
-    (["check", RECORD, PASSWORD], "ye"),
-    (["check", RECORD], ""),
-]
 
 
 def credbook(*words: str, given: str = "", **options: Any) -> Ended:
@@ -117,12 +61,12 @@ class RunsTest(unittest.TestCase):
             with self.subTest(words=words, given=given[:20]):
                 self.assertEqual(credbook(*words, given=given), wanted)
 
-    def test_refused_words(self) -> None:
-        for words, told in REFUSED:
-            with self.subTest(words=words):
-                done = credbook(*words.split(), given=SCRIPT)
-                self.assertEqual(done[:2], (1, ""))
-                self.assertIn(told, done.faults)
+    @each("", "ran", "run --workers 65", "run --workers 0", "hash", "--help", "--version")
+    def test_refused_words(self, words: str) -> None:
+        """Words that don't parse, and help: a text on standard error alone."""
+        done = credbook(*words.split(), given=SCRIPT)
+        self.assertEqual(done[:2], (1, ""))
+        self.assertNotEqual(done.faults, "")
 
     def test_manual(self) -> None:
         """credbook(1) has each command and each option of the help, and no other."""
@@ -183,17 +127,15 @@ class RunsTest(unittest.TestCase):
                         self.assertEqual((done.status, done.faults), refused)
                         self.assertTrue(written.startswith(done.written), done.written)
 
-    def test_threads(self) -> None:
+    @each((1, (0,)), (2, (1, 2)), (4, (3, 4)), (64, (3, 4)))
+    def test_threads(self, workers: int, wanted: Any) -> None:
         """As many threads hash as were asked for: the caller's waits for them, or is one of
         them."""
         script = SCRIPT.replace("m=256,t=2,p=1", "m=1024,t=4,p=4").rpartition("show")[0]
         script += f"begin 2 verify a {PASSWORD}\ncommit 2\n"
-        for workers, wanted in ((1, (0,)), (2, (1, 2)), (4, (3, 4)), (64, (3, 4))):
-            with self.subTest(workers=workers):
-                command = [program("credbook"), "run", "--workers", str(workers)]
-                done, found = counts(command, script)
-                self.assertEqual(done, Ended(0, "ok\nbegun\nenrolled\nbegun\nyes\n"))
-                self.assertIn(found["THREADS"], wanted, f"{workers} workers")
+        done, found = counts([program("credbook"), "run", "--workers", str(workers)], script)
+        self.assertEqual(done, Ended(0, "ok\nbegun\nenrolled\nbegun\nyes\n"))
+        self.assertIn(found["THREADS"], wanted)
 
     def test_instructions(self) -> None:
         """A check takes as many instructions whichever byte of the tag differs, and if none does:
@@ -203,10 +145,8 @@ class RunsTest(unittest.TestCase):
         self.assertEqual(done[:2], (0, "yes\n"))
         for byte in (0, 1, 15, 30, 31):
             with self.subTest(byte=byte):
-                tag = bytearray(base64.b64decode(f"{TAG}="))
-                tag[byte] ^= 0x55
-                record = f"{SETTING}${base64.b64encode(tag).decode().rstrip('=')}"
-                done, wrong = instructions([program("credbook"), "check", record, PASSWORD])
+                words = ["check", altered(RECORD, byte), PASSWORD]
+                done, wrong = instructions([program("credbook"), *words])
                 self.assertEqual((*done[:2], wrong), (4, "no\n", right))
 
 
@@ -227,17 +167,15 @@ class LauncherTest(unittest.TestCase):
         wanted = credbook(*words, given=SCRIPT)
         self.assertEqual(self.launched(program("credbook"), *words), wanted)
 
-    def test_tunables(self) -> None:
-        huge, arenas = "glibc.malloc.hugetlb=1", "glibc.malloc.arena_max=2"
-        for given, wanted in (
-            (None, huge),
-            ("", huge),
-            (arenas, f"{arenas}:{huge}"),
-            ("glibc.malloc.hugetlb=0", "glibc.malloc.hugetlb=0"),
-            (f"{arenas}:glibc.malloc.hugetlb=2", f"{arenas}:glibc.malloc.hugetlb=2"),
-        ):
-            with self.subTest(given=given):
-                env = {"PATH": os.environ["PATH"]}
-                env |= {} if given is None else {"GLIBC_TUNABLES": given}
-                done = self.launched("printenv", "GLIBC_TUNABLES", env=env)
-                self.assertEqual(done, Ended(0, f"{wanted}\n"))
+    @each(
+        (None, HUGE),
+        ("", HUGE),
+        (ARENAS, f"{ARENAS}:{HUGE}"),
+        ("glibc.malloc.hugetlb=0", "glibc.malloc.hugetlb=0"),
+        (f"{ARENAS}:glibc.malloc.hugetlb=2", f"{ARENAS}:glibc.malloc.hugetlb=2"),
+    )
+    def test_tunables(self, given: Any, wanted: str) -> None:
+        env = {"PATH": os.environ["PATH"]}
+        env |= {} if given is None else {"GLIBC_TUNABLES": given}
+        done = self.launched("printenv", "GLIBC_TUNABLES", env=env)
+        self.assertEqual(done, Ended(0, f"{wanted}\n"))

@@ -1,5 +1,6 @@
 """A kept book in a room of its own: the program on its file, as a command and as a service."""
 
+import base64
 import contextlib
 import pathlib
 import random
@@ -121,9 +122,9 @@ class Book:
         assert rest == DONE, rest
         return found
 
-    def add(self, name: str, password: str = "correct horse battery staple") -> None:
-        """Adds an account under a cheap setting."""
-        done = self("add", name, "--setting", CHEAP, given=password)
+    def add(self, name: str, password: str = "correct horse", setting: str = CHEAP) -> None:
+        """Adds an account with a record of this setting."""
+        done = self("add", name, "--setting", setting, given=password)
         assert done == says("enrolled"), done
 
     def accounts(self) -> Accounts:
@@ -222,6 +223,14 @@ def rows(path: pathlib.Path, text: str) -> list[Any]:
     """What SQLite itself answers to a statement."""
     with contextlib.closing(sqlite3.connect(path, isolation_level=None)) as connection:
         return connection.execute(text).fetchall()
+
+
+def altered(record: str, byte: int) -> str:
+    """A record with another byte in this place of its tag."""
+    setting, _, tag = record.rpartition("$")
+    other = bytearray(base64.b64decode(f"{tag}="))
+    other[byte] ^= 0x55
+    return f"{setting}${base64.b64encode(other).decode().rstrip('=')}"
 
 
 def frame_of(log: bytes) -> int:

@@ -73,7 +73,15 @@ TWICE = f"ann:{OTHER}\neve:\nann:\neve:{RECORD}\n"
 TWICE_NAMED = {3: "1 exists", 4: "1 exists"}
 NO_RECORDS = f"Eve:!\neve:{{ARGON2ID}}!{RECORD}\n"
 WORKED = {f"n{at}": it for at, it in enumerate(WORK)}
+TWO_WORKED = {"n0": WORK[0], "n1": WORK[1]}
 COSTLY = {2: "18 costly", 3: "18 costly"}
+# Records of 256 KiB, of 257, and of scrypt's 512; and lines of which the second and the fifth ask
+# for more than there may be.
+SCRYPT_512 = f"$scrypt$ln=8,r=8,p=2${SALT}${TAG}"
+WITHIN, ABOVE = (f"$argon2id$v=19$m={it},t=1,p=1${SALT}${TAG}" for it in (256, 257))
+LIMITED, HOW_OVER = "--disable-locked --most-memory 256K", ("--update", "--skip-existing")
+MIXED = f"eve:{WITHIN}\nfay:{ABOVE}\ngus:\n# {ABOVE}\nhal:{SCRYPT_512}:x\nivy:!{ABOVE}\n"
+TAKEN = {"eve": WITHIN, "gus": "", "ivy": ""}
 
 # Options, lines, the counts that are told or none if nothing is changed, the lines that are named
 # as bad, and what the book before has otherwise afterwards.
@@ -105,13 +113,15 @@ IMPORTS: list[tuple[str, str, tuple[int, ...] | None, dict[int, str], Accounts]]
     ("--disable-locked --update", f"ann:!{RECORD}\n", (0, 1), {}, {"ann": ""}),
     # A record that takes more passes over its memory than that is bad.
     ("--skip-bad --most-work 64", lines_of(WORKED), (1, 0, 0, 2), COSTLY, {"n0": WORK[0]}),
-    (
-        "--skip-bad --most-work 4G",
-        lines_of(WORKED),
-        (2, 0, 0, 1),
-        {3: "18 costly"},
-        {"n0": WORK[0], "n1": WORK[1]},
-    ),
+    ("--skip-bad --most-work 4G", lines_of(WORKED), (2, 0, 0, 1), {3: "18 costly"}, TWO_WORKED),
+    # So is one that asks for more memory: its account keeps what it has.
+    (LIMITED, MIXED, None, {2: "18 costly", 5: "18 costly"}, {}),
+    (f"{LIMITED} --skip-bad", MIXED, (3, 0, 0, 2), {2: "18 costly", 5: "18 costly"}, TAKEN),
+    (f"{LIMITED} --update", f"ann:{ABOVE}\ncat:{WITHIN}\n", None, {1: "18 costly"}, {}),
+    *((f"{LIMITED} {it}", f"ann:{ABOVE}\n", None, {1: "18 costly"}, {}) for it in HOW_OVER),
+    # Without a bound both are taken in, and so are they with one that is as high.
+    ("--update", f"ann:{ABOVE}\ncat:{WITHIN}\n", (0, 2), {}, {"ann": ABOVE, "cat": WITHIN}),
+    ("--most-memory 1M", f"eve:{SCRYPT_512}\n", (1,), {}, {"eve": SCRYPT_512}),
 ]
 
 
@@ -174,38 +184,10 @@ class OptionsTest(ImportTest):
         self.assertSound(book)
 
     def test_costly_lines(self) -> None:
-        """With --most-memory a line is bad whose record asks for more, and is named and counted as
-        others are."""
-        argon2, scrypt = "$argon2id$v=19$m={},t=1,p=1", "$scrypt$ln=8,r=8,p=2"
-        costs = (argon2.format(256), argon2.format(257), scrypt)
-        within, above, twice = (f"{it}${SALT}${TAG}" for it in costs)
-        lines = f"ann:{within}\nbob:{above}\ncat:\n# {above}\ndan:{twice}:x\neve:!{above}\n"
-        bound = ("import", "--disable-locked", "--most-memory", "256K")
+        """How a line is named whose record asks for more than --most-memory allows."""
         why = "its record asks for more than --most-memory or --most-work (18 costly)"
-        costly = f"credkeep: line {{}}: {why}\n"
-        told = costly.format(2) + costly.format(5)
-        self.assertEqual(self.book(*bound, given=lines), Ended(6, "", told))
-        self.assertEqual(self.book.names(), [])
-        done = self.book(*bound, "--skip-bad", given=lines)
-        self.assertEqual(done, Ended(0, imported(3, bad=2), told))
-        after = {"ann": within, "cat": "", "eve": ""}
-        self.assertEqual(self.book.accounts(), after)
-        # An account that is there keeps its record, and its line is bad too.
-        update = f"ann:{above}\ncat:{within}\n"
-        self.assertFails(self.book(*bound, "--update", given=update), 6)
-        for how in ("--update", "--skip-existing"):
-            with self.subTest(how=how):
-                done = self.book(*bound, how, given=f"ann:{above}\n")
-                self.assertEqual(done, Ended(6, "", costly.format(1)))
-        self.assertEqual(self.book.accounts(), after)
-        # Without a bound they are taken in; and so they are with one that is as high.
-        done = self.book("import", "--update", given=update)
-        self.assertEqual(done, Ended(0, imported(0, 2)))
-        done = self.book("import", "--most-memory", "1M", given=f"dan:{twice}\n")
-        self.assertEqual(done, Ended(0, imported(1)))
-        after = {"ann": above, "cat": within, "dan": twice, "eve": ""}
-        self.assertEqual(self.book.accounts(), after)
-        self.assertSound(self.book)
+        done = self.book("import", "--most-memory", "256K", given=f"ann:{ABOVE}\n")
+        self.assertEqual(done, Ended(6, "", f"credkeep: line 1: {why}\n"))
 
     def test_dry_runs(self) -> None:
         """With every choice of options a dry run says what the import does then, and not a byte of

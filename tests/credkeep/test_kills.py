@@ -3,17 +3,8 @@
 import signal
 import time
 
-from tests.credkeep.books import (
-    DONE,
-    EDITS,
-    OTHER,
-    RECORD,
-    SETTING,
-    BookTest,
-    Change,
-    killed,
-    lined,
-)
+from tests.credkeep.books import DONE, EDITS, OTHER, RECORD, SETTING, BookTest, Change, killed
+from tests.credkeep.books import lined, lines_of
 from tests.helpers import TIMES
 
 FOUR = {f"n{at:04}": RECORD for at in range(4000)}
@@ -25,16 +16,8 @@ RESET = ["reset", "ann", "--setting", SETTING]
 CHANGES = [
     *((it, 10) for it in EDITS),
     (Change({"ann": OTHER}, RESET, {"ann": RECORD}, "password\n"), 12),
-    (
-        Change(
-            {"ann": RECORD},
-            ["import"],
-            {"ann": RECORD, **FOUR},
-            lined(f"{it}:{RECORD}" for it in FOUR),
-        ),
-        50,
-    ),
-    (Change(HALF, ["import", "--update"], SIX, lined(f"{it}:{OTHER}" for it in SIX)), 20),
+    (Change({"ann": RECORD}, ["import"], {"ann": RECORD, **FOUR}, lines_of(FOUR)), 50),
+    (Change(HALF, ["import", "--update"], SIX, lines_of(SIX)), 20),
 ]
 
 

@@ -80,8 +80,7 @@ class MemoryTest(BookTest):
         a hundred logins, whose memory is kept, nor after one whose memory isn't."""
         kept, costly = "$argon2id$v=19$m=1024,t=1,p=1", "$argon2id$v=19$m=262144,t=1,p=1"
         for name, setting in (("ann", kept), ("bob", costly)):
-            enrol = f"t enrol {name} {in_base64('right')} {setting}${SALT}"
-            self.book.answers(f"t account {name}", enrol)
+            self.book.add(name, "right", f"{setting}${SALT}")
         with self.book.tagged("--at-once", "2", "--setting", kept) as service:
             for at in range(LOGINS):
                 self.assertEqual(service.ask(f"t login ann {in_base64(f'wrong {at}')}"), "t no")

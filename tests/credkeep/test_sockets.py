@@ -10,7 +10,7 @@ import time
 from collections.abc import Iterator
 
 from tests.credkeep.books import BookTest
-from tests.helpers import need
+from tests.helpers import each, need
 
 
 def is_listening(path: pathlib.Path) -> bool:
@@ -52,34 +52,24 @@ def answers_of(client: socket.socket, count: int) -> str:
 
 
 class SocketsTest(BookTest):
-    def setUp(self) -> None:
-        super().setUp()
-        self.path = self.room / "socket"
-        self.service = self.book.command("serve", wait=30)
-
-    def two_clients(self) -> None:
+    @each("socat", "systemd-socket-activate")
+    def test_two_clients(self, listener: str) -> None:
         """The second client's lines are answered once the first has closed its connection."""
-        with connected(self.path) as first:
+        need(listener)
+        book, path = self.begun(), self.room / listener
+        service = book.command("serve", wait=30)
+        listen = ["--accept", "--inetd", "-l", str(path), *service]
+        if listener == "socat":
+            socket_ = f"UNIX-LISTEN:{path},mode=600,fork,max-children=1"
+            listen = [socket_, f"EXEC:{' '.join(service)}"]
+        with listening([listener, *listen], path), connected(path) as first:
             first.sendall(b"account ann\nshow ann\n")
             self.assertEqual(answers_of(first, 2), "ok\nnone\n")
-            with connected(self.path) as second:
+            with connected(path) as second:
                 second.sendall(b"account bob\nshow ann\n")
                 time.sleep(0.2)
                 first.sendall(b"show bob\n")
                 self.assertEqual(answers_of(first, 1), "bad 5 noaccount\n")
                 first.close()
                 self.assertEqual(answers_of(second, 2), "ok\nnone\n")
-
-    def test_socat(self) -> None:
-        need("socat")
-        listen = f"UNIX-LISTEN:{self.path},mode=600,fork,max-children=1"
-        with listening(["socat", listen, f"EXEC:{' '.join(self.service)}"], self.path):
-            self.two_clients()
-        self.assertEqual(self.book("list", wait=30), (0, "ann\nbob\n", ""))
-
-    def test_socket_activation(self) -> None:
-        need("systemd-socket-activate")
-        listen = ["systemd-socket-activate", "--accept", "--inetd", "-l", str(self.path)]
-        with listening([*listen, *self.service], self.path):
-            self.two_clients()
-        self.assertEqual(self.book("list", wait=30), (0, "ann\nbob\n", ""))
+        self.assertEqual(book("list", wait=30), (0, "ann\nbob\n", ""))

@@ -45,15 +45,16 @@ class LinesTest(BookTest):
         many = [f"n{at}" for at in range(1200)]
         names = sorted(["-", ".", "a", "z" * 32, "a-", "a.b", "a_b", *many])
         self.begun({name: RECORD for name in names})
-        for line, wanted in (
-            ("- 1000", names[:1000]),
-            (f"{names[999]} 1000", names[999:]),
-            ("n 2", [name for name in names if name >= "n"][:2]),
-            (f"{'z' * 32} 1", ["z" * 32]),
-        ):
-            with self.subTest(line=line):
-                found = self.book.answers(f"t list {line}")
-                self.assertEqual(found, [" ".join(["t names", *wanted])])
+        last = "z" * 32
+        self.assertRows(
+            lambda line: self.book.answers(f"t list {line}")[0].split(),
+            [
+                ("- 1000", ["t", "names", *names[:1000]]),
+                (f"{names[999]} 1000", ["t", "names", *names[999:]]),
+                ("n 2", ["t", "names", *[name for name in names if name >= "n"][:2]]),
+                (f"{last} 1", ["t", "names", last]),
+            ],
+        )
 
     def test_logins_at_its_costs(self) -> None:
         """A right login leaves a record of the service's own costs as it is."""
@@ -75,7 +76,7 @@ class LinesTest(BookTest):
         text = (TOP / "docs" / "SERVING.md").read_text()
         blocks = re.findall(r"```python\n(.*?)```", text, re.S)
         example = next(block for block in blocks if "asyncio" in block)
-        self.book.answers("a account ada", "a enrol ada " + in_base64("secret"))
+        self.book.add("ada", "secret")
         names: dict[str, Any] = {"__name__": "example"}
         exec(compile(example, "docs/SERVING.md", "exec"), names)  # noqa: S102
 
@@ -95,17 +96,15 @@ class HashesTest(BookTest):
     def enrolled(self, memory: int) -> str:
         """The setting of so many KiB with which ann has the password one; bob has no record."""
         setting = f"$argon2id$v=19$m={memory},t=1,p=1${SALT}"
-        self.book.answers("t account ann", f"t enrol ann {ONE} {setting}", "t account bob")
+        self.begun({"bob": ""}).add("ann", "one", setting)
         return setting
 
     def assertServed(self, rows: list[tuple[str, str]], *words: str) -> None:
         """Lines that are sent at once are answered so, each once and in any order."""
         with self.book.tagged(*words) as service:
             done = service.end(lined(f"t{at} {line}" for at, (line, _) in enumerate(rows)))
-        found, wanted = done.written.splitlines(), [
-            f"t{at} {it}" for at, (_, it) in enumerate(rows)
-        ]
-        self.assertEqual((done.status, sorted(found)), (0, sorted(wanted)))
+        wanted = sorted(f"t{at} {it}" for at, (_, it) in enumerate(rows))
+        self.assertEqual((done.status, sorted(done.written.splitlines())), (0, wanted))
 
     def test_memory_of_a_record(self) -> None:
         """A record that asks for more than all memory is refused; one that asks for more than is
@@ -114,13 +113,10 @@ class HashesTest(BookTest):
         self.book.answers(f"t enrol bob {ONE}")
         rows = [(f"verify {name} {ONE}", "yes") for name in ["bob", "ann", "ann"] * 10]
         self.assertServed(rows, "--at-once", "4", "--memory", "4M")
-        for line, answer in (
-            (f"verify ann {ONE}", "bad 4 memory"),
-            (f"verify bob {ONE}", "yes"),
-            (f"login ann {ONE}", "bad 4 memory"),
-            (f"change bob {ONE} - {dear}", "bad 4 memory"),
-        ):
+        refused = [f"verify ann {ONE}", f"login ann {ONE}", f"change bob {ONE} - {dear}"]
+        for line in (*refused, f"verify bob {ONE}"):
             with self.subTest(line=line):
+                answer = "bad 4 memory" if line in refused else "yes"
                 self.assertServed([(line, answer)], "--memory", "4095")
 
     def test_memory_of_starved_lines(self) -> None:
@@ -235,8 +231,9 @@ class TurnsTest(BookTest):
 
     def record_of(self, memory: int) -> str:
         """A record of so many KiB of the password one."""
-        setting = f"$argon2id$v=19$m={memory},t=1,p=1${SALT}"
-        return self.begun().answers("t account a", f"t enrol a {ONE} {setting}", "t show a")[2][2:]
+        book = self.begun()
+        book.add("a", "one", f"$argon2id$v=19$m={memory},t=1,p=1${SALT}")
+        return book.accounts()["a"]
 
 
 MEMBERS = [f"n{at}" for at in range(64)]

@@ -1,11 +1,10 @@
 """What an answer takes: threads, hashes, instructions, and syncs of the disk."""
 
-import base64
 import resource
 from typing import Any
 
-from tests.credkeep.books import CHEAP, RECORD, SALT, BookTest, imported, says
-from tests.credkeep.doors import Operation, in_base64
+from tests.credkeep.books import CHEAP, RECORD, SALT, BookTest, altered, imported, says
+from tests.credkeep.doors import Operation
 from tests.helpers import counts, each, instructions, limited, need
 
 # Four lanes.
@@ -116,7 +115,7 @@ class HashesTest(BookTest):
         without a record, as for a wrong password: one. No time tells them apart."""
         need("valgrind")
         costs = "$argon2id$v=19$m=1024,t=2,p=1"
-        self.book.answers("t account ann", f"t enrol ann {in_base64('one')} {costs}${SALT}")
+        self.book.add("ann", "one", f"{costs}${SALT}")
         record = self.book.accounts()["ann"]
 
         def work(text: str) -> int:
@@ -145,7 +144,6 @@ class HashesTest(BookTest):
         """As many instructions whichever byte of the tag differs, so that no time tells how far
         two tags agree."""
         need("valgrind")
-        setting, _, tag = RECORD.rpartition("$")
         for order, given in (
             ("check", "password"),
             ("change", "password\nnew\n"),
@@ -155,10 +153,7 @@ class HashesTest(BookTest):
                 least: dict[int, int] = {}
                 # a busy machine may add some, and takes none away
                 for byte in (0, 1, 15, 30, 31) * 3:
-                    other = bytearray(base64.b64decode(f"{tag}="))
-                    other[byte] ^= 0x55
-                    stored = base64.b64encode(other).decode().rstrip("=")
-                    book = self.begun({"ann": f"{setting}${stored}"})
+                    book = self.begun({"ann": altered(RECORD, byte)})
                     words = ["--setting", CHEAP] if order == "change" else []
                     done, count = instructions(book.command(order, *words, "ann"), given)
                     self.assertEqual(done[:2], says("no" if order == "check" else "wrong")[:2])
