@@ -35,14 +35,10 @@ from concurrent.futures import ThreadPoolExecutor
 from typing import Any, NamedTuple, Optional, TypeVar
 
 TOP = pathlib.Path(__file__).resolve().parent.parent
+PYTHON, LIBRARIES = TOP / "python", TOP / "c/out"
 TIMES = int(os.environ.get("RIGZUMAL_TIMES", "1"))
-ARCH = os.environ.get("ARCH", "x86_64")
-IS_NATIVE = ARCH == "x86_64"
-TRIPLET = "x86_64-linux-gnu" if IS_NATIVE else "aarch64-linux-gnu"
-# Programs of another processor run under qemu-user, over Debian's cross libraries.
-EMULATOR = ["qemu-aarch64", "-L", f"/usr/{TRIPLET}"]
-# A run that hasn't ended after so many seconds hangs, and is killed.
-LONGEST = 120
+# A run that hasn't ended after so many seconds hangs, and is killed: later where much else runs.
+LONGEST = 120 * max(1, int(os.getloadavg()[0] / (os.cpu_count() or 1)))
 LIMIT = float(os.environ.get("TEST_LIMIT", "1800"))
 
 Found = TypeVar("Found")

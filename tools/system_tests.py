@@ -17,10 +17,13 @@ import unittest
 
 from tree import TOP, tell_each
 
+sys.path.insert(0, str(TOP))
+from tests import helpers  # noqa: E402
+
 FOLDERS = ("credbook", "credkeep")
 # What runs longest begins first.
 LONGEST = ("refused_memory", "refused_calls", "refuse_memory", "test_work", "test_kills", "test_import")
-SECONDS = 900
+SECONDS = 8 * helpers.LONGEST
 EVERY = 30
 
 
@@ -31,7 +34,6 @@ def tests_in(suite):
 
 def jobs():
     """The name of each job, with its command."""
-    sys.path.insert(0, str(TOP))
     names = [it for folder in FOLDERS for it in tests_in(unittest.defaultTestLoader.discover(str(TOP / "tests" / folder), top_level_dir=str(TOP)))]
     found = {name: ["-m", "unittest", name] for name in names}
     found |= {f"tools.{name}": [f"tools/{name}.py", *words] for name, words in (("refuse_memory", []), ("peak_memory", []), ("readme", ["README.md"]))}
