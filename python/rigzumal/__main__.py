@@ -42,7 +42,7 @@ def _words() -> argparse.ArgumentParser:
     words = Words(
         prog="python3 -m rigzumal",
         description="Makes and verifies records of a password, which it asks for at a terminal"
-        " and else reads from standard input.",
+        " and otherwise reads from standard input.",
     )
     words.add_argument("--version", action="version", version=_library.version())
     commands = words.add_subparsers(dest="command", required=True)

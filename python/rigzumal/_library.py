@@ -13,7 +13,7 @@ if TYPE_CHECKING:
     from typing_extensions import TypeAlias
 
 Secret: TypeAlias = "Union[bytes, str]"
-"""A password or the like: bytes, or text, of which the bytes in UTF-8 count."""
+"""A password or the like: bytes, or text, which counts as its bytes in UTF-8."""
 
 TEXT_SIZE: Final = 513
 OK: Final = 0
@@ -112,7 +112,7 @@ def bytes_of(secret: Secret) -> bytes:
         return secret.encode()
     except UnicodeEncodeError:
         pass
-    raise ValueError("the text has no form in UTF-8")
+    raise ValueError("the text can't be encoded in UTF-8")
 
 
 def data_of(data: object, wanted: str = "bytes") -> bytes:

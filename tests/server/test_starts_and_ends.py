@@ -146,7 +146,7 @@ class Endings(Case):
             service.stop()
             self.assertTrue(17 < time.monotonic() - begun < 35, "18 to 20 s")
             self.assertIn("20 lines had no answer after 18 s", service.log())
-            killed = "the book is killed: it goes on after 20 s"
+            killed = "the book is killed: it still runs after 20 s"
             self.assertEqual(killed in service.log(), is_stopped)
 
     def test_listening_fails(self) -> None:

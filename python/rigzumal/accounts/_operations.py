@@ -33,7 +33,7 @@ AS_A_VERIFY: Final = {
     Reply.UPGRADED: Reply.YES,
     Reply.WRONG: Reply.NO,
 }
-"""What a login answers for an upgrade's replies."""
+"""The replies of a login for those of an upgrade."""
 
 
 class Operations(Generic[AnyPool]):

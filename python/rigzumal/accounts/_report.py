@@ -18,7 +18,7 @@ class State(enum.Enum):
     REHASH = "rehash"
     """A right password replaces it by a record of the hasher's costs."""
     FOREIGN = "foreign"
-    """It is of another scheme: the hook of the service judges it."""
+    """A record of another scheme, which the hook of the service judges."""
     UNREADABLE = "unreadable"
     """It is of no known scheme: unless a hook judges it, nobody can log in."""
     ABSENT = "absent"

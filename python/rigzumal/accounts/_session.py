@@ -104,7 +104,7 @@ def _values(row: Any) -> tuple[Any, ...]:
 
 
 Job = Callable[[Session], Coroutine[Any, Any, T]]
-"""What is done on one connection."""
+"""The work on one connection."""
 
 
 def run(coroutine: Coroutine[Any, Any, T]) -> T:

@@ -75,7 +75,7 @@ def accounts_hasher(args: argparse.Namespace) -> Union[PasswordHasher, ScryptHas
     if not secrets:
         return hasher
     if not isinstance(hasher, PasswordHasher):
-        raise Refusal("scrypt has no pepper: --secret is too many", Status.WORDS)
+        raise Refusal("scrypt has no pepper: leave --secret out", Status.WORDS)
     return hasher.replace(secrets=secrets)
 
 

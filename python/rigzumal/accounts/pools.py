@@ -52,7 +52,7 @@ def lent(pool: Any, enter: str) -> Any:
     if inspect.iscoroutine(lender):
         lender.close()
     wanted = "`with`" if enter == "__enter__" else "`async with`"
-    fault = f"a pool gives connections by {wanted}, and this one answers"
+    fault = f"a pool gives connections by {wanted}, and this one returned"
     raise TypeError(f"{fault} a {kind.__name__}: {_MAKERS}")
 
 
@@ -127,7 +127,7 @@ class PerThread:
         if inspect.iscoroutine(conn):
             conn.close()
         if inspect.isawaitable(conn):
-            fault = "`connect` has answered what is awaited"
+            fault = "`connect` returned an awaitable"
             raise TypeError(f"{fault}: use AsyncAccounts and PerUse")
         held = self._local.held = _Held(conn)
         return held

@@ -49,7 +49,7 @@ class _Comparing:
         """Writes the new password, unless the record was changed meanwhile."""
         if not commit:
             raise ValueError(
-                "a record is compared as it is put: there is no commit=False"
+                "a record is compared as it is written: commit=False is impossible"
             )
         with lost_as_error():
             self._write()

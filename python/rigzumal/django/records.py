@@ -27,7 +27,7 @@ T = TypeVar("T")
 Function = TypeVar("Function", bound=Callable[..., Any])
 
 TRIES = 8
-"""How often an operation is tried, if the row's record changes meanwhile."""
+"""The tries of an operation, if the row's record changes meanwhile."""
 
 
 def hidden(function: Function) -> Function:

@@ -106,7 +106,7 @@ class OnMariaDB(engines.OnMariaDB, Base):
         seen = dict(self.execute("SHOW SESSION VARIABLES"))
         fine = {"sql_mode": "STRICT_ALL_TABLES", "log_bin": "ON", "sync_binlog": "1"}
         self.assertTrue(set(fine) <= set(seen))
-        sync, galera = "wsrep_sync_wait has no 1", {"wsrep_on": "ON"}
+        sync, galera = "wsrep_sync_wait lacks its bit 1", {"wsrep_on": "ON"}
         for more, *words in (
             ({},),
             ({"sync_binlog": "0"}, "sync_binlog is 0"),

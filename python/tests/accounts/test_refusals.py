@@ -50,7 +50,7 @@ class Arguments(Base):
         for pool in (self.connect, awaited, tasks, nothing):
             with self.assertRaisesRegex(TypeError, "gives connections by `with`, .* answers a"):
                 Accounts(pool, self.dialect, LOW).verify("ann", "one")
-            with self.assertRaisesRegex(TypeError, "what is awaited: use AsyncAccounts"):
+            with self.assertRaisesRegex(TypeError, "an awaitable: use AsyncAccounts"):
                 self.accounts(connect=awaited).verify("ann", "one")
         for pool in (self.connect, awaited, PerThread(self.connect), nothing):
             with self.assertRaisesRegex(TypeError, "gives connections by `async with`"):

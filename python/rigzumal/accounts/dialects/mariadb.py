@@ -112,7 +112,7 @@ class MariaDB(Dialect):
             raise StatementTimeout(_NOTHING_DONE, "max_statement_time is over")
         if stands == [(after,)]:
             return 1
-        fault = "max_statement_time was over, and the row has another record"
+        fault = "max_statement_time ended the statement, and the row has another record"
         raise ConnectionError(fault)
 
     def refuses_at_once(self, raised: BaseException) -> bool:
@@ -223,7 +223,7 @@ def of_server(seen: dict[str, str]) -> Iterator[Fault]:
     """The faults of a session of MariaDB."""
     if "STRICT_" not in seen["sql_mode"]:
         yield warning(
-            "not-strict", "sql_mode isn't strict: what is too long is cut off"
+            "not-strict", "sql_mode isn't strict: long values are cut off"
         )
     level = seen.get("tx_isolation") or seen.get("transaction_isolation", "")
     if level == "READ-UNCOMMITTED":
@@ -237,7 +237,7 @@ def of_server(seen: dict[str, str]) -> Iterator[Fault]:
             f"sync_binlog is {seen.get('sync_binlog')}: {POWER_CUT_LOSES}"
         )
     if seen.get("wsrep_on") == "ON" and not int(seen["wsrep_sync_wait"]) & 1:
-        text = "wsrep_sync_wait has no 1: a node may read replaced records"
+        text = "wsrep_sync_wait lacks its bit 1: a node may read replaced records"
         yield error("no-sync-wait", text)
 
 

@@ -65,7 +65,7 @@ class Postgres(Dialect):
         # A change whose snapshot is older than a session's row doesn't see it to end it.
         found = await session.execute("SHOW transaction_isolation")
         if found.rows == [("repeatable read",)]:
-            fault = "the transaction is of REPEATABLE READ"
+            fault = "the transaction is REPEATABLE READ"
             raise StoreFault(f"{fault}: begin by READ COMMITTED or SERIALIZABLE")
 
     async def start(self, session: Session) -> None:

@@ -89,13 +89,13 @@ class Options:
     http: str = option("answer HTTP at a socket, or at 127.0.0.1:PORT", "ADDRESS")
     tries: int = option("failed tries until a name has to wait; 0: no limit", "N", 10)
     uid_tries: int = option("the same for each person's uid, over all names", "N", 0)
-    idle: int = option("until a client that asks nothing is closed", "SECONDS", 600)
+    idle: int = option("until an idle client is closed", "SECONDS", 600)
     audit: str = option("append a JSON line to this file for each change", "LOG")
     audit_tries: bool = flag("log failed tries too")
-    metrics: str = option("print what the server of an admin socket counts", "SOCKET")
+    metrics: str = option("print the counts of an admin socket's server", "SOCKET")
     foreign: str = option("an old file, whose users move into the book", "HTPASSWD")
     upgrade: str = option("new costs, to which a verify upgrades", "COSTS", "", costs)
-    least_length: int = option("characters of a new password at least", "N", 0)
+    least_length: int = option("the least length of a new password", "N", 0)
     setting: str = option("for credkeep: the costs of new records", "TEXT")
     at_once: int = option("hashes of a user at once; 0: processors", "N", 0, places)
     memory: str = option("for credkeep: memory for hashes, as 512M", "SIZE")
@@ -173,7 +173,7 @@ def door(name: str, path: str, mode: str, group: str, operations: str) -> Door:
     for word in allowed - OPERATIONS.keys():
         known = ", ".join(it.decode() for it in OPERATIONS)
         text = f"{word.decode(errors='replace')!r} is no operation"
-        raise Problem(f"the socket {name}: {text}; there are all, or of {known}")
+        raise Problem(f"the socket {name}: {text}; write all, or some of {known}")
     return Door(name, os.path.abspath(path), int(mode, 8), group, allowed)
 
 

@@ -105,7 +105,7 @@ async def end(service: Service) -> int:
     if (await asyncio.wait([book.ended], timeout=rest))[0]:
         status = book.ended.result()
     else:
-        log.error("the book is killed: it goes on after %d s", LAST_SECONDS)
+        log.error("the book is killed: it still runs after %d s", LAST_SECONDS)
         book.kill()
         await book.ended
     if book.strays:
