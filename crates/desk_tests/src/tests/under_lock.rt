@@ -23,9 +23,9 @@ const DEAR: &str = "$argon2id$v=19$m=256,t=4294967295,p=1$c29tZXNhbHQ$nf65EA";
 
 const DEAR_SETTING: &str = "$argon2id$v=19$m=256,t=4294967295,p=1$c29tZXNhbHQ";
 
-/// How much processor time three calls may take at their quickest, in nanoseconds: fewer than a
-/// million cycles, so a million turns of a loop take more.
-const LIMIT: u128 = 200_000;
+/// How much processor time three calls may take at their quickest, in nanoseconds: fewer than two
+/// million cycles, so as many turns of a loop take more.
+const LIMIT: u128 = 400_000;
 
 /// How often they are timed.
 const TIMED: u32 = 40;
