@@ -35,8 +35,8 @@ fn ask(operation: u32, copy: &[u8]) -> StepInputs<'_> {
     }
 }
 
-/// What a step answers and its reply, which is 77 if it writes none, and whether a buffer of `room`
-/// bytes begins with this text then, whose length was told.
+/// What a step answers and its reply, and whether a buffer of `room` bytes begins with this text
+/// then, whose length was told.
 fn seen(alloc: Global, asked: StepInputs<'_>, room: usize, text: &[u8]) -> (u8, u32, bool) {
     let (mut out, mut len, mut reply) = ([b'.'; 96], 9, 77);
     let answer = cred_step(
@@ -54,83 +54,34 @@ fn seen(alloc: Global, asked: StepInputs<'_>, room: usize, text: &[u8]) -> (u8, 
     )
 }
 
+/// Each operation that makes a change, with the reply and the new record, and each that makes none.
+/// c/tests has each of them at each copy, and each fault.
 #[test]
-fn changes_made(rt: HostRuntime) {
+fn steps_taken(rt: HostRuntime) {
+    let (first, other) = (ask(ENROL, b""), ask(UPGRADE, RECORD));
     let first = StepInputs {
         setting: SETTING,
-        ..ask(ENROL, b"")
+        ..first
     };
-    assert_eq!(rt; seen(rt.alloc(), first, 96, RECORD), (0, 1, true));
-    assert_eq!(rt;
-        seen(rt.alloc(), ask(CHANGE, RECORD), 96, RENEWED),
-        (0, 6, true)
-    );
-    assert_eq!(rt;
-        seen(rt.alloc(), ask(UPGRADE, RECORD), 96, RENEWED),
-        (0, 8, true)
-    );
-    assert_eq!(rt;
-        seen(rt.alloc(), ask(REMOVE, RECORD), 0, b""),
-        (0, 10, true)
-    );
-}
-
-#[test]
-fn no_change_made(rt: HostRuntime) {
-    assert_eq!(rt; seen(rt.alloc(), ask(ENROL, RECORD), 0, b""), (0, 2, true));
-    assert_eq!(rt; seen(rt.alloc(), ask(VERIFY, RECORD), 0, b""), (0, 3, true));
-    assert_eq!(rt; seen(rt.alloc(), ask(VERIFY, b""), 0, b""), (0, 5, true));
-    let kept = StepInputs {
+    let other = StepInputs {
         setting: OTHER_SALT,
-        ..ask(UPGRADE, RECORD)
+        ..other
     };
-    assert_eq!(rt; seen(rt.alloc(), kept, 0, b""), (0, 9, true));
-    for (operation, reply) in [(VERIFY, 4), (CHANGE, 7), (UPGRADE, 7), (REMOVE, 7)] {
-        let wrong = StepInputs {
-            pw: b"Password",
-            ..ask(operation, RECORD)
-        };
-        assert_eq!(rt; seen(rt.alloc(), wrong, 96, b""), (0, reply, true));
-    }
-}
-
-#[test]
-fn steps_refused(rt: HostRuntime) {
-    for operation in [0, 6, 255] {
-        let none = StepInputs {
-            operation,
-            ..ask(VERIFY, SETTING)
-        };
-        assert_eq!(rt; seen(rt.alloc(), none, 96, b""), (23, 77, true));
-    }
-    let long = [b'a'; 257];
-    let (too_long, longest) = (&long[..], &long[..256]);
-    let no_copy = StepInputs {
-        pw: too_long,
-        ..ask(VERIFY, SETTING)
-    };
-    assert_eq!(rt; seen(rt.alloc(), no_copy, 96, b""), (24, 77, true));
-    for (pw, new_pw, answer) in [
-        (too_long, longest, 25),
-        (longest, too_long, 25),
-        (longest, longest, 1),
-    ] {
-        let change = StepInputs {
-            pw,
-            new_pw,
-            setting: RECORD,
-            ..ask(CHANGE, RECORD)
-        };
-        assert_eq!(rt; seen(rt.alloc(), change, 96, b""), (answer, 77, true));
-    }
-    let verify = StepInputs {
-        new_pw: too_long,
-        setting: RECORD,
+    let wrong = StepInputs {
+        pw: b"Password",
         ..ask(VERIFY, RECORD)
     };
-    assert_eq!(rt; seen(rt.alloc(), verify, 96, b""), (0, 3, true));
-    assert_eq!(rt;
-        seen(rt.alloc(), ask(CHANGE, RECORD), 82, b""),
-        (11, 77, true)
-    );
+    for (asked, room, reply, text) in [
+        (first, 96, 1, RECORD),
+        (ask(CHANGE, RECORD), 96, 6, RENEWED),
+        (ask(UPGRADE, RECORD), 96, 8, RENEWED),
+        (ask(REMOVE, RECORD), 0, 10, b"".as_slice()),
+        (ask(ENROL, RECORD), 0, 2, b""),
+        (ask(VERIFY, RECORD), 0, 3, b""),
+        (wrong, 96, 4, b""),
+        (ask(VERIFY, b""), 0, 5, b""),
+        (other, 0, 9, b""),
+    ] {
+        assert_eq!(rt; seen(rt.alloc(), asked, room, text), (0, reply, true));
+    }
 }
