@@ -222,7 +222,8 @@ class LocksTest(BookTest):
             self.assertEqual(run.ask("account ann"), "ok")
             run.process.send_signal(signal.SIGSTOP)
             for words in ("list", "init", "add bob", "run", "serve"):
-                self.assertFails(self.book(*words.split(), given="x\n"), 5, "busy")
+                done = self.book(*words.split(), given="x\n")
+                self.assertFails(done, 5, "busy: ", "credkeep-ask --server asks the server")
             run.process.send_signal(signal.SIGCONT)
             self.assertEqual(run.ask("show ann"), "none")
             self.assertEqual(run.end(), DONE)

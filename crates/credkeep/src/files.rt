@@ -163,9 +163,12 @@ fn has_bytes(rt: &HostRuntime, path: &str, end: &str) -> io::Result<bool> {
     Ok(len_of(rt, other.as_str())?.unwrap_or(0) != 0)
 }
 
-/// The user of this process: the owner of its folder below /proc in Linux.
-pub(crate) fn own_user(rt: &HostRuntime) -> io::Result<u32> {
-    Ok(fs::metadata(rt, "/proc/self")?.uid())
+/// The user that this process acts for: Linux gives its folder below /proc to them.
+pub(crate) fn own_user(rt: &HostRuntime) -> Result<u32, FileFault> {
+    match fs::metadata(rt, "/proc/self") {
+        Ok(own) => Ok(own.uid()),
+        Err(error) => Err(FileFault::OwnUser(error)),
+    }
 }
 
 /// The treatment of a log with a damaged change.
@@ -211,17 +214,9 @@ pub(crate) fn open_database(
     }
 }
 
-/// Copies the log into the file and closes both. If that fails nothing is lost: the log stays. It
-/// isn't copied if it has no change, since that would sync the disk twelve times.
-pub(crate) fn close(host: &HostRuntime, path: &str, conn: Database, status: Status) -> Status {
-    let closed = match len_of_log(host, path) {
-        Ok(Some(len)) if len <= EMPTY_LOG => {
-            drop(conn);
-            Ok(())
-        }
-        _ => fold(conn),
-    };
-    if let Err(error) = closed {
+/// Copies the log into the file and closes both. If that fails nothing is lost: the log stays.
+pub(crate) fn close(host: &HostRuntime, conn: Database, status: Status) -> Status {
+    if let Err(error) = fold(conn) {
         let _ = writeln!(
             host.stderr(),
             "credkeep: the log stays beside the file: {error}"

@@ -86,7 +86,7 @@ fn init(host: &HostRuntime, request: &Request<'_>) -> Result<Status, Status> {
         Beginning::Database => {
             let conn = open_database(host, file, file, request.wait, DamagedLog::Refused)?;
             let (conn, status) = begin_in(host.alloc(), conn, host.stderr());
-            Ok(close(host, file, conn, status))
+            Ok(close(host, conn, status))
         }
     }
 }
@@ -132,7 +132,7 @@ fn on_file<T: Threads + Sync>(
     if status == Status::Done {
         advise(host, order, lines);
     }
-    Ok(close(host, file, conn, status))
+    Ok(close(host, conn, status))
 }
 
 /// Does an order in a database, which comes back. The function is over any database: with a file's

@@ -78,7 +78,7 @@ pub(crate) fn serve_tagged<T: Threads + Wait + Sync + Copy + Send + 'static>(
     };
     let conn = open_database(host, file, file, request.wait, DamagedLog::Refused)?;
     let (conn, status) = serve_in(&tools, tagged, conn, streams, &mut host.stderr());
-    Ok(close(host, file, conn, status))
+    Ok(close(host, conn, status))
 }
 
 /// The source of lines, the place of their answers, and the source of salts for new records.
