@@ -11,8 +11,8 @@ import stat
 import time
 from collections.abc import Callable
 
-from tests.credkeep.books import DONE, RECORD, Book, BookTest, Service, contents, fails, rows, says
-from tests.helpers import Ended, each, need_root
+from tests.credkeep.books import DONE, RECORD, BookTest, Service, contents, fails, rows, says
+from tests.helpers import Ended, each, ended, need_root, program
 
 TABLE = "CREATE TABLE account (name TEXT NOT NULL PRIMARY KEY, record TEXT) STRICT;"
 NOBODY = 65534
@@ -103,12 +103,14 @@ class FormatTest(BookTest):
                     self.assertFails(self.book(*words.split(), given="x\n"), 5, told)
                     self.assertEqual(contents(self.room), before)
 
-    def test_no_file_in_memory(self) -> None:
-        memory = Book(pathlib.Path(":memory:"))
-        for words in ("init", "list"):
-            with self.subTest(words=words):
-                self.assertFails(memory(words, cwd=self.room), 1)
-        self.assertFails(self.book("backup", ":memory:", cwd=self.room), 1)
+    def test_names_of_no_file(self) -> None:
+        """SQLite would keep such a book in memory; an unset variable of a script is one."""
+        for name in ("", ":memory:"):
+            for words in ("init", "list"):
+                with self.subTest(name=name, words=words):
+                    done = ended([program("credkeep"), name, words], cwd=self.room)
+                    self.assertFails(done, 1, "names no file")
+            self.assertFails(self.book("backup", name, cwd=self.room), 1, "names no file")
         self.assertEqual(sorted(contents(self.room)), ["users.db"])
 
     def test_journal(self) -> None:

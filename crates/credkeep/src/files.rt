@@ -44,12 +44,18 @@ pub(crate) enum Beginning {
     Database,
 }
 
+/// Checks that a path names a file: SQLite keeps what has no name, or this one, in memory.
+fn look_at_name(path: &str) -> Result<(), FileFault> {
+    if path.is_empty() || path == ":memory:" {
+        return Err(FileFault::NoFile);
+    }
+    Ok(())
+}
+
 /// Checks that a book may begin at this path. An existing file must belong to this user alone, and
 /// be empty or a database.
 pub(crate) fn look_before_init(rt: &HostRuntime, path: &str) -> Result<Beginning, FileFault> {
-    if path == ":memory:" {
-        return Err(FileFault::NoFile);
-    }
+    look_at_name(path)?;
     let beginning = match if_there(fs::symlink_metadata(rt, path))? {
         Some(found) => look_at_place(rt, path, &found)?,
         None => Beginning::NewFile,
@@ -88,9 +94,7 @@ pub(crate) enum Access {
 /// Checks that the file may hold a book, and whether others can read or write it. Nothing is
 /// written.
 pub(crate) fn look_at(rt: &HostRuntime, path: &str) -> Result<Access, FileFault> {
-    if path == ":memory:" {
-        return Err(FileFault::NoFile);
-    }
+    look_at_name(path)?;
     let Some(found) = if_there(fs::metadata(rt, path))? else {
         return Err(FileFault::Absent);
     };
@@ -120,9 +124,7 @@ pub(crate) fn look(host: &HostRuntime, file: &str, remarks: Remarks) -> Result<(
 
 /// Checks that a copy may be put at this place: no file, an empty file, or a database.
 pub(crate) fn look_at_old(rt: &HostRuntime, path: &str) -> Result<(), FileFault> {
-    if path == ":memory:" {
-        return Err(FileFault::NoFile);
-    }
+    look_at_name(path)?;
     let Some(found) = if_there(fs::symlink_metadata(rt, path))? else {
         return Ok(());
     };
