@@ -48,7 +48,7 @@ def trials(
     """Costs to try, in turn: the last ones are the result.
 
     By RFC 9106, section 4: all of the memory, and then as many passes as the time allows. If one
-    pass needs too long, less memory, down to the least.
+    pass needs too long, the memory is lowered, down to the least.
 
     Args:
         target: milliseconds.

@@ -53,7 +53,7 @@ class _OneBackend:
             MissingBackendError: another one is named.
         """
         if not cls.has_backend(name):
-            raise handlers.exc.MissingBackendError(f"there is no backend {name!r}")
+            raise handlers.exc.MissingBackendError(f"no such backend: {name!r}")
         return _BACKEND
 
 

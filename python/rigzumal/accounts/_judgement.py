@@ -63,7 +63,7 @@ class Judge:
         rest = f"${'A' * 22}${encoded(bytes(_TAG_SIZE))}"
         self._old = frozenset(parts(costs + rest).costs for costs in upgrade_from)
         if self._parts.costs in self._old:
-            fault = "an upgrade would be from the hasher's costs to themselves"
+            fault = "upgrade_from has the hasher's own costs"
             raise ValueError(fault)
 
     def new_record(self, password: Secret) -> str:
