@@ -48,7 +48,7 @@ class Arguments(Base):
 
         nothing = type("Nothing", (), {})
         for pool in (self.connect, awaited, tasks, nothing):
-            with self.assertRaisesRegex(TypeError, "gives connections by `with`, .* answers a"):
+            with self.assertRaisesRegex(TypeError, "gives connections by `with`, .* returned a"):
                 Accounts(pool, self.dialect, LOW).verify("ann", "one")
             with self.assertRaisesRegex(TypeError, "an awaitable: use AsyncAccounts"):
                 self.accounts(connect=awaited).verify("ann", "one")
