@@ -30,8 +30,8 @@ WALKS = {"cred_cli/proofs/past"}
 MOST = {
     "words in README.md": 650,
     "bytes in README.md": 5000,
-    "lines of over 100 columns in src/ and specs/": 28,
-    "lines that tools/english.txt finds": 170,
+    "lines of over 100 columns in src/ and specs/": 26,
+    "lines that tools/english.txt finds": 165,
 }
 FOLDERS = "crates|c|python|rust|tests|docs|tools|bench|examples|man|bin|units|packaging|completions|proofs|specs|src"
 # What pages name where it is installed.

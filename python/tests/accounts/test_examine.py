@@ -269,7 +269,7 @@ class OnPostgres(OnServer, engines.OnPostgres, support.Base):
             ("name text, record text, EXCLUDE (record WITH =)", NOT_UNIQUE),
             (f"name text, record text; {index} (name) INCLUDE (record)",),
             (f"{record} char(300)", "character(300)", "than the one that was written"),
-            (f"{record} bytea", "record is bytea, not text", "the record is no text"),
+            (f"{record} bytea", "record is bytea, not text", "the record is not text"),
             (f"{record} citext",),
             ("name other.ci PRIMARY KEY, record other.ci", CASE),
             (f"{record} short", SHORTER.format("character varying(200)")),
