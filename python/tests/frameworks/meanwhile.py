@@ -49,6 +49,16 @@ class Cheap:
         return before_update(lambda: self.reset(password), turns)
 
 
+class Ann(Cheap):
+    """The same of a stock User, whose password is "old"."""
+
+    given = {}
+
+    def setUp(self):
+        super().setUp()
+        self.ann = User.objects.create_user("ann", password="old", **self.given)
+
+
 def signed_up(model, password="old", **given):
     """A user as a view has her: read from the database."""
     made = model(**given)

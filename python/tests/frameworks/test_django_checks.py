@@ -1,6 +1,7 @@
 """What `manage.py check` says."""
 
 import contextlib
+import itertools
 import runpy
 import sys
 import unittest
@@ -20,7 +21,7 @@ from meanwhile import Cheap, comparing
 
 from rigzumal.django import admin as our_admin
 from rigzumal.django import checks, forms
-from tests.helpers import run
+from tests.helpers import each, run
 
 try:
     import psycopg
@@ -114,70 +115,64 @@ class Checks(unittest.TestCase):
             self.assertEqual([it for it in run_checks() if it.id.startswith("rigzumal")], [])
         self.assertEqual(self.ids(AUTH_USER_MODEL="users_app.NoPassword"), [])
 
-    def test_backends(self):
-        for listed, of_stock, of_comparing in BACKENDS:
-            self.assertEqual(self.ids(AUTHENTICATION_BACKENDS=listed), of_stock, listed)
-            with comparing():
-                self.assertEqual(self.ids(AUTHENTICATION_BACKENDS=listed), of_comparing, listed)
-            with override_settings(AUTHENTICATION_BACKENDS=listed):
-                for it in self.found():
-                    if "W001" in it.id:
-                        self.assertIn("a CompareAndSetBackend", it.msg)
-                    elif listed and not isinstance(listed, str):
-                        self.assertIn(listed[-1], it.msg)
+    @each(*BACKENDS)
+    def test_backends(self, listed, of_stock, of_comparing):
+        self.assertEqual(self.ids(AUTHENTICATION_BACKENDS=listed), of_stock)
+        with comparing():
+            self.assertEqual(self.ids(AUTHENTICATION_BACKENDS=listed), of_comparing)
+        with override_settings(AUTHENTICATION_BACKENDS=listed):
+            for it in self.found():
+                if "W001" in it.id:
+                    self.assertIn("a CompareAndSetBackend", it.msg)
+                elif listed and not isinstance(listed, str):
+                    self.assertIn(listed[-1], it.msg)
 
-    def test_hashers(self):
-        for listed, said in HASHERS:
-            self.assertEqual(self.ids(PASSWORD_HASHERS=listed), said, listed)
-            if said == ["E013"]:
-                with override_settings(PASSWORD_HASHERS=listed):
-                    self.assertIn(listed[-1], self.found()[0].msg)
+    @each(*HASHERS)
+    def test_hashers(self, listed, said):
+        self.assertEqual(self.ids(PASSWORD_HASHERS=listed), said)
+        if said == ["E013"]:
+            with override_settings(PASSWORD_HASHERS=listed):
+                self.assertIn(listed[-1], self.found()[0].msg)
 
     def test_a_database_whose_hashers_are_wrong(self):
         """The look at the records says nothing more."""
         with override_settings(PASSWORD_HASHERS=[OUR_ARGON2, "nowhere.Hasher"]):
             self.assertEqual(checks.unlisted_hashers(databases=["default"]), [])
 
-    def test_a_misspelt_setting_is_named(self):
-        for name, number, more in MISSPELT:
-            with self.subTest(name=name), override_settings(**{name: []}, **more):
-                (hint,) = (it.hint for it in run_checks() if it.id == f"rigzumal.{number}")
-                self.assertIn(f" {name}:", hint)
-            with override_settings(**more):
-                (hint,) = (it.hint for it in run_checks() if it.id == f"rigzumal.{number}")
-                self.assertNotIn(f" {name}:", hint)
+    @each(*itertools.product(MISSPELT, (True, False)))
+    def test_a_misspelt_setting_is_named(self, misspelt, is_there):
+        name, number, more = misspelt
+        with override_settings(**{name: []} if is_there else {}, **more):
+            (hint,) = (it.hint for it in run_checks() if it.id == f"rigzumal.{number}")
+        self.assertEqual(f" {name}:" in hint, is_there)
 
-    def test_levels_of_isolation(self):
+    @each(*(("postgresql", *it) for it in POSTGRES), *(("mysql", *it) for it in MYSQL))
+    def test_levels_of_isolation(self, engine, options, is_warned):
         sqlite = {"ENGINE": "django.db.backends.sqlite3"}
-        for engine, levels in (("postgresql", POSTGRES), ("mysql", MYSQL)):
-            for options, is_warned in levels:
-                other = {"ENGINE": f"django.db.backends.{engine}", "OPTIONS": options}
-                with mock.patch.object(
-                    checks.settings, "DATABASES", {"default": sqlite, "other": other}
-                ):
-                    self.assertEqual(self.ids(), ["W005"] * is_warned, options)
+        other = {"ENGINE": f"django.db.backends.{engine}", "OPTIONS": options}
+        with mock.patch.object(checks.settings, "DATABASES", {"default": sqlite, "other": other}):
+            self.assertEqual(self.ids(), ["W005"] * is_warned)
 
-    def test_a_short_column(self):
-        field = User._meta.get_field("password")
-        for width, said in ((127, ["E003"]), (128, []), (None, [])):
-            with mock.patch.object(field, "max_length", width):
-                self.assertEqual(self.ids(), said)
+    @each((127, ["E003"]), (128, []), (None, []))
+    def test_a_short_column(self, width, said):
+        with mock.patch.object(User._meta.get_field("password"), "max_length", width):
+            self.assertEqual(self.ids(), said)
 
     def test_a_model_that_does_not_compare(self):
         (warning,) = checks.user_model()
         self.assertEqual(warning.id, "rigzumal.W007")
         self.assertIn("RIGZUMAL_USER_COMPARES", warning.hint)
 
-    def test_methods_that_would_be_passed_over(self):
-        for model, names in (
-            ("Unmixed", ["Methods.check_password", "Methods.set_password"]),
-            ("Unreached", ["Methods.check_password"]),
-            ("Locked", []),
-            ("Person", []),
-        ):
-            with override_settings(AUTH_USER_MODEL=f"users_app.{model}"):
-                found = [it for it in self.found() if it.id == "rigzumal.E006"]
-            self.assertEqual([it.msg.partition(" ")[0] for it in found], names)
+    @each(
+        ("Unmixed", ["Methods.check_password", "Methods.set_password"]),
+        ("Unreached", ["Methods.check_password"]),
+        ("Locked", []),
+        ("Person", []),
+    )
+    def test_methods_that_would_be_passed_over(self, model, names):
+        with override_settings(AUTH_USER_MODEL=f"users_app.{model}"):
+            found = [it for it in self.found() if it.id == "rigzumal.E006"]
+        self.assertEqual([it.msg.partition(" ")[0] for it in found], names)
 
     def test_the_admin(self):
         get_resolver().url_patterns  # urls.py registers ours
@@ -198,10 +193,10 @@ class Checks(unittest.TestCase):
         routes = ("'theirs/password_change/'", "'theirs/reset/<uidb64>/<token>/'", "'alone/'")
         self.assertEqual([it.msg.split()[2] for it in found], list(routes))
 
-    def test_the_command(self):
-        for owner, said in (("django.contrib.auth", ["W010"]), ("own", [])):
-            with mock.patch.object(checks, "get_commands", lambda: {"changepassword": owner}):
-                self.assertEqual(self.ids(), said)
+    @each(("django.contrib.auth", ["W010"]), ("own", []))
+    def test_the_command(self, owner, said):
+        with mock.patch.object(checks, "get_commands", lambda: {"changepassword": owner}):
+            self.assertEqual(self.ids(), said)
 
 
 class ScryptLike(hashers.MD5PasswordHasher):
@@ -226,18 +221,15 @@ urlpatterns = [
 
 
 class Projects(unittest.TestCase):
-    def test_the_admin_of_the_setting(self):
+    @each((djangos_admin, False, False), (djangos_admin, True, True), (our_admin, True, False))
+    def test_the_admin_of_the_setting(self, owner, compares, is_replaced):
         """It takes the place of Django's very own, and leaves a project's own."""
-        django, ours = djangos_admin.UserAdmin, our_admin.UserAdmin
-        for registered, compares, module in (
-            (django, False, django.__module__),
-            (django, True, "ran"),
-            (ours, True, ours.__module__),
-        ):
-            registry = mock.patch.dict(admin.site._registry, {User: registered(User, admin.site)})
-            with registry, override_settings(RIGZUMAL_USER_COMPARES=compares):
-                runpy.run_path(our_admin.__file__, run_name="ran")
-                self.assertEqual(type(admin.site._registry[User]).__module__, module)
+        registered = owner.UserAdmin(User, admin.site)
+        registry = mock.patch.dict(admin.site._registry, {User: registered})
+        with registry, override_settings(RIGZUMAL_USER_COMPARES=compares):
+            runpy.run_path(our_admin.__file__, run_name="ran")
+            found = type(admin.site._registry[User]).__module__
+        self.assertEqual(found, "ran" if is_replaced else owner.__name__)
 
     def test_without_the_app(self):
         """Hashers, backends and the admin's app refuse it: its settings would be idle."""

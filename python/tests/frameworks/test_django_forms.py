@@ -21,11 +21,12 @@ from django.test import TestCase, TransactionTestCase, override_settings
 from django.urls import path
 from django.utils.encoding import force_bytes
 from django.utils.http import urlsafe_base64_encode
-from meanwhile import Cheap, Router, cheap, comparing, is_right, meanwhile, stands
+from meanwhile import Ann, Cheap, Router, cheap, comparing, is_right, meanwhile, stands
 
 import rigzumal
 from rigzumal.django import forms, passwords, urls, users
 from rigzumal.django.site import AdminSite
+from tests.helpers import each
 
 NEW = "Nq7-xx!zz"
 GIVEN = {"old_password": "old", "new_password1": NEW, "new_password2": NEW}
@@ -33,11 +34,7 @@ BY_ADMIN = {"password1": NEW, "password2": NEW}
 CHANGED = "password was changed meanwhile"
 
 
-class Forms(Cheap, TestCase):
-    def setUp(self):
-        super().setUp()
-        self.ann = User.objects.create_user("ann", password="old")
-
+class Forms(Ann, TestCase):
     def valid(self, form, given=GIVEN):
         """The form, with the user as she stands, whose password is "old"."""
         self.reset("old")
@@ -45,46 +42,46 @@ class Forms(Cheap, TestCase):
         self.assertTrue(found.is_valid(), found.errors)
         return found
 
-    def test_each(self):
+    @each(
+        (forms.PasswordChangeForm, GIVEN, "password_incorrect"),
+        (forms.AdminOwnPasswordChangeForm, GIVEN, "password_incorrect"),
+        (forms.SetPasswordForm, GIVEN, "password_changed"),
+        (forms.AdminPasswordChangeForm, BY_ADMIN, "password_changed"),
+        (djangos_forms.PasswordChangeForm, GIVEN, None),
+        (djangos_forms.SetPasswordForm, GIVEN, None),
+        (djangos_forms.AdminPasswordChangeForm, BY_ADMIN, None),
+    )
+    def test_each(self, form, given, code):
         """It sets the password, unless another was set after the form was validated. With a model
         that compares, Django's own forms raise an exception."""
-        for form, given, code in (
-            (forms.PasswordChangeForm, GIVEN, "password_incorrect"),
-            (forms.AdminOwnPasswordChangeForm, GIVEN, "password_incorrect"),
-            (forms.SetPasswordForm, GIVEN, "password_changed"),
-            (forms.AdminPasswordChangeForm, BY_ADMIN, "password_changed"),
-            (djangos_forms.PasswordChangeForm, GIVEN, None),
-            (djangos_forms.SetPasswordForm, GIVEN, None),
-            (djangos_forms.AdminPasswordChangeForm, BY_ADMIN, None),
-        ):
-            with comparing() if code is None else contextlib.nullcontext():
-                found = self.valid(form, given)
-                if code:
-                    self.assertRaises(ValueError, found.save, commit=False)
-                    self.assertTrue(self.right("old"))
-                self.assertEqual(found.save(), self.ann)
-                self.assertTrue(self.right(NEW))
-                found = self.valid(form, given)
-                self.reset("reset")
-                with self.assertRaises((ValidationError, passwords.RecordChanged)) as caught:
-                    found.save()
-            self.assertEqual(getattr(caught.exception, "code", None), code)
-            self.assertTrue(self.right("reset"))
-
-    def test_a_change_costs_two_hashes(self):
-        """As Django's: the old password is judged once, where its record still stands."""
-        for is_reset, hashes in ((False, 2), (True, 4)):
-            self.reset("old")
-            with mock.patch.object(rigzumal, "argon2", side_effect=rigzumal.argon2) as hashed:
-                form = forms.PasswordChangeForm(User.objects.get(), GIVEN)
-                self.assertTrue(form.is_valid())
-                if is_reset:  # to the same password, by another record
-                    made = hashed.call_count
-                    self.reset("old")
-                    hashes += hashed.call_count - made
-                form.save()
-            self.assertEqual(hashed.call_count, hashes)
+        with comparing() if code is None else contextlib.nullcontext():
+            found = self.valid(form, given)
+            if code:
+                self.assertRaises(ValueError, found.save, commit=False)
+                self.assertTrue(self.right("old"))
+            self.assertEqual(found.save(), self.ann)
             self.assertTrue(self.right(NEW))
+            found = self.valid(form, given)
+            self.reset("reset")
+            with self.assertRaises((ValidationError, passwords.RecordChanged)) as caught:
+                found.save()
+        self.assertEqual(getattr(caught.exception, "code", None), code)
+        self.assertTrue(self.right("reset"))
+
+    @each((False, 2), (True, 4))
+    def test_a_change_costs_two_hashes(self, is_reset, hashes):
+        """As Django's: the old password is judged once, where its record still stands."""
+        self.reset("old")
+        with mock.patch.object(rigzumal, "argon2", side_effect=rigzumal.argon2) as hashed:
+            form = forms.PasswordChangeForm(User.objects.get(), GIVEN)
+            self.assertTrue(form.is_valid())
+            if is_reset:  # to the same password, by another record
+                made = hashed.call_count
+                self.reset("old")
+                hashes += hashed.call_count - made
+            form.save()
+        self.assertEqual(hashed.call_count, hashes)
+        self.assertTrue(self.right(NEW))
 
     def test_the_old_password_is_judged_at_what_stands(self):
         """The user may come from a replica that lags. Nothing is upgraded."""
@@ -109,12 +106,13 @@ class Forms(Cheap, TestCase):
         self.assertFalse(User.objects.get().has_usable_password())
 
 
-class Views(Cheap, TestCase):
+class Views(Ann, TestCase):
     """By Django's client: a fault of the server would be raised."""
+
+    given = {"is_staff": True}
 
     def setUp(self):
         super().setUp()
-        self.ann = User.objects.create_user("ann", password="old", is_staff=True)
         self.client.force_login(self.ann)
 
     def test_the_names_are_djangos(self):
@@ -123,27 +121,27 @@ class Views(Cheap, TestCase):
 
         self.assertEqual(names(urls), names(djangos_urls))
 
-    def test_a_change(self):
+    @each("/accounts/password_change/", "/admin/password_change/")
+    def test_a_change(self, change):
         """A form that fails undoes no reset either: Django's own upgrades as it judges."""
         bad = {**GIVEN, "new_password2": "another"}
-        for change in ("/accounts/password_change/", "/admin/password_change/"):
-            for given, text in ((GIVEN, "old password was entered incorrectly"), (bad, "")):
-                self.reset("old")
-                self.client.force_login(User.objects.get())
-                self.assertEqual(self.client.get(change).status_code, 200)
-                with cheap(memory=128), meanwhile(lambda: self.reset("reset")):
-                    page = self.client.post(change, given)
-                self.assertContains(page, text)
-                self.assertTrue(self.right("reset"))
-            self.client.force_login(User.objects.get())
-            page = self.client.post(change, {**GIVEN, "old_password": "reset"})
-            self.assertRedirects(page, change + "done/", fetch_redirect_response=False)
-            self.assertTrue(self.right(NEW))
-            self.assertEqual(self.client.get(change).status_code, 200)  # logged in yet
+        for given, text in ((GIVEN, "old password was entered incorrectly"), (bad, "")):
             self.reset("old")
             self.client.force_login(User.objects.get())
-            with self.lost(8):
-                self.assertContains(self.client.post(change, GIVEN), CHANGED)
+            self.assertEqual(self.client.get(change).status_code, 200)
+            with cheap(memory=128), meanwhile(lambda: self.reset("reset")):
+                page = self.client.post(change, given)
+            self.assertContains(page, text)
+            self.assertTrue(self.right("reset"))
+        self.client.force_login(User.objects.get())
+        page = self.client.post(change, {**GIVEN, "old_password": "reset"})
+        self.assertRedirects(page, change + "done/", fetch_redirect_response=False)
+        self.assertTrue(self.right(NEW))
+        self.assertEqual(self.client.get(change).status_code, 200)  # logged in yet
+        self.reset("old")
+        self.client.force_login(User.objects.get())
+        with self.lost(8):
+            self.assertContains(self.client.post(change, GIVEN), CHANGED)
 
     def link(self):
         """Where a link for a reset leads to."""
@@ -217,12 +215,11 @@ class SecondSite(Cheap, TestCase):
         self.assertTrue(self.right(NEW))
 
 
-class Admin(Cheap, TestCase):
+class Admin(Ann, TestCase):
     """An administrator, while the user or a thief does something."""
 
     def setUp(self):
         super().setUp()
-        self.ann = User.objects.create_user("ann", password="old")
         self.client.force_login(User.objects.create_superuser("root", password="root"))
         self.page = f"/admin/auth/user/{self.ann.pk}/"
 
@@ -280,12 +277,8 @@ class ComparingAdmin(Admin):
     around = comparing
 
 
-class Command(Cheap, TransactionTestCase):
+class Command(Ann, TransactionTestCase):
     """`manage.py changepassword`."""
-
-    def setUp(self):
-        super().setUp()
-        self.ann = User.objects.create_user("ann", password="old")
 
     def call(self, *typed, name="ann", act=lambda: None):
         typed, out = iter(typed), io.StringIO()

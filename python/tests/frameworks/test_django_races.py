@@ -17,6 +17,7 @@ from rigzumal.django.hashers import Argon2PasswordHasher
 from rigzumal.django.passwords import RecordChanged
 from rigzumal.django.records import TRIES
 from rigzumal.django.users import CompareAndSetMixin
+from tests.helpers import each
 
 GONE = "deleted"
 NUMBERS = itertools.count()
@@ -94,22 +95,20 @@ class Races(Cheap, TransactionTestCase):
                     with self.subTest(model, act=act, moment=moment, other=other), cheap(memory):
                         self.race(read, user, act, moment, other)
 
-    def test_how_often(self):
+    @each(*itertools.product((User, Person, Locked), ("authenticate", "check", "change")))
+    def test_how_often(self, model, act):
         """An operation that is lost seven times is done, and one that is lost eight times isn't."""
-        for model, act in itertools.product(
-            (User, Person, Locked), ("authenticate", "check", "change")
-        ):
-            for turns in (TRIES - 1, TRIES):
-                user = self.signed_up(model)
-                again = before_update(lambda: reset_elsewhere(user, OLD), turns)
-                label = override_settings(AUTH_USER_MODEL=model._meta.label)
-                # The methods of a model upgrade before a change.
-                memory = 64 if act in CHANGES else 128
-                with self.subTest(model, act=act, turns=turns), cheap(memory), label, again:
-                    lost = False if act in LOGINS else RecordChanged
-                    self.assertEqual(self.answer(act, user), True if turns < TRIES else lost)
-                new = NEW if act in CHANGES and turns < TRIES else OLD
-                self.assertTrue(is_right(user, new))
+        for turns in (TRIES - 1, TRIES):
+            user = self.signed_up(model)
+            again = before_update(lambda: reset_elsewhere(user, OLD), turns)
+            label = override_settings(AUTH_USER_MODEL=model._meta.label)
+            # The methods of a model upgrade before a change.
+            memory = 64 if act in CHANGES else 128
+            with self.subTest(model, act=act, turns=turns), cheap(memory), label, again:
+                lost = False if act in LOGINS else RecordChanged
+                self.assertEqual(self.answer(act, user), True if turns < TRIES else lost)
+            new = NEW if act in CHANGES and turns < TRIES else OLD
+            self.assertTrue(is_right(user, new))
 
     def test_djangos_own_undoes_the_change(self):
         """What all of this is for: by Django's backend the old password is put back."""

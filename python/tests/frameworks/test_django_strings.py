@@ -16,6 +16,7 @@ import rigzumal
 from rigzumal.django import checks, records
 from rigzumal.django import hashers as our_hashers
 from rigzumal.django.hashers import Argon2PasswordHasher, ScryptPasswordHasher
+from tests.helpers import each
 
 try:
     import argon2 as argon2_cffi
@@ -165,19 +166,19 @@ class Strings(unittest.TestCase):
         with mock.patch.object(rigzumal, "argon2", side_effect=[fault, bytes(32)]):
             self.assertRaises(MemoryError, Argon2().verify, "secret", record)
 
-    def test_bad_arguments_and_no_password_in_an_exception(self):
-        for hasher in (Argon2(), Scrypt()):
-            for password, salt, kind in (
-                ("topsecret", "", ValueError),
-                ("topsecret", "a$b", ValueError),
-                ("topsecret\udc80", "somesalt", ValueError),
-                (None, "somesalt", TypeError),
-            ):
-                with self.assertRaises(kind) as caught:
-                    hasher.encode(password, salt)
-                self.assertNotIn("topsecret", repr(caught.exception))
-            record = hasher.encode("secret", "somesaltsomesalt")
-            self.assertIs(hasher.verify("\udc80", record), False)
+    @each(Argon2(), Scrypt())
+    def test_bad_arguments_and_no_password_in_an_exception(self, hasher):
+        for password, salt, kind in (
+            ("topsecret", "", ValueError),
+            ("topsecret", "a$b", ValueError),
+            ("topsecret\udc80", "somesalt", ValueError),
+            (None, "somesalt", TypeError),
+        ):
+            with self.assertRaises(kind) as caught:
+                hasher.encode(password, salt)
+            self.assertNotIn("topsecret", repr(caught.exception))
+        record = hasher.encode("secret", "somesaltsomesalt")
+        self.assertIs(hasher.verify("\udc80", record), False)
 
     def test_what_is_old(self):
         """Another kind, version or cost, a salt of little entropy, or a tag shorter than those
@@ -250,11 +251,11 @@ class Strings(unittest.TestCase):
                 self.assertIs(hasher.verify("other", record), False)
             self.assertEqual(compared.mock_calls, [mock.call(tag, tag), mock.call(other, tag)])
 
-    def test_nothing_secret_is_shown(self):
-        for hasher, size in ((Argon2(), 43), (Scrypt(), 88)):
-            record = hasher.encode("secret", "somesaltsomesalt")
-            self.assertNotIn(record, repr(records.Judged(True, record, record)))
-            shown = hasher.safe_summary(record)
-            self.assertEqual([*shown][-2:], ["salt", "hash"])
-            self.assertEqual(shown["salt"], "somesa**********")
-            self.assertEqual(shown["hash"], record.split("$")[-1][:6] + "*" * (size - 6))
+    @each((Argon2(), 43), (Scrypt(), 88))
+    def test_nothing_secret_is_shown(self, hasher, size):
+        record = hasher.encode("secret", "somesaltsomesalt")
+        self.assertNotIn(record, repr(records.Judged(True, record, record)))
+        shown = hasher.safe_summary(record)
+        self.assertEqual([*shown][-2:], ["salt", "hash"])
+        self.assertEqual(shown["salt"], "somesa**********")
+        self.assertEqual(shown["hash"], record.split("$")[-1][:6] + "*" * (size - 6))

@@ -18,7 +18,7 @@ from passlib.tests import test_handlers_argon2 as argon2_tests
 from passlib.tests import test_handlers_scrypt as scrypt_tests
 
 import rigzumal.passlib
-from tests.helpers import run
+from tests.helpers import each, run
 
 ours, our_scrypt = rigzumal.passlib.argon2, rigzumal.passlib.scrypt
 PASSWORDS = ("", "lètmein", b"\xff\xfe", "x" * 1000)
@@ -74,17 +74,17 @@ class Beside(unittest.TestCase):
             self.assertFalse(one_of.needs_update(two) or two_of.needs_update(one))
 
     @unittest.skipIf(theirs is None, "argon2-cffi is not there")
-    def test_argon2(self):
-        for type_, size in (("i", 16), ("d", 24), ("id", 32), ("id", 64)):
-            costs = {"type": type_, "memory_cost": 64, "time_cost": 2, "parallelism": 2}
-            one_of, two_of = (it.using(digest_size=size, **costs) for it in (theirs, ours))
-            self.both_ways(one_of, two_of)
-            self.assertTrue(two_of.using(memory_cost=72).needs_update(one_of.hash("x")))
+    @each(("i", 16), ("d", 24), ("id", 32), ("id", 64))
+    def test_argon2(self, type_, size):
+        costs = {"type": type_, "memory_cost": 64, "time_cost": 2, "parallelism": 2}
+        one_of, two_of = (it.using(digest_size=size, **costs) for it in (theirs, ours))
+        self.both_ways(one_of, two_of)
+        self.assertTrue(two_of.using(memory_cost=72).needs_update(one_of.hash("x")))
 
-    def test_scrypt(self):
-        for settings in ({}, {"ident": "$7$"}, {"block_size": 4, "parallelism": 3}):
-            one_of = passlib.hash.scrypt.using(rounds=6, **settings)
-            self.both_ways(one_of, our_scrypt.using(rounds=6, **settings))
+    @each({}, {"ident": "$7$"}, {"block_size": 4, "parallelism": 3})
+    def test_scrypt(self, settings):
+        one_of = passlib.hash.scrypt.using(rounds=6, **settings)
+        self.both_ways(one_of, our_scrypt.using(rounds=6, **settings))
 
 
 class Ours(unittest.TestCase):
@@ -93,19 +93,14 @@ class Ours(unittest.TestCase):
         record = ours.hash("secret")
         self.assertRegex(record, r"^\$argon2id\$v=19\$m=65536,t=3,p=4\$.{22}\$.{43}$")
 
-    def test_threads(self):
-        for settings, threads in (
-            ({}, 4),
-            ({"max_threads": -1}, 4),
-            ({"max_threads": 1}, 1),
-            ({"max_threads": 3}, 3),
-        ):
-            handler = ours.using(memory_cost=64, time_cost=1, parallelism=4, **settings)
-            with mock.patch.object(rigzumal, "argon2", wraps=rigzumal.argon2) as call:
-                record = handler.hash("password")
-                self.assertTrue(handler.verify("password", record))
-            self.assertEqual({it.kwargs["threads"] for it in call.mock_calls}, {threads})
-            self.assertTrue(ours.verify("password", record))
+    @each(({}, 4), ({"max_threads": -1}, 4), ({"max_threads": 1}, 1), ({"max_threads": 3}, 3))
+    def test_threads(self, settings, threads):
+        handler = ours.using(memory_cost=64, time_cost=1, parallelism=4, **settings)
+        with mock.patch.object(rigzumal, "argon2", wraps=rigzumal.argon2) as call:
+            record = handler.hash("password")
+            self.assertTrue(handler.verify("password", record))
+        self.assertEqual({it.kwargs["threads"] for it in call.mock_calls}, {threads})
+        self.assertTrue(ours.verify("password", record))
 
     def test_no_exception_shows_a_password(self):
         record = ours.using(memory_cost=64, time_cost=1).hash("topsecret")
@@ -118,19 +113,19 @@ class Ours(unittest.TestCase):
                 handler.hash("topsecret" * 500)
             self.assertNotIn("topsecret", repr(caught.exception))
 
-    def test_there_is_one_backend(self):
-        for handler in (ours, our_scrypt):
-            self.assertEqual(handler.backends, ("rigzumal",))
-            for name in ("any", "default", "rigzumal"):
-                self.assertIs(handler.has_backend(name), True)
-            self.assertIs(handler.has_backend("argon2_cffi"), False)
-            self.assertRaises(MissingBackendError, handler.set_backend, "argon2_cffi")
+    @each(ours, our_scrypt)
+    def test_there_is_one_backend(self, handler):
+        self.assertEqual(handler.backends, ("rigzumal",))
+        for name in ("any", "default", "rigzumal"):
+            self.assertIs(handler.has_backend(name), True)
+        self.assertIs(handler.has_backend("argon2_cffi"), False)
+        self.assertRaises(MissingBackendError, handler.set_backend, "argon2_cffi")
 
-    def test_they_are_registered_by_one_call(self):
+    @each("", "import passlib.hash; passlib.hash.argon2; passlib.hash.scrypt")
+    def test_they_are_registered_by_one_call(self, front):
         """Also after passlib's own were loaded."""
-        for front in ("", "import passlib.hash; passlib.hash.argon2; passlib.hash.scrypt"):
-            said = run(sys.executable, "-W", "ignore", "-c", front + REGISTERED)
-            self.assertEqual(said.split()[-4:], ["rigzumal"] * 4)  # after passlib's own warning
+        said = run(sys.executable, "-W", "ignore", "-c", front + REGISTERED)
+        self.assertEqual(said.split()[-4:], ["rigzumal"] * 4)  # after passlib's own warning
 
 
 REGISTERED = """
