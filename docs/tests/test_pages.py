@@ -16,15 +16,13 @@ import pathlib
 import re
 import shutil
 import sys
-import tempfile
 import unittest
 
 HERE = pathlib.Path(__file__).resolve().parent
-REPOSITORY = HERE.parent.parent
-C, PYTHON, LIBRARIES = (REPOSITORY / name for name in ("c", "python", "c/out"))
-sys.path.insert(0, str(REPOSITORY))
+sys.path.insert(0, str(HERE.parent.parent))
 
-from tests.helpers import need, need_module, run  # noqa: E402
+from tests.helpers import LIBRARIES, PYTHON, TOP, Case  # noqa: E402
+from tests.helpers import need, need_module, run, write_files  # noqa: E402
 
 OVER_PACKAGE = {"PYTHONPATH": str(PYTHON)}
 BLOCK = re.compile(r"^```(c|python|rust)\n(.*?)^```$", re.MULTILINE | re.DOTALL)
@@ -55,7 +53,7 @@ TESTED = {
 
 def samples(page):
     """The pieces of code on a page, each with its language, but for those that stand in a file."""
-    return BLOCK.findall(FROM_FILE.sub("", (REPOSITORY / page).read_text()))
+    return BLOCK.findall(FROM_FILE.sub("", (TOP / page).read_text()))
 
 
 def sample_for(page, test):
@@ -121,24 +119,24 @@ fn stored() -> String { word(1) }
 """
 
 
-class PagesTest(unittest.TestCase):
+class PagesTest(Case):
+    seconds = 900
+
     def setUp(self):
-        self.room = pathlib.Path(tempfile.mkdtemp(prefix="pages-"))
-        self.addCleanup(shutil.rmtree, self.room, ignore_errors=True)
+        super().setUp()
+        self.folder = self.room()
 
     def test_samples(self):
         """Each piece of code on a page has a test here, or a file that runs it."""
-        pages = [REPOSITORY / "README.md", *(REPOSITORY / "docs").glob("*.md")]
-        pages += [
-            it for name in ("c", "python", "rust") for it in (REPOSITORY / name).rglob("*.md")
-        ]
+        pages = [TOP / "README.md", *(TOP / "docs").glob("*.md")]
+        pages += [it for name in ("c", "python", "rust") for it in (TOP / name).rglob("*.md")]
         for path in pages:
-            page = str(path.relative_to(REPOSITORY))
+            page = str(path.relative_to(TOP))
             known = [language for language, _ in TESTED.get(page, ())]
             self.assertEqual((page, [it for it, _ in samples(page)]), (page, known))
         for page, test in ((page, test) for page, tests in TESTED.items() for _, test in tests):
             if not hasattr(self, test):
-                self.assertIn(pathlib.Path(page).name, (REPOSITORY / test).read_text(), test)
+                self.assertIn(pathlib.Path(page).name, (TOP / test).read_text(), test)
 
     def test_samples_of_hashing(self):
         """On both pages a right password alone replaces a record, and an old record alone."""
@@ -164,9 +162,9 @@ assert hasher.check_needs_rehash(record) is {is_old}
         """A sample of C lets in by the right password alone, and rehashes old records alone then."""
         self.assertEqual(code.count("RIGZUMAL_ARGON2_COSTS"), 1 + rehashes)
         code = code.replace("RIGZUMAL_ARGON2_COSTS", "costs", 1)
-        source, program = self.room / "sample.c", self.room / "sample"
+        source, program = self.folder / "sample.c", self.folder / "sample"
         source.write_text(PROGRAM % code)
-        words = ["-std=c11", "-Wall", "-Wextra", "-Wpedantic", "-Werror", f"-I{C / 'include'}"]
+        words = ["-std=c11", "-Wall", "-Wextra", "-Wpedantic", "-Werror", f"-I{TOP / 'c/include'}"]
         compiler = os.environ.get("CC", "cc")
         run(compiler, *words, source, f"-L{LIBRARIES}", "-lrigzumal", "-o", program)
         for is_old, typed in LOGINS:
@@ -185,7 +183,7 @@ assert hasher.check_needs_rehash(record) is {is_old}
 
     def test_sample_of_the_header(self):
         """The C at the head of rigzumal.h."""
-        head = (C / "include/rigzumal.h").read_text().partition("*/")[0]
+        head = (TOP / "c/include/rigzumal.h").read_text().partition("*/")[0]
         code = "\n".join(re.findall(r"^ \*     (.*)$", head, re.M))
         self.assertEqual(code.count("..."), 1)
         self.check_c(code.replace("...", TYPED), rehashes=True)
@@ -193,14 +191,14 @@ assert hasher.check_needs_rehash(record) is {is_old}
     def built_rust(self, name, code):
         """A program over the crate, as one of its examples."""
         need("cargo")
-        crate = self.room / "crate"
-        shutil.copytree(REPOSITORY / "rust", crate, ignore=shutil.ignore_patterns("target"))
+        crate = self.folder / "crate"
+        shutil.copytree(TOP / "rust", crate, ignore=shutil.ignore_patterns("target"))
         (crate / "examples").mkdir(exist_ok=True)
         (crate / f"examples/{name}.rs").write_text(code)
-        env = {"CARGO_TARGET_DIR": str(self.room / "cargo"), "RIGZUMAL_LIB_DIR": str(LIBRARIES)}
+        env = {"CARGO_TARGET_DIR": str(self.folder / "cargo"), "RIGZUMAL_LIB_DIR": str(LIBRARIES)}
         words = ("build", "-q", "--offline", "--locked", "--example", name)
         run("cargo", *words, env=env, at=crate)
-        return self.room / "cargo/debug/examples" / name
+        return self.folder / "cargo/debug/examples" / name
 
     def test_sample_of_rust(self):
         """The page's Rust runs as a program."""
@@ -211,7 +209,7 @@ assert hasher.check_needs_rehash(record) is {is_old}
 
     def test_sample_of_the_crate(self):
         """The login at the head of the crate stores a record by the right password alone."""
-        head = (REPOSITORY / "rust/src/lib.rs").read_text().split("//! ```\n")[1]
+        head = (TOP / "rust/src/lib.rs").read_text().split("//! ```\n")[1]
         code = "\n".join(it[4:] for it in head.splitlines() if not it.startswith("//! #"))
         used, rest = code.split("\n\n", 1)
         asked = 'match verify(b"correct horse"'
@@ -232,7 +230,7 @@ assert hasher.check_needs_rehash(record) is {is_old}
     def check_accounts(self, code):
         """A login over a table in PostgreSQL."""
         need_module("psycopg")
-        page = self.room / "accounts.py"
+        page = self.folder / "accounts.py"
         page.write_text(code)
         path = os.pathsep.join(map(str, (PYTHON, PYTHON / "tests/accounts")))
         said = run(sys.executable, HERE / "sample_of_accounts.py", page, env={"PYTHONPATH": path})
@@ -251,17 +249,17 @@ assert hasher.check_needs_rehash(record) is {is_old}
         """A change commits with rows of the caller's in the transaction of an ORM, or not at all."""
         need_module("sqlalchemy")
         (code,) = sample_for("docs/SCALE.md", "test_sample_of_a_transaction")
-        page, program = self.room / "transaction.py", HERE / "sample_of_a_transaction.py"
+        page, program = self.folder / "transaction.py", HERE / "sample_of_a_transaction.py"
         page.write_text(code)
-        run(sys.executable, program, page, env=OVER_PACKAGE, at=self.room)
+        run(sys.executable, program, page, env=OVER_PACKAGE, at=self.folder)
 
     def check_django(self, settings, warned="no issues (0 silenced)"):
         """A project with these settings behind its own has nothing amiss but what is named, and its
         tests pass."""
-        with open(self.room / "service/settings.py", "a") as file:
+        with open(self.folder / "service/settings.py", "a") as file:
             file.write(settings)
         env = {**OVER_PACKAGE, "DJANGO_SETTINGS_MODULE": "service.settings"}
-        manage = functools.partial(run, sys.executable, "manage.py", at=self.room, env=env)
+        manage = functools.partial(run, sys.executable, "manage.py", at=self.folder, env=env)
         manage("migrate", "--run-syncdb", "-v", "0")
         said = manage("check", "--database", "default").strip()
         self.assertIn(f"System check identified {warned}", said)
@@ -272,43 +270,41 @@ assert hasher.check_needs_rehash(record) is {is_old}
         """Begins a project, and gives the pieces of docs/DJANGO.md."""
         need_module("django")
         need("django-admin")
-        run("django-admin", "startproject", "service", ".", at=self.room, env=OVER_PACKAGE)
+        run("django-admin", "startproject", "service", ".", at=self.folder, env=OVER_PACKAGE)
         return [code for _, code in samples("docs/DJANGO.md")]
 
     def test_samples_of_django(self):
         """docs/DJANGO.md's model, URLs, views and hashers, where the model compares by itself."""
         settings, model, urls, views, costs, _, wrap, changed = self.begin_django()
         route, registered = urls.strip().split("\n")
-        (self.room / "people").mkdir()
-        for name, code in (
-            ("people/__init__.py", ""),
-            ("people/models.py", MODEL_IMPORTS + model),
-            ("people/hashers.py", f"{HASHER_IMPORTS}{costs}\n\n{wrap}"),
-            ("people/tests.py", (HERE / "django_samples.py").read_text()),
-            ("service/urls.py", f"{URL_IMPORTS}urlpatterns = [\n{route}\n]\n{registered}\n"),
-            ("views", views),
-            ("changed", changed),
-        ):
-            (self.room / name).write_text(code)
+        urls = f"{URL_IMPORTS}urlpatterns = [\n{route}\n]\n{registered}\n"
+        people = {
+            "__init__.py": "",
+            "models.py": MODEL_IMPORTS + model,
+            "hashers.py": f"{HASHER_IMPORTS}{costs}\n\n{wrap}",
+            "tests.py": (HERE / "django_samples.py").read_text(),
+        }
+        write_files(self.folder / "people", people)
+        write_files(self.folder, {"service/urls.py": urls, "views": views, "changed": changed})
         self.check_django(settings + OWN_MODEL)
 
     def test_sample_of_a_co_process(self):
         """The page's co-process over a new book, where credkeep is built."""
-        built = REPOSITORY / "crates/credkeep/out"
+        built = TOP / "crates/credkeep/out"
         env = {"PATH": os.pathsep.join((str(built), os.environ["PATH"]))}
         if shutil.which("credkeep", path=env["PATH"]) is None:
             self.skipTest("credkeep isn't built")
         (code,) = sample_for("docs/SERVING.md", "test_sample_of_a_co_process")
-        run("credkeep", "users.db", "init", env=env, at=self.room)
-        self.assertEqual(run(sys.executable, "-c", code, env=env, at=self.room), "ok\nnone\n")
+        run("credkeep", "users.db", "init", env=env, at=self.folder)
+        self.assertEqual(run(sys.executable, "-c", code, env=env, at=self.folder), "ok\nnone\n")
 
     def test_django_page(self):
         """docs/DJANGO.md's settings and the tests to copy, in new projects: nothing is amiss with
         either form of the admin's app, without the admin, and with a tuple of apps; then with a
         cheap hasher."""
         settings, _, _, _, _, cheap, *_ = self.begin_django()
-        shutil.copy(HERE / "django_page.py", self.room / "tests.py")
-        own, urls = ((self.room / "service" / it) for it in ("settings.py", "urls.py"))
+        shutil.copy(HERE / "django_page.py", self.folder / "tests.py")
+        own, urls = ((self.folder / "service" / it) for it in ("settings.py", "urls.py"))
         begun, begun_urls = own.read_text(), urls.read_text()
         admin = "'django.contrib.admin'"
         no_admin = f"INSTALLED_APPS.remove({admin})\nTEMPLATES[0]['OPTIONS'] = {{}}\n"
@@ -338,12 +334,12 @@ assert hasher.check_needs_rehash(record) is {is_old}
     def test_php(self):
         """The plain code, on SQLite."""
         self.need_php()
-        self.php(REPOSITORY / "examples/php/accounts.php", "php_accounts.php")
+        self.php(TOP / "examples/php/accounts.php", "php_accounts.php")
 
     def test_laravel(self):
         """The provider for Laravel, on SQLite."""
         self.need_php("Illuminate/autoload.php")
-        code = REPOSITORY / "examples/php/CompareAndSetUserProvider.php"
+        code = TOP / "examples/php/CompareAndSetUserProvider.php"
         self.php(code, "php_laravel.php")
 
     def test_symfony(self):
@@ -352,7 +348,7 @@ assert hasher.check_needs_rehash(record) is {is_old}
         (code,) = re.findall(
             r"^```php\n(<.*?)```", (HERE.parent / "PHP.md").read_text(), re.S | re.M
         )
-        page = self.room / "CompareAndSetUpgrader.php"
+        page = self.folder / "CompareAndSetUpgrader.php"
         page.write_text(code)
         self.php(page, "php_symfony.php")
 
@@ -360,7 +356,7 @@ assert hasher.check_needs_rehash(record) is {is_old}
         """The commands of docs/MIGRATING.md write what stands there."""
         need("doveadm", "htpasswd", "php")
         need_module("django", "passlib", "argon2", "bcrypt")
-        said = run(sys.executable, REPOSITORY / "tools/readme.py", "docs/MIGRATING.md")
+        said = run(sys.executable, TOP / "tools/readme.py", "docs/MIGRATING.md")
         self.assertNotIn("not run", said)
 
 

@@ -10,11 +10,9 @@ import unittest
 CRATE = pathlib.Path(__file__).resolve().parent.parent
 sys.path.insert(0, str(CRATE.parent))
 
-from tests.helpers import common_folder, need, run
+from tests.helpers import LIBRARIES, common_folder, need, run
 
 ROOM = common_folder()
-
-LIBRARIES = CRATE.parent / "c/out"
 ROOM_OF_CARGO = {"CARGO_TARGET_DIR": str(ROOM / "cargo"), "RIGZUMAL_LIB_DIR": str(LIBRARIES)}
 STRICT = {"RUSTDOCFLAGS": "-D warnings", **ROOM_OF_CARGO}
 MOST_UNSAFE_LINES = 150

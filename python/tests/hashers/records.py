@@ -7,10 +7,8 @@ import pathlib
 import sys
 
 HERE = pathlib.Path(__file__).resolve().parent
-PYTHON = HERE.parent.parent
-LIBRARIES = PYTHON.parent / "c/out"
-sys.path[:0] = str(PYTHON), str(PYTHON.parent)
-os.environ["PYTHONPATH"] = f"{PYTHON}:{os.environ.get('PYTHONPATH', '')}".rstrip(":")
+sys.path[:0] = str(HERE.parents[1]), str(HERE.parents[2])
+os.environ["PYTHONPATH"] = f"{HERE.parents[1]}:{os.environ.get('PYTHONPATH', '')}".rstrip(":")
 
 import rigzumal
 from rigzumal import PasswordHasher

@@ -106,9 +106,9 @@ class LowLevel(Same):
             unknown = hashed.replace(b"v=19", b"v=18")
             ours.low_level.verify_secret(unknown, b"x", ours.Type.ID)
 
-    def test_messages_are_theirs(self):
-        for number in range(-60, 20):
-            self.same(lambda it: it.low_level.error_to_str(number), number)
+    @each(*range(-60, 20))
+    def test_messages_are_theirs(self, number):
+        self.same(lambda it: it.low_level.error_to_str(number), number)
 
     @each("x", 5, None)
     def test_types(self, wrong):

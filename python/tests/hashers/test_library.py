@@ -8,11 +8,11 @@ import shutil
 import tempfile
 import unittest
 
-from records import HERE, LIBRARIES, PYTHON, python
+from records import HERE, python
 
 import rigzumal
 from rigzumal import PasswordHasher, _library
-from tests.helpers import each, need_module
+from tests.helpers import LIBRARIES, PYTHON, each, need_module
 
 
 class Places(unittest.TestCase):

@@ -30,16 +30,16 @@ class Opaque(unittest.TestCase):
         self.assertEqual(len(made), 1)
         self.assertEqual(opaque_string(*made), *made)  # once and for all
 
-    def test_what_nobody_types(self):
+    @each(
+        *("\0", "\n", "\r", "\x7f", "\x85", "\u00ad", "\u202e", "\u2028", "\ufeff"),
+        *("\ue000", "\ufdd0", "\U0010ffff", "\ud800", "\u0378", "\u115f", "\u3164"),
+        *("\u034f", "\u17b4", "\u180e", "\u0640", "\U000e0041", "\U000e0100", "\ufe00"),
+    )
+    def test_what_nobody_types(self, odd):
         """And no text is in what is raised."""
-        for odd in (
-            *("\0", "\n", "\r", "\x7f", "\x85", "\u00ad", "\u202e", "\u2028", "\ufeff"),
-            *("\ue000", "\ufdd0", "\U0010ffff", "\ud800", "\u0378", "\u115f", "\u3164"),
-            *("\u034f", "\u17b4", "\u180e", "\u0640", "\U000e0041", "\U000e0100", "\ufe00"),
-        ):
-            with self.subTest(odd=ascii(odd)), self.assertRaises(ValueError) as raised:
-                opaque_string(f"hunter{odd}2")
-            self.assertNotIn("hunter", str(raised.exception))
+        with self.subTest(odd=ascii(odd)), self.assertRaises(ValueError) as raised:
+            opaque_string(f"hunter{odd}2")
+        self.assertNotIn("hunter", str(raised.exception))
 
     @each(
         *("\u2764\ufe0f", "\U0001f469\u200d\U0001f680", "\u0646\u0627\u0645\u0647\u200c"),

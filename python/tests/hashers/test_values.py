@@ -7,11 +7,11 @@ import ctypes
 import pickle
 import unittest
 
-from records import ARGON2, LEAST, LEAST_COSTS, PYTHON, SMALL, Calls, python, verdict
+from records import ARGON2, LEAST, LEAST_COSTS, SMALL, Calls, python, verdict
 
 import rigzumal
 from rigzumal import PasswordHasher, ScryptHasher, Type, argon2_cffi
-from tests.helpers import each
+from tests.helpers import PYTHON, each
 
 COSTS = {"time_cost": 1, "memory_cost": 64, "parallelism": 4}
 

@@ -9,16 +9,13 @@ import sys
 import unittest
 import zipfile
 
-HERE = pathlib.Path(__file__).resolve().parent
-PYTHON = HERE.parent.parent
-REPOSITORY = PYTHON.parent
-LIBRARIES = REPOSITORY / "c/out"
-sys.path.insert(0, str(REPOSITORY))
+sys.path.insert(0, str(pathlib.Path(__file__).resolve().parents[3]))
 
+from tests.helpers import LIBRARIES, PYTHON, TOP
 from tests.helpers import common_folder, files_below, need, need_module, run
 
 ROOM = common_folder()
-VERSION = (REPOSITORY / "VERSION").read_text().strip()
+VERSION = (TOP / "VERSION").read_text().strip()
 
 FILES = sorted(
     str(it.relative_to(PYTHON))
@@ -189,12 +186,10 @@ class Package(unittest.TestCase):
         """black leaves the sources as they are: the package's, the packers', and the tests'."""
         need("black")
         black = ("black", "-q", "--check", "-l")
-        run(
-            *black, "88", PYTHON / "rigzumal", PYTHON / "build_backend.py", REPOSITORY / "packaging"
-        )
+        run(*black, "88", PYTHON / "rigzumal", PYTHON / "build_backend.py", TOP / "packaging")
         parts = ("python/tests", "docs/tests", "rust/tests", "c/tests", "examples/login_page")
         parts += ("tests/helpers.py", "tests/operations.py", "tests/credbook", "tests/credkeep")
-        run(*black, "100", *(REPOSITORY / it for it in parts))
+        run(*black, "100", *(TOP / it for it in parts))
 
     def test_types(self):
         """mypy takes the package, strictly."""
@@ -221,4 +216,4 @@ class Package(unittest.TestCase):
         run(*mypy, "rigzumal/django", "rigzumal/passlib.py", at=PYTHON)
         # Of waitress it knows that there are stubs, which nobody needs to have.
         words = (*mypy, "--disable-error-code=import", "login_page.py")
-        run(*words, at=REPOSITORY / "examples/login_page", env={"MYPYPATH": str(PYTHON)})
+        run(*words, at=TOP / "examples/login_page", env={"MYPYPATH": str(PYTHON)})
