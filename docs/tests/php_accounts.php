@@ -11,9 +11,8 @@ class Between extends PDO
 
     public function prepare(string $query, array $options = []): PDOStatement|false
     {
-        if (str_starts_with($query, 'UPDATE') && ($act = $this->before)) {
-            $this->before = null;
-            $act();
+        if (str_starts_with($query, 'UPDATE')) {
+            once($this->before);
         }
         if (!$this->compares) {
             $query = str_replace('id = ? AND record = ?', 'id = ? AND ? IS NOT NULL', $query);
@@ -33,11 +32,8 @@ class Rows extends PDOStatement
     public function fetchAll(int $mode = PDO::FETCH_DEFAULT, mixed ...$given): array
     {
         $rows = parent::fetchAll($mode, ...$given);
-        if ($act = self::$after) {
-            self::$after = null;
-            $this->closeCursor();
-            $act();
-        }
+        $this->closeCursor();
+        once(self::$after);
         return $rows;
     }
 }

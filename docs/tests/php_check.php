@@ -9,4 +9,11 @@ function check(bool $right, string $what): void
     }
 }
 
+/** Does what is due, if something is, and no second time. */
+function once(?Closure &$due): void
+{
+    [$act, $due] = [$due, null];
+    $act && $act();
+}
+
 check(str_contains(file_get_contents('/proc/self/maps'), 'c/out/libargon2.so.1'), 'our library');

@@ -53,20 +53,14 @@ class Between extends Argon2IdHasher
         if (password_get_info($hashedValue)['algo'] !== null) {
             $this->count();
         }
-        if ($act = $this->after) {
-            $this->after = null;
-            $act();
-        }
+        once($this->after);
         return $right;
     }
 
     public function make($value, array $options = [])
     {
         $this->count();
-        if ($act = $this->making) {
-            $this->making = null;
-            $act();
-        }
+        once($this->making);
         return parent::make($value, $options);
     }
 
