@@ -5,7 +5,6 @@ import re
 import shutil
 import subprocess
 import sys
-import tempfile
 import unittest
 
 from tests import helpers
@@ -101,17 +100,17 @@ IS_BUILT = (TOP / "c/out/librigzumal.so.1").exists()
 
 
 @unittest.skipUnless(IS_BUILT and all(map(levels, PROGRAMS)), "needs what make build builds")
-class Install(unittest.TestCase):
+class Install(helpers.Case):
+    seconds = 1800
+
     def test_install_and_uninstall(self):
         """All that is installed below /usr/local is found and works, and uninstall leaves nothing."""
         need_root()
-        room = tempfile.TemporaryDirectory()
-        self.addCleanup(room.cleanup)
         code = sample("README.md", "c", "rigzumal.h")
         if "main(" not in code:
             code = MAIN % code.partition("\n")[2].replace("...", "return 0;")
         samples = {"SAMPLE": sample("python/README.md", "python", "PasswordHasher"), "C_SAMPLE": code}
-        env = {"ROOM": room.name, "TOP": str(TOP), "CPU": levels("credkeep")[0], "PYTHONPATH": "", **samples}
+        env = {"ROOM": str(self.room()), "TOP": str(TOP), "CPU": levels("credkeep")[0], "PYTHONPATH": "", **samples}
         words = ["unshare", "--mount", "--propagation", "private", "sh", "-c", NAMESPACE + USED]
         self.assertRegex(run(*words, env=env), f"^{USES}$")
 
@@ -129,9 +128,9 @@ class Debs(helpers.Case):
     def check(self, debs, names):
         self.assertEqual([it.name for it in debs], [f"{name}_{VERSION}_{arch}.deb" for name, arch in names])
         for deb in debs:
-            with self.subTest(deb=deb.name), tempfile.TemporaryDirectory() as room:
-                run("dpkg-deb", "-x", deb, room)
-                (copyright_,) = pathlib.Path(room).glob("usr/share/doc/*/copyright")
+            with self.subTest(deb=deb.name):
+                run("dpkg-deb", "-x", deb, room := self.room())
+                (copyright_,) = room.glob("usr/share/doc/*/copyright")
                 self.assertIn("There is no licence yet", copyright_.read_text())
                 output = run("dpkg-deb", "-f", deb, "Version", "Depends")
                 self.assertIn(f"Version: {VERSION}\n", output)
@@ -180,9 +179,9 @@ class Debs(helpers.Case):
         self.check(self.debs("python"), [("python3-rigzumal", "all")])
 
     def test_programs(self):
+        """Each unit, page and module of the server is in one."""
         if not all(map(levels, PROGRAMS)) or not pathlib.Path("/usr/include/security/pam_modules.h").exists():
             self.skipTest("needs credbook and credkeep, built, and libpam0g-dev")
-        """Each unit, page and module of the server is in one."""
         debs = self.debs("c/pam", "CPU=")
         self.check(debs, [("rigzumal-tools", "amd64"), ("libpam-rigzumal", "amd64")])
         listed = "".join(run("dpkg-deb", "-c", it) for it in debs)
