@@ -238,6 +238,12 @@ def need_module(*names: str) -> None:
             raise unittest.SkipTest(f"Python's module {name} isn't installed")
 
 
+def skip_if_busy() -> None:
+    """Skips a test that came too late to say anything, where much else runs."""
+    if os.getloadavg()[0] > 2 * (os.cpu_count() or 1):
+        raise unittest.SkipTest("the machine is busy")
+
+
 def need_root() -> None:
     if os.getuid():
         raise unittest.SkipTest("only root can do it")
