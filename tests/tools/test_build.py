@@ -5,8 +5,14 @@ import os
 import re
 import subprocess
 import sys
+import time
+import unittest
+from unittest import mock
 
-from tests.helpers import TOP, Case, ended, write_files
+from tests.helpers import TOP, Case, each, ended, write_files
+
+sys.path.insert(0, str(TOP / "tools"))
+import build  # noqa: E402
 
 CRATES = """# lowest first
 low:
@@ -36,6 +42,19 @@ for it; do
 done > linked
 mv linked "$last"
 """
+
+
+class Clock(unittest.TestCase):
+    @each(({}, {}, 1800), ({}, {"low": 300}, 1500), ({}, {"low": 900}, 1225), ({"low": 300}, {}, 600))
+    def test_rest(self, done, running, wanted):
+        """Of crates of 600 s each, by what those that are done took and others run so long."""
+        below = {"low": [], "other": [], "high": ["low"], "program": ["low", "other", "high"]}
+        known = mock.patch.multiple(build, below=below.get, expected=lambda _: 600, tell_each=mock.Mock())
+        with known, mock.patch.object(build, "EVERY", 25):
+            progress = build.Progress([*below])
+            progress.done = done
+            progress.running = {it: time.monotonic() - seconds for it, seconds in running.items()}
+            self.assertAlmostEqual(progress.rest(), wanted, delta=20)
 
 
 class Build(Case):
