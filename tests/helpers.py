@@ -37,8 +37,10 @@ from typing import Any, NamedTuple, Optional, TypeVar
 TOP = pathlib.Path(__file__).resolve().parent.parent
 PYTHON, LIBRARIES = TOP / "python", TOP / "c/out"
 TIMES = int(os.environ.get("RIGZUMAL_TIMES", "1"))
-# A run that hasn't ended after so many seconds hangs, and is killed: later where much else runs.
-LONGEST = 120 * max(1, int(os.getloadavg()[0] / (os.cpu_count() or 1)))
+# How many times as long everything may take, where much else runs.
+BUSY = max(1, int(os.getloadavg()[0] / (os.cpu_count() or 1)))
+# A run that hasn't ended after so many seconds hangs, and is killed.
+LONGEST = 120 * BUSY
 LIMIT = float(os.environ.get("TEST_LIMIT", "1800"))
 
 Found = TypeVar("Found")
@@ -64,7 +66,7 @@ class Case(unittest.TestCase):
             raise TimeoutError(f"over {self.seconds} s")
 
         signal.signal(signal.SIGALRM, too_long)
-        signal.alarm(self.seconds)
+        signal.alarm(self.seconds * BUSY)
         self.addCleanup(signal.alarm, 0)
 
     def room(self) -> pathlib.Path:
@@ -240,7 +242,7 @@ def need_module(*names: str) -> None:
 
 def skip_if_busy() -> None:
     """Skips a test that came too late to say anything, where much else runs."""
-    if os.getloadavg()[0] > 2 * (os.cpu_count() or 1):
+    if BUSY > 1:
         raise unittest.SkipTest("the machine is busy")
 
 
