@@ -101,7 +101,7 @@ class Operations(Base):
 
         @contextlib.contextmanager
         def replica():
-            old = dialect.select.replace("users", 'old"."users')
+            old = dialect.select.replace("`users`", "`old`.`users`")
             with mock.patch.object(dialect, "select", old):
                 yield stale
 
@@ -123,6 +123,7 @@ class Operations(Base):
             self.give(password)
             with self.subTest(sql=sql[:30]):
                 self.assert_replies(calls, accounts)
+                self.assertFalse(accounts._connections._is_passed_over)
         self.conn.execute("DELETE FROM users")
         self.assert_replies("verify ann old noaccount", accounts)
         stale.execute("INSERT INTO old.users VALUES ('ann', ?)", (LOW.hash("old"),))
