@@ -242,7 +242,7 @@ class Openings(Base):
 
         async def act():
             pool = PerUse(connect)
-            for place in ("opening", "using", "closing", None):
+            for place in (None, "opening", "using", "closing"):
                 stop.update(place=place, reached=asyncio.Event(), goes_on=asyncio.Event())
                 task = asyncio.create_task(use(pool))
                 if place:
