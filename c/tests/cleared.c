@@ -1,8 +1,13 @@
 /* After each call no eight bytes of the password, the secret, the tag or the tag's letters stand in
  * any memory of the process but what the caller handed in, nor in the vector registers. Each call
  * is made on a stack of its own, where its thread then turns round with no further call, while this
- * one looks. */
+ * one looks.
+ *
+ * Where argon2.h's flags have the inputs cleared they are gone once a tag in parts is begun, with
+ * their hash, H0 of RFC 9106, section 3.2: the first segment looks for them. The hash comes from
+ * the test that runs this, in hexadecimal. */
 #define _GNU_SOURCE
+#include "builds.h"
 #include "check.h"
 #include "jobs.h"
 #include "stored.h"
@@ -12,15 +17,37 @@
 #include <sched.h>
 #include <stdatomic.h>
 
-enum { STACK = 256 * 1024 };
+enum { STACK = 256 * 1024, HASH = 64 };
 
+extern struct build given_build;
 static struct vault *vault;
+
 static void add_letters(const char *record) {
     const char *letters = strrchr(record, '$') + 1;
     add_windows(letters, strlen(letters));
 }
 
 static const struct job *job;
+
+/* The build's own, in whose place look_first stands. */
+static __typeof__(cred_argon2_segment) *work_segment;
+static int looks, found_begun;
+
+static uint8_t look_first(const struct tag_numbers *numbers, const struct segment_index *index,
+                          const struct argon2_block *oldest, size_t oldest_count,
+                          const struct argon2_block *middle, size_t middle_count,
+                          const struct argon2_block *newest, size_t newest_count,
+                          struct argon2_block *own, size_t own_count) {
+    if (strstr(job->name, "clears") != NULL && index->slice == 0 && index->lane == 0) {
+        looks++;
+        found_begun += found_in_process(job->name, vault);
+        CHECK(is_all(vault->given_password, 0, sizeof vault->given_password));
+        CHECK(is_all(vault->given_secret, 0, sizeof vault->given_secret));
+    }
+    return work_segment(numbers, index, oldest, oldest_count, middle, middle_count, newest,
+                        newest_count, own, own_count);
+}
+
 static _Atomic(int) is_done, may_end;
 static int answer;
 static struct vectors vectors;
@@ -72,11 +99,15 @@ static void try_clearing(void) {
     CHECK(is_all(bytes, 0x5a, 16) && is_all(bytes + 16, 0, 32) && is_all(bytes + 48, 0x5a, 16));
 }
 
-int main(void) {
-    try_clearing();
-    vectors = vectors_here();
-    vault = map_apart(sizeof *vault);
+/* What may stand nowhere else: the secrets, and behind them their hash. */
+static void make_vault(const char *digits) {
+    vault = map_apart(sizeof *vault + HASH);
     fill_vault(vault);
+    unsigned char *hash = (unsigned char *)(vault + 1);
+    CHECK(strlen(digits) == 2 * HASH);
+    for (int i = 0; i < HASH; i++)
+        CHECK(sscanf(digits + 2 * i, "%2hhx", &hash[i]) == 1);
+    add_windows(hash, HASH);
     add_windows(ARRAY(vault->password));
     add_windows(ARRAY(vault->secret));
     add_windows(ARRAY(vault->tag));
@@ -87,6 +118,15 @@ int main(void) {
     add_letters(vault->record_with_secret);
     add_letters(vault->scrypt_record);
     add_letters(vault->long_string);
+}
+
+int main(int count, char **words) {
+    CHECK(count == 2);
+    try_clearing();
+    vectors = vectors_here();
+    make_vault(words[1]);
+    work_segment = given_build.cred_argon2_segment;
+    given_build.cred_argon2_segment = look_first;
     int found = 0;
     for (int i = 0; i < job_count; i++) {
         int here = found_after(&jobs[i]);
@@ -95,6 +135,8 @@ int main(void) {
         found += here;
     }
     CHECK_NUMBER(found, 0);
+    CHECK_NUMBER(found_begun, 0);
+    CHECK_NUMBER(looks, 3);
     struct job leaving = {"as it has to be", leaves_a_copy, RIGZUMAL_OK, NO_TROUBLE, 0};
     CHECK(found_after(&leaving) > 0);
     return 0;

@@ -27,8 +27,8 @@ OURS = {"LD_LIBRARY_PATH": str(OUT)}
 ALL_WARNINGS = "-Wall -Wextra -Wpedantic -Werror"
 WARNINGS = ["-std=c11", "-g", "-pthread", "-Iinclude", "-Isrc", "-Itests", f"-Itests/{ARCH}"]
 WARNINGS += os.environ.get("TEST_WARNINGS", ALL_WARNINGS).split()
-# qemu-user takes its time, and tells the system nothing of what madvise asks for.
-WARNINGS += [] if IS_NATIVE else ["-DSETS=40", "-DHAS_ADVICE=false"]
+# qemu-user tells the system nothing of what madvise asks for.
+WARNINGS += [] if IS_NATIVE else ["-DHAS_ADVICE=false"]
 # No sanitizer is for another processor or C library.
 SANITIZED = ["-O1", "-fsanitize=address,undefined", "-fno-sanitize-recover=all"] * IS_HOST
 RACES = ["-O1", "-fsanitize=thread"] * IS_HOST
@@ -108,7 +108,7 @@ def run_sanitized(*words):
     library = ROOM / "sanitized.so"
     if not library.exists():
         flags = [*WARNINGS, *SANITIZED, IN_THREADS, "-fPIC", "-shared", "-Wl,-Bsymbolic"]
-        sources = ["tests/getrandom.c", *LIBARGON2, *SOURCES]
+        sources = ["tests/given_system.c", *LIBARGON2, *SOURCES]
         run(COMPILER, *flags, *wraps(sources), *sources, "-o", library)
     env = {"LIBRARY": str(library)}
     if SANITIZED:

@@ -6,13 +6,12 @@ import errno
 import itertools
 import unittest
 
-from rigzumal_calls import LIBRARY, OLD_RECORD, RECORD, SCRYPT_RECORD, N
-from rigzumal_calls import call, inputs, numbers, written, written_text
+from rigzumal_calls import LIBRARY, OLD_RECORD, RECORD, RECORD_OF_I, RECORD_OF_LANES
+from rigzumal_calls import SCRYPT_RECORD, N, call, inputs, numbers, written, written_text
 
 COSTS = "$argon2id$v=19$m=256,t=2,p=1"
 SECRETS = (None, b"secret")
-# Of more lanes, and so of no password that is known here.
-COSTS_OF_LANES, RECORD_OF_LANES = COSTS.replace("p=1", "p=2"), RECORD.replace("p=1", "p=2")
+COSTS_OF_LANES = COSTS.replace("p=1", "p=2")
 LONG = 2**32
 ARGON2, SCRYPT = "$argon2id$v=19$m=16,t=1,p=2", "$scrypt$ln=1,r=1,p=1"
 GETRANDOM = ctypes.CFUNCTYPE(
@@ -46,6 +45,15 @@ class Records(unittest.TestCase):
             self.assertEqual(answer, N.KEY_SIZE if size < 1 else N.OK)
         self.assertEqual(written("argon2", 32, numbers(3, 19, 8, 1, 1), *argon2)[0], N.NO_KIND)
         self.assertEqual(written("scrypt", 32, numbers(1, 0, 1), *scrypt)[0], N.BLOCK_SIZE)
+
+    def test_records_of_others(self):
+        for record in (RECORD, RECORD_OF_LANES, RECORD_OF_I, OLD_RECORD, SCRYPT_RECORD):
+            for password in (b"password", b"Password", b""):
+                is_right = password == b"password" and record != SCRYPT_RECORD
+                with self.subTest(record, password=password):
+                    found = {call("check", record, password)}
+                    found |= {call("check_threads", record, password, it) for it in (1, 3)}
+                    self.assertEqual(found, {N.OK if is_right else N.MISMATCH})
 
     def test_faults_of_written_records(self):
         for room, salt, tag, passes, fault in (
@@ -107,14 +115,10 @@ class Records(unittest.TestCase):
                 given = inputs(**{**good, name: None, f"{name}_size": 32})
                 tag = (numbers(2, 19, 64, 1, 2), given)
                 self.assertEqual(written("argon2_from", 32, *tag)[0], fault)
-                for costs, record, verdict in (
-                    (COSTS, RECORD, N.OK),
-                    (COSTS_OF_LANES, RECORD_OF_LANES, N.MISMATCH),
-                ):
+                wanted = N.OK if name == "salt" else fault
+                for costs, record in ((COSTS, RECORD), (COSTS_OF_LANES, RECORD_OF_LANES)):
                     made = written_text("record_from", N.TEXT_SIZE, 32, costs, given)[0]
-                    judged = call("check_from", record, given)
-                    wanted = (N.OK, verdict) if name == "salt" else (fault, fault)
-                    self.assertEqual((made, judged), wanted)
+                    self.assertEqual((made, call("check_from", record, given)), (wanted, wanted))
 
     def test_lost_inputs_by_place(self):
         """The same of the calls that have their inputs in places."""
@@ -151,11 +155,8 @@ class Records(unittest.TestCase):
             found = written_text("record_from", N.TEXT_SIZE, 32, COSTS, given)
             self.assertEqual(found, (N.INPUT_SIZE, ""))
             self.assertEqual(call("check_from", RECORD, given), N.INPUT_SIZE)
-            for size in (
-                LONG,
-                3 * 2**62 + 12,
-                2**64 - 1,
-            ):  # 4/3 of the second are 16 in 64 bits
+            # 4/3 of the second are 16 in 64 bits
+            for size in (LONG, 3 * 2**62 + 12, 2**64 - 1):
                 given = inputs(password="", salt_size=size, secret=secret, threads=threads)
                 found = written_text("record_from", N.TEXT_SIZE, 32, COSTS, given)
                 self.assertEqual(found, (N.TOO_LONG, ""))
@@ -180,9 +181,8 @@ class Salts(unittest.TestCase):
             given.extend(some)
             return len(some)
 
-        ctypes.c_void_p.in_dll(LIBRARY, "drawn").value = ctypes.cast(
-            getrandom, ctypes.c_void_p
-        ).value
+        drawn = ctypes.c_void_p.in_dll(LIBRARY, "drawn")
+        drawn.value = ctypes.cast(getrandom, ctypes.c_void_p).value
         asked = inputs(password="password", salt=None, salt_size=salt_size, **others)
         return written_text("record_from", N.TEXT_SIZE, 16, costs, asked), bytes(given)
 

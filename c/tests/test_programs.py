@@ -15,9 +15,6 @@ FAST = ["-O2"]
 LANES = ["src/lanes.c", *WITHOUT_BUILDS]
 ALL = LIBARGON2 + SOURCES
 
-# qemu-user takes too long over hundreds of threads.
-LARGE_NUMBERS = ("large numbers",) * IS_NATIVE
-
 # A program, its flags, what is linked to it, and its words.
 PROGRAMS = (
     ("heap", SANITIZED, ["src/heap.c"]),
@@ -30,9 +27,7 @@ PROGRAMS = (
         ("forked_lanes", [*FAST, f"-DTHREAD_LOCAL={size}"], [*LANES, "src/heap.c"])
         for size in (1, 56 << 10)
     ),
-    ("with_threads", [*FAST, IN_THREADS], SOURCES, *LARGE_NUMBERS),
-    ("with_threads", [*SANITIZED, IN_THREADS], SOURCES),
-    ("with_threads", [*RACES, IN_THREADS], SOURCES),
+    ("calls", [*RACES, *JOBS], ALL),
     ("interrupted", FAST, SOURCES),
     ("interrupted", SANITIZED, SOURCES),
     ("threads", RACES, SOURCES),
@@ -107,8 +102,8 @@ class Programs(unittest.TestCase):
             run(*VALGRIND, built(name, [*FAST, *JOBS], ALL))
 
     def test_calls(self):
-        """Texts, records, steps and salts, good and bad, under the sanitizers."""
-        run_sanitized("-m", "unittest", "texts", "records", "steps")
+        """Texts, records, steps, salts and threads, good and bad, under the sanitizers."""
+        run_sanitized("-m", "unittest", "texts", "records", "steps", "with_threads")
 
     def test_kept_memory(self):
         """What is kept after calls of each size: up to 64 MiB, or what the environment says."""

@@ -62,6 +62,8 @@ JUDGEMENTS = {
 
 
 JOBS = ["-O2", "tests/jobs.c", *LIBARGON2]
+# The sizes of the jobs' password and secret, and the rule of their bytes.
+VAULT = ((48, 197, 71), (40, 163, 37))
 
 
 def errors_of(log):
@@ -95,27 +97,22 @@ def check_leaks(program):
 
 
 class Secrets(unittest.TestCase):
-    def of_each_build(self, name, **options):
+    def of_each_build(self, name, *words, **options):
         """Runs a test over the jobs, with the C library bound lazily."""
         for build in BUILDS:
             with self.subTest(build):
                 linked = sources_for(build)
                 for flags in ([], [IN_THREADS]):
-                    run(built(name, [*JOBS, "-Wl,-z,lazy", *flags], linked), **options)
+                    run(built(name, [*JOBS, "-Wl,-z,lazy", *flags], linked), *words, **options)
 
     def test_cleared_memory(self):
-        """No secret stands anywhere after a call."""
-        self.of_each_build("cleared")
-
-    def test_begun_tags(self):
-        """While a tag is worked in parts nothing is left of its inputs' hash, nor of what is to be
-        cleared."""
-        password, secret = b"a password of 24 letters", b"a pepper of 16 l"
-        parts = [struct.pack("<6I", 2, 32, 64, 2, 0x13, 2)]
+        """No secret stands anywhere after a call. While a tag is worked in parts nothing is left of
+        what is to be cleared, nor of the hash of the jobs' inputs, as RFC 9106 has it."""
+        password, secret = (bytes((a * at + b) % 256 for at in range(n)) for n, a, b in VAULT)
+        parts = [struct.pack("<6I", 3, 40, 64, 1, 0x13, 2)]
         for it in (password, b"sixteen of salt.", secret, b""):
-            parts.append(struct.pack("<I", len(it)) + it)
-        digest = hashlib.blake2b(b"".join(parts)).hexdigest()
-        run(built("begun", ["-O2", IN_THREADS], LIBARGON2 + SOURCES), digest)
+            parts += [struct.pack("<I", len(it)), it]
+        self.of_each_build("cleared", hashlib.blake2b(b"".join(parts)).hexdigest())
 
     def test_stacks(self):
         """Each call on as small a stack as the header says, and in a thread with 32 KiB; what is

@@ -1,0 +1,32 @@
+/* Before the C library, for tests in Python: getrandom is what a test has it be, so many of four
+ * threads are refused, and there are sixteen processors. */
+#define _GNU_SOURCE
+#include "check.h"
+
+#include <errno.h>
+#include <pthread.h>
+#include <sched.h>
+#include <sys/types.h>
+
+ssize_t (*drawn)(void *to, size_t size, unsigned flags);
+unsigned refusals, started;
+
+WRAP(ssize_t, getrandom, void *to, size_t size, unsigned flags) {
+    return drawn == NULL ? __real_getrandom(to, size, flags) : drawn(to, size, flags);
+}
+
+WRAP(int, pthread_create, pthread_t *thread, const pthread_attr_t *attributes, void *(*run)(void *),
+     void *given) {
+    if ((unsigned)rand() / 8 % 4 < refusals)
+        return EAGAIN;
+    started++;
+    return __real_pthread_create(thread, attributes, run, given);
+}
+
+WRAP(int, sched_getaffinity, pid_t process, size_t size, cpu_set_t *set) {
+    (void)process, (void)size;
+    CPU_ZERO(set);
+    for (int i = 0; i < 16; i++)
+        CPU_SET(i, set);
+    return 0;
+}

@@ -1,0 +1,91 @@
+"""The calls that take their inputs by name, with threads beside those without, which answer and
+write the same: over random numbers and inputs, now and then bad, and with threads refused at random.
+A record is that of its tag, with salts and tags of every size."""
+
+import ctypes
+import platform
+import random
+import unittest
+
+from rigzumal_calls import LIBRARY, N, call, inputs, numbers, written, written_text
+
+# qemu-user takes too long over hundreds of threads.
+IS_FAST = platform.machine() == "x86_64"
+SETS = 400 if IS_FAST else 40
+KINDS = ("argon2d", "argon2i", "argon2id", "argon2x")
+NONE = (None, 0)
+draw = random.Random(1)
+
+
+def mostly(good, bad):
+    return bad if draw.random() < 0.04 else good
+
+
+def some_bytes():
+    return draw.randbytes(draw.randrange(81))
+
+
+class WithThreads(unittest.TestCase):
+    def same(self, made, given):
+        """What a call answers and writes, which is the same with one thread and with several."""
+        one, several = (made(inputs(**given, threads=it)) for it in (1, draw.randint(2, 9)))
+        self.assertEqual(one, several, given)
+        return one
+
+    def check_refusals(self, record, given):
+        """A record of which any letter of the tag is another one is of another password, or no
+        record if it is the last and has bits that stand for nothing. So it is once an input is one
+        byte shorter."""
+        for at in range(record.rindex("$") + 1, len(record)):
+            other = record[:at] + ("B" if record[at] == "A" else "A") + record[at + 1 :]
+            allowed = (N.MISMATCH, N.TAG)[: 1 + (at == len(record) - 1)]
+            self.assertIn(call("check_from", other, inputs(**given)), allowed, other)
+        for name in ("password", "secret", "associated"):
+            if shorter := given.get(name, b"")[:-1]:
+                judged = self.same(
+                    lambda it: call("check_from", record, it), {**given, name: shorter}
+                )
+                self.assertEqual(judged, N.MISMATCH, name)
+        self.assertNotEqual(self.same(lambda it: call("check_from", record[:-1], it), given), N.OK)
+
+    def compare_calls(self, costs, room, size, given):
+        tag_room = size if size < N.TEXT_SIZE else 3
+        tag = self.same(lambda it: written("argon2_from", tag_room, numbers(*costs), it), given)
+        text = "${}$v={}$m={},t={},p={}".format(KINDS[costs[0]], *costs[1:])
+        made = self.same(lambda it: written_text("record_from", room, size, text, it), given)
+        if made[0] != N.OK:
+            return
+        others = [given.get(name, NONE) for name in ("password", "salt", "secret", "associated")]
+        self.assertEqual(written("argon2", size, numbers(*costs), *others), tag)
+        of_tag = written_text("argon2_write", N.TEXT_SIZE, numbers(*costs), given["salt"], tag[1])
+        self.assertEqual(of_tag, made)
+        self.assertEqual(self.same(lambda it: call("check_from", made[1], it), given), N.OK)
+        self.check_refusals(made[1], given)
+
+    def test_random_calls(self):
+        refusals, started = (ctypes.c_uint.in_dll(LIBRARY, it) for it in ("refusals", "started"))
+        self.addCleanup(setattr, refusals, "value", 0)
+        before = started.value
+        for number in range(SETS):
+            refusals.value = 0 if number < SETS / 2 else draw.randint(1, 4)
+            lanes = draw.randint(1, 9)
+            memory = mostly(8 * lanes + draw.randrange(400), 8 * lanes - 1)
+            costs = [mostly(draw.randrange(3), 3), draw.choice((0x10, 0x13, 0x13, 0x13)), memory]
+            costs += [mostly(draw.randint(1, 3), 0), mostly(lanes, 0)]
+            given = {"password": some_bytes(), "salt": draw.randbytes(mostly(8 + number % 41, 7))}
+            given |= {it: some_bytes() for it in ("secret", "associated") if draw.random() < 0.5}
+            sizes = mostly(N.TEXT_SIZE, 60), mostly(4 + number % 77, 2**32 + 32)
+            with self.subTest(costs=costs, sizes=sizes, given=given):
+                self.compare_calls(costs, *sizes, given)
+        self.assertGreater(started.value - before, SETS)
+
+    @unittest.skipUnless(IS_FAST, "qemu-user takes too long")
+    def test_large_numbers(self):
+        """More passes than eight bits count, and segments of more blocks than sixteen bits count."""
+        for costs in (
+            *((2, 0x13, 16, 257, 2), (1, 0x10, 40, 300, 3), (0, 0x13, 16, 1025, 2)),
+            *((2, 0x13, 8 * 65536 + 24, 1, 2), (2, 0x13, 255 * 8, 2, 255)),
+        ):
+            tag = lambda it: written("argon2_from", 32, numbers(*costs), it)
+            given = {"password": b"password", "salt": b"somesalt"}
+            self.assertEqual(self.same(tag, given)[0], N.OK, costs)
