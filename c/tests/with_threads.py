@@ -25,6 +25,14 @@ def some_bytes():
     return draw.randbytes(draw.randrange(81))
 
 
+def tag_from(size, costs, given):
+    """What the call for a tag answers and writes; of 2^32 bytes and more there is no such room."""
+    if size < 2**32:
+        return written("argon2_from", size, numbers(*costs), given)
+    room = ctypes.create_string_buffer(64)
+    return call("argon2_from", (room, size), numbers(*costs), given), room.raw
+
+
 class WithThreads(unittest.TestCase):
     def same(self, made, given):
         """What a call answers and writes, which is the same with one thread and with several."""
@@ -49,8 +57,7 @@ class WithThreads(unittest.TestCase):
         self.assertNotEqual(self.same(lambda it: call("check_from", record[:-1], it), given), N.OK)
 
     def compare_calls(self, costs, room, size, given):
-        tag_room = size if size < N.TEXT_SIZE else 3
-        tag = self.same(lambda it: written("argon2_from", tag_room, numbers(*costs), it), given)
+        tag = self.same(lambda it: tag_from(size, costs, it), given)
         text = "${}$v={}$m={},t={},p={}".format(KINDS[costs[0]], *costs[1:])
         made = self.same(lambda it: written_text("record_from", room, size, text, it), given)
         if made[0] != N.OK:
@@ -86,6 +93,6 @@ class WithThreads(unittest.TestCase):
             *((2, 0x13, 16, 257, 2), (1, 0x10, 40, 300, 3), (0, 0x13, 16, 1025, 2)),
             *((2, 0x13, 8 * 65536 + 24, 1, 2), (2, 0x13, 255 * 8, 2, 255)),
         ):
-            tag = lambda it: written("argon2_from", 32, numbers(*costs), it)
             given = {"password": b"password", "salt": b"somesalt"}
-            self.assertEqual(self.same(tag, given)[0], N.OK, costs)
+            made = self.same(lambda it: tag_from(32, costs, it), given)
+            self.assertEqual(made[0], N.OK, costs)
