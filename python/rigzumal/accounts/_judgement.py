@@ -287,5 +287,5 @@ def is_right(record: str, password: Secret, secret: Optional[bytes] = None) -> b
     fault = _library.check(record, password, secret)
     if fault == _library.MISMATCH:
         return False
-    _library.raise_fault(fault)
+    _library.raise_fault(fault, record)
     return True
