@@ -1,5 +1,6 @@
 """Tests of bin/credkeep-server: failed tries."""
 
+import asyncio
 import os
 import time
 from unittest import mock
@@ -234,6 +235,29 @@ class Limiters(Case):
         self.tried(limiter, "few", "many", "many")
         for key, ought in (("few", True), ("many", True), ("few", False), ("many", False)):
             self.assertIs(limiter.forgive(key, "a test"), ought, key)
+
+    def test_names_and_users(self) -> None:
+        """A try runs once neither its name nor its user has as many running as may fail there."""
+        limiter, begun = Limiter(2, 3), list[str]()
+
+        async def begin(name: str) -> None:
+            self.assertTrue(await limiter.begin(name, "uid 1000"))
+            begun.append(name)
+
+        async def run() -> None:
+            tasks = [asyncio.ensure_future(begin(it)) for it in "aaabc"]
+            for ended, ought in (("", "aab"), ("b", "aabc"), ("a", "aabca")):
+                if ended:
+                    limiter.end(ended, "uid 1000")
+                for _ in range(3):
+                    await asyncio.sleep(0)
+                self.assertEqual("".join(begun), ought)
+            await asyncio.gather(*tasks)
+            self.assertEqual(limiter.running, {"a": 2, "c": 1, "uid 1000": 3})
+            self.tried(limiter, *["uid 1000"] * 3)
+            self.assertFalse(await limiter.begin("d", "uid 1000"), "its user has to wait")
+
+        asyncio.run(run())
 
     def test_lowered(self) -> None:
         """A right password takes one try back, and ends a wait that is due to it."""
