@@ -29,9 +29,7 @@ class Answers(Commands):
         """Of each command, in their order; standard error has the reason from 1 to 6 but 4."""
         one, two, bad = (
             pathlib.Path(self.file(line)).rename(f"{self.server.path}.{place}")
-            for place, line in enumerate(
-                (f"bob {RECORD}", f"bob {LOW.hash('two')}", "cid garbage")
-            )
+            for place, line in enumerate((f"bob {RECORD}", f"bob {LOW.hash('two')}", "cid garbage"))
         )
         costs = "argon2id v=19 m=64,t=1,p=1"
         self.assert_answers(
