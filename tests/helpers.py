@@ -203,13 +203,15 @@ def common_folder() -> pathlib.Path:
     return folder
 
 
-def write_files(folder: pathlib.Path, texts: dict[str, str], mode: int = 0o644) -> None:
-    """Writes texts into files below a folder, by their names there."""
-    for name, text in texts.items():
-        path = folder / name
-        path.parent.mkdir(parents=True, exist_ok=True)
-        path.write_text(text)
-        path.chmod(mode)
+def memory_of(pid: int, right: str = "r") -> Iterator[bytes]:
+    """The parts of a process's memory for which it has this right, r or w."""
+    with open(f"/proc/{pid}/mem", "rb", 0) as memory:
+        for line in pathlib.Path(f"/proc/{pid}/maps").read_text().splitlines():
+            places, rights = line.split()[:2]
+            if right in rights and not re.search(r"\[v\w+\]$", line):
+                first, last = (int(it, 16) for it in places.split("-"))
+                memory.seek(first)
+                yield memory.read(last - first)
 
 
 def files_below(folder: pathlib.Path) -> set[str]:

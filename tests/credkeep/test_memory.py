@@ -10,10 +10,10 @@ import signal
 import struct
 import subprocess
 import time
-from collections.abc import Iterator
 
 from tests.credkeep.books import DONE, SALT, BookTest, Service
 from tests.credkeep.doors import in_base64
+from tests.helpers import memory_of
 
 LOGINS = 100
 
@@ -43,22 +43,11 @@ def words_of(setting: str, password: bytes) -> list[bytes]:
     return [block[:8], block[512:520]]
 
 
-def parts_of(pid: int) -> Iterator[bytes]:
-    """The parts of a process's memory that can be read."""
-    with open(f"/proc/{pid}/mem", "rb", 0) as memory:
-        for line in pathlib.Path(f"/proc/{pid}/maps").read_text().splitlines():
-            found = re.match(r"([0-9a-f]+)-([0-9a-f]+) r", line)
-            if found and not re.search(r"\[v\w+\]$", line):
-                start, end = (int(it, 16) for it in found.groups())
-                memory.seek(start)
-                yield memory.read(end - start)
-
-
 class MemoryTest(BookTest):
     def left(self, service: Service, words: list[bytes]) -> list[bytes]:
         """Which words are in the memory of a service, or in its core."""
         pid, core = service.process.pid, self.room / "core"
-        parts = [*parts_of(pid)]
+        parts = [*memory_of(pid)]
         if os.getuid() == 0 and shutil.which("gcore"):
             subprocess.run(["gcore", "-o", core, str(pid)], check=True, capture_output=True)
             parts.append(pathlib.Path(f"{core}.{pid}").read_bytes())
@@ -69,7 +58,7 @@ class MemoryTest(BookTest):
         pid = service.process.pid
         while True:
             service.process.send_signal(signal.SIGSTOP)
-            whole = b"".join(parts_of(pid))
+            whole = b"".join(memory_of(pid))
             if all(it in whole for it in words):
                 return
             service.process.send_signal(signal.SIGCONT)

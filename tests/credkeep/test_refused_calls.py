@@ -7,7 +7,7 @@ from collections.abc import Callable
 from typing import Any
 
 from tests.credkeep.books import DONE, EDITS, RECORD, Accounts, Book, BookTest, Change, lines_of
-from tests.helpers import Ended, Found, Stop, each, ended, need
+from tests.helpers import Ended, Found, Stop, each, ended, need, need_native
 
 # The calls that change files or make changes last, and those between them. strace counts each by
 # itself.
@@ -41,6 +41,7 @@ def without_call(call: str, how: str) -> Stop:
 class RefusedCallsTest(BookTest):
     def setUp(self) -> None:
         need("strace")
+        need_native()
         super().setUp()
         (self.room / "base").mkdir()
 

@@ -153,16 +153,8 @@ def asked(question: Question, path: pathlib.Path) -> Said:
 
 def found_in(pid: int, needles: Sequence[bytes]) -> list[int]:
     """How often each of these is in the memory of a process that may be written."""
-    counts = [0] * len(needles)
-    with open(f"/proc/{pid}/mem", "rb", buffering=0) as memory:
-        for line in pathlib.Path(f"/proc/{pid}/maps").read_text().splitlines():
-            places, rights = line.split()[:2]
-            if "w" in rights and "[v" not in line:
-                first, last = (int(it, 16) for it in places.split("-"))
-                memory.seek(first)
-                found = memory.read(last - first)
-                counts = [count + found.count(it) for count, it in zip(counts, needles)]
-    return counts
+    parts = [*helpers.memory_of(pid, "w")]
+    return [sum(part.count(it) for part in parts) for it in needles]
 
 
 def peer(reply: Callable[[bytes, socket.socket], None]) -> helpers.Peer:
