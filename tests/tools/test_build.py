@@ -29,7 +29,7 @@ until [ -e "${GO-/}" ]; do sleep 0.1; done
 mkdir -p out/rlib
 touch out/rlib/stamp
 case "$*" in
-"run --target=aarch64-unknown-linux-gnu "*) echo object > out/program.o; echo "$SAID"; exit 1 ;;
+"run --target=aarch64-unknown-linux-gnu "*) [ "${OBJECT-object}" = none ] || echo object > out/program.o; echo "$SAID"; exit 1 ;;
 run*) printf '#!/bin/sh\\necho answered "$@"\\nexit 7\\n' > out/program; chmod +x out/program ;;
 esac
 """
@@ -157,6 +157,8 @@ class Build(Case):
         done = self.build("--built", "--cpu", "arm64", "program")
         self.assertEqual((done.status, done.faults), (1, "program isn't built for arm64: make programs ARCH=arm64 does it\n"))
         self.assertEqual(self.asked(), [])
+        # an object of an earlier build isn't taken
+        self.assertEqual(self.build("--cpu", "arm64", "program", OBJECT="none").returncode, 1)
 
     def test_failure(self):
         """A library that isn't proved ends the build, with what the toolchain wrote."""
