@@ -124,9 +124,9 @@ class Import:
     def _record(self, line: str, key_of: Callable[[str], Key]) -> Line:
         name, _, record = line.rpartition(" ")
         if not line.isascii() and _NO_UTF8.search(line):
-            raise Refusal("it is not in UTF-8")
+            raise Refusal("the line is not UTF-8")
         if not name.strip():
-            raise Refusal('it is no "NAME RECORD": a space is between, and no colon')
+            raise Refusal('a line is "NAME RECORD", with a space and no colon')
         key = key_of(name)
         try:
             _library.check_text(record)

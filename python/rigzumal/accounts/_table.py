@@ -244,7 +244,7 @@ class Table:
         except StoreFault as raised:
             fault = str(raised)
         except Exception as raised:
-            fault = f"no record can be put: {self.name(raised)}"
+            fault = f"no record can be written: {self.name(raised)}"
         await self._is_undone(session)
         return fault
 

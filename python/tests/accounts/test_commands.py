@@ -212,7 +212,7 @@ class Passwords(Commands):
         error = io.StringIO()
         with mock.patch.object(sys, "stdin", None), contextlib.redirect_stderr(error):
             self.assertEqual(cli.main(["check", "ann"]), 2)
-        self.assertEqual(error.getvalue(), "rigzumal: there is no standard input\n")
+        self.assertEqual(error.getvalue(), "rigzumal: standard input is closed\n")
 
     def test_a_passwords_end(self):
         """Where another newline would be right, that is said."""

@@ -14,7 +14,7 @@ ACCENTS, CUT = "differ by accents", "record-type: record is {}: a record has up 
 SHORTER = "record-length: record is {}: another program's record has up to 512 bytes"
 LATIN = "key-not-unicode: names outside of {} are no accounts"
 NOT_UNIQUE = "no unique index of its own: two rows may have one name, and are then refused"
-SLOW, PUT = "key-not-indexed: no index finds name", "no record can be put: "
+SLOW, PUT = "key-not-indexed: no index finds name", "no record can be written: "
 # Where equal keys are equal, and where others may be too, or equal ones may differ.
 OF_ONE_CASE = ("lower(name)", "upper(name)", "LOWER ( name )")
 OF_MORE = ("lower(record)", "lower(name || record)", "coalesce(record, lower(name))")

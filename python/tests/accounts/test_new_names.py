@@ -21,6 +21,10 @@ GOOD = ("ada", "ada lovelace", "\u00e9", "0", "a\ufeff", "\u200bada")
 
 
 class NewNames(Base):
+    def setUp(self):
+        super().setUp()
+        self.execute("DELETE FROM users")
+
     def command(self, *words, given=b""):
         """The status of a command, and what it writes."""
         stdin = mock.Mock(buffer=io.BytesIO(given), isatty=lambda: False)
@@ -50,7 +54,7 @@ class NewNames(Base):
                 status, said = self.command("import", self.file(name))
                 # A line without a name is no line of an import.
                 self.assertEqual(status, 6)
-                self.assertIn("line 1: " + ("it is no" if fault is EMPTY else fault), said)
+                self.assertIn("line 1: " + ("a line is" if fault is EMPTY else fault), said)
                 for enrol in (
                     lambda: accounts.enrol(name, "one"),
                     lambda: accounts.perform(Request(Kind.ENROL, name, "one")),
