@@ -67,7 +67,7 @@ class Refused(unittest.TestCase):
         """SQLAlchemy's own connections are named with what makes a pool of their engine."""
         sqlalchemys = type("Connection", (), {"__module__": "sqlalchemy.pool", "info": {}})
         for kind in (Sqlite, MariaDB, Postgres):
-            self.assert_refused(sqlalchemys(), kind, "the driver is sqlalchemy, .* of_engine")
+            self.assert_refused(sqlalchemys(), kind, "the driver is sqlalchemy instead of .* of_engine")
             self.assert_refused(object(), kind, "the driver is builtins")
 
 
@@ -105,7 +105,7 @@ class Engines:
         """An engine that isn't in autocommit, and its own connections, which are named."""
         for pool, said in (
             (of_engine(self.engine(isolation_level=None)), "have to be in autocommit"),
-            (self.engine().connect, "the driver is sqlalchemy, .* of_engine"),
+            (self.engine().connect, "the driver is sqlalchemy instead of .* of_engine"),
         ):
             for name in ("verify", "login", "enrol"):
                 with self.assertRaisesRegex(StoreFault, said):
