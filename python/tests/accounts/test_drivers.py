@@ -67,7 +67,9 @@ class Refused(unittest.TestCase):
         """SQLAlchemy's own connections are named with what makes a pool of their engine."""
         sqlalchemys = type("Connection", (), {"__module__": "sqlalchemy.pool", "info": {}})
         for kind in (Sqlite, MariaDB, Postgres):
-            self.assert_refused(sqlalchemys(), kind, "the driver is sqlalchemy instead of .* of_engine")
+            self.assert_refused(
+                sqlalchemys(), kind, "the driver is sqlalchemy instead of .* of_engine"
+            )
             self.assert_refused(object(), kind, "the driver is builtins")
 
 
