@@ -39,6 +39,11 @@ PYTHON, LIBRARIES = TOP / "python", TOP / "c/out"
 TIMES = int(os.environ.get("RIGZUMAL_TIMES", "1"))
 # How many times as long everything may take, where much else runs.
 BUSY = max(1, int(os.getloadavg()[0] / (os.cpu_count() or 1)))
+ARCH = os.environ.get("ARCH", "x86_64")
+IS_NATIVE = ARCH == "x86_64"
+TRIPLET = "x86_64-linux-gnu" if IS_NATIVE else "aarch64-linux-gnu"
+# Programs of another processor run under qemu-user, over Debian's cross libraries.
+EMULATOR = ["qemu-aarch64", "-L", f"/usr/{TRIPLET}"]
 # A run that hasn't ended after so many seconds hangs, and is killed.
 LONGEST = 120 * BUSY
 LIMIT = float(os.environ.get("TEST_LIMIT", "1800"))
@@ -201,6 +206,15 @@ def common_folder() -> pathlib.Path:
     folder.chmod(0o755)
     atexit.register(shutil.rmtree, folder, ignore_errors=True)
     return folder
+
+
+def write_files(folder: pathlib.Path, texts: dict[str, str], mode: int = 0o644) -> None:
+    """Writes texts into files below a folder, by their names there."""
+    for name, text in texts.items():
+        path = folder / name
+        path.parent.mkdir(parents=True, exist_ok=True)
+        path.write_text(text)
+        path.chmod(mode)
 
 
 def memory_of(pid: int, right: str = "r") -> Iterator[bytes]:
