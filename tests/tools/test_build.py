@@ -158,7 +158,7 @@ class Build(Case):
         self.assertEqual((done.status, done.faults), (1, "program isn't built for arm64: make programs ARCH=arm64 does it\n"))
         self.assertEqual(self.asked(), [])
         # an object of an earlier build isn't taken
-        self.assertEqual(self.build("--cpu", "arm64", "program", OBJECT="none").returncode, 1)
+        self.assertEqual(self.build("--cpu", "arm64", "program", OBJECT="none").status, 1)
 
     def test_failure(self):
         """A library that isn't proved ends the build, with what the toolchain wrote."""
