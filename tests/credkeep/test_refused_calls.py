@@ -101,7 +101,7 @@ class RefusedCallsTest(BookTest):
         """A sync that fails as a file is opened isn't called a missing permission."""
         done = without_call("fsync", "error=EIO")("1+", self.book.command("list"))
         assert done
-        self.assertFails(done, 5, "the system didn't sync it")
+        self.assertFails(done, 5, "a sync of the file")
 
     def copies(self, order: str, file: str, before: Accounts, after: Accounts) -> None:
         """A copy is made or put back whole or not at all, whatever is refused or killed. The next

@@ -92,7 +92,10 @@ SLIPS = [
     ("check ann secret", f"check: {UNNAMED}\nA password is read from standard input."),
     ("check ann --secret", f"check: {UNNAMED}\nA password is read from standard input."),
     *(
-        (f"{it} passwd.txt", f"{it}: {UNNAMED}\nThe input is read from standard input: write < INPUT")
+        (
+            f"{it} passwd.txt",
+            f"{it}: {UNNAMED}\nThe input is read from standard input: write < INPUT",
+        )
         for it in ("import", "run", "serve")
     ),
 ]
@@ -134,7 +137,10 @@ REFUSED = [
         for it in SIZES
         for size in NO_SIZES
     ),
-    ("import --update --skip-existing".split(), "credkeep: --skip-existing and --update: .*"),
+    (
+        "import --update --skip-existing".split(),
+        "credkeep: --skip-existing and --update exclude each other: .*",
+    ),
     *(
         (
             f"serve --tagged --memory {memory}{setting}".split(),
