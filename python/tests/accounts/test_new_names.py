@@ -20,6 +20,10 @@ NAMES = (
 GOOD = ("ada", "ada lovelace", "\u00e9", "0", "a\ufeff", "\u200bada")
 
 
+class Name(str):
+    """As a framework's text that is marked safe."""
+
+
 class NewNames(Base):
     def setUp(self):
         super().setUp()
@@ -99,6 +103,7 @@ class NewNames(Base):
             for words in (("delete", name), ("rename", name, "ada"), ("disable", name)):
                 self.assertEqual(self.command(*words), (4, "no account\n"))
             self.assertIs(self.accounts().enrol(name, "one"), Reply.NO_ACCOUNT)
+            self.assertFalse(self.dialect.can_stand(Name(name)))
 
     def test_numbers(self):
         self.table("TEXT", "INTEGER")

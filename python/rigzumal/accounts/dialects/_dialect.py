@@ -196,7 +196,7 @@ class Dialect:
 
     def can_stand(self, key: object) -> bool:
         """Whether a column can hold the key; otherwise no such account exists."""
-        if type(key) is str:
+        if isinstance(key, str):
             return key.isprintable() or not _IN_NO_COLUMN.search(key)
         return not isinstance(key, int) or -_BIGINT <= key < _BIGINT
 
