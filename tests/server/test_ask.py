@@ -219,7 +219,7 @@ locks | | bob:locked 0
 unlock bob | | unlocked 0
 unlock bob | | none 4
 expire bob | | expired 0
-check bob | secret | expired 0
+check bob | secret | expired 4
 locks | | bob:expired 0
 forgive bob | | none 4
 last cid | | none 4
