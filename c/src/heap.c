@@ -130,19 +130,15 @@ size_t heap_trim(void) {
     return unmapped;
 }
 
-/* The first bytes of an area, of which the others are unmapped; 0 if none are left. */
-static area cut_area(area it, size_t size) {
-    if (size_of(it) <= size)
-        return it;
-    munmap(start_of(it) + size, size_of(it) - size);
-    return size == 0 ? 0 : area_at(start_of(it), size);
-}
-
 /* Keeps a cleared area, or as much of it as may be kept, in the place of smaller ones if need be.
  * The system may take its pages back: they read as zero either way. */
 static void give_area(area it) {
-    it = cut_area(it, atomic_load(&most_kept));
-    if (it == 0)
+    size_t most = atomic_load(&most_kept);
+    if (size_of(it) > most) {
+        munmap(start_of(it) + most, size_of(it) - most);
+        it = area_at(start_of(it), most);
+    }
+    if (most == 0)
         return;
     madvise(start_of(it), size_of(it), MADV_FREE);
     while (!put_kept(it)) {
@@ -315,16 +311,11 @@ struct tried rattle_alloc(size_t size, size_t align) {
     return (struct tried){false, &refused};
 }
 
-static size_t index_of(const void *start) {
-    size_t i = taken.count - 1;
-    while (taken.blocks[i].start != start)
-        i--;
-    return i;
-}
-
 /* Takes a block out of the table. */
 static struct block struck_out(const void *start) {
-    size_t index = index_of(start);
+    size_t index = taken.count - 1;
+    while (taken.blocks[index].start != start)
+        index--;
     struct block block = taken.blocks[index];
     taken.count--;
     memmove(&taken.blocks[index], &taken.blocks[index + 1], (taken.count - index) * sizeof block);

@@ -55,10 +55,6 @@ static sigset_t block_signals(const struct run *run) {
     return before;
 }
 
-static void restore_signals(sigset_t before) {
-    pthread_sigmask(SIG_SETMASK, &before, NULL);
-}
-
 /* Waits until so many are done. */
 static void await(struct run *run, uint64_t done) {
     if (atomic_load(&run->done) >= done)
@@ -68,7 +64,7 @@ static void await(struct run *run, uint64_t done) {
     while (atomic_load(&run->done) < done)
         pthread_cond_wait(&run->more_done, &run->lock);
     pthread_mutex_unlock(&run->lock);
-    restore_signals(before);
+    pthread_sigmask(SIG_SETMASK, &before, NULL);
 }
 
 /* Counts one more, and wakes those who may wait for it: for the end of a slice, or for the tag. */
@@ -80,7 +76,7 @@ static void count_done(struct run *run) {
     pthread_mutex_lock(&run->lock);
     pthread_cond_broadcast(&run->more_done);
     pthread_mutex_unlock(&run->lock);
-    restore_signals(before);
+    pthread_sigmask(SIG_SETMASK, &before, NULL);
 }
 
 static void note_fault(struct run *run, uint8_t fault) {
@@ -190,7 +186,7 @@ static uint32_t start_helpers(struct run *run, pthread_t *helpers, struct stacks
            start_helper(run, &helpers[started], &attributes, stacks->start + started * stacks->size,
                         stacks->size))
         started++;
-    restore_signals(before);
+    pthread_sigmask(SIG_SETMASK, &before, NULL);
     pthread_attr_destroy(&attributes);
     return started;
 }
@@ -206,15 +202,9 @@ static void work_with_helpers(struct run *run, uint32_t wanted) {
     sigset_t before = block_signals(run);
     for (uint32_t i = 0; i < started; i++)
         pthread_join(helpers[i], NULL);
-    restore_signals(before);
+    pthread_sigmask(SIG_SETMASK, &before, NULL);
     if (stacks.count > 0)
         munmap(stacks.start, stacks.count * stacks.size);
-}
-
-/* The caller's memory, slice behind slice. */
-static void cut_slices(struct run *run) {
-    for (int i = 0; i < SLICES; i++)
-        run->slices[i] = run->task->memory + (size_t)i * run->slice_size;
 }
 
 static void give_slices(struct run *run, int count) {
@@ -224,13 +214,13 @@ static void give_slices(struct run *run, int count) {
         heap_give_zeros(run->slices[--count]);
 }
 
+/* They lie one behind another in the caller's memory, or where the heap has them. */
 static bool take_slices(struct run *run) {
-    if (run->task->memory != NULL) {
-        cut_slices(run);
-        return true;
-    }
+    struct argon2_block *memory = run->task->memory;
+    size_t size = run->slice_size;
     for (int i = 0; i < SLICES; i++) {
-        run->slices[i] = heap_take_zeros(run->slice_size * sizeof(struct argon2_block));
+        run->slices[i] =
+            memory != NULL ? memory + (size_t)i * size : heap_take_zeros(size * sizeof *memory);
         if (run->slices[i] == NULL) {
             give_slices(run, i);
             return false;

@@ -56,7 +56,6 @@ PUBLIC const char *argon2_error_message(int number) {
     return number > 0 || number < -last ? "Unknown error code" : messages[-number];
 }
 
-/* What the original finds wrong with its inputs, in its order. */
 int fault_of_context(const argon2_context *context) {
     enum { LEAST_OUT = 4, LEAST_SALT = 8, LEAST_MEMORY = 8, MOST_THREADS = 0xFFFFFF };
     if (context == NULL)

@@ -6,7 +6,6 @@
 #include "heap.h"
 #include "inputs.h"
 #include "secrets.h"
-#include "setting.h"
 
 const char *rigzumal_version(void) {
     return RIGZUMAL_LIBRARY_VERSION;
@@ -24,14 +23,8 @@ int rigzumal_argon2(void *tag, size_t tag_size, const struct rigzumal_argon2 *nu
                     const void *password, size_t password_size, const void *salt, size_t salt_size,
                     const void *secret, size_t secret_size, const void *associated,
                     size_t associated_size) {
-    int fault =
-        null_fault(&(struct rigzumal_inputs){password, password_size, salt, salt_size, secret,
-                                             secret_size, associated, associated_size, 1});
-    if (fault != RIGZUMAL_OK)
-        return fault;
-    struct argon2_inputs inputs = {BYTES(password, password_size), BYTES(salt, salt_size),
-                                   BYTES(secret, secret_size), BYTES(associated, associated_size)};
-    return cleared(CALL(cred_argon2, numbers, &inputs, tag_size == 0 ? NOTHING : tag, tag_size));
+    return rigzumal_argon2_threads(tag, tag_size, numbers, password, password_size, salt, salt_size,
+                                   secret, secret_size, associated, associated_size, 1);
 }
 
 int rigzumal_scrypt(void *key, size_t key_size, const struct rigzumal_scrypt *numbers,
@@ -48,33 +41,14 @@ int rigzumal_scrypt(void *key, size_t key_size, const struct rigzumal_scrypt *nu
 }
 
 int rigzumal_check(const char *record, const void *password, size_t password_size) {
-    int fault = null_password_fault(password, password_size);
-    if (fault != RIGZUMAL_OK)
-        return fault;
-    return cleared(CALL(cred_check, TEXT(record), BYTES(password, password_size)));
-}
-
-/* Ends what an export wrote into text by a zero byte, for which it left room, and clears what the
- * call left. */
-static int ended(uint8_t fault, char *text, size_t written) {
-    if (fault == RIGZUMAL_OK)
-        text[written] = '\0';
-    return cleared(fault);
+    return rigzumal_check_threads(record, password, password_size, 1);
 }
 
 int rigzumal_record(char *text, size_t text_size, size_t tag_size, const char *costs,
                     const void *salt, size_t salt_size, const void *password,
                     size_t password_size) {
-    struct setting setting;
-    int fault = null_password_fault(password, password_size);
-    if (fault == RIGZUMAL_OK)
-        fault = setting_make(&setting, costs, salt, salt_size);
-    if (fault != RIGZUMAL_OK)
-        return fault;
-    size_t written = 0;
-    uint8_t answer = CALL(cred_hash, setting.text, setting.size, narrow_tag_size(tag_size),
-                          BYTES(password, password_size), ROOM(text, text_size), &written);
-    return ended(answer, text, written);
+    return rigzumal_record_threads(text, text_size, tag_size, costs, salt, salt_size, password,
+                                   password_size, 1);
 }
 
 /* The same for a text that may be null. */

@@ -19,6 +19,13 @@ static inline int cleared(int answer) {
     return answer;
 }
 
+/* The same of a text that an export wrote, which left room for the zero byte at its end. */
+static inline int ended(int answer, char *text, size_t written) {
+    if (answer == 0)
+        text[written] = '\0';
+    return cleared(answer);
+}
+
 /* Whether two secrets of one size are equal, in a time that doesn't depend on where they differ. */
 bool secrets_are_equal(const void *one, const void *other, size_t size);
 

@@ -8,20 +8,14 @@
 
 enum { LONGEST_PASSWORD = 256 };
 
-static bool has_setting(uint32_t operation) {
-    return operation == RIGZUMAL_ENROL || operation == RIGZUMAL_CHANGE ||
-           operation == RIGZUMAL_UPGRADE;
-}
-
 static int setting_fault(const struct rigzumal_step_inputs *inputs) {
     const char *setting = inputs->setting == NULL ? "" : inputs->setting;
     int fault = rigzumal_setting_fault(setting);
     struct rigzumal_parts parts;
-    if (fault == RIGZUMAL_OK && inputs->secret != NULL)
-        fault = rigzumal_parts(&parts, setting);
-    bool is_scrypt =
-        fault == RIGZUMAL_OK && inputs->secret != NULL && parts.scheme == RIGZUMAL_SCRYPT;
-    return is_scrypt ? RIGZUMAL_SCHEME : fault;
+    if (fault != RIGZUMAL_OK || inputs->secret == NULL)
+        return fault;
+    fault = rigzumal_parts(&parts, setting);
+    return fault == RIGZUMAL_OK && parts.scheme == RIGZUMAL_SCRYPT ? RIGZUMAL_SCHEME : fault;
 }
 
 static struct rigzumal_inputs inputs_of(const struct rigzumal_step_inputs *step, bool is_new) {
@@ -49,7 +43,8 @@ static int fault_of_step(const struct rigzumal_step_inputs *inputs) {
     if (inputs->password_size > LONGEST_PASSWORD ||
         (operation == RIGZUMAL_CHANGE && inputs->new_password_size > LONGEST_PASSWORD))
         return RIGZUMAL_LONG_PASSWORD;
-    return has_setting(operation) ? setting_fault(inputs) : RIGZUMAL_OK;
+    bool has_setting = operation != RIGZUMAL_VERIFY && operation != RIGZUMAL_REMOVE;
+    return has_setting ? setting_fault(inputs) : RIGZUMAL_OK;
 }
 
 /* Whether the costs of the copy are those of the setting: an upgrade has nothing to do then. */

@@ -1,6 +1,6 @@
 /* The calls of rigzumal.h with threads. A task's begin and end are the crate's, and its lanes are
  * worked by lanes.c. Where one thread is enough, and for a text that has a fault or is scrypt's,
- * the call without threads does it. */
+ * one export does it all. */
 #define _GNU_SOURCE
 #include "inputs.h"
 #include "lanes.h"
@@ -10,17 +10,13 @@
 /* What a tag is made of, and where to. */
 struct tag_inputs {
     const struct tag_numbers *numbers;
-    const struct rigzumal_inputs *inputs;
+    const struct argon2_inputs *inputs;
     uint8_t *tag;
 };
 
 static uint8_t begin_tag(const void *inputs, struct argon2_block *first, size_t count) {
-    const struct tag_inputs *tag = inputs;
-    const struct rigzumal_inputs *it = tag->inputs;
-    struct argon2_inputs all = {BYTES(it->password, it->password_size),
-                                BYTES(it->salt, it->salt_size), BYTES(it->secret, it->secret_size),
-                                BYTES(it->associated, it->associated_size)};
-    return CALL(cred_argon2_begin, tag->numbers, &all, first, count);
+    const struct tag_inputs *it = inputs;
+    return CALL(cred_argon2_begin, it->numbers, it->inputs, first, count);
 }
 
 static uint8_t end_tag(const void *inputs, const struct argon2_block *last, size_t count) {
@@ -30,14 +26,20 @@ static uint8_t end_tag(const void *inputs, const struct argon2_block *last, size
 
 int rigzumal_argon2_from(void *tag, size_t tag_size, const struct rigzumal_argon2 *numbers,
                          const struct rigzumal_inputs *inputs) {
+    int fault = null_fault(inputs);
+    if (fault != RIGZUMAL_OK)
+        return fault;
+    struct argon2_inputs proved = {BYTES(inputs->password, inputs->password_size),
+                                   BYTES(inputs->salt, inputs->salt_size),
+                                   BYTES(inputs->secret, inputs->secret_size),
+                                   BYTES(inputs->associated, inputs->associated_size)};
     struct tag_numbers all = {numbers->kind,   numbers->version, numbers->memory,
                               numbers->passes, numbers->lanes,   (uint32_t)tag_size};
     uint32_t threads = lanes_useful_threads(&all, inputs->threads);
-    if (threads == 1 || tag_size > UINT32_MAX || null_fault(inputs) != RIGZUMAL_OK)
-        return rigzumal_argon2(tag, tag_size, numbers, inputs->password, inputs->password_size,
-                               inputs->salt, inputs->salt_size, inputs->secret, inputs->secret_size,
-                               inputs->associated, inputs->associated_size);
-    struct tag_inputs made = {&all, inputs, tag};
+    if (threads == 1 || tag_size > UINT32_MAX)
+        return cleared(
+            CALL(cred_argon2, numbers, &proved, tag_size == 0 ? NOTHING : tag, tag_size));
+    struct tag_inputs made = {&all, &proved, tag};
     struct task task = {all, begin_tag, end_tag, &made, NULL};
     return cleared(lanes_work(&task, threads));
 }
@@ -80,51 +82,53 @@ static uint8_t end_record(const void *inputs, const struct argon2_block *last, s
 
 int rigzumal_check_threads(const char *record, const void *password, size_t password_size,
                            uint32_t threads) {
+    int fault = null_password_fault(password, password_size);
+    if (fault != RIGZUMAL_OK)
+        return fault;
     struct record_reading reading;
-    uint8_t fault = CALL(cred_check_read, TEXT(record), &reading);
-    int answer;
-    if (fault == RIGZUMAL_OK)
-        threads = lanes_useful_threads(&reading.setting.numbers, threads);
-    if (fault != RIGZUMAL_OK || threads == 1 ||
-        null_password_fault(password, password_size) != RIGZUMAL_OK) {
-        answer = rigzumal_check(record, password, password_size);
+    bool is_read = threads > 1 && CALL(cred_check_read, TEXT(record), &reading) == RIGZUMAL_OK;
+    threads = is_read ? lanes_useful_threads(&reading.setting.numbers, threads) : 1;
+    if (threads == 1) {
+        fault = CALL(cred_check, TEXT(record), BYTES(password, password_size));
     } else {
         struct text_inputs inputs = {.setting = &reading.setting,
                                      .record = &reading,
                                      .password = password,
                                      .password_size = password_size};
         struct task task = {reading.setting.numbers, begin_text, end_check, &inputs, NULL};
-        answer = cleared(lanes_work(&task, threads));
+        fault = lanes_work(&task, threads);
     }
     explicit_bzero(reading.tag, sizeof reading.tag);
-    return answer;
+    return cleared(fault);
 }
 
 int rigzumal_record_threads(char *text, size_t text_size, size_t tag_size, const char *costs,
                             const void *salt, size_t salt_size, const void *password,
                             size_t password_size, uint32_t threads) {
     struct setting setting;
-    int fault = setting_make(&setting, costs, salt, salt_size);
+    int fault = null_password_fault(password, password_size);
+    if (fault == RIGZUMAL_OK)
+        fault = setting_make(&setting, costs, salt, salt_size);
     if (fault != RIGZUMAL_OK)
         return fault;
+    uint32_t size = narrow_tag_size(tag_size);
     struct setting_reading reading;
-    fault = CALL(cred_hash_read, setting.text, setting.size, narrow_tag_size(tag_size), &reading);
-    if (fault == RIGZUMAL_OK)
-        threads = lanes_useful_threads(&reading.numbers, threads);
-    if (fault != RIGZUMAL_OK || threads == 1 ||
-        null_password_fault(password, password_size) != RIGZUMAL_OK)
-        return rigzumal_record(text, text_size, tag_size, (const char *)setting.text, NULL, 0,
-                               password, password_size);
+    bool is_read = threads > 1 &&
+                   CALL(cred_hash_read, setting.text, setting.size, size, &reading) == RIGZUMAL_OK;
+    threads = is_read ? lanes_useful_threads(&reading.numbers, threads) : 1;
     size_t written = 0;
-    struct text_inputs inputs = {.setting = &reading,
-                                 .password = password,
-                                 .password_size = password_size,
-                                 .text = text,
-                                 .text_size = text_size,
-                                 .written = &written};
-    struct task task = {reading.numbers, begin_text, end_record, &inputs, NULL};
-    fault = cleared(lanes_work(&task, threads));
-    if (fault == RIGZUMAL_OK)
-        text[written] = '\0';
-    return fault;
+    if (threads == 1) {
+        fault = CALL(cred_hash, setting.text, setting.size, size, BYTES(password, password_size),
+                     ROOM(text, text_size), &written);
+    } else {
+        struct text_inputs inputs = {.setting = &reading,
+                                     .password = password,
+                                     .password_size = password_size,
+                                     .text = text,
+                                     .text_size = text_size,
+                                     .written = &written};
+        struct task task = {reading.numbers, begin_text, end_record, &inputs, NULL};
+        fault = lanes_work(&task, threads);
+    }
+    return ended(fault, text, written);
 }
