@@ -1,34 +1,17 @@
 /* What each processor and each compiler has to show: each call of tests/jobs.c, the standards'
  * values, and how many threads a call starts. */
-#define _GNU_SOURCE
 #include "check.h"
 #include "jobs.h"
 
-#include <pthread.h>
-#include <sched.h>
 #include <stdbool.h>
 
-enum { PROCESSORS = 8, LANES = 4, TEXT = RIGZUMAL_TEXT_SIZE };
+enum { LANES = 4, TEXT = RIGZUMAL_TEXT_SIZE };
 
 /* By the argon2 program: printf password | argon2 somesalt -id -t 2 -k 256 -p 1 -l 32 -e. */
 static const char record[] =
     "$argon2id$v=19$m=256,t=2,p=1$c29tZXNhbHQ$nf65EOgLrQMR/uIPnA4rEsF5h7TKyQwu9U1bMCHGi/4";
 
-static int started;
-
-WRAP(int, pthread_create, pthread_t *thread, const pthread_attr_t *attributes, void *(*run)(void *),
-     void *given) {
-    started++;
-    return __real_pthread_create(thread, attributes, run, given);
-}
-
-WRAP(int, sched_getaffinity, pid_t process, size_t size, cpu_set_t *set) {
-    (void)process, (void)size;
-    CPU_ZERO(set);
-    for (int i = 0; i < PROCESSORS; i++)
-        CPU_SET(i, set);
-    return 0;
-}
+extern int started; /* threads, in given_system.c */
 
 /* Whether the bytes are those that a text has in hexadecimal. */
 static int are_hex(const unsigned char *bytes, size_t size, const char *wanted) {

@@ -1,5 +1,5 @@
-/* Before the C library, for tests in Python: getrandom is what a test has it be, so many of four
- * threads are refused, and there are sixteen processors. */
+/* Before the C library: getrandom is what a test has it be, so many of four threads are refused,
+ * the others are counted, and there are sixteen processors. */
 #define _GNU_SOURCE
 #include "check.h"
 
@@ -9,7 +9,8 @@
 #include <sys/types.h>
 
 ssize_t (*drawn)(void *to, size_t size, unsigned flags);
-unsigned refusals, started;
+unsigned refusals;
+int started;
 
 WRAP(ssize_t, getrandom, void *to, size_t size, unsigned flags) {
     return drawn == NULL ? __real_getrandom(to, size, flags) : drawn(to, size, flags);

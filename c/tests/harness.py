@@ -45,7 +45,7 @@ VALGRIND = "valgrind -q --error-exitcode=9 --leak-check=full --errors-for-leak-k
 
 # Has tags of every size worked in threads where a call asks for them.
 IN_THREADS = "-DLEAST_SHARED_MEMORY=1"
-JOBS = [IN_THREADS, "tests/jobs.c"]
+JOBS = [IN_THREADS, "tests/jobs.c", "tests/given_system.c"]
 
 # A folder for what the tests build, and what a command wrote, in the library's folder.
 ROOM = helpers.common_folder()
@@ -86,7 +86,7 @@ def built(name, flags, linked, cc=None):
     program = ROOM / f"{name}-{len(list(ROOM.iterdir()))}"
     folder = "tests" if (HERE / f"{name}.c").exists() else f"tests/{ARCH}"
     sources = [f"{folder}/{name}.c", *map(str, linked)]
-    run(cc or COMPILER, *WARNINGS, *flags, *wraps(sources), *sources, "-o", program)
+    run(cc or COMPILER, *WARNINGS, *flags, *wraps([*flags, *sources]), *sources, "-o", program)
     return runnable(program)
 
 
