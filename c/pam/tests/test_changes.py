@@ -124,9 +124,9 @@ class Changes(Case):
         self.check(b"1 expired\n", Pam.AUTH_ERR, KNOWN, answers=[b"x" * 257])
         change = line_of("change", "ada", b"secret", b"fresh")
         for task, known in (("change", [KNOWN]), ("expired", [KNOWN, KNOWN])):
-            for change_is, ought in ((b"replaced", Pam.SUCCESS), (b"expired", Pam.AUTHINFO_UNAVAIL)):
-                expired, said_of_it = b"1 expired\n", b"1 " + change_is + b"\n"
-                with peer(answers(known=expired, verify=expired, change=said_of_it)) as it:
+            for word, ought in ((b"replaced", Pam.SUCCESS), (b"expired", Pam.AUTHINFO_UNAVAIL)):
+                expired, changed_to = b"1 expired\n", b"1 " + word + b"\n"
+                with peer(answers(known=expired, verify=expired, change=changed_to)) as it:
                     said = asked(Question(tasks=task, answers=FRESH), it.path)
                 self.assertEqual(said.codes, [ought], task)
                 self.assertEqual(it.lines, [*known, VERIFY, *known, change])

@@ -187,8 +187,9 @@ class Package(unittest.TestCase):
         need("black")
         black = ("black", "-q", "--check", "-l")
         run(*black, "88", PYTHON / "rigzumal", PYTHON / "build_backend.py", TOP / "packaging")
-        parts = ("python/tests", "docs/tests", "rust/tests", "c/tests", "examples/login_page")
-        parts += ("tests/helpers.py", "tests/operations.py", "tests/credbook", "tests/credkeep")
+        parts = ("python/tests", "docs/tests", "rust/tests", "c/tests", "c/pam/tests")
+        parts += ("examples/login_page", "tests/helpers.py", "tests/operations.py")
+        parts += ("tests/credbook", "tests/credkeep")
         run(*black, "100", *(TOP / it for it in parts))
 
     def test_types(self):
