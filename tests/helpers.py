@@ -194,9 +194,10 @@ def runnable(program: pathlib.Path) -> pathlib.Path:
 
 
 def need_native() -> None:
-    """Skips a test that looks at the program's process, which is the emulator's on this machine."""
+    """Skips a test that looks at the program's process, or bounds it: on this machine it is the
+    emulator's."""
     if not IS_NATIVE:
-        raise unittest.SkipTest(f"{EMULATOR[0]} would be looked at")
+        raise unittest.SkipTest(f"{EMULATOR[0]} would be looked at or bounded")
 
 
 @functools.cache
@@ -219,6 +220,7 @@ def write_files(folder: pathlib.Path, texts: dict[str, str], mode: int = 0o644) 
 
 def memory_of(pid: int, right: str = "r") -> Iterator[bytes]:
     """The parts of a process's memory for which it has this right, r or w."""
+    need_native()
     with open(f"/proc/{pid}/mem", "rb", 0) as memory:
         for line in pathlib.Path(f"/proc/{pid}/maps").read_text().splitlines():
             places, rights = line.split()[:2]
@@ -269,6 +271,8 @@ def need_root() -> None:
 
 def limited(limit: int, most: int) -> Callable[[], None]:
     """What a process does before it begins to have so much and no more: an option preexec_fn."""
+    if limit != resource.RLIMIT_FSIZE:
+        need_native()
     return lambda: resource.setrlimit(limit, (most, most))
 
 

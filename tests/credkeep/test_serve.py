@@ -6,7 +6,7 @@ import time
 from typing import Any
 
 from tests.credkeep.books import CHEAP, DONE, SALT, TAG, BookTest, fails, lined
-from tests.helpers import Ended, each
+from tests.helpers import Ended, each, need_native
 
 # More than a script may have.
 TWO_MIB = 2 * 1024 * 1024
@@ -115,6 +115,10 @@ class LinesTest(BookTest):
 
 
 class MemoryTest(BookTest):
+    def setUp(self) -> None:
+        need_native()
+        super().setUp()
+
     def short_of_memory(self) -> None:
         """Gives the process little memory, until it is given more."""
         most = resource.getrlimit(resource.RLIMIT_AS)[1]

@@ -11,7 +11,7 @@ from typing import Any
 
 from tests.credkeep.books import CHEAP, DONE, RECORD, SALT, Book, BookTest, commits_in, lined
 from tests.credkeep.doors import in_base64
-from tests.helpers import LONGEST, TOP, each, limited, skip_if_busy, small_files
+from tests.helpers import LONGEST, TOP, each, limited, need_native, skip_if_busy, small_files
 
 ONE = in_base64("one")
 
@@ -129,6 +129,7 @@ class HashesTest(BookTest):
     def peak_of(self, memory: str) -> tuple[int, int]:
         """How many KiB more than at first a service takes at most, and in the end, of which eight
         threads judge 32 right passwords at a record of 36 MiB."""
+        need_native()
         # Otherwise the C library keeps for each thread what it freed.
         options = {"env": {**os.environ, "MALLOC_MMAP_THRESHOLD_": "131072"}}
         with self.book.tagged("--at-once", "8", "--memory", memory, **options) as service:
