@@ -134,8 +134,9 @@ class Records(unittest.TestCase):
                 calls.append(written_text("record_with_secret", *new))
                 calls.append((call("check_with_secret", RECORD, password, secret),))
             if name == "password":
-                new = (N.TEXT_SIZE, 32, COSTS_OF_LANES, b"somesalt", password)
-                calls += [written_text("record", *new), written_text("record_threads", *new, 2)]
+                for costs in (COSTS_OF_LANES, "$" * 600):
+                    new = (N.TEXT_SIZE, 32, costs, b"somesalt", password)
+                    calls += [written_text("record", *new), written_text("record_threads", *new, 2)]
                 calls.append((call("check", RECORD_OF_LANES, password),))
                 calls.append((call("check_threads", RECORD_OF_LANES, password, 2),))
             for answer, *_ in calls:
