@@ -155,8 +155,8 @@ def in_namespaces(test: Callable[[Test, pathlib.Path], None]) -> Callable[[Test]
             text=True,
             timeout=280,
         )
-        if skipped := re.search("skipped '(.*)'", done.stderr):
-            raise unittest.SkipTest(skipped[1])
+        if skipped := re.search(r"skipped (['\"])(.*)\1$", done.stderr, re.M):
+            raise unittest.SkipTest(skipped[2])
         self.assertEqual(done.returncode, 0, f"{done.stdout}{done.stderr}")
 
     return outer
