@@ -1,22 +1,27 @@
 """The packages in a Debian of their own: its systemd is the first process, and PAM asks the book.
 
-It needs root, the built programs, and debootstrap with Debian's mirror, or the base of an earlier one in
-BOOT (minbase with what INCLUDED says), which is copied. The machine's own files, processes, network and
-settings stay as they are.
+It needs root, the built programs, and debootstrap with Debian's mirror, or the bases of earlier runs, which
+are copied: in BOOT minbase with what INCLUDED says, in EMPTY with what EMPTY says. The machine's own files,
+processes, network and settings stay as they are.
 """
 
 import os
 import pathlib
+import shlex
 import shutil
 import subprocess
 import unittest
+from typing import Any
 
 from machine import commands_on_page, shell
 from served import CHEAP, TOP, Case, need, need_root, real_book, same
+from tests.helpers import BUSY, at_a_terminal
+from walk import packages
 
 CGROUPS = pathlib.Path("/sys/fs/cgroup")
 MIRROR = "http://deb.debian.org/debian"
-INCLUDED = "python3,libpam-runtime,pamtester,adduser,systemd,systemd-sysv,dbus"
+EMPTY = "systemd,systemd-sysv,dbus"
+INCLUDED = f"python3,libpam-runtime,pamtester,adduser,{EMPTY}"
 
 # What runs inside, as docs/SERVERS.md tells it, and then with kills and restarts; then PAM, and the packages' end.
 INSIDE = """import contextlib, os, pathlib, pty, signal, socket, subprocess, sys, time
@@ -219,38 +224,57 @@ def debs() -> list[pathlib.Path]:
     return found
 
 
-def base(room: pathlib.Path) -> None:
+def base(room: pathlib.Path, included: str) -> None:
     """A small Debian in a folder."""
-    if "BOOT" in os.environ:
-        shell(f"cp -a {os.environ['BOOT']}/. {room}")
+    if kept := os.environ.get("EMPTY" if included is EMPTY else "BOOT"):
+        shell(f"cp -a {kept}/. {room}")
     else:
         words = "unshare --mount --pid --fork --kill-child --mount-proc debootstrap"
-        words += f" --variant=minbase --include={INCLUDED} bookworm {room} {MIRROR}"
+        words += f" --variant=minbase --include={included} bookworm {room} {MIRROR}"
         done = subprocess.run(words.split(), capture_output=True, text=True, timeout=1200)
         if done.returncode:
             raise unittest.SkipTest(f"debootstrap can't: {(done.stdout + done.stderr)[-400:]}")
     room.chmod(0o755)
 
 
-def booted(room: pathlib.Path) -> None:
-    """Boots the Debian in a folder, until it powers itself off."""
+def not_booted(room: pathlib.Path, line: str) -> list[str]:
+    """The words that run a line of shell in a Debian that isn't booted, beside the repository."""
+    mounts = (
+        f"mkdir -p {room}{AT} && mount --bind {TOP} {room}{AT} && mount -t proc none {room}/proc"
+    )
+    inside = shlex.quote(f"mount -t devpts none /dev/pts; cd {AT} && {line}")
+    words = "unshare --mount --pid --fork --kill-child sh -c"
+    return [*words.split(), f"{mounts} && exec chroot {room} sh -c {inside}"]
+
+
+def booted(room: pathlib.Path, command: str, *options: str) -> str:
+    """What a command says in the Debian in a folder, which boots, and powers itself off behind it."""
+    wanted = room / "etc/systemd/system/multi-user.target.wants"
+    wanted.mkdir(exist_ok=True)
+    (wanted.parent / "inside.service").write_text(UNIT.format(command=command))
+    (wanted / "inside.service").symlink_to("../inside.service")
     words = "systemd-nspawn --quiet --boot --register=no --keep-unit --private-network --directory"
+    pipes: Any = {"stdout": subprocess.PIPE, "stderr": subprocess.STDOUT}
     try:
-        subprocess.run(
-            [*words.split(), room], stdin=subprocess.DEVNULL, capture_output=True, timeout=400
+        done = subprocess.run(
+            [*words.split(), room, *options], stdin=subprocess.DEVNULL, timeout=400 * BUSY, **pipes
         )
     finally:  # what it leaves of control groups where no systemd runs
         for name in ("payload", "supervisor"):
             for group in (*CGROUPS.glob(name), *CGROUPS.glob(f"*/{name}")):
                 shell(f"find {group} -depth -type d -delete")
+    said = room / "said"
+    return said.read_text() if said.exists() else f"nothing: {done.stdout[-400:]!r}"
 
 
+# Where the Debian has the repository.
+AT = "/root/rigzumal"
 UNIT = """[Service]
 Type=oneshot
-ExecStart=/usr/bin/python3 /inside.py
+ExecStart={command}
 StandardOutput=append:/said
 StandardError=append:/said
-TimeoutStartSec=300
+TimeoutStartSec=600
 ExecStopPost=/bin/systemctl poweroff --force --force
 """
 
@@ -258,17 +282,22 @@ ExecStopPost=/bin/systemctl poweroff --force --force
 class Booted(Case):
     seconds = 1500  # of which a debootstrap may take most
 
+    def debian(self, included: str) -> pathlib.Path:
+        """A small Debian in a folder of its own, where it can be had."""
+        need_root()
+        real_book()
+        need("debootstrap", "unshare", "systemd-nspawn")
+        room = self.room() / "root"
+        room.mkdir()
+        base(room, included)
+        return room
+
     def test_under_systemd(self) -> None:
         """The units start, hand over their sockets, are restarted after kills, and end in order, in their whole sandbox.
         The profile that PAM is given lets the book's users in, and is gone with the packages; the book stays.
         """
-        need_root()
-        real_book()
-        need("debootstrap", "unshare", "systemd-nspawn")
-        found, room = debs(), self.room() / "root"
-        room.mkdir()
-        base(room)
-        for deb in found:
+        room = self.debian(INCLUDED)
+        for deb in debs():
             shutil.copy(deb, room)
         options = f"CREDKEEP_SERVER_OPTIONS=--setting {CHEAP}\n"
         (room / "etc/default/credkeep-server-users").write_text(options)
@@ -279,14 +308,24 @@ class Booted(Case):
         lines = [*commands_on_page("systemctl stop"), *commands_on_page("systemctl start")]
         lines[1:1] = [it for it in commands_on_page("runuser") if " restore " in it]
         (room / "restore.sh").write_text("set -e\n" + "\n".join(lines) + "\n")
-        wanted = room / "etc/systemd/system/multi-user.target.wants"
-        wanted.mkdir(exist_ok=True)
-        (wanted.parent / "inside.service").write_text(UNIT)
-        (wanted / "inside.service").symlink_to("../inside.service")
-        booted(room)
-        said = (room / "said").read_text() if (room / "said").exists() else "nothing"
+        said = booted(room, "/usr/bin/python3 /inside.py")
         lines = iter(it.strip() for it in said.splitlines())
         for line in OUGHT.splitlines():
             is_said = any(it.startswith(line) for it in lines)
             self.assertTrue(is_said, f"no {line!r} in its place:\n{said}")
         self.assertNotRegex(said.rpartition("in the log")[2], "c2VjcmV0|ada", "it is logged")
+
+    def test_a_new_user(self) -> None:
+        """The page from an empty Debian, in which not even Python is, to a login by nginx, Dovecot and sshd (walk.py)."""
+        room = self.debian(EMPTY)
+        debs()
+        shell(shlex.join(not_booted(room, "apt-get update")))
+        (line,) = commands_on_page("apt install ./c/pam")
+        shown = at_a_terminal(not_booted(room, line), [b"\n"])
+        self.assertEqual(shown.status, 0, shown.text)
+        fetch = "apt-get install --yes --download-only python3-h11"
+        words = " ".join(packages(it) for it in ("nginx", "Dovecot", "sshd"))
+        shell(shlex.join(not_booted(room, f"{fetch} {words}")))  # for a machine without a network
+        walk = f"/usr/bin/python3 -B {AT}/tests/server/walk.py"
+        said = booted(room, walk, f"--bind-ro={TOP}:{AT}")
+        self.assertIn("\nOK\n", said)

@@ -2,6 +2,7 @@
 
 import base64
 import collections
+import functools
 import imaplib
 import pathlib
 import re
@@ -64,8 +65,7 @@ def run_dovecot(*changes: tuple[str, str]) -> None:
     need("dovecot")
     need_file("/usr/lib/dovecot/imap", "dovecot-imapd")
     install("/etc/pam.d/dovecot", "/etc/pam.d/mail", "/etc/dovecot/local.conf")
-    own = pathlib.Path("/etc/dovecot/conf.d/10-auth.conf")
-    own.write_text(own.read_text().replace("!include auth-system.conf.ext", ""))
+    remove_system_users()
     configure_dovecot(*changes)
     files = "-keyout /etc/dovecot/private/dovecot.key -out /etc/dovecot/private/dovecot.pem"
     shell(f"openssl req -x509 -newkey rsa:2048 -nodes -subj /CN=localhost {files} 2>/dev/null")
@@ -74,6 +74,13 @@ def run_dovecot(*changes: tuple[str, str]) -> None:
     shell(adduser)
     shell("dovecot -c /etc/dovecot/dovecot.conf > /var/log/dovecot-start 2>&1")
     until(lambda: is_open(143), "dovecot")
+
+
+def remove_system_users() -> None:
+    """What the page has removed of Dovecot's own configuration."""
+    (line, path) = re.findall(r"`(!include\s\S+)` from (\S+),", PAGE.read_text())[0]
+    own = pathlib.Path(path)
+    own.write_text(own.read_text().replace(" ".join(line.split()), ""))
 
 
 def configure_dovecot(*changes: tuple[str, str]) -> None:
@@ -85,18 +92,21 @@ def configure_dovecot(*changes: tuple[str, str]) -> None:
     pathlib.Path("/etc/dovecot/local.conf").write_text(text + QUICK)
 
 
-def web_logins(port: int, server: Service) -> None:
-    def got(user: str, password: str) -> int:
-        request = urllib.request.Request(f"http://127.0.0.1:{port}/")
-        if user:
-            basic = base64.b64encode(f"{user}:{password}".encode()).decode()
-            request.add_header("Authorization", f"Basic {basic}")
-        try:
-            with urllib.request.urlopen(request, timeout=30) as answer:
-                return int(answer.status)
-        except urllib.error.HTTPError as fault:
-            return fault.code
+def status_of(port: int, user: str, password: str) -> int:
+    """The status that a user gets for a site's page."""
+    request = urllib.request.Request(f"http://127.0.0.1:{port}/")
+    if user:
+        basic = base64.b64encode(f"{user}:{password}".encode()).decode()
+        request.add_header("Authorization", f"Basic {basic}")
+    try:
+        with urllib.request.urlopen(request, timeout=30) as answer:
+            return int(answer.status)
+    except urllib.error.HTTPError as fault:
+        return fault.code
 
+
+def web_logins(port: int, server: Service) -> None:
+    got = functools.partial(status_of, port)
     for user, password, status in (
         ("ada", "secret", 200),
         ("bob", "other word", 200),
