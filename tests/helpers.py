@@ -37,8 +37,8 @@ from typing import Any, NamedTuple, Optional, TypeVar
 TOP = pathlib.Path(__file__).resolve().parent.parent
 PYTHON, LIBRARIES = TOP / "python", TOP / "c/out"
 TIMES = int(os.environ.get("RIGZUMAL_TIMES", "1"))
-# How many times as long everything may take, where much else runs.
-BUSY = max(1, int(os.getloadavg()[0] / (os.cpu_count() or 1)))
+# How many times as long everything may take, where much else runs on our processors.
+BUSY = max(1, int(os.getloadavg()[0] / len(os.sched_getaffinity(0))))
 ARCH = os.environ.get("ARCH", "x86_64")
 IS_NATIVE = ARCH == "x86_64"
 TRIPLET = "x86_64-linux-gnu" if IS_NATIVE else "aarch64-linux-gnu"
