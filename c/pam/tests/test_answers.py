@@ -186,11 +186,15 @@ class Answers(Case):
         it = peer(sends(b""))
 
         def says_so() -> None:
-            for reads in (0, 1, 9, 1024):
+            for reads in (0, 1, 9):
                 client, _ = it.socket.accept()
-                client.sendall(YES if reads == 1024 else NO_ROOM)
+                client.sendall(NO_ROOM)
                 client.recv(reads)
                 client.close()
+            client, _ = it.socket.accept()
+            client.sendall(YES)
+            with client, client.makefile("rb") as lines:
+                lines.readline()  # all of it, in however many pieces it comes
 
         for environment in ({}, {"PIECES": "1"}):
             threading.Thread(target=says_so, daemon=True).start()
