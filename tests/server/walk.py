@@ -61,10 +61,11 @@ class Walk(Case):
 
     def nginx(self) -> None:
         install_packages(packages("nginx"))
-        pathlib.Path("/var/www/html/index.html").write_text("x")
         install("/etc/pam.d/nginx", "/etc/nginx/sites-enabled/book")
         shell("systemctl restart nginx")
-        self.assertEqual(self.statuses(8080, "secret", "guess"), [200, 401])
+        self.assertEqual(self.statuses(8080, "secret", "guess"), [403, 401])
+        pathlib.Path("/var/www/html/index.html").write_text("x")
+        self.assertEqual(self.statuses(8080, "secret"), [200])
 
     def nginx_by_http(self) -> None:
         install_packages("python3-h11")
@@ -93,7 +94,8 @@ class Walk(Case):
     def sshd(self) -> None:
         """Right and wrong; one that must be changed; a locked name; and what the others say of these."""
         install_packages(packages("sshd"))
-        shell("adduser --disabled-password --gecos '' ada")
+        (line,) = re.findall(r"`(adduser [^`]+ ada)`", part("sshd"))
+        self.type(" ".join(line.split()))
         install("/etc/pam.d/sshd", "/etc/ssh/sshd_config.d/book.conf")
         shell("systemctl restart ssh")
         line = " ".join(it.format("ada") for it in LOGINS["sshd"])
