@@ -22,7 +22,6 @@ RANGE: Final = 5
 MEMORY: Final = 8
 MISMATCH: Final = 10
 INPUT_SIZE: Final = 18
-COPY: Final = 24
 NO_RANDOM: Final = 26
 
 
@@ -142,9 +141,15 @@ def text_bytes(text: Secret) -> bytes:
     return found
 
 
-def _numbers(*names: str) -> list[tuple[str, type[ctypes.c_uint32]]]:
-    """The fields of a structure of numbers."""
+def _numbers(*names: str) -> list[tuple[str, Any]]:
+    """The fields of numbers in a structure."""
     return [(name, ctypes.c_uint32) for name in names]
+
+
+def _data(*names: str) -> list[tuple[str, Any]]:
+    """The fields of data in a structure: a pointer and its size of each."""
+    kinds = (("", ctypes.c_char_p), ("_size", ctypes.c_size_t))
+    return [(name + end, kind) for name in names for end, kind in kinds]
 
 
 class Argon2Numbers(ctypes.Structure):
@@ -165,6 +170,25 @@ class RecordNumbers(ctypes.Structure):
     _fields_ = _numbers(
         *("scheme", "version", "memory", "passes", "lanes", "salt_size", "tag_size")
     )
+
+
+class Inputs(ctypes.Structure):
+    """struct rigzumal_inputs."""
+
+    _fields_ = _data("password", "salt", "secret", "associated") + _numbers("threads")
+
+
+class StepInputs(ctypes.Structure):
+    """struct rigzumal_step_inputs."""
+
+    _fields_ = [
+        *_numbers("operation"),
+        ("copy", ctypes.c_char_p),
+        *_data("password", "new_password"),
+        ("setting", ctypes.c_char_p),
+        *_data("secret"),
+        *_numbers("threads"),
+    ]
 
 
 NAME: Final = "librigzumal.so.1"
@@ -194,28 +218,21 @@ def _opened() -> ctypes.CDLL:
 
 def _load() -> Any:
     library = _opened()
-    pointer, size = ctypes.c_char_p, ctypes.c_size_t
-    data = [pointer, size]
-    library.rigzumal_version.restype = pointer
+    text, size, to = ctypes.c_char_p, ctypes.c_size_t, ctypes.POINTER
+    room, inputs = [text, size], to(Inputs)
+    library.rigzumal_version.restype = text
     library.rigzumal_trim.restype = size
     library.rigzumal_keep.argtypes, library.rigzumal_keep.restype = [size], size
-    library.rigzumal_strerror.restype = pointer
-    library.rigzumal_word.restype = pointer
-    library.rigzumal_explain.argtypes = [pointer, size, pointer]
-    made = data + [size, pointer] + data * 2
-    check, threads = [pointer] + data, ctypes.c_uint32
-    library.rigzumal_record_threads.argtypes = [*made, threads]
-    library.rigzumal_record_with_secret_threads.argtypes = [*made, *data, threads]
-    library.rigzumal_check_threads.argtypes = [*check, threads]
-    library.rigzumal_check_with_secret_threads.argtypes = [*check, *data, threads]
-    answer: list[Any] = [ctypes.POINTER(ctypes.c_uint32), ctypes.c_uint32]
-    library.rigzumal_step.argtypes = [*data, *answer, pointer, *data, *data, pointer]
-    library.rigzumal_record_fault.argtypes = [pointer]
-    library.rigzumal_setting_fault.argtypes = [pointer]
-    library.rigzumal_parts.argtypes = [ctypes.POINTER(RecordNumbers), pointer]
-    argon2, scrypt = ctypes.POINTER(Argon2Numbers), ctypes.POINTER(ScryptNumbers)
-    library.rigzumal_argon2_threads.argtypes = [*data, argon2, *data * 4, threads]
-    library.rigzumal_scrypt.argtypes = [*data, scrypt, *data * 2]
+    library.rigzumal_strerror.restype = text
+    library.rigzumal_word.restype = text
+    library.rigzumal_explain.argtypes = [*room, text]
+    library.rigzumal_record_from.argtypes = [*room, size, text, inputs]
+    library.rigzumal_check_from.argtypes = [text, inputs]
+    library.rigzumal_step_from.argtypes = [*room, to(ctypes.c_uint32), to(StepInputs)]
+    library.rigzumal_record_fault.argtypes = [text]
+    library.rigzumal_parts.argtypes = [to(RecordNumbers), text]
+    library.rigzumal_argon2_from.argtypes = [*room, to(Argon2Numbers), inputs]
+    library.rigzumal_scrypt.argtypes = [*room, to(ScryptNumbers), *room * 2]
     return library
 
 
@@ -248,9 +265,9 @@ def keep(most: int) -> int:
     return int(_library.rigzumal_keep(most))
 
 
-def pair(data: bytes) -> tuple[bytes, int]:
-    """A pointer and its size, for the calls."""
-    return data, len(data)
+def pair(data: Optional[bytes]) -> tuple[Optional[bytes], int]:
+    """A pointer and its size, for the calls; None is a null pointer."""
+    return data, len(data or b"")
 
 
 def record(
@@ -261,19 +278,14 @@ def record(
     secret: Optional[bytes] = None,
     threads: int = 1,
 ) -> str:
-    """rigzumal_record_threads, or with a secret rigzumal_record_with_secret_threads.
+    """rigzumal_record_from.
 
     The salt is bytes, or the size of a salt that the library generates."""
     text = ctypes.create_string_buffer(TEXT_SIZE)
-    room = (text, TEXT_SIZE, checked(tag_size), text_bytes(costs))
+    given = (text, TEXT_SIZE, checked(tag_size), text_bytes(costs))
     drawn = (None, checked(salt)) if isinstance(salt, int) else pair(salt)
-    given = (*room, *drawn, *pair(bytes_of(password)))
-    if secret is None:
-        fault = _library.rigzumal_record_threads(*given, checked(threads))
-    else:
-        key = (*pair(secret), checked(threads))
-        fault = _library.rigzumal_record_with_secret_threads(*given, *key)
-    raise_fault(fault)
+    data = (*pair(bytes_of(password)), *drawn, *pair(secret), *pair(None))
+    raise_fault(_library.rigzumal_record_from(*given, Inputs(*data, checked(threads))))
     return text.value.decode()
 
 
@@ -283,18 +295,16 @@ def check(
     secret: Optional[bytes] = None,
     threads: int = 1,
 ) -> int:
-    """rigzumal_check_threads, or with a secret rigzumal_check_with_secret_threads."""
-    known = (text_bytes(text), *pair(bytes_of(password)))
-    if secret is None:
-        return int(_library.rigzumal_check_threads(*known, checked(threads)))
-    call = _library.rigzumal_check_with_secret_threads
-    return int(call(*known, *pair(secret), checked(threads)))
+    """rigzumal_check_from."""
+    known = (*pair(bytes_of(password)), *pair(None), *pair(secret), *pair(None))
+    inputs = Inputs(*known, checked(threads))
+    return int(_library.rigzumal_check_from(text_bytes(text), inputs))
 
 
 def parts(text: Secret) -> RecordNumbers:
     """rigzumal_parts of a record; costs, which have no tag, are refused."""
     found = RecordNumbers()
-    raise_fault(_library.rigzumal_parts(ctypes.byref(found), text_bytes(text)), text)
+    raise_fault(_library.rigzumal_parts(found, text_bytes(text)), text)
     if found.tag_size == 0:
         raise InvalidRecordError(1)
     return found
@@ -341,12 +351,12 @@ def raw_argon2(
     tag_size: int,
     threads: int = 1,
 ) -> bytes:
-    """rigzumal_argon2_threads."""
+    """rigzumal_argon2_from."""
     tag = ctypes.create_string_buffer(checked(tag_size))
-    costs = ctypes.byref(Argon2Numbers(*map(checked, numbers)))
-    inputs = (*pair(password), *pair(salt), *pair(secret), *pair(associated))
-    given = (tag, tag_size, costs, *inputs, checked(threads))
-    raise_fault(_library.rigzumal_argon2_threads(*given))
+    costs = Argon2Numbers(*map(checked, numbers))
+    data = (*pair(password), *pair(salt), *pair(secret), *pair(associated))
+    inputs = Inputs(*data, checked(threads))
+    raise_fault(_library.rigzumal_argon2_from(tag, tag_size, costs, inputs))
     return tag.raw
 
 
@@ -355,7 +365,7 @@ def raw_scrypt(
 ) -> bytes:
     """rigzumal_scrypt."""
     key = ctypes.create_string_buffer(checked(key_size))
-    costs = ctypes.byref(ScryptNumbers(*map(checked, numbers)))
+    costs = ScryptNumbers(*map(checked, numbers))
     given = (key, key_size, costs, *pair(password), *pair(salt))
     raise_fault(_library.rigzumal_scrypt(*given))
     return key.raw

@@ -9,7 +9,7 @@ from typing import Final, Optional, Union
 
 from rigzumal import _library
 from rigzumal._hashers import PasswordHasher, ScryptHasher
-from rigzumal._library import InvalidRecordError, Secret, text_bytes
+from rigzumal._library import InvalidRecordError, Secret, StepInputs, pair, text_bytes
 from rigzumal._parts import Parts, encoded, parts
 from rigzumal.accounts.types import Copy, Kind, Reply, Request, Ticket, Worked
 from rigzumal.accounts.types import bytes_of_password
@@ -225,29 +225,6 @@ def _dearness(found: Parts) -> tuple[int, int, int]:
     return found.version, found.memory, found.memory * found.passes
 
 
-class _StepInputs(ctypes.Structure):
-    """struct rigzumal_step_inputs."""
-
-    _fields_ = [
-        ("operation", ctypes.c_uint32),
-        ("copy", ctypes.c_char_p),
-        ("password", ctypes.c_char_p),
-        ("password_size", ctypes.c_size_t),
-        ("new_password", ctypes.c_char_p),
-        ("new_password_size", ctypes.c_size_t),
-        ("setting", ctypes.c_char_p),
-        ("secret", ctypes.c_char_p),
-        ("secret_size", ctypes.c_size_t),
-        ("threads", ctypes.c_uint32),
-    ]
-
-
-_library._library.rigzumal_step_from.argtypes = [
-    *_library._library.rigzumal_step.argtypes[:3],
-    ctypes.POINTER(_StepInputs),
-]
-
-
 def step(
     kind: Kind,
     copy: Optional[str],
@@ -258,20 +235,15 @@ def step(
 ) -> tuple[Reply, Optional[str]]:
     """The reply of a whole operation at a record of ours, and the record after it.
 
-    It is rigzumal_step, whose answer is proved, or with a secret rigzumal_step_from; it
-    resets none. The setting is costs with a fresh salt, for a new record.
+    It is rigzumal_step_from, which without a secret answers by the proved rigzumal_step;
+    it resets none. The setting is costs with a fresh salt, for a new record.
     """
     size = _library.TEXT_SIZE if setting else 0
     text = ctypes.create_string_buffer(size) if setting else None
-    answer, number = ctypes.c_uint32(), _OPERATIONS[kind]
     record = None if copy is None else text_bytes(copy)
-    passwords = (password, len(password), new_password, len(new_password))
-    words = (number, record, *passwords, setting.encode())
-    if secret is None:
-        fault = _library._library.rigzumal_step(text, size, answer, *words)
-    else:
-        inputs = _StepInputs(*words, secret, len(secret), 1)
-        fault = _library._library.rigzumal_step_from(text, size, answer, inputs)
+    data = (*pair(password), *pair(new_password), setting.encode(), *pair(secret))
+    inputs, answer = StepInputs(_OPERATIONS[kind], record, *data, 1), ctypes.c_uint32()
+    fault = _library._library.rigzumal_step_from(text, size, answer, inputs)
     if fault != _library.OK:
         if copy is not None:
             _library.check_text(copy)  # raises the record's own fault

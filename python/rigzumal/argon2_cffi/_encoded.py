@@ -3,7 +3,7 @@
 from __future__ import annotations
 
 import re
-from dataclasses import dataclass
+from dataclasses import dataclass, replace
 from enum import Enum
 from typing import Final, NamedTuple, Optional, Union
 
@@ -30,47 +30,6 @@ class Type(Enum):
     ID = 2
 
 
-class Numbers(NamedTuple):
-    """The part of a hash before its salt."""
-
-    type: Type
-    version: int
-    memory_cost: int
-    time_cost: int
-    parallelism: int
-
-
-class Encoded(NamedTuple):
-    """A hash, read."""
-
-    numbers: Numbers
-    salt: bytes
-    tag: bytes
-
-    def text(self) -> bytes:
-        """The encoded hash."""
-        it = self.numbers
-        costs = f"m={it.memory_cost},t={it.time_cost},p={it.parallelism}"
-        front = f"$argon2{it.type.name.lower()}$v={it.version}${costs}"
-        return f"{front}${encoded(self.salt)}${encoded(self.tag)}".encode()
-
-    @classmethod
-    def read(cls, text: bytes) -> Optional[Encoded]:
-        """The parts of an encoded hash, or None; its costs may be out of range."""
-        found = _FORM.fullmatch(text.decode("latin1"))
-        if found is None:
-            return None
-        kind, *numbers, salt, tag = found.groups()
-        version, *costs = (0x10 if it is None else int(it) for it in numbers)
-        if max(version, *costs) >= 2**32:
-            return None
-        try:
-            data = decoded(salt), decoded(tag)
-        except ValueError:
-            return None
-        return cls(Numbers(Type[kind.upper()], version, *costs), *data)
-
-
 @dataclass
 class Parameters:
     """The parameters that an Argon2 hash was made with.
@@ -94,6 +53,39 @@ class Parameters:
     parallelism: int
 
 
+class Encoded(NamedTuple):
+    """A hash, read."""
+
+    parameters: Parameters
+    salt: bytes
+    tag: bytes
+
+    def text(self) -> bytes:
+        """The encoded hash."""
+        it = self.parameters
+        costs = f"m={it.memory_cost},t={it.time_cost},p={it.parallelism}"
+        front = f"$argon2{it.type.name.lower()}$v={it.version}${costs}"
+        return f"{front}${encoded(self.salt)}${encoded(self.tag)}".encode()
+
+    @classmethod
+    def read(cls, text: bytes) -> Optional[Encoded]:
+        """The parts of an encoded hash, or None; its costs may be out of range."""
+        found = _FORM.fullmatch(text.decode("latin1"))
+        if found is None:
+            return None
+        kind, *numbers, salt, tag = found.groups()
+        version, memory, time, lanes = (int(it or 0x10) for it in numbers)
+        if max(version, memory, time, lanes) >= 2**32:
+            return None
+        try:
+            data = decoded(salt), decoded(tag)
+        except ValueError:
+            return None
+        sizes = map(len, data)
+        it = Parameters(Type[kind.upper()], version, *sizes, time, memory, lanes)
+        return cls(it, *data)
+
+
 def extract_parameters(hash: Union[str, bytes]) -> Parameters:
     """The parameters of an encoded hash.
 
@@ -105,18 +97,10 @@ def extract_parameters(hash: Union[str, bytes]) -> Parameters:
     except ValueError:  # it has no form in UTF-8
         raise InvalidHashError from None
     read = Encoded.read(text)
-    if read is None or read.numbers.version not in _VERSIONS:
+    if read is None or read.parameters.version not in _VERSIONS:
         raise InvalidHashError(number=_fault_of(text))
-    it = read.numbers
-    return Parameters(
-        type=it.type,
-        version=it.version if b"$v=" in text else _NO_VERSION,
-        salt_len=len(read.salt),
-        hash_len=len(read.tag),
-        time_cost=it.time_cost,
-        memory_cost=it.memory_cost,
-        parallelism=it.parallelism,
-    )
+    version = read.parameters.version if b"$v=" in text else _NO_VERSION
+    return replace(read.parameters, version=version)
 
 
 def _fault_of(text: bytes) -> int:

@@ -105,15 +105,10 @@ class PasswordHasher:
         Raises:
             HashingError: a number or a size is outside its range, or memory is short.
         """
-        return hash_secret(
-            secret=_bytes_of(password, self.encoding),
-            salt=secrets.token_bytes(self.salt_len) if salt is None else salt,
-            time_cost=self.time_cost,
-            memory_cost=self.memory_cost,
-            parallelism=self.parallelism,
-            hash_len=self.hash_len,
-            type=self.type,
-        ).decode("ascii")
+        secret = _bytes_of(password, self.encoding)
+        salt = secrets.token_bytes(self.salt_len) if salt is None else salt
+        costs = (self.time_cost, self.memory_cost, self.parallelism)
+        return hash_secret(secret, salt, *costs, self.hash_len, self.type).decode()
 
     def verify(
         self, hash: Union[str, bytes], password: Union[str, bytes]

@@ -7,7 +7,7 @@ from typing import Final, Literal, Optional
 
 from rigzumal import _library
 from rigzumal._library import RigzumalError
-from rigzumal.argon2_cffi._encoded import Encoded, Numbers, Type
+from rigzumal.argon2_cffi._encoded import Encoded, Parameters, Type
 from rigzumal.argon2_cffi.exceptions import HashingError, VerificationError
 from rigzumal.argon2_cffi.exceptions import VerifyMismatchError
 
@@ -79,20 +79,25 @@ def error_to_str(error: int) -> str:
     return _MESSAGES[-error] if known else "Unknown error code"
 
 
-def _first_fault(
-    salt: bytes, time_cost: int, memory_cost: int, parallelism: int, hash_len: int
-) -> Optional[int]:
+def _first_fault(it: Parameters) -> Optional[int]:
     """The first of these that is too small, in libargon2's order."""
     for is_fault, number in (
-        (hash_len < 4, -2),
-        (len(salt) < 8, -6),
-        (memory_cost < max(8, 8 * parallelism), -14),
-        (time_cost < 1, -12),
-        (parallelism < 1, -16),
+        (it.hash_len < 4, -2),
+        (it.salt_len < 8, -6),
+        (it.memory_cost < max(8, 8 * it.parallelism), -14),
+        (it.time_cost < 1, -12),
+        (it.parallelism < 1, -16),
     ):
         if is_fault:
             return number
     return None
+
+
+def _tag(it: Parameters, secret: bytes, salt: bytes) -> bytes:
+    """The tag of these parameters."""
+    costs = (it.type.value, it.version, it.memory_cost, it.time_cost, it.parallelism)
+    inputs = (secret, salt, b"", b"")
+    return _library.raw_argon2(costs, *inputs, it.hash_len, it.parallelism)
 
 
 def hash_secret_raw(
@@ -112,12 +117,13 @@ def hash_secret_raw(
         TypeError: the secret or the salt isn't bytes.
     """
     secret, salt = _library.data_of(secret), _library.data_of(salt)
-    number = _first_fault(salt, time_cost, memory_cost, parallelism, hash_len)
+    costs = (time_cost, memory_cost, parallelism)
+    parameters = Parameters(type, version, len(salt), hash_len, *costs)
+    number = _first_fault(parameters)
     if number is not None:
         raise HashingError(error_to_str(number))
-    costs = (type.value, version, memory_cost, time_cost, parallelism)
     try:
-        return _library.raw_argon2(costs, secret, salt, b"", b"", hash_len, parallelism)
+        return _tag(parameters, secret, salt)
     except RigzumalError as fault:
         said = error_to_str(_NUMBERS.get(fault.number, -31))
         raise HashingError(said, fault.number) from None
@@ -140,11 +146,10 @@ def hash_secret(
         TypeError: the secret or the salt isn't bytes.
     """
     salt = _library.data_of(salt)
-    tag = hash_secret_raw(
-        secret, salt, time_cost, memory_cost, parallelism, hash_len, type, version
-    )
-    numbers = Numbers(type, version, memory_cost, time_cost, parallelism)
-    return Encoded(numbers, salt, tag).text()
+    costs = (time_cost, memory_cost, parallelism)
+    tag = hash_secret_raw(secret, salt, *costs, hash_len, type, version)
+    parameters = Parameters(type, version, len(salt), hash_len, *costs)
+    return Encoded(parameters, salt, tag).text()
 
 
 def verify_secret(hash: bytes, secret: bytes, type: Type) -> Literal[True]:
@@ -176,11 +181,8 @@ def _verdict(hash: bytes, secret: bytes) -> int:
     read = Encoded.read(hash) if fault in _OF_OURS else None
     if read is None:
         return fault
-    it, salt, tag = read
-    numbers = (it.time_cost, it.memory_cost, it.parallelism)
-    number = _first_fault(salt, *numbers, len(tag))
+    number = _first_fault(read.parameters)
     if number is not None:
         raise VerificationError(error_to_str(number), fault)
-    costs = (it.type.value, it.version, it.memory_cost, it.time_cost, it.parallelism)
-    made = _library.raw_argon2(costs, secret, salt, b"", b"", len(tag), it.parallelism)
-    return _library.OK if compare_digest(made, tag) else _library.MISMATCH
+    made = _tag(read.parameters, secret, read.salt)
+    return _library.OK if compare_digest(made, read.tag) else _library.MISMATCH

@@ -106,7 +106,7 @@ class Values(unittest.TestCase):
             self.assertEqual(made, value)
 
 
-CHECK = "rigzumal_check_with_secret_threads"
+CHECK = "rigzumal_check_from"
 
 
 class Rotation(unittest.TestCase):
@@ -202,7 +202,7 @@ class Rotation(unittest.TestCase):
 class Threads(unittest.TestCase):
     def test_those_that_are_asked_for(self):
         """One if none are."""
-        names = "record check record_with_secret check_with_secret argon2".split()
+        names = ("record", "check") * 2 + ("argon2",)
         for given in ({}, {"threads": 1}, {"threads": 3}, {"threads": 200}):
             with self.subTest(given=given):
                 with Calls() as calls:
@@ -210,16 +210,19 @@ class Threads(unittest.TestCase):
                         hasher = PasswordHasher(**COSTS, secret=secret, **given)
                         hasher.verify(hasher.hash("x"), "x")
                     rigzumal.argon2("x", b"somesalt", **COSTS, **given)
-                wanted = [(f"rigzumal_{name}_threads", given.get("threads", 1)) for name in names]
-                self.assertEqual([(name, words[-1]) for name, *words in calls.made], wanted)
+                wanted = [(f"rigzumal_{name}_from", given.get("threads", 1)) for name in names]
+                made = [(name, words[-1].threads) for name, *words in calls.made]
+                self.assertEqual(made, wanted)
+                with_secret = [words[-1].secret for _, *words in calls.made[:4]]
+                self.assertEqual(with_secret, [None, None, b"pepper", b"pepper"])
 
     def test_those_of_argon2_cffi_are_its_parallelism(self):
         hasher = argon2_cffi.PasswordHasher(1, 64, 4)
         with Calls() as calls:
             hasher.verify(hasher.hash("x"), "x")
-        made = {name: words[-1] for name, *words in calls.made}
-        self.assertEqual(made["rigzumal_argon2_threads"], 4)
-        self.assertEqual(made["rigzumal_check_threads"], 255)  # as many as there are lanes
+        made = {name: words[-1].threads for name, *words in calls.made}
+        self.assertEqual(made["rigzumal_argon2_from"], 4)
+        self.assertEqual(made["rigzumal_check_from"], 255)  # as many as there are lanes
 
     def test_one_hasher_serves_many(self):
         """At once: the calls don't hold the interpreter's lock, as those of a PyDLL do."""
@@ -237,8 +240,8 @@ class Salts(unittest.TestCase):
             with Calls() as calls:
                 made = {hasher.hash("x") for _ in range(2)}
             self.assertEqual(len(made), 2)
-            for _, text, room, tag_size, costs, *salt in calls.made:
-                self.assertEqual(salt[:2], [None, size])
+            for *_, inputs in calls.made:
+                self.assertEqual((inputs.salt, inputs.salt_size), (None, size))
 
     @each(8, 16, 48, 64)
     def test_those_of_argon2_cffi_are_drawn(self, size):
