@@ -26,7 +26,7 @@ from django.utils.module_loading import import_string
 from rigzumal.django import forms, hashers, users
 from rigzumal.django.backends import CompareAndSetBackend
 
-Messages = list[checks.CheckMessage]
+Messages = Iterator[checks.CheckMessage]
 
 WIDTH = 128
 """Letters that a record of Django's may have."""
@@ -67,29 +67,26 @@ def _password_field() -> Optional[Any]:
         return None
 
 
-def _classes(setting: str, number: str) -> tuple[list[tuple[str, type]], Messages]:
+def _classes(setting: str, number: str) -> tuple[list[tuple[str, type]], list[Any]]:
     """The classes in a setting's list, with their paths, and the list's faults."""
     listed = getattr(settings, setting)
     if isinstance(listed, str):
         text = f"{setting} is a text instead of a list."
         return [], [_message(number, text, f"Put {listed!r} into a list.")]
     found: list[tuple[str, type]] = []
-    amiss: Messages = []
+    faults = [] if listed else [(f"{setting} is empty.", "Nobody can log in.")]
     for path in listed:
         try:
             named = import_string(path)
         except (ImportError, ValueError, AttributeError) as fault:
-            text = f"{setting} has {path!r}, which can't be imported."
-            amiss.append(_message(number, text, str(fault)))
-            continue
-        if isinstance(named, type):
-            found.append((path, named))
+            said = "can't be imported", str(fault)
         else:
-            text = f"{setting} has {path!r}, which is no class."
-            amiss.append(_message(number, text, "Name a class by its whole path."))
-    if not listed:
-        amiss.append(_message(number, f"{setting} is empty.", "Nobody can log in."))
-    return found, amiss
+            said = "is no class", "Name a class by its whole path."
+            if isinstance(named, type):
+                found.append((path, named))
+                continue
+        faults.append((f"{setting} has {path!r}, which {said[0]}.", said[1]))
+    return found, [_message(number, *it) for it in faults]
 
 
 def _misspelt(setting: str) -> str:
@@ -105,7 +102,8 @@ def backends(**_: Any) -> Messages:
 
     A model that compares does so under any backend which calls its check_password.
     """
-    listed, amiss = _classes("AUTHENTICATION_BACKENDS", "E012")
+    listed, faults = _classes("AUTHENTICATION_BACKENDS", "E012")
+    yield from faults
     found = [it for _, it in listed]
     is_used = any(issubclass(it, CompareAndSetBackend) for it in found)
     hint = "Put 'rigzumal.django.backends.CompareAndSetBackend' for ModelBackend."
@@ -116,28 +114,26 @@ def backends(**_: Any) -> Messages:
                 "The only ModelBackend is Django's own: a login that loses to changes is"
                 " an error page, and an inactive user's right password is rehashed."
             )
-            amiss.append(_message("W014", text, hint))
-        return amiss
+            yield _message("W014", text, hint)
+        return
     if not is_used:
         text = "No backend is a CompareAndSetBackend: a login may undo a change."
-        amiss.append(_message("W001", text, hint))
+        yield _message("W001", text, hint)
     judging_none = (CompareAndSetBackend, RemoteUserBackend)
     for backend in found:
         if issubclass(backend, ModelBackend) and not issubclass(backend, judging_none):
             text = f"{_path(backend)} upgrades records at login without a comparison."
             hint = "Remove it, or derive it from CompareAndSetBackend."
-            amiss.append(_message("W002", text, hint))
-    return amiss
+            yield _message("W002", text, hint)
 
 
 def column(**_: Any) -> Messages:
     """E003: the column is too short for a record."""
     field = _password_field()
     width: Optional[int] = field.max_length if field else None
-    if width is None or width >= WIDTH:
-        return []
-    text = f"The password column has {width} letters, and a record up to {WIDTH}."
-    return [_message("E003", text, f"Give it max_length={WIDTH}.")]
+    if width is not None and width < WIDTH:
+        text = f"The password column has {width} letters, and a record up to {WIDTH}."
+        yield _message("E003", text, f"Give it max_length={WIDTH}.")
 
 
 def hashers_listed(**_: Any) -> Messages:
@@ -147,36 +143,30 @@ def hashers_listed(**_: Any) -> Messages:
 
     Of two hashers of one algorithm Django asks the later.
     """
-    listed, amiss = _classes("PASSWORD_HASHERS", "E015")
+    listed, faults = _classes("PASSWORD_HASHERS", "E015")
+    yield from faults
     if listed and not issubclass(listed[0][1], OURS):
-        text = (
-            "The first of PASSWORD_HASHERS, which makes new records, isn't Rigzumal's."
-        )
+        maker = "The first of PASSWORD_HASHERS, which makes new records,"
         hint = "Put 'rigzumal.django.hashers.Argon2PasswordHasher' before the others."
-        amiss.append(_message("W004", text, hint + _misspelt("PASSWORD_HASHERS")))
+        hint += _misspelt("PASSWORD_HASHERS")
+        yield _message("W004", f"{maker} isn't Rigzumal's.", hint)
     judges = {getattr(it, "algorithm", None): it for _, it in listed}
     for path, ours in listed:
         judge = judges[getattr(ours, "algorithm", None)]
         if issubclass(ours, OURS) and not issubclass(judge, OURS):
             text = f"{_path(judge)} comes after {path}, so Django asks it instead."
             hint = f"Remove {_path(judge)}: Rigzumal's reads its records."
-            amiss.append(_message("E013", text, hint))
-    return amiss
+            yield _message("E013", text, hint)
 
 
 def isolation(**_: Any) -> Messages:
     """W005: a transaction would read the record as it was when it began."""
-    text = (
-        "The database {!r} has an isolation level of snapshots: in a transaction an old"
-        " password is right, or the request fails."
-    )
-    return [
-        _message(
-            "W005", text.format(alias), "Leave the level out, or set READ COMMITTED."
-        )
-        for alias, database in settings.DATABASES.items()
-        if _has_snapshots(database)
-    ]
+    hint = "Leave the level out, or set READ COMMITTED."
+    for alias, database in settings.DATABASES.items():
+        if _has_snapshots(database):
+            text = f"The database {alias!r} has an isolation level of snapshots"
+            outcome = "in a transaction an old password is right, or the request fails"
+            yield _message("W005", f"{text}: {outcome}.", hint)
 
 
 def _has_snapshots(database: Any) -> bool:
@@ -200,21 +190,20 @@ def _has_snapshots(database: Any) -> bool:
 def own_methods(**_: Any) -> Messages:
     """E006: a method of the user model's own would be skipped."""
     hint = "Give the model the CompareAndSetMixin, behind the class that has it."
-    text = "{} would be skipped, so logins are refused."
-    return [
-        _message("E006", text.format(name), hint)
-        for name in users.unreached_methods(get_user_model())
-    ]
+    for name in users.unreached_methods(get_user_model()):
+        text = f"{name} would be skipped, so logins are refused."
+        yield _message("E006", text, hint)
 
 
 def user_model(**_: Any) -> Messages:
     """W007: the user model's own methods write without a comparison."""
-    if _compares() or _password_field() is None:
-        return []
-    name = get_user_model()._meta.label
-    text = f"{name}.save and check_password don't compare: they may undo a change."
-    hint = "Set RIGZUMAL_USER_COMPARES = True, or give the model CompareAndSetMixin."
-    return [_message("W007", text, hint + _misspelt("RIGZUMAL_USER_COMPARES"))]
+    if not _compares() and _password_field() is not None:
+        name = get_user_model()._meta.label
+        text = f"{name}.save and check_password don't compare: they may undo a change."
+        hint = (
+            "Set RIGZUMAL_USER_COMPARES = True, or give the model CompareAndSetMixin."
+        )
+        yield _message("W007", text, hint + _misspelt("RIGZUMAL_USER_COMPARES"))
 
 
 def _outcome() -> str:
@@ -224,42 +213,35 @@ def _outcome() -> str:
 def admin_sites(**_: Any) -> Messages:
     """W008: an admin's page of users, or of one's own password, is Django's."""
     if not apps.is_installed("django.contrib.admin"):
-        return []
+        return
     from django.contrib.admin.sites import all_sites
 
     from rigzumal.django.admin import UserAdmin
     from rigzumal.django.site import AdminSite
 
-    amiss: Messages = []
     for site in all_sites:
         front = f"The admin {site.name!r} has Django's"
         registered = site._registry.get(get_user_model())
         if registered is not None and not isinstance(registered, UserAdmin):
             hint = "Register the user model with rigzumal.django.admin.UserAdmin."
-            amiss.append(
-                _message("W008", f"{front} admin of users: {_outcome()}.", hint)
-            )
+            yield _message("W008", f"{front} admin of users: {_outcome()}.", hint)
         if site._registry and not isinstance(site, AdminSite):
             hint = (
                 "Install 'rigzumal.django.apps.AdminConfig' for 'django.contrib.admin',"
                 " or derive the site from rigzumal.django.site.AdminSite."
             )
-            amiss.append(
-                _message("W008", f"{front} password_change: {_outcome()}.", hint)
-            )
-    return amiss
+            yield _message("W008", f"{front} password_change: {_outcome()}.", hint)
 
 
 def url_views(**_: Any) -> Messages:
     """W009: a URL leads to Django's own view of a change or of a reset."""
     if not getattr(settings, "ROOT_URLCONF", None):
-        return []
+        return
     hint = "Include 'rigzumal.django.urls', or use the views of rigzumal.django.views."
-    return [
-        _message("W009", f"The URL {route!r} is Django's {view}: {_outcome()}.", hint)
-        for route, view, form in _password_views(get_resolver().url_patterns)
-        if not issubclass(form, (forms.PasswordChangeForm, forms.SetPasswordForm))
-    ]
+    for route, view, form in _password_views(get_resolver().url_patterns):
+        if not issubclass(form, (forms.PasswordChangeForm, forms.SetPasswordForm)):
+            text = f"The URL {route!r} is Django's {view}: {_outcome()}."
+            yield _message("W009", text, hint)
 
 
 def _password_views(patterns: Any, front: str = "") -> Iterator[tuple[str, str, Any]]:
@@ -277,19 +259,19 @@ def _password_views(patterns: Any, front: str = "") -> Iterator[tuple[str, str, 
 
 def command(**_: Any) -> Messages:
     """W010: `manage.py changepassword` is Django's."""
-    if get_commands().get("changepassword") != "django.contrib.auth":
-        return []
-    outcome = "a traceback" if _compares() else "undone"
-    text = f"changepassword is Django's own: a change that came meanwhile is {outcome}."
-    hint = "Put 'rigzumal.django' before 'django.contrib.auth' in INSTALLED_APPS."
-    return [_message("W010", text, hint)]
+    if get_commands().get("changepassword") == "django.contrib.auth":
+        outcome = "a traceback" if _compares() else "undone"
+        text = "changepassword is Django's own: a change that came meanwhile is"
+        hint = "Put 'rigzumal.django' before 'django.contrib.auth' in INSTALLED_APPS."
+        yield _message("W010", f"{text} {outcome}.", hint)
 
 
 def unlisted_hashers(databases: Any = None, **_: Any) -> Messages:
     """W011: the table has records whose hasher isn't listed: their users can't log in."""
-    field, amiss = _password_field(), Messages()
+    field = _password_field()
     if field is None or _classes("PASSWORD_HASHERS", "E015")[1]:
-        return amiss
+        return
+    hint = "List the hashers that you had before, behind Rigzumal's."
     for alias in databases or []:
         if not router.allow_migrate_model(alias, field.model):
             continue
@@ -297,11 +279,9 @@ def unlisted_hashers(databases: Any = None, **_: Any) -> Messages:
         if found is not None:
             text = (
                 f"The database {alias!r} has records of {found}, which PASSWORD_HASHERS"
-                " doesn't list: their users can't log in."
             )
-            hint = "List the hashers that you had before, behind Rigzumal's."
-            amiss.append(_message("W011", text, hint))
-    return amiss
+            text += " doesn't list: their users can't log in."
+            yield _message("W011", text, hint)
 
 
 def _unlisted(holder: Any, alias: str) -> Optional[str]:

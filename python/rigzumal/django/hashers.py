@@ -143,14 +143,8 @@ class Argon2PasswordHasher(_RecordHasher):
     def encode(self, password: Password, salt: str) -> str:
         """A new record of the password, by Argon2id, version 0x13."""
         _check_salt(salt)
-        tag = rigzumal.argon2(
-            password,
-            salt.encode(),
-            time_cost=self.time_cost,
-            memory_cost=self.memory_cost,
-            parallelism=self.parallelism,
-            hash_len=self.hash_len,
-        )
+        numbers = {it: getattr(self, it) for it in (*self._numbers, "hash_len")}
+        tag = rigzumal.argon2(password, salt.encode(), **numbers)
         costs = f"m={self.memory_cost},t={self.time_cost},p={self.parallelism}"
         letters = encoded(salt.encode()), encoded(tag)
         return "$".join((self.algorithm, "argon2id", "v=19", costs, *letters))
@@ -163,21 +157,19 @@ class Argon2PasswordHasher(_RecordHasher):
         return parts
 
     def _made(self, password: Password, parts: dict[str, Any]) -> bytes:
+        numbers = {it: parts[it] for it in self._numbers}
+        numbers["hash_len"] = len(_tag(parts["hash"]))
         is_new = (parts["variety"], parts["version"]) == ("argon2id", 19)
         if is_new and parts["salt"].isascii() and "$" not in parts["salt"]:
             # By `encode`, since a subclass may wrap an old hash there.
             of_record = copy.copy(self)
-            for name in ("memory_cost", "time_cost", "parallelism"):
-                setattr(of_record, name, parts[name])
-            of_record.hash_len = len(_tag(parts["hash"]))
+            for name, number in numbers.items():
+                setattr(of_record, name, number)
             return _tag(of_record.encode(password, parts["salt"]))
         return rigzumal.argon2(
             password,
             parts["salt"].encode("latin1"),
-            time_cost=parts["time_cost"],
-            memory_cost=parts["memory_cost"],
-            parallelism=parts["parallelism"],
-            hash_len=len(_tag(parts["hash"])),
+            **numbers,
             type=rigzumal.Type[parts["variety"].replace("argon2", "").upper()],
             version=parts["version"],
         )

@@ -32,7 +32,7 @@ def check_password(user: Any, password: Any) -> bool:
     """
     if users.has_own_methods(user):
         return bool(user.check_password(password))
-    return records.judge_login(user, password).right
+    return records.judge_login(user, password)
 
 
 @hidden
@@ -40,7 +40,7 @@ def verify_password(user: Any, password: Any) -> bool:
     """Like `check_password`, but never rehashes (unless the model's own method does)."""
     if users.has_own_methods(user):
         return bool(user.check_password(password))
-    return records.judge_alone(user, password).right
+    return records.judge_alone(user, password)
 
 
 @hidden
@@ -65,7 +65,7 @@ def change_judged(
     """
     if users.has_own_methods(user):
         return _change_by_methods(user, old_password, new_password)
-    changed = records.judge_change(user, old_password, new_password, judged).right
+    changed = records.judge_change(user, old_password, new_password, judged)
     if changed:
         password_validation.password_changed(new_password, user)
     return changed

@@ -15,7 +15,6 @@ from __future__ import annotations
 
 import functools
 from collections.abc import Awaitable, Callable, Sequence
-from dataclasses import dataclass, field
 from typing import Any, Optional, TypeVar, cast
 
 from asgiref.sync import sync_to_async
@@ -43,15 +42,6 @@ class RecordChanged(Exception):
 
     def __str__(self) -> str:
         return "the password was changed since the user was read; nothing was done"
-
-
-@dataclass(frozen=True)
-class Judged:
-    """An answer, with the records before it and after it: "" of a user who is gone."""
-
-    right: bool
-    before: str = field(repr=False)
-    after: str = field(repr=False)
 
 
 def database_of(user: Any) -> str:
@@ -157,32 +147,32 @@ class Row:
             note_read(self.user, self.database, record)
 
 
-def _at_what_stands(user: Any, judge: Callable[[str], tuple[bool, str]]) -> Judged:
+def _at_what_stands(user: Any, judge: Callable[[str], tuple[bool, str]]) -> bool:
     """Judges the copy, and writes the record after it; begins again if the row has another."""
     row, copy = Row(user), user.password
     for _ in range(TRIES):
         right, after = judge(copy)
         if after != copy and row.put([copy], after):
-            return Judged(right, copy, after)
+            return right
         stands = row.look()
         if stands is None:
-            return Judged(False, "", "")
+            return False
         if stands == copy == after:
             row.found(copy)
-            return Judged(right, copy, copy)
+            return right
         copy = stands
     raise RecordChanged
 
 
-def judge_alone(user: Any, password: Any) -> Judged:
-    """A check of the password that doesn't rehash."""
+def judge_alone(user: Any, password: Any) -> bool:
+    """Whether the password is right; it doesn't rehash."""
     return _at_what_stands(
         user, lambda copy: (hashers.check_password(password, copy), copy)
     )
 
 
-def judge_login(user: Any, password: Any) -> Judged:
-    """A check of the password, which rehashes a record of old costs."""
+def judge_login(user: Any, password: Any) -> bool:
+    """Whether the password is right; it rehashes a record of old costs."""
 
     def judge(copy: str) -> tuple[bool, str]:
         after = [copy]
@@ -198,8 +188,8 @@ def judge_login(user: Any, password: Any) -> Judged:
 
 def judge_change(
     user: Any, old_password: Any, new_password: Any, judged: Optional[str] = None
-) -> Judged:
-    """A change of the password, if the old one is right, as it is at `judged`."""
+) -> bool:
+    """Changes the password if the old one is right, as it is at `judged`."""
 
     def judge(copy: str) -> tuple[bool, str]:
         right = copy == judged or hashers.check_password(old_password, copy)

@@ -74,7 +74,7 @@ class CompareAndSetMixin(models.Model):
         if self._state.adding or copy is None or self.password != copy.newest:
             # A password was set and isn't saved.
             return bool(hashers.check_password(raw_password, self.password))
-        return records.judge_login(self, raw_password).right
+        return records.judge_login(self, raw_password)
 
     acheck_password = records.awaited(
         lambda self, raw_password: bool(self.check_password(raw_password))

@@ -137,7 +137,7 @@ class Checks(unittest.TestCase):
     def test_a_database_whose_hashers_are_wrong(self):
         """The look at the records says nothing more."""
         with override_settings(PASSWORD_HASHERS=[OUR_ARGON2, "nowhere.Hasher"]):
-            self.assertEqual(checks.unlisted_hashers(databases=["default"]), [])
+            self.assertEqual([*checks.unlisted_hashers(databases=["default"])], [])
 
     @each(*itertools.product(MISSPELT, (True, False)))
     def test_a_misspelt_setting_is_named(self, misspelt, is_there):
