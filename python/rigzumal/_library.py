@@ -99,9 +99,8 @@ def _range_of(text: Secret) -> str:
 def bytes_of(secret: Secret) -> bytes:
     """The bytes of a secret, or of anything else that may be text.
 
-    Raises:
-        TypeError: the secret is neither bytes nor str.
-        ValueError: the text has no form in UTF-8; no exception shows it.
+    A TypeError says that it is neither, a ValueError that the text has no form in UTF-8: no
+    exception shows it.
     """
     if isinstance(secret, bytes):
         return secret
@@ -115,11 +114,7 @@ def bytes_of(secret: Secret) -> bytes:
 
 
 def data_of(data: object, wanted: str = "bytes") -> bytes:
-    """The bytes of a salt or the like, which can't be text.
-
-    Raises:
-        TypeError: the object holds no bytes, as bytes, a bytearray, a memoryview or an array do.
-    """
+    """The bytes of a salt or the like; TypeError of text, and of whatever holds no bytes."""
     if isinstance(data, bytes):
         return data
     try:
@@ -130,11 +125,7 @@ def data_of(data: object, wanted: str = "bytes") -> bytes:
 
 
 def text_bytes(text: Secret) -> bytes:
-    """The bytes of a record or a setting, for a call with a string of C.
-
-    Raises:
-        InvalidRecordError: the text has a zero byte, as no record has.
-    """
+    """The bytes of a record or a setting, as a string of C: no record has a zero byte."""
     found = bytes_of(text)
     if b"\0" in found:
         raise InvalidRecordError(1)
@@ -208,23 +199,18 @@ def _path() -> str:
     return NAME
 
 
-def _opened() -> ctypes.CDLL:
+def _load() -> Any:
     try:
-        return ctypes.CDLL(_path())
+        library = ctypes.CDLL(_path())
     except OSError as refused:
         hint = "build it by `make -C c`, or name it in RIGZUMAL_LIBRARY"
         raise ImportError(f"{NAME} can't be loaded: {hint}: {refused}") from None
-
-
-def _load() -> Any:
-    library = _opened()
     text, size, to = ctypes.c_char_p, ctypes.c_size_t, ctypes.POINTER
     room, inputs = [text, size], to(Inputs)
     library.rigzumal_version.restype = text
-    library.rigzumal_trim.restype = size
-    library.rigzumal_keep.argtypes, library.rigzumal_keep.restype = [size], size
-    library.rigzumal_strerror.restype = text
-    library.rigzumal_word.restype = text
+    library.rigzumal_strerror.restype = library.rigzumal_word.restype = text
+    library.rigzumal_trim.restype = library.rigzumal_keep.restype = size
+    library.rigzumal_keep.argtypes = [size]
     library.rigzumal_explain.argtypes = [*room, text]
     library.rigzumal_record_from.argtypes = [*room, size, text, inputs]
     library.rigzumal_check_from.argtypes = [text, inputs]
@@ -330,12 +316,7 @@ def whole_number(name: str, number: object) -> None:
 
 
 def checked(number: int) -> int:
-    """A number that ctypes doesn't cut off.
-
-    Raises:
-        TypeError: the number is no int.
-        OverflowError: the number isn't 0 to 2^32 - 1.
-    """
+    """A number that ctypes doesn't cut off; TypeError or OverflowError of any other."""
     whole_number("the number", number)
     if not 0 <= number < 2**32:
         raise OverflowError("the number is not 0 to 2^32 - 1")

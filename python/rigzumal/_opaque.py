@@ -7,26 +7,15 @@ _ALLOWED = frozenset(
     "Ll Lu Lo Nd Lm Mn Mc Lt Nl No Me Sm Sc Sk So Pc Pd Ps Pe Pi Pf Po Zs".split()
 )
 
-# Default_Ignorable_Code_Point in these categories, which unicodedata doesn't tell, and
-# conjoining Hangul (sections 9.9 and 9.13).
-_IGNORED = (
-    (0x034F, 0x034F),
-    (0x1100, 0x11FF),
-    (0x17B4, 0x17B5),
-    (0x180B, 0x180F),
-    (0x3164, 0x3164),
-    (0xA960, 0xA97C),
-    (0xD7B0, 0xD7FB),
-    (0xFE00, 0xFE0F),
-    (0xFFA0, 0xFFA0),
-    (0xE0100, 0xE01EF),
+# Default_Ignorable_Code_Point in these categories, which unicodedata doesn't tell; conjoining
+# Hangul (sections 9.9 and 9.13); the exceptions of RFC 5892, section 2.6.
+_REFUSED = (
+    "[\u034f\u17b4\u17b5\u180b-\u180f\u3164\ufe00-\ufe0d\uffa0\U000e0100-\U000e01ef"
+    "\u1100-\u11ff\ua960-\ua97c\ud7b0-\ud7fb"
+    "\u0640\u07fa\u302e\u302f\u3031-\u3035\u303b]"
 )
-
-# Section 2.6 of RFC 5892: never, though their categories are allowed.
-_EXCEPTIONS = frozenset("\u0640\u07fa\u302e\u302f\u3031\u3032\u3033\u3034\u3035\u303b")
-
-# Emoji are typed with these: which shape they have, and which belong together.
-_OF_EMOJI = frozenset("\ufe0e\ufe0f\u200d\u200c")
+# Emoji are typed with these, and with U+FE0E and U+FE0F, which have an allowed category.
+_JOINERS = "\u200c\u200d"
 
 
 def opaque_string(text: str) -> str:
@@ -41,17 +30,14 @@ def opaque_string(text: str) -> str:
             character, one without a meaning in this Python's Unicode, or one that nobody
             sees. The text isn't shown.
     """
+    import re
     import unicodedata
 
     spaced = "".join(" " if unicodedata.category(it) == "Zs" else it for it in text)
     made = unicodedata.normalize("NFC", spaced)
     if not made:
         raise ValueError("the password is empty")
-    for it in made:
-        if it not in _OF_EMOJI and (
-            it in _EXCEPTIONS
-            or unicodedata.category(it) not in _ALLOWED
-            or any(first <= ord(it) <= last for first, last in _IGNORED)
-        ):
-            raise ValueError("the password has a character that can't be typed")
+    others = {unicodedata.category(it) for it in made if it not in _JOINERS} - _ALLOWED
+    if others or re.search(_REFUSED, made):
+        raise ValueError("the password has a character that can't be typed")
     return made
