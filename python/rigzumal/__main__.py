@@ -15,11 +15,10 @@ import argparse
 import os
 import sys
 
-from rigzumal import PasswordHasher, RigzumalError, VerifyMismatchError
-from rigzumal import _library
+from rigzumal import RigzumalError, _library
 from rigzumal._calibrate import LEAST_SAFE_MEMORY, trials, why_busy
 from rigzumal._parts import none_of_ours
-from rigzumal._commands import Refusal, Status, Words, add_costs, hasher_of, hint
+from rigzumal._commands import Refusal, Status, Words, add_costs, ended, hasher_of, hint
 from rigzumal._commands import is_empty, memory, positive, read_password, say, status_of
 
 _LEAST_TARGET, _MOST_TARGET = 10, 60_000
@@ -47,12 +46,16 @@ def _words() -> argparse.ArgumentParser:
     words.add_argument("--version", action="version", version=_library.version())
     commands = words.add_subparsers(dest="command", required=True)
     make = commands.add_parser("hash", help="writes a new record")
+    make.set_defaults(act=_hash)
     add_costs(make)
     make.add_argument("--empty", action="store_true", help="the password may be empty")
     verify = commands.add_parser("verify", help="writes yes, or no with status 4")
+    verify.set_defaults(act=_verify)
     verify.add_argument("record")
-    calibrate = "writes the costs that fit a time on this machine"
-    add = commands.add_parser("calibrate", help=calibrate).add_argument
+    fit = "writes the costs that fit a time on this machine"
+    calibrate = commands.add_parser("calibrate", help=fit)
+    calibrate.set_defaults(act=_calibrate)
+    add = calibrate.add_argument
     add("--target-ms", type=_target, default=250, help="milliseconds of a hash")
     most = "at most, as 64M; KiB without a unit"
     add("--memory", type=memory, default=65536, help=most)
@@ -66,35 +69,32 @@ def _words() -> argparse.ArgumentParser:
     return words
 
 
-def _hash(given: argparse.Namespace) -> None:
+def _hash(given: argparse.Namespace) -> int:
     """Writes a new record."""
     hasher = hasher_of(given)
     password = read_password(is_new=True)
     if is_empty(password) and not given.empty:
         raise Refusal("the password is empty; --empty allows it")
     print(hasher.hash(password))
-
-
-def _verify(record: str) -> int:
-    """Writes yes, or no with status 4."""
-
-    def is_right(password: bytes) -> bool:
-        return _library.check(record, password) == _library.OK
-
-    password = read_password()
-    try:
-        PasswordHasher().verify(record, password)
-    except VerifyMismatchError:
-        print("no")
-        said = hint(password, is_right)
-        if said:
-            say(said)
-        return Status.NO
-    print("yes")
     return Status.DONE
 
 
-def _calibrate(given: argparse.Namespace) -> None:
+def _verify(given: argparse.Namespace) -> int:
+    """Writes yes, or no with status 4."""
+    record, password = given.record, read_password()
+    fault = _library.check(record, password)
+    if fault != _library.MISMATCH:
+        _library.raise_fault(fault, record)
+        print("yes")
+        return Status.DONE
+    print("no")
+    said = hint(password, lambda it: _library.check(record, it) == _library.OK)
+    if said:
+        say(said)
+    return Status.NO
+
+
+def _calibrate(given: argparse.Namespace) -> int:
     """Writes the costs that were tried, with their times, and then the best of them."""
     if given.memory < LEAST_SAFE_MEMORY and not given.below:
         least = f"--memory is below {LEAST_SAFE_MEMORY} KiB; --below allows it"
@@ -109,31 +109,19 @@ def _calibrate(given: argparse.Namespace) -> None:
     if busy:
         say(f"{busy}: an idle machine would allow higher costs")
     print(found.hasher.costs)
+    return Status.DONE
 
 
 def _run(given: argparse.Namespace) -> int:
     """Runs the command, and answers its exit status."""
     try:
-        if given.command == "calibrate":
-            _calibrate(given)
-        elif given.command == "verify":
-            return _verify(given.record)
-        else:
-            _hash(given)
-        return Status.DONE
+        status: int = given.act(given)
+        return status
     except RigzumalError as fault:
         said = none_of_ours(getattr(given, "record", ""))
         said = f"{fault}{said and f' ({said})'}"
         say(f"{fault.number} {fault.word}: {said}")
         return status_of(fault)
-    except Refusal as refusal:
-        say(str(refusal))
-        return refusal.status
-    except KeyboardInterrupt:
-        return 130
-    except OSError as fault:
-        say(fault.strerror or str(fault))
-        return Status.STREAM
 
 
 def main() -> int:
@@ -143,7 +131,8 @@ def main() -> int:
 
         status = cli.main(sys.argv[2:])
     else:
-        status = _run(_words().parse_args())
+        given = _words().parse_args()
+        status = ended(lambda: _run(given))
     try:
         sys.stdout.flush()
     except OSError as fault:

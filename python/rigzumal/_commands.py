@@ -71,6 +71,22 @@ def status_of(fault: Exception) -> Status:
     return Status.STREAM if isinstance(fault, NoRandomError) else Status.WORDS
 
 
+def ended(command: Callable[[], int]) -> int:
+    """The status of a command that may be refused, interrupted or left without its streams."""
+    try:
+        return command()
+    except Refusal as refusal:
+        say(str(refusal))
+        return refusal.status
+    except KeyboardInterrupt:
+        return 130
+    except OSError as fault:
+        if not isinstance(fault, BrokenPipeError):
+            name = f"{fault.filename}: " if fault.filename else ""
+            say(f"{name}{fault.strerror or fault}")
+        return Status.STREAM
+
+
 def positive(text: str) -> int:
     """A number of 1 or more."""
     if not (text.isascii() and text.isdigit() and int(text) > 0):
@@ -116,8 +132,7 @@ def hasher_of(given: argparse.Namespace) -> Union[PasswordHasher, ScryptHasher]:
 def read_password(prompt: str = "Password", *, is_new: bool = False) -> bytes:
     """All of standard input, or the password that is typed: a new one twice.
 
-    Raises:
-        Refusal: two that were typed differ, none was typed, or nothing can be read.
+    Two that differ, none, and what can't be read are a Refusal.
     """
     if sys.stdin is None:
         raise Refusal("standard input is closed", Status.STREAM)

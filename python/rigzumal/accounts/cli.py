@@ -22,7 +22,7 @@ from typing import Final, Optional
 
 from rigzumal import RigzumalError, opaque_string
 from rigzumal._library import InvalidRecordError
-from rigzumal._commands import Refusal, Status, hint, say, status_of
+from rigzumal._commands import Refusal, Status, ended, hint, say, status_of
 from rigzumal.accounts._accounts import Accounts
 from rigzumal.accounts._import import Import, Rows, line_of, shown, why
 from rigzumal.accounts._report import as_prometheus, costs_of, report
@@ -43,25 +43,14 @@ def main(words: Optional[Sequence[str]] = None) -> int:
     texts = {name: act.__doc__ or "" for name, act in _COMMANDS.items()}
     args = parser(__doc__.partition("\n\n")[2], texts).parse_args(words)
     try:
-        return _COMMANDS[args.command](_Command(args))
-    except BrokenPipeError:
-        return Status.STREAM
-    except Refusal as refusal:
-        say(str(refusal))
-        return refusal.status
+        return ended(lambda: _COMMANDS[args.command](_Command(args)))
     except AccountsError as fault:
         say(str(fault))
     except ImportError as fault:
         say(f"the driver isn't installed: {fault}")
-    except OSError as fault:
-        name = f"{fault.filename}: " if fault.filename else ""
-        say(f"{name}{fault.strerror or fault}")
-        return Status.STREAM
     except (RigzumalError, ValueError, TypeError) as fault:
         say(str(fault))
         return status_of(fault)
-    except KeyboardInterrupt:
-        return 130
     except Exception as fault:
         if type(fault).__module__.partition(".")[0] not in DRIVERS:
             raise
