@@ -13,7 +13,7 @@ import time
 from collections.abc import AsyncGenerator, Awaitable, Callable, Coroutine, Generator
 from collections.abc import Iterable, Mapping
 from concurrent.futures import ThreadPoolExecutor
-from typing import Any, Final, NamedTuple, Optional, TypeVar, Union
+from typing import Any, NamedTuple, Optional, TypeVar, Union
 
 from rigzumal.accounts.types import Reply, StoreFault
 from rigzumal.accounts.pools import lent
@@ -122,7 +122,13 @@ def run(coroutine: Coroutine[Any, Any, T]) -> T:
     raise error
 
 
-_NO_CONNECTION: Final = object()
+async def _ended(job: Awaitable[T], ends: list[Union[T, BaseException]]) -> None:
+    """Notes what a job has answered, or has raised."""
+    try:
+        ends.append(await job)
+    except BaseException as error:
+        ends.append(error)
+        raise
 
 
 def _answer(end: Union[T, BaseException]) -> T:
@@ -156,19 +162,14 @@ class Runtime:
         A pool that rolls back a broken connection raises its own error instead of the
         job's, and "COMMIT had no answer" would be taken for "nothing was done".
         """
-        end: Any = _NO_CONNECTION
+        ends: list[Union[T, BaseException]] = []
         try:
             with lent(pool, "__enter__") as conn:
-                try:
-                    end = await job(self._session(conn, self._options))
-                except BaseException as error:
-                    end = error
-                    raise
+                await _ended(job(self.session(conn)), ends)
         except Exception:
-            if end is _NO_CONNECTION:
+            if not ends:
                 raise
-        answer: T = _answer(end)
-        return answer
+        return _answer(*ends)
 
     async def pause(self, seconds: float) -> None:
         """Waits so long."""
@@ -190,19 +191,14 @@ class AsyncRuntime(Runtime):
     _executors = (ThreadPoolExecutor,)
 
     async def use(self, pool: Any, job: Job[T]) -> T:
-        end: Any = _NO_CONNECTION
+        ends: list[Union[T, BaseException]] = []
         try:
             async with lent(pool, "__aenter__") as conn:
-                try:
-                    end = await job(self._session(conn, self._options))
-                except BaseException as error:
-                    end = error
-                    raise
+                await _ended(job(self.session(conn)), ends)
         except Exception:
-            if end is _NO_CONNECTION:
+            if not ends:
                 raise
-        answer: T = _answer(end)
-        return answer
+        return _answer(*ends)
 
     async def pause(self, seconds: float) -> None:
         await asyncio.sleep(seconds)

@@ -61,11 +61,9 @@ class Table:
         self.dialect.fresh(session.conn)
         try:
             await self.dialect.prepare(session)
-            return _record((await session.execute(self.dialect.select, key)).rows)
+            return await self.one(session, self.dialect.select, key)
         except Exception as error:
             caught = error
-        if self.dialect.lacks_key(caught):
-            return NO_ROW
         self._raise(caught)
 
     async def one(self, session: Session, sql: str, key: Key) -> Copy:

@@ -222,9 +222,7 @@ def shown_early(seen: dict[str, str]) -> tuple[Fault, ...]:
 def of_server(seen: dict[str, str]) -> Iterator[Fault]:
     """The faults of a session of MariaDB."""
     if "STRICT_" not in seen["sql_mode"]:
-        yield warning(
-            "not-strict", "sql_mode isn't strict: long values are cut off"
-        )
+        yield warning("not-strict", "sql_mode isn't strict: long values are cut off")
     level = seen.get("tx_isolation") or seen.get("transaction_isolation", "")
     if level == "READ-UNCOMMITTED":
         yield error("read-uncommitted", UNCOMMITTED)
