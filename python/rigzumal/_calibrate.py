@@ -47,15 +47,9 @@ def trials(
 ) -> Iterator[Measured]:
     """Costs to try, in turn: the last ones are the result.
 
-    By RFC 9106, section 4: all of the memory, and then as many passes as the time allows. If one
-    pass needs too long, the memory is lowered, down to the least.
-
-    Args:
-        target: milliseconds.
-        memory: KiB.
-        lanes: 1 to 255.
-        threads: how many may work the lanes.
-        below: whether the costs may be below OWASP's least ones.
+    By RFC 9106, section 4: all of the memory (KiB), and then as many passes as the target
+    (milliseconds) allows. If one pass needs too long, the memory is lowered, down to the least:
+    OWASP's, or Argon2's if the costs may be below it.
     """
     least = max(LEAST_MEMORY * lanes, 0 if below else LEAST_SAFE_MEMORY)
     found = measured(PasswordHasher(1, memory, lanes, threads=threads))

@@ -20,20 +20,13 @@ _UNITS = {"K": 1, "M": 1024, "G": 1024 * 1024}
 class Status(enum.IntEnum):
     """An exit status."""
 
-    DONE = 0
-    """The command is done, or the answer is yes."""
-    WORDS = 1
-    """A word of the command line was refused."""
-    STREAM = 2
-    """Reading or writing failed, or the system had no random bytes."""
-    MEMORY = 3
-    """There was too little memory."""
-    NO = 4
-    """The answer is no."""
-    DATABASE = 5
-    """The database failed, is missing, or has a fault."""
-    INPUT = 6
-    """The input was refused: a password, or a line of an import."""
+    DONE = 0  # the command is done, or the answer is yes
+    WORDS = 1  # a word of the command line was refused
+    STREAM = 2  # reading or writing failed, or the system had no random bytes
+    MEMORY = 3  # there was too little memory
+    NO = 4  # the answer is no
+    DATABASE = 5  # the database failed, is missing, or has a fault
+    INPUT = 6  # the input was refused: a password, or a line of an import
 
 
 class Refusal(Exception):
@@ -51,9 +44,8 @@ class Words(argparse.ArgumentParser):
         """Ends the program, and hides a word that isn't taken: it may be a password."""
         front, _, words = message.partition("unrecognized arguments: ")
         if words and not front:
-            message = (
-                "a word too many; a password is never an argument: pipe or type it"
-            )
+            said = "a password is never an argument: pipe or type it"
+            message = f"a word too many; {said}"
             first = words.split()[0].partition("=")[0]
             near = difflib.get_close_matches(first, self._option_string_actions, 1, 0.7)
             if near and first.startswith("--"):

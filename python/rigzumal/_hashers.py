@@ -46,10 +46,6 @@ class _Hasher(Frozen):
     threads: int = 1
     _LEAST_SALT: int
 
-    def _check_sizes(self, hash_len: int, salt_len: int) -> None:
-        in_range("hash_len", hash_len, 4, 64, _TAG)
-        in_range("salt_len", salt_len, self._LEAST_SALT, 48, _SALT)
-
     @property
     def costs(self) -> str:
         """The costs, as at the front of a record: "$argon2id$v=19$m=65536,t=3,p=4"."""
@@ -176,12 +172,8 @@ class PasswordHasher(_Hasher):
         threads: int = 1,
         secrets: Optional[Iterable[Bytes]] = None,
     ) -> None:
-        in_range("time_cost", time_cost, 1, _MOST, _PASSES)
-        in_range("parallelism", parallelism, 1, 255, _LANES)
-        in_range("memory_cost", memory_cost, 8 * parallelism, _MOST_MEMORY, _COST)
-        in_range("threads", threads, 1, _MOST, _RANGE)
+        least = 8 * in_range("parallelism", parallelism, 1, 255, _LANES)
         whole_number("type", type)
-        self._check_sizes(hash_len, salt_len)
         one = None if secret is None else _library.data_of(secret)
         several = tuple(_library.data_of(it) for it in secrets or ())
         if several and one not in (None, several[0]):
@@ -191,14 +183,16 @@ class PasswordHasher(_Hasher):
         if b"" in (one, *several[:1]):
             raise ValueError("the secret is empty; without a pepper leave it out")
         self._set(
-            time_cost=time_cost,
-            memory_cost=memory_cost,
+            time_cost=in_range("time_cost", time_cost, 1, _MOST, _PASSES),
+            memory_cost=in_range(
+                "memory_cost", memory_cost, least, _MOST_MEMORY, _COST
+            ),
             parallelism=parallelism,
-            hash_len=hash_len,
-            salt_len=salt_len,
+            hash_len=in_range("hash_len", hash_len, 4, 64, _TAG),
+            salt_len=in_range("salt_len", salt_len, self._LEAST_SALT, 48, _SALT),
             type=Type(type),
             secret=several[0] if several else one,
-            threads=threads,
+            threads=in_range("threads", threads, 1, _MOST, _RANGE),
             secrets=several,
         )
 
@@ -252,19 +246,15 @@ class ScryptHasher(_Hasher):
         salt_len: int = 16,
     ) -> None:
         in_range("block_size", block_size, 1, 255, _BLOCK_SIZE)
-        of_table = (
-            2**24 // block_size
-        ).bit_length() - 1  # 2 GiB are 2^24 of 128 bytes
+        # 2 GiB are 2^24 of 128 bytes.
+        of_table = (2**24 // block_size).bit_length() - 1
         most = min(16 * block_size - 1, of_table)
-        in_range("log2_n", log2_n, 1, most, _SCRYPT_COST)
-        in_range("parallelism", parallelism, 1, 255, _BLOCKS)
-        self._check_sizes(hash_len, salt_len)
         self._set(
-            log2_n=log2_n,
+            log2_n=in_range("log2_n", log2_n, 1, most, _SCRYPT_COST),
             block_size=block_size,
-            parallelism=parallelism,
-            hash_len=hash_len,
-            salt_len=salt_len,
+            parallelism=in_range("parallelism", parallelism, 1, 255, _BLOCKS),
+            hash_len=in_range("hash_len", hash_len, 4, 64, _TAG),
+            salt_len=in_range("salt_len", salt_len, self._LEAST_SALT, 48, _SALT),
         )
 
     @property

@@ -301,12 +301,13 @@ def check_text(text: Secret) -> None:
     raise_fault(_library.rigzumal_record_fault(text_bytes(text)), text)
 
 
-def in_range(name: str, number: int, least: int, most: int, fault: int) -> None:
-    """Raises an InvalidNumbersError of this fault that names the number, if it is out of range."""
+def in_range(name: str, number: int, least: int, most: int, fault: int) -> int:
+    """The number; an InvalidNumbersError of this fault names one that is out of range."""
     whole_number(name, number)
     if not least <= number <= most:
         said = f"{name} must be {least} to {most}, not {number}"
         raise InvalidNumbersError(fault, said)
+    return number
 
 
 def whole_number(name: str, number: object) -> None:

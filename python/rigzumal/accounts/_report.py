@@ -15,14 +15,12 @@ class State(enum.Enum):
     """The effect of a login on a record."""
 
     CURRENT = "current"
-    REHASH = "rehash"
-    """A right password replaces it by a record of the hasher's costs."""
-    FOREIGN = "foreign"
-    """A record of another scheme, which the hook of the service judges."""
-    UNREADABLE = "unreadable"
-    """It is of no known scheme: unless a hook judges it, nobody can log in."""
-    ABSENT = "absent"
-    """The account has no record."""
+    REHASH = "rehash"  # a right password replaces it by one of the hasher's costs
+    FOREIGN = "foreign"  # it is of another scheme, which the hook of the service judges
+    UNREADABLE = (
+        "unreadable"  # of no known scheme: unless a hook judges it, nobody logs in
+    )
+    ABSENT = "absent"  # the account has no record
 
 
 class Group(NamedTuple):
@@ -73,7 +71,5 @@ def as_prometheus(counts: Iterable[tuple[Group, int]]) -> Iterator[str]:
     yield f"# HELP {name} Accounts by the state, the scheme and the costs of their records."
     yield f"# TYPE {name} gauge"
     for group, count in counts:
-        labels = (
-            f'state="{group.state.value}",scheme="{group.scheme}",costs="{group.costs}"'
-        )
-        yield f"{name}{{{labels}}} {count}"
+        labels = f'state="{group.state.value}",scheme="{group.scheme}"'
+        yield f'{name}{{{labels},costs="{group.costs}"}} {count}'

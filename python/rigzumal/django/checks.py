@@ -197,13 +197,12 @@ def own_methods(**_: Any) -> Messages:
 
 def user_model(**_: Any) -> Messages:
     """W007: the user model's own methods write without a comparison."""
-    if not _compares() and _password_field() is not None:
-        name = get_user_model()._meta.label
-        text = f"{name}.save and check_password don't compare: they may undo a change."
-        hint = (
-            "Set RIGZUMAL_USER_COMPARES = True, or give the model CompareAndSetMixin."
-        )
-        yield _message("W007", text, hint + _misspelt("RIGZUMAL_USER_COMPARES"))
+    if _compares() or _password_field() is None:
+        return
+    name = get_user_model()._meta.label
+    text = f"{name}.save and check_password don't compare: they may undo a change."
+    hint = "Set RIGZUMAL_USER_COMPARES = True, or give the model CompareAndSetMixin."
+    yield _message("W007", text, hint + _misspelt("RIGZUMAL_USER_COMPARES"))
 
 
 def _outcome() -> str:
@@ -277,10 +276,8 @@ def unlisted_hashers(databases: Any = None, **_: Any) -> Messages:
             continue
         found = _unlisted(field.model, alias)
         if found is not None:
-            text = (
-                f"The database {alias!r} has records of {found}, which PASSWORD_HASHERS"
-            )
-            text += " doesn't list: their users can't log in."
+            text = f"The database {alias!r} has records of {found}, which"
+            text += " PASSWORD_HASHERS doesn't list: their users can't log in."
             yield _message("W011", text, hint)
 
 
