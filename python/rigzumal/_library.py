@@ -33,13 +33,13 @@ class RigzumalError(Exception):
         word: its name in one word, such as "salt".
     """
 
-    def __init__(self, number: int) -> None:
-        super().__init__(_library.rigzumal_strerror(number).decode())
+    def __init__(self, number: int, said: str = "") -> None:
+        super().__init__(said or _library.rigzumal_strerror(number).decode())
         self.number = number
         self.word: str = _library.rigzumal_word(number).decode()
 
     def __reduce__(self) -> tuple[Any, ...]:
-        return type(self), (self.number,)
+        return type(self), (self.number, str(self))
 
 
 class VerifyMismatchError(RigzumalError):
@@ -50,23 +50,11 @@ class OutOfMemoryError(RigzumalError, MemoryError):
     """Too little memory was free for the costs."""
 
 
-class _Explained(RigzumalError, ValueError):
-    """A refusal that may name the number that is out of its range."""
-
-    def __init__(self, number: int, said: str = "") -> None:
-        super().__init__(number)
-        if said:
-            self.args = (said,)
-
-    def __reduce__(self) -> tuple[Any, ...]:
-        return type(self), (self.number, str(self))
-
-
-class InvalidRecordError(_Explained):
+class InvalidRecordError(RigzumalError, ValueError):
     """The text is no record, or no setting: the first fault from the left."""
 
 
-class InvalidNumbersError(_Explained):
+class InvalidNumbersError(RigzumalError, ValueError):
     """A cost, a kind, a version or a size is outside its range."""
 
 
@@ -294,6 +282,15 @@ def parts(text: Secret) -> RecordNumbers:
     if found.tag_size == 0:
         raise InvalidRecordError(1)
     return found
+
+
+def is_record(text: Secret) -> bool:
+    """Whether a text is a record, and none of another scheme."""
+    try:
+        check_text(text)
+    except InvalidRecordError:
+        return False
+    return True
 
 
 def check_text(text: Secret) -> None:

@@ -47,28 +47,26 @@ class Rows:
 
     def delete(self, key: Key) -> bool:
         """Deletes the account with its row; False if it doesn't exist."""
-        table, name, mark = self.dialect.table, self.dialect.key, self.dialect.mark
-        return self._changed(f"DELETE FROM {table} WHERE {name} = {mark}", key)
+        return self._changed("DELETE FROM {t} WHERE {k} = {m}", key)
 
     def rename(self, key: Key, new: Key) -> bool:
         """Gives the account another name; False if it doesn't exist.
 
-        Raises:
-            Exception: the driver's IntegrityError, if another account has the name.
+        The driver's IntegrityError says that another account has the name.
         """
-        table, name, mark = self.dialect.table, self.dialect.key, self.dialect.mark
-        sql = f"UPDATE {table} SET {name} = {mark} WHERE {name} = {mark}"
-        return self._changed(sql, new, key)
+        return self._changed("UPDATE {t} SET {k} = {m} WHERE {k} = {m}", new, key)
 
-    def _changed(self, sql: str, *values: Key) -> bool:
+    def _changed(self, form: str, *values: Key) -> bool:
         """Whether a statement changed a row, in a transaction that is committed."""
-        if not all(map(self.dialect.can_stand, values)):
+        dialect = self.dialect
+        if not all(map(dialect.can_stand, values)):
             return False
+        sql = form.format(t=dialect.table, k=dialect.key, m=dialect.mark)
         with self.pool() as conn:
             session = Session(conn)
-            run(self.dialect.start(session))
+            run(dialect.start(session))
             affected = run(session.execute(sql, *values)).affected
-            run(self.dialect.commit(session))
+            run(dialect.commit(session))
         return affected > 0
 
 
@@ -91,10 +89,9 @@ class Import:
             records = list(self._records(lines, key_of))
         spaced = [place for place, (key, _) in enumerate(records) if " " in str(key)]
         if spaced:
-            name = shown(records[spaced[0]][0])
-            say(
-                f"line {spaced[0] + 1}: {name!r} has a space; names with a space: {len(spaced)}"
-            )
+            name, count = shown(records[spaced[0]][0]), len(spaced)
+            said = f"{name!r} has a space; names with a space: {count}"
+            say(f"line {spaced[0] + 1}: {said}")
         begun, words = time.monotonic(), list[str]()
         while len(words) < len(records):
             start, batch = len(words), records[len(words) : len(words) + BATCH]

@@ -77,7 +77,9 @@ class Judge:
             return None
         if request.kind in (Kind.ENROL, Kind.RESET) or not request.can_be_right:
             return None
-        return None if _is_ours(copy) else (self.foreign, copy, request.password)
+        return (
+            None if _library.is_record(copy) else (self.foreign, copy, request.password)
+        )
 
     def work(self, ticket: Ticket, right: Optional[bool] = None) -> Worked:
         """The effect of the whole operation at the ticket's copy.
@@ -106,7 +108,7 @@ class Judge:
         try:
             return self._at_record(request, copy)
         except InvalidRecordError:
-            if self.foreign is None or _is_ours(copy):
+            if self.foreign is None or _library.is_record(copy):
                 raise
         # A text of another scheme, which any upgrade replaces.
         if right is None:
@@ -202,15 +204,6 @@ def verdict_of(answer: object) -> Optional[bool]:
         return answer
     kind = type(answer).__name__
     raise TypeError(f"`foreign` answers True, False or None, and not a {kind}")
-
-
-def _is_ours(text: str) -> bool:
-    """Whether a text is a record, and none of another scheme."""
-    try:
-        _library.check_text(text)
-    except InvalidRecordError:
-        return False
-    return True
 
 
 def _wrong(request: Request) -> Reply:

@@ -42,15 +42,14 @@ class Passwords:
     def new(self, password: Secret) -> bytes:
         """The bytes of a password that an account is to get.
 
-        Raises:
-            TypeError: the password is neither bytes nor text.
-            ValueError: it is too short or too long, has no UTF-8, or is refused.
+        A TypeError says that it is neither bytes nor text, a ValueError that it is too short
+        or too long, has no UTF-8, or is refused.
         """
         made = self._prepared(bytes_of_password(password))
         if len(made.decode(errors="replace")) < self.least_length:
             plural = "s" if self.least_length > 1 else ""
-            fault = f"a password has at least {self.least_length} character{plural}"
-            raise ValueError(fault)
+            least = f"{self.least_length} character{plural}"
+            raise ValueError(f"a password has at least {least}")
         return made
 
     def of(self, request: Request) -> Request:

@@ -7,7 +7,7 @@ from collections import Counter
 from collections.abc import Callable, Iterable, Iterator
 from typing import Any, NamedTuple, Optional
 
-from rigzumal._library import InvalidRecordError, check_text
+from rigzumal._library import is_record
 from rigzumal._parts import Parts, parts, scheme_of_another
 
 
@@ -46,11 +46,7 @@ def group_of(record: Optional[str], is_old: Callable[[Parts], bool]) -> Group:
 
 def costs_of(record: str) -> Optional[str]:
     """Costs such as "$argon2id$v=19$m=65536,t=3,p=4"; None of another text."""
-    try:
-        check_text(record)
-    except InvalidRecordError:
-        return None
-    return record.rsplit("$", 2)[0]
+    return record.rsplit("$", 2)[0] if is_record(record) else None
 
 
 def report(

@@ -30,11 +30,8 @@ class UserAdmin(admin.UserAdmin):
 
     def save_model(self, request: Any, obj: Any, form: Any, change: bool) -> None:
         """Saves the user; the password only if the model compares or the form has set it."""
-        if (
-            not change
-            or isinstance(obj, CompareAndSetMixin)
-            or "password" in form.changed_data
-        ):
+        compares = isinstance(obj, CompareAndSetMixin)
+        if not change or compares or "password" in form.changed_data:
             super().save_model(request, obj, form, change)
             return
         names = [it.name for it in obj._meta.concrete_fields if not it.primary_key]

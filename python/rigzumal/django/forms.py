@@ -48,9 +48,8 @@ class _Comparing:
     def save(self: Any, commit: bool = True) -> Any:
         """Writes the new password, unless the record was changed meanwhile."""
         if not commit:
-            raise ValueError(
-                "a record is compared as it is written: commit=False is impossible"
-            )
+            fault = "a record is compared as it is written"
+            raise ValueError(f"{fault}: commit=False is impossible")
         with lost_as_error():
             self._write()
         return self.user

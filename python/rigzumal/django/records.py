@@ -166,9 +166,8 @@ def _at_what_stands(user: Any, judge: Callable[[str], tuple[bool, str]]) -> bool
 
 def judge_alone(user: Any, password: Any) -> bool:
     """Whether the password is right; it doesn't rehash."""
-    return _at_what_stands(
-        user, lambda copy: (hashers.check_password(password, copy), copy)
-    )
+    check = hashers.check_password
+    return _at_what_stands(user, lambda copy: (check(password, copy), copy))
 
 
 def judge_login(user: Any, password: Any) -> bool:

@@ -24,12 +24,12 @@ class AdminSite(sites.AdminSite):
         from rigzumal.django.forms import AdminOwnPasswordChangeForm
         from rigzumal.django.views import PasswordChangeView
 
-        initkwargs: dict[str, Any] = {
-            "form_class": AdminOwnPasswordChangeForm,
-            "success_url": reverse("admin:password_change_done", current_app=self.name),
-            "extra_context": {**self.each_context(request), **(extra_context or {})},
-            "template_name": self.password_change_template
+        view = PasswordChangeView.as_view(
+            form_class=AdminOwnPasswordChangeForm,
+            success_url=reverse("admin:password_change_done", current_app=self.name),
+            extra_context={**self.each_context(request), **(extra_context or {})},
+            template_name=self.password_change_template
             or "registration/password_change_form.html",
-        }
+        )
         request.current_app = self.name
-        return PasswordChangeView.as_view(**initkwargs)(request)
+        return view(request)
