@@ -1,6 +1,6 @@
 """argon2-cffi's profiles."""
 
-from rigzumal.argon2_cffi._encoded import Parameters, Type
+from rigzumal.argon2_cffi.low_level import Parameters, Type
 
 RFC_9106_HIGH_MEMORY = Parameters(Type.ID, 19, 16, 32, 1, 2097152, 4)
 """RFC 9106's first recommendation: 2 GiB."""
