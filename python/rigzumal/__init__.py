@@ -10,17 +10,9 @@ True
 """
 
 from rigzumal._hashers import PasswordHasher, ScryptHasher, Type, argon2, scrypt
-from rigzumal._library import (
-    InvalidNumbersError,
-    InvalidRecordError,
-    NoRandomError,
-    OutOfMemoryError,
-    RigzumalError,
-    VerifyMismatchError,
-    keep,
-    trim,
-    version,
-)
+from rigzumal._library import InvalidNumbersError, InvalidRecordError, NoRandomError
+from rigzumal._library import OutOfMemoryError, RigzumalError, VerifyMismatchError
+from rigzumal._library import keep, trim, version
 from rigzumal._opaque import opaque_string
 from rigzumal._parts import Parts, parts
 

@@ -6,7 +6,7 @@ import enum
 
 from rigzumal import _library
 from rigzumal._frozen import Frozen
-from rigzumal._library import Secret, in_range, whole_number
+from rigzumal._library import Secret, checked, in_range, pair, whole_number
 
 TYPE_CHECKING = False
 if TYPE_CHECKING:
@@ -290,15 +290,13 @@ def argon2(
         TypeError: an input isn't bytes, or a number is no int.
     """
     whole_number("type", type)
-    return _library.raw_argon2(
-        (type, version, memory_cost, time_cost, parallelism),
-        _library.bytes_of(password),
-        _library.data_of(salt),
-        _library.bytes_of(secret),
-        _library.data_of(associated),
-        hash_len,
-        threads,
-    )
+    numbers = (type, version, memory_cost, time_cost, parallelism)
+    costs = _library.Argon2Numbers(*map(checked, numbers))
+    data = (*pair(_library.bytes_of(password)), *pair(_library.data_of(salt)))
+    more = (*pair(_library.bytes_of(secret)), *pair(_library.data_of(associated)))
+    inputs = _library.Inputs(*data, *more, checked(threads))
+    call = _library._library.rigzumal_argon2_from
+    return _library.made_bytes(hash_len, call, costs, inputs)
 
 
 def scrypt(
@@ -311,6 +309,7 @@ def scrypt(
         OutOfMemoryError: too little memory was free.
         TypeError: an input isn't bytes, or a number is no int.
     """
-    return _library.raw_scrypt(
-        (log2_n, r, p), _library.bytes_of(password), _library.data_of(salt), length
-    )
+    costs = _library.ScryptNumbers(*map(checked, (log2_n, r, p)))
+    data = (*pair(_library.bytes_of(password)), *pair(_library.data_of(salt)))
+    call = _library._library.rigzumal_scrypt
+    return _library.made_bytes(length, call, costs, *data)

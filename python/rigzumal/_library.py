@@ -321,30 +321,8 @@ def checked(number: int) -> int:
     return number
 
 
-def raw_argon2(
-    numbers: tuple[int, ...],
-    password: bytes,
-    salt: bytes,
-    secret: bytes,
-    associated: bytes,
-    tag_size: int,
-    threads: int = 1,
-) -> bytes:
-    """rigzumal_argon2_from."""
-    tag = ctypes.create_string_buffer(checked(tag_size))
-    costs = Argon2Numbers(*map(checked, numbers))
-    data = (*pair(password), *pair(salt), *pair(secret), *pair(associated))
-    inputs = Inputs(*data, checked(threads))
-    raise_fault(_library.rigzumal_argon2_from(tag, tag_size, costs, inputs))
-    return tag.raw
-
-
-def raw_scrypt(
-    numbers: tuple[int, ...], password: bytes, salt: bytes, key_size: int
-) -> bytes:
-    """rigzumal_scrypt."""
-    key = ctypes.create_string_buffer(checked(key_size))
-    costs = ScryptNumbers(*map(checked, numbers))
-    given = (key, key_size, costs, *pair(password), *pair(salt))
-    raise_fault(_library.rigzumal_scrypt(*given))
-    return key.raw
+def made_bytes(size: int, call: Any, *given: Any) -> bytes:
+    """So many bytes, which a call writes."""
+    room = ctypes.create_string_buffer(checked(size))
+    raise_fault(call(room, size, *given))
+    return room.raw

@@ -13,8 +13,7 @@ from collections.abc import Callable, Iterable, Iterator, Sequence
 from dataclasses import dataclass
 from typing import Any, Final, NamedTuple, Optional
 
-from rigzumal import _library
-from rigzumal._library import InvalidRecordError
+from rigzumal import InvalidRecordError, _library
 from rigzumal._parts import Parts, none_of_ours, parts, scheme_of_another
 from rigzumal._commands import Refusal, Status, say
 from rigzumal.accounts._accounts import Accounts

@@ -7,9 +7,8 @@ import os
 from collections.abc import Awaitable, Callable, Iterable
 from typing import Final, Optional, Union
 
-from rigzumal import _library
-from rigzumal._hashers import PasswordHasher, ScryptHasher
-from rigzumal._library import InvalidRecordError, Secret, StepInputs, pair, text_bytes
+from rigzumal import InvalidRecordError, PasswordHasher, ScryptHasher, _library
+from rigzumal._library import Secret, StepInputs, pair, text_bytes
 from rigzumal._parts import Parts, encoded, parts
 from rigzumal.accounts.types import Copy, Kind, Reply, Request, Ticket, Worked
 from rigzumal.accounts.types import bytes_of_password

@@ -20,8 +20,7 @@ import re
 from collections.abc import Callable, Iterator, Sequence
 from typing import Final, Optional
 
-from rigzumal import RigzumalError, opaque_string
-from rigzumal._library import InvalidRecordError
+from rigzumal import InvalidRecordError, RigzumalError, opaque_string
 from rigzumal._commands import Refusal, Status, ended, hint, say, status_of
 from rigzumal.accounts._accounts import Accounts
 from rigzumal.accounts._import import Import, Rows, as_prometheus, costs_of, line_of

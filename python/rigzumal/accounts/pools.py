@@ -89,9 +89,7 @@ class PerThread:
         return self
 
     def __enter__(self) -> Any:
-        held: Optional[_Held] = getattr(self._local, "held", None)
-        if held is None or held.pid != os.getpid():
-            held = self._mine() or self._made()
+        held = self._mine() or self._made()
         if held.is_lent:
             fault = "this thread's connection is in use"
             raise TypeError(f"{fault}: within `also`, use its argument")

@@ -8,6 +8,7 @@ from enum import Enum
 from hmac import compare_digest
 from typing import Final, Literal, NamedTuple, Optional, Union
 
+import rigzumal
 from rigzumal import _library
 from rigzumal._library import RigzumalError
 from rigzumal._parts import decoded, encoded
@@ -144,7 +145,7 @@ class Encoded(NamedTuple):
             data = decoded(salt), decoded(tag)
         except ValueError:
             return None
-        sizes = map(len, data)
+        sizes = len(data[0]), len(data[1])
         it = Parameters(Type[kind.upper()], version, *sizes, time, memory, lanes)
         return cls(it, *data)
 
@@ -183,23 +184,21 @@ def error_to_str(error: int) -> str:
 
 def _first_fault(it: Parameters) -> Optional[int]:
     """The first of these that is too small, in libargon2's order."""
-    for is_fault, number in (
+    faults = (
         (it.hash_len < 4, -2),
         (it.salt_len < 8, -6),
         (it.memory_cost < max(8, 8 * it.parallelism), -14),
         (it.time_cost < 1, -12),
         (it.parallelism < 1, -16),
-    ):
-        if is_fault:
-            return number
-    return None
+    )
+    return next((number for is_fault, number in faults if is_fault), None)
 
 
 def _tag(it: Parameters, secret: bytes, salt: bytes) -> bytes:
-    """The tag of these parameters."""
-    costs = (it.type.value, it.version, it.memory_cost, it.time_cost, it.parallelism)
-    inputs = (secret, salt, b"", b"")
-    return _library.raw_argon2(costs, *inputs, it.hash_len, it.parallelism)
+    """The tag of these parameters, with a thread for each lane."""
+    numbers = {**vars(it), "type": rigzumal.Type(it.type.value)}
+    del numbers["salt_len"]
+    return rigzumal.argon2(secret, salt, threads=it.parallelism, **numbers)
 
 
 def hash_secret_raw(

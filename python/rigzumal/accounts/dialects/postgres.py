@@ -171,9 +171,8 @@ class Postgres(Dialect):
         faults += self._type_faults(columns[self.key_name][0], kind)
         triggers = await session.execute(_TRIGGERS, t)
         faults += self.after_triggers(triggers.rows)
-        ((is_table, secured, is_logged, has_heirs),) = (
-            await session.execute(_TABLE, t)
-        ).rows
+        kinds = await session.execute(_TABLE, t)
+        ((is_table, secured, is_logged, has_heirs),) = kinds.rows
         if has_heirs:
             text = f"no index of {self.table_name} holds the keys of its child tables"
             faults.append(error("key-not-unique", text))
