@@ -1,17 +1,19 @@
-"""The effect of a whole operation at the copy of a record, without a database."""
+"""The effect of a whole operation at the copy of a record, and the passwords that it gets."""
 
 from __future__ import annotations
 
+import copy as copying
 import ctypes
 import os
 from collections.abc import Awaitable, Callable, Iterable
-from typing import Final, Optional, Union
+from dataclasses import dataclass
+from typing import Any, Final, Optional, Union
 
 from rigzumal import InvalidRecordError, PasswordHasher, ScryptHasher, _library
-from rigzumal._library import Secret, StepInputs, pair, text_bytes
+from rigzumal._library import Secret, StepInputs, pair, text_bytes, whole_number
 from rigzumal._parts import Parts, encoded, parts
-from rigzumal.accounts.types import Copy, Kind, Reply, Request, Ticket, Worked
-from rigzumal.accounts.types import bytes_of_password
+from rigzumal.accounts.types import LONGEST_PASSWORD, Copy, Kind, Reply, Request
+from rigzumal.accounts.types import Ticket, Worked, bytes_of_password
 
 Hasher = Union[PasswordHasher, ScryptHasher]
 
@@ -23,11 +25,84 @@ login: a hash of ours then makes the answer need as long. Any other answer is a 
 AsyncAccounts awaits a coroutine function, and calls a function in its executor.
 """
 
+Prepare = Callable[[str], str]
+"""The form of a password that is hashed, such as `rigzumal.opaque_string`.
+
+Its ValueError says that no account has such a password.
+"""
+
 _TAG_SIZE: Final = 32
 _KNOWN: Final = 64  # costs of which a judge knows whether they are upgraded
 # Their numbers in the library for C are their places.
 _OPERATIONS: Final = {kind: number for number, kind in enumerate(Kind, 1)}
 _REPLIES: Final = dict(enumerate(Reply, 1))
+# The password of a request that its account is to get.
+_NEW: Final = {
+    Kind.ENROL: "password",
+    Kind.CHANGE: "new_password",
+    Kind.RESET: "new_password",
+}
+
+
+@dataclass(frozen=True)
+class Passwords:
+    """The rules for passwords, of Accounts."""
+
+    least_length: int = 1
+    prepare: Optional[Prepare] = None
+
+    def __post_init__(self) -> None:
+        whole_number("least_length", self.least_length)
+        if not 0 <= self.least_length <= LONGEST_PASSWORD:
+            raise ValueError(f"least_length is 0 to {LONGEST_PASSWORD}")
+        if self.prepare is not None and not callable(self.prepare):
+            kind = type(self.prepare).__name__
+            raise TypeError(f"`prepare` must be a function, not a {kind}")
+
+    def new(self, password: Secret) -> bytes:
+        """The bytes of a password that an account is to get.
+
+        A TypeError says that it is neither bytes nor text, a ValueError that it is too short
+        or too long, has no UTF-8, or is refused.
+        """
+        made = self._prepared(bytes_of_password(password))
+        if len(made.decode(errors="replace")) < self.least_length:
+            plural = "s" if self.least_length > 1 else ""
+            least = f"{self.least_length} character{plural}"
+            raise ValueError(f"a password has at least {least}")
+        return made
+
+    def of(self, request: Request) -> Request:
+        """The request with its passwords as they are hashed; raises as `new` does."""
+        new = _NEW.get(request.kind)
+        if new is None and self.prepare is None:
+            return request
+        changed: dict[str, Any] = {}
+        if new is not None:
+            changed[new] = self.new(getattr(request, new))
+        is_present = request.kind not in (Kind.ENROL, Kind.RESET)
+        if self.prepare is not None and is_present and request.can_be_right:
+            try:
+                changed["password"] = self._prepared(request.password)
+            except ValueError:  # anybody may try a password, and gets an answer
+                changed.update(password=b"", can_be_right=False)
+        made = copying.copy(request)
+        vars(made).update(changed)
+        return made
+
+    def _prepared(self, password: bytes) -> bytes:
+        """The bytes that are hashed; bytes that are no text stay as they are."""
+        if self.prepare is None:
+            return password
+        try:
+            text = password.decode()
+        except UnicodeDecodeError:
+            return password
+        made = self.prepare(text)
+        if not isinstance(made, str):
+            kind = type(made).__name__
+            raise TypeError(f"`prepare` answers a text, and not a {kind}")
+        return bytes_of_password(made)
 
 
 class Judge:

@@ -16,8 +16,8 @@ from typing import Any, ClassVar, Final, Generic, Optional, TypeVar
 
 from rigzumal._library import OutOfMemoryError, Secret, whole_number
 from rigzumal.accounts._connections import LOGGER, Connections, Waits
-from rigzumal.accounts._judgement import Foreign, Hasher, Judge, verdict_of
-from rigzumal.accounts._passwords import Passwords, Prepare
+from rigzumal.accounts._judgement import Foreign, Hasher, Judge, Passwords, Prepare
+from rigzumal.accounts._judgement import verdict_of
 from rigzumal.accounts._session import Hook, Job, Runtime
 from rigzumal.accounts._table import Broken, Table, Undone, judged, unused_key
 from rigzumal.accounts.types import NO_ROW, Answer, Copy, Key, Kind, OutcomeUnknown

@@ -133,12 +133,10 @@ class Table:
             is_sent = True
             await dialect.commit(session)
             return answer
-        except HookFailed as failed:
-            theirs: Optional[Exception] = failed.error
         except Exception as error:
-            theirs, caught = None, error
-        if theirs is not None:
-            return await self._hook_failed(session, theirs)
+            caught = error
+        if isinstance(caught, HookFailed):
+            return await self._hook_failed(session, caught.error)
         if is_sent and self._may_stand(caught):
             wrote = answer.reply.makes_change or also is not None
             raise (Broken if wrote else Lost)() from caught

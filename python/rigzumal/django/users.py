@@ -57,8 +57,7 @@ class CompareAndSetMixin(models.Model):
         **kwargs: Any,
     ) -> None:
         """Reads the fields again, as Model's."""
-        read_from = super().refresh_from_db
-        read_from(using=using, fields=fields, **kwargs)
+        super().refresh_from_db(using=using, fields=fields, **kwargs)
         if fields is None or "password" in fields:
             self._note_read()
             self._password = None  # it wasn't saved: no validator hears of it
