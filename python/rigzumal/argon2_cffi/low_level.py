@@ -6,7 +6,7 @@ import re
 from dataclasses import dataclass, replace
 from enum import Enum
 from hmac import compare_digest
-from typing import Final, Literal, NamedTuple, Optional, Union
+from typing import Any, Final, Literal, NamedTuple, Optional, Union
 
 import rigzumal
 from rigzumal import _library
@@ -196,7 +196,7 @@ def _first_fault(it: Parameters) -> Optional[int]:
 
 def _tag(it: Parameters, secret: bytes, salt: bytes) -> bytes:
     """The tag of these parameters, with a thread for each lane."""
-    numbers = {**vars(it), "type": rigzumal.Type(it.type.value)}
+    numbers: dict[str, Any] = {**vars(it), "type": rigzumal.Type(it.type.value)}
     del numbers["salt_len"]
     return rigzumal.argon2(secret, salt, threads=it.parallelism, **numbers)
 
