@@ -15,7 +15,7 @@ from __future__ import annotations
 
 import functools
 from collections.abc import Awaitable, Callable, Sequence
-from typing import Any, Optional, TypeVar, cast
+from typing import Any, Optional, TypeVar
 
 from asgiref.sync import sync_to_async
 from django.contrib.auth import hashers
@@ -29,9 +29,8 @@ TRIES = 8
 """The tries of an operation, if the row's record changes meanwhile."""
 
 
-def hidden(function: Function) -> Function:
-    """Django's `sensitive_variables`: no report of an error shows a variable of the function."""
-    return cast(Function, sensitive_variables()(function))
+hidden: Callable[[Function], Function] = sensitive_variables()
+"""Django's own decorator: no report of an error shows a variable of the function."""
 
 
 class RecordChanged(Exception):
