@@ -13,12 +13,11 @@ processors, and none below 4 MiB. The exceptions are those of `rigzumal` too.
 
 from __future__ import annotations
 
+import operator
 import secrets
-from operator import attrgetter
-from typing import Any, Final, Literal, Optional, Union
+import typing
 
 from rigzumal.argon2_cffi import exceptions, low_level, profiles
-from rigzumal.argon2_cffi.exceptions import InvalidHashError
 from rigzumal.argon2_cffi.low_level import Parameters, Type, extract_parameters
 
 __all__ = [
@@ -36,17 +35,23 @@ __all__ = [
     "profiles",
 ]
 
+_Text = typing.Union[str, bytes]
+
 _DEFAULT = profiles.RFC_9106_LOW_MEMORY
-DEFAULT_RANDOM_SALT_LENGTH: Final = _DEFAULT.salt_len
-DEFAULT_HASH_LENGTH: Final = _DEFAULT.hash_len
-DEFAULT_TIME_COST: Final = _DEFAULT.time_cost
-DEFAULT_MEMORY_COST: Final = _DEFAULT.memory_cost
-DEFAULT_PARALLELISM: Final = _DEFAULT.parallelism
+DEFAULT_RANDOM_SALT_LENGTH: typing.Final = _DEFAULT.salt_len
+DEFAULT_HASH_LENGTH: typing.Final = _DEFAULT.hash_len
+DEFAULT_TIME_COST: typing.Final = _DEFAULT.time_cost
+DEFAULT_MEMORY_COST: typing.Final = _DEFAULT.memory_cost
+DEFAULT_PARALLELISM: typing.Final = _DEFAULT.parallelism
 
-_TYPES: Final = {b"$argon2d$": Type.D, b"$argon2i$": Type.I, b"$argon2id": Type.ID}
+_TYPES: typing.Final = {
+    b"$argon2d$": Type.D,
+    b"$argon2i$": Type.I,
+    b"$argon2id": Type.ID,
+}
 
 
-def _bytes_of(text: Union[str, bytes], encoding: str) -> bytes:
+def _bytes_of(text: _Text, encoding: str) -> bytes:
     return text if isinstance(text, bytes) else text.encode(encoding)
 
 
@@ -61,9 +66,9 @@ def _check_types(**given: tuple[object, type]) -> None:
         raise TypeError(", ".join(wrong) + ".")
 
 
-def _parameter(name: str) -> Any:
+def _parameter(name: str) -> typing.Any:
     """A property that reads a hasher's parameter."""
-    return property(attrgetter(f"_parameters.{name}"))
+    return property(operator.attrgetter(f"_parameters.{name}"))
 
 
 class PasswordHasher:
@@ -124,7 +129,7 @@ class PasswordHasher:
         costs = params.time_cost, params.memory_cost, params.parallelism
         return cls(*costs, params.hash_len, params.salt_len, type=params.type)
 
-    def hash(self, password: Union[str, bytes], *, salt: Optional[bytes] = None) -> str:
+    def hash(self, password: _Text, *, salt: typing.Optional[bytes] = None) -> str:
         """A new encoded hash; the salt is drawn if it is left out.
 
         Raises:
@@ -135,9 +140,7 @@ class PasswordHasher:
         costs = (self.time_cost, self.memory_cost, self.parallelism, self.hash_len)
         return low_level.hash_secret(secret, salt, *costs, self.type).decode()
 
-    def verify(
-        self, hash: Union[str, bytes], password: Union[str, bytes]
-    ) -> Literal[True]:
+    def verify(self, hash: _Text, password: _Text) -> typing.Literal[True]:
         """True if the password is the hash's.
 
         Raises:
@@ -148,14 +151,14 @@ class PasswordHasher:
         try:
             encoded = _bytes_of(hash, "ascii")
         except UnicodeEncodeError:
-            raise InvalidHashError from None
+            raise exceptions.InvalidHashError from None
         kind = _TYPES.get(encoded[:9])
         if kind is None or b"\0" in encoded:
-            raise InvalidHashError
+            raise exceptions.InvalidHashError
         secret = _bytes_of(password, self.encoding)
         return low_level.verify_secret(encoded, secret, kind)
 
-    def check_needs_rehash(self, hash: Union[str, bytes]) -> bool:
+    def check_needs_rehash(self, hash: _Text) -> bool:
         """Whether the hash was made with other parameters than this hasher's.
 
         Raises:
