@@ -9,14 +9,10 @@ from typing import Final, NamedTuple, Optional
 
 from rigzumal._hashers import PasswordHasher
 
+# KiB: a lane's least of Argon2, and OWASP's least costs with two passes and with one.
 LEAST_MEMORY: Final = 8
-"""KiB a lane, the least of Argon2."""
-
 LEAST_SAFE_MEMORY: Final = 19456
-"""KiB of OWASP's least costs with two passes."""
-
 _OF_ONE_PASS: Final = 47104
-"""KiB of OWASP's least costs with one pass."""
 
 
 class Measured(NamedTuple):

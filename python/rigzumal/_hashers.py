@@ -20,8 +20,7 @@ Bytes: TypeAlias = "Union[bytes, bytearray, memoryview]"
 
 _SCRYPT: Final = 3
 _MOST: Final = 2**32 - 1
-_MOST_MEMORY: Final = 2 * 1024 * 1024
-"""KiB."""
+_MOST_MEMORY: Final = 2 * 1024 * 1024  # KiB
 
 # The numbers of rigzumal.h for what is out of range.
 _RANGE, _SALT, _TAG, _LANES, _COST, _PASSES = 5, 6, 7, 14, 15, 16

@@ -34,8 +34,7 @@ _FORM: Final = re.compile(
     rf"\$m={_NUMBER},t={_NUMBER},p={_NUMBER}\${_BASE64}\${_BASE64}"
 )
 _VERSIONS: Final = (0x10, 0x13)
-_NO_VERSION: Final = 18
-"""What argon2-cffi calls the version of a hash that names none; it is 0x10."""
+_NO_VERSION: Final = 18  # argon2-cffi's of a hash that names none; it is 0x10
 _MOST_LANES: Final = 255
 
 # Faults of a record that the library may not read and argon2-cffi does: by a number, or

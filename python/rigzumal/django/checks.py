@@ -28,8 +28,7 @@ from rigzumal.django.backends import CompareAndSetBackend
 
 Messages = Iterator[checks.CheckMessage]
 
-WIDTH = 128
-"""Letters that a record of Django's may have."""
+WIDTH = 128  # letters that a record of Django's may have
 
 OURS = (hashers.Argon2PasswordHasher, hashers.ScryptPasswordHasher)
 

@@ -27,8 +27,7 @@ Password = Union[str, bytes]
 
 _DJANGOS_SCRYPT = getattr(hashers, "ScryptPasswordHasher", None)
 _SALT_LETTERS = 62  # from so many letters Django makes a salt
-_KEY_SIZE = 64
-"""Bytes of a scrypt key, as Django's own hasher writes it."""
+_KEY_SIZE = 64  # bytes of a scrypt key, as Django's own hasher writes it
 
 _TAG_OF_CFFI = 16
 """Bytes of a tag of argon2-cffi before 21.2. Such a record stays: a server with ours and
