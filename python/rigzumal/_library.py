@@ -258,7 +258,7 @@ def record(
     text = ctypes.create_string_buffer(TEXT_SIZE)
     given = (text, TEXT_SIZE, checked(tag_size), text_bytes(costs))
     drawn = (None, checked(salt)) if isinstance(salt, int) else pair(salt)
-    data = (*pair(bytes_of(password)), *drawn, *pair(secret), *pair(None))
+    data = (*pair(bytes_of(password)), *drawn, *pair(secret), None, 0)
     raise_fault(_library.rigzumal_record_from(*given, Inputs(*data, checked(threads))))
     return text.value.decode()
 
@@ -270,8 +270,10 @@ def check(
     threads: int = 1,
 ) -> int:
     """rigzumal_check_from."""
-    known = (*pair(bytes_of(password)), *pair(None), *pair(secret), *pair(None))
-    inputs = Inputs(*known, checked(threads))
+    known = bytes_of(password)
+    inputs = Inputs(known, len(known), threads=checked(threads))
+    if secret is not None:
+        inputs.secret, inputs.secret_size = secret, len(secret)
     return int(_library.rigzumal_check_from(text_bytes(text), inputs))
 
 

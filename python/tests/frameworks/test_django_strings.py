@@ -13,7 +13,7 @@ from django.contrib.auth import hashers
 from meanwhile import Argon2, cheap
 
 import rigzumal
-from rigzumal.django import checks, records
+from rigzumal.django import checks
 from rigzumal.django import hashers as our_hashers
 from rigzumal.django.hashers import Argon2PasswordHasher, ScryptPasswordHasher
 from tests.helpers import each
@@ -254,7 +254,6 @@ class Strings(unittest.TestCase):
     @each((Argon2(), 43), (Scrypt(), 88))
     def test_nothing_secret_is_shown(self, hasher, size):
         record = hasher.encode("secret", "somesaltsomesalt")
-        self.assertNotIn(record, repr(records.Judged(True, record, record)))
         shown = hasher.safe_summary(record)
         self.assertEqual([*shown][-2:], ["salt", "hash"])
         self.assertEqual(shown["salt"], "somesa**********")
