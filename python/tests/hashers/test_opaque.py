@@ -34,6 +34,10 @@ class Opaque(unittest.TestCase):
         *("\0", "\n", "\r", "\x7f", "\x85", "\u00ad", "\u202e", "\u2028", "\ufeff"),
         *("\ue000", "\ufdd0", "\U0010ffff", "\ud800", "\u0378", "\u115f", "\u3164"),
         *("\u034f", "\u17b4", "\u180e", "\u0640", "\U000e0041", "\U000e0100", "\ufe00"),
+        # The exceptions of RFC 5892, section 2.6, and both ends of what nobody sees or types alone.
+        *("\u07fa", "\u302e", "\u302f", *"\u3031\u3032\u3033\u3034\u3035", "\u303b"),
+        *("\u1100", "\u11ff", "\u17b5", "\u180b", "\u180f", "\ua960", "\ua97c", "\ud7b0"),
+        *("\ud7fb", "\ufe0d", "\uffa0", "\U000e01ef"),
     )
     def test_what_nobody_types(self, odd):
         """And no text is in what is raised."""
@@ -44,6 +48,7 @@ class Opaque(unittest.TestCase):
     @each(
         *("\u2764\ufe0f", "\U0001f469\u200d\U0001f680", "\u0646\u0627\u0645\u0647\u200c"),
         *("\uff21\uff22", "\u0928\u094d\u200d", "\u5bc6\u7801", "\ud55c\uae00", "a\u0301b"),
+        *("\u3030\u3036", "\u1200", "\u2764\ufe0e"),
     )
     def test_what_people_type(self, text):
         self.assertTrue(opaque_string(text))
