@@ -1,5 +1,6 @@
 """Tests of `python3 -m rigzumal`: hash, verify and calibrate, also at a terminal."""
 
+import os
 import pathlib
 import shlex
 import subprocess
@@ -131,11 +132,19 @@ class Shell(unittest.TestCase):
         command = f"{shlex.quote(sys.executable)} -m rigzumal hash <&-"
         done = subprocess.run(["sh", "-c", command], stderr=subprocess.PIPE)
         self.assertEqual((done.returncode, done.stderr.count(b"\n")), (2, 1), done.stderr)
-        words = [sys.executable, "-m", "rigzumal", "hash", "--memory", "8", "--lanes", "1"]
+        making = ["-m", "rigzumal", "hash", "--memory", "8", "--lanes", "1"]
         with open("/dev/full", "wb") as full:
+            words = [sys.executable, *making]
             done = subprocess.run(words, input=b"x", stdout=full, stderr=subprocess.PIPE)
         self.assertEqual(done.stderr, b"rigzumal: No space left on device\n")
         self.assertEqual(done.returncode, 2)
+        for words in (making, ["-u", *making]):  # a reader has gone, as of a pipe to `head`
+            reading, writing = os.pipe()
+            os.close(reading)
+            with self.subTest(words=words), open(writing, "wb") as gone:
+                given = {"input": b"x", "stdout": gone, "stderr": subprocess.PIPE}
+                done = subprocess.run([sys.executable, *words], **given)
+                self.assertEqual((done.returncode, done.stderr), (2, b""))
 
     @each(
         ("hash hunter2", "a password is never an argument"),
