@@ -8,7 +8,7 @@ use Rattle.cred_phc.specs.Values.{RecordValue}
 use Rattle.cred_book.specs.Accounts.{Accounts}
 use Rattle.cred_cli.specs.{History.Refused, Script.lines_of, Texts.line_of}
 use Rattle.cred_cli.proofs.Unended.{length-unended}
-use Rattle.cred_many.specs.{Asks.Entry, Asks.entry, Asks.refused, Served.AreFor, Served.HasCause, Served.IsFor, Served.IsGivenUp, Served.IsWritten, Served.NeedsMemory, Served.Stands, Served.StandsAtEnd, Served.answers, Served.book_after, Served.done, Served.entry_numbers, Served.line_at, Served.most_together, Served.record_at}
+use Rattle.cred_many.specs.{Asks.Entry, Asks.entry, Asks.refused, Served.AreFor, Served.HasCause, Served.IsFor, Served.IsGivenUp, Served.IsWritten, Served.Moment, Served.NeedsMemory, Served.Stands, Served.StandsAtEnd, Served.answers, Served.book_after, Served.done, Served.entry_numbers, Served.line_at, Served.most_together, Served.record_at}
 use Rattle.cred_many.specs.{declared.ask.Ask.Ask, declared.fault.ServiceFault.ServiceFault, declared.open.Open.Open, Scribe.AreClosed, Scribe.History, Scribe.IsBusy, Scribe.IsConcluded, Scribe.IsReady, Scribe.Notes, Scribe.SightHolds, Scribe.numbers, Scribe.unseen}
 use Rattle.cred_many.specs.Service.{IsLine, Service, asked, asked_from, cut_line}
 use Rattle.cred_many.proofs.Seen.{answers-append, book_after-append, looked_numbers, watched_looked, watched_on, watched_rest, worn}
@@ -26,41 +26,41 @@ written text old now failed why told = elim told [
   | inr w ↦ (w.1.0, w.1.2, λ other. absurd (other w.0))
 ]
 
-module _ (capacity : ℕ) (opening : Accounts) (before now : Option (List ℕ)) (list : List Entry) (was : IsWritten capacity opening before now list None) where
-  all_bytes : was.bytes ≡ length (answers capacity opening list)
+module _ (capacity : ℕ) (s : Service) (now : Option (List ℕ)) (list : List Entry) (was : IsWritten capacity s now list None) where
+  all_bytes : was.bytes ≡ length (answers capacity s.opening list)
   all_bytes = was.whole (λ is. absurd cc)
 
   -- so it is whatever is told
-  written_still : (why : Option ServiceFault) → IsWritten capacity opening before now list why
+  written_still : (why : Option ServiceFault) → IsWritten capacity s now list why
   written_still why = record { bytes = was.bytes; front = was.front; whole = λ _. all_bytes; most = was.most }
 
   -- and with a few lines more, in which the writer may have failed
   written_on : (es : List Entry) → length es ≤ most_together → (next : Option (List ℕ)) (failed : Bool) (why : Option ServiceFault)
-      → IsConcluded (answers capacity (book_after capacity opening list) es) now next failed why → IsWritten capacity opening before next (list ++ es) why
+      → IsConcluded (answers capacity (book_after capacity s.opening list) es) now next failed why → IsWritten capacity s next (list ++ es) why
   written_on es few next failed why told =
-      let first = answers capacity opening list in
-      let rest = answers capacity (book_after capacity opening list) es in
-      let cut = answers-append capacity opening list es in
+      let first = answers capacity s.opening list in
+      let rest = answers capacity (book_after capacity s.opening list) es in
+      let cut = answers-append capacity s.opening list es in
       let (n, text, whole) = written rest now next failed why told in
       let kept = length (list ++ es) - most_together in
       let within : kept ≤ length list = let long = length-append list es in omega (arith, long, few) in
-      let split = ap (answers capacity opening) (sym (take-append-drop kept list)) ∙ answers-append capacity opening (take kept list) (drop kept list) in
-      let fewer = ap length split ∙ length-append (answers capacity opening (take kept list)) _ in
-      let same = ap (λ l. length (answers capacity opening l)) (take-append-le kept list es within) in
-      let all : Appends before now first = subst (Appends before now) (ap (λ n. take n first) all_bytes ∙ take_all (length first) first (omega arith)) was.front in
+      let split = ap (answers capacity s.opening) (sym (take-append-drop kept list)) ∙ answers-append capacity s.opening (take kept list) (drop kept list) in
+      let fewer = ap length split ∙ length-append (answers capacity s.opening (take kept list)) _ in
+      let same = ap (λ l. length (answers capacity s.opening l)) (take-append-le kept list es within) in
+      let all : Appends s.before now first = subst (Appends s.before now) (ap (λ n. take n first) all_bytes ∙ take_all (length first) first (omega arith)) was.front in
       record {
         bytes = length first + n;
-        front = subst (λ xs. Appends before next (take (length first + n) xs)) (sym cut)
-            (subst (Appends before next) (sym (take-append-add first rest n)) (Appends-trans before now next first (take n rest) all text));
+        front = subst (λ xs. Appends s.before next (take (length first + n) xs)) (sym cut)
+            (subst (Appends s.before next) (sym (take-append-add first rest n)) (Appends-trans s.before now next first (take n rest) all text));
         whole = λ other. let all = whole other in let long = ap length cut ∙ length-append first rest in omega (arith, all, long);
         most = omega (arith, same, fewer);
       }
 
 -- ---- what may stand in the list
 
-module _ (capacity : ℕ) (opening : Accounts) (lines list es : List Entry) (all : AreFor capacity opening lines list)
-    (more : (i : ℕ) (d : Entry) → i < length es → IsFor capacity opening lines (list ++ take i es) (get_or es i d)) where
-  owed_more : AreFor capacity opening lines (list ++ es)
+module _ (capacity : ℕ) (s : Service) (bytes : List ℕ) (list es : List Entry) (all : AreFor capacity s bytes list)
+    (more : (i : ℕ) (d : Entry) → i < length es → IsFor capacity s bytes (list ++ take i es) (get_or es i d)) where
+  owed_more : AreFor capacity s bytes (list ++ es)
   owed_more i d within = elim (cases_lt i (length list)) [
     | inl here ↦ rw (take-append-le i list es (omega (arith, here)), get_or_append_left list es d i here) (all i d here)
     | inr behind ↦
@@ -109,14 +109,14 @@ served_first capacity s now book left none is same = rw none (record {
   text = record { bytes = 0; front = rw same (Appends-nil s.before); whole = λ _. refl; most = omega arith };
 })
   where
-    each : (input : Option (List ℕ)) → IfSome input (λ bytes. AreFor capacity s.opening (asked s bytes) [])
+    each : (input : Option (List ℕ)) → IfSome input (λ bytes. AreFor capacity s bytes [])
     each None = tt
     each (Some bytes) = λ i d within. absurd (omega (arith, within))
 
 module _ (capacity : ℕ) (s : Service) (old now : Option (List ℕ)) (book later : Accounts) (es : List Entry) (left rest : List Open) (came : ℕ) (failed : Bool) (f : Option ServiceFault) where
   -- by a few lines, whether their answers were written whole or the writer failed
   pub served_on : (h : History capacity s old book None left came)
-      → IfSome s.input (λ bytes. (i : ℕ) (d : Entry) → i < length es → IsFor capacity s.opening (asked s bytes) (h.list ++ take i es) (get_or es i d))
+      → IfSome s.input (λ bytes. (i : ℕ) (d : Entry) → i < length es → IsFor capacity s bytes (h.list ++ take i es) (get_or es i d))
       → length es ≤ most_together → AreClosed es left rest → later ≡ book_after capacity book es → IsConcluded (answers capacity book es) old now failed f
       → History capacity s now later f rest came
   served_on h owed few closed later_is told = record {
@@ -125,14 +125,14 @@ module _ (capacity : ℕ) (s : Service) (old now : Option (List ℕ)) (book late
     once = once_closed h.list es left rest _ closed h.once;
     seen = watched_rest capacity s.opening (h.list ++ es) es left rest closed (watched_on capacity s.opening h.list es left h.seen);
     book_is = later_is ∙ ap (λ b. book_after capacity b es) h.book_is ∙ sym (book_after-append capacity s.opening h.list es);
-    text = written_on capacity s.opening s.before old h.list h.text es few now failed f (rw h.book_is at told);
+    text = written_on capacity s old h.list h.text es few now failed f (rw h.book_is at told);
   }
     where
-      each : (input : Option (List ℕ)) → IfSome input (λ bytes. AreFor capacity s.opening (asked s bytes) h.list)
-          → IfSome input (λ bytes. (i : ℕ) (d : Entry) → i < length es → IsFor capacity s.opening (asked s bytes) (h.list ++ take i es) (get_or es i d))
-          → IfSome input (λ bytes. AreFor capacity s.opening (asked s bytes) (h.list ++ es))
+      each : (input : Option (List ℕ)) → IfSome input (λ bytes. AreFor capacity s bytes h.list)
+          → IfSome input (λ bytes. (i : ℕ) (d : Entry) → i < length es → IsFor capacity s bytes (h.list ++ take i es) (get_or es i d))
+          → IfSome input (λ bytes. AreFor capacity s bytes (h.list ++ es))
       each None all more = tt
-      each (Some bytes) all more = owed_more capacity s.opening (asked s bytes) h.list es all more
+      each (Some bytes) all more = owed_more capacity s bytes h.list es all more
 
 -- ---- a step
 
@@ -140,7 +140,7 @@ module _ (capacity : ℕ) (s : Service) (old now : Option (List ℕ)) (book late
     (ready : IsReady was left place line.number) (came_is : IfSome s.input (λ bytes. IsLine s bytes line))
     (closed : rest ≡ remove left place) (told : IsConcluded (line.tag ++ 32 ∷ answer) old now failed f) (served : ∥ History capacity s old book was left came ∥₁) where
   -- the line is answered as what it asks for, or as it is given up
-  answered_as : (ask : Ask) → later ≡ (done capacity book ask).1 → answer ≡ (done capacity book ask).0 → ((h : History capacity s old book None left came) → (ask ≡ line.ask) ⊎ IsGivenUp capacity s.opening h.list line.ask ask)
+  answered_as : (ask : Ask) → later ≡ (done capacity book ask).1 → answer ≡ (done capacity book ask).0 → ((h : History capacity s old book None left came) → (ask ≡ line.ask) ⊎ IsGivenUp capacity s h.list line.ask ask)
       → ∥ History capacity s now later f rest came ∥₁
   unfolding answers book_after
   answered_as ask later_is answer_is owed = ∥∥₁_map served (λ h. on (rw ready.going at h))
@@ -153,7 +153,7 @@ module _ (capacity : ℕ) (s : Service) (old now : Option (List ℕ)) (book late
           (IfSome_then s.input came_is (λ bytes is i d within. one bytes is h i (omega (arith, within)) d)) (omega arith) (place, ready.there, closed) later_is (rw text at told)
         where
           one : (bytes : List ℕ) → IsLine s bytes line → (h : History capacity s old book None left came) → (i : ℕ) → i ≡ 0 → (d : Entry)
-              → IsFor capacity s.opening (asked s bytes) (h.list ++ take i (entry line.number line.tag ask ∷ [])) (get_or (entry line.number line.tag ask ∷ []) i d)
+              → IsFor capacity s bytes (h.list ++ take i (entry line.number line.tag ask ∷ [])) (get_or (entry line.number line.tag ask ∷ []) i d)
           one bytes here h i first d = rw (first, append-nil h.list) (record { line = line; came = here; tag = refl; ask = owed h })
 
   pub answered : later ≡ (done capacity book line.ask).1 → answer ≡ (done capacity book line.ask).0 → ∥ History capacity s now later f rest came ∥₁
@@ -170,12 +170,12 @@ module _ (capacity : ℕ) (s : Service) (old now : Option (List ℕ)) (book late
 module _ (capacity : ℕ) (s : Service) (now : Option (List ℕ)) (book : Accounts) (left : List Open) (came : ℕ) (was : Option ServiceFault) where
   -- the lines stay
   on_same : (h : History capacity s now book was left came) (why : Option ServiceFault) (rest : List Open) (next : ℕ) → IsPermutation (entry_numbers h.list ++ numbers rest) (range_with_len 0 next)
-      → All (SightHolds capacity s.opening h.list) rest → IsWritten capacity s.opening s.before now h.list why → History capacity s now book why rest next
+      → All (SightHolds capacity s.opening h.list) rest → IsWritten capacity s now h.list why → History capacity s now book why rest next
   on_same h why rest next once seen text = record { list = h.list; each = h.each; once = once; seen = seen; book_is = h.book_is; text = text }
 
   -- nothing was done, and perhaps nothing more is answered
   pub still : (f : Option ServiceFault) → was ≡ None → ∥ History capacity s now book was left came ∥₁ → ∥ History capacity s now book f left came ∥₁
-  still f none served = ∥∥₁_map served (λ h. on_same h f left came h.once h.seen (written_still capacity s.opening s.before now h.list (rw none at h.text) f))
+  still f none served = ∥∥₁_map served (λ h. on_same h f left came h.once h.seen (written_still capacity s now h.list (rw none at h.text) f))
 
   -- a line comes
   pub opened : (rest : List Open) (n next : ℕ) → rest ≡ left ++ unseen n ∷ [] → n ≡ came → next ≡ came + 1
@@ -212,17 +212,29 @@ missing_if input came P h other = IfSome_then input h other
 -- ---- the whole
 
 module _ (capacity : ℕ) (s : Service) (now : Option (List ℕ)) (book : Accounts) (left : List Open) (came : ℕ) (source writer keeper : Bool) where
-  pub stands : (why : Option ServiceFault) → History capacity s now book why left came → HasCause s.input source writer keeper (numbers left) came why
-      → Stands capacity s (record { book = book; written = now; source_failed = source; writer_failed = writer; keeper_failed = keeper; fault = why; pending = numbers left; came = came })
+  abbrev told_at : Option ServiceFault → Moment
+  told_at f = record { book = book; written = now; source_failed = source; writer_failed = writer; keeper_failed = keeper; fault = f; pending = numbers left; came = came }
+
+  pub stands : (why : Option ServiceFault) → History capacity s now book why left came → HasCause s.input (told_at why) why → Stands capacity s (told_at why)
   stands why h cause = record { list = h.list; each = h.each; once = h.once; book = h.book_is; text = h.text; cause = cause }
 
+  -- what ends the reading has its cause once it is told
+  is_told : (why : Option ServiceFault) → HasCause s.input (told_at None) why → HasCause s.input (told_at why) why
+  is_told None cause = cause
+  is_told (Some fault.Read) cause = cause
+  is_told (Some fault.Write) cause = cause
+  is_told (Some fault.Keeper) cause = cause
+  is_told (Some fault.TooLong) cause = cause
+  is_told (Some fault.Lost) cause = cause
+  is_told (Some fault.Memory) cause = cause
+  is_told (Some fault.Threads) cause = cause
+
   -- what is told at the end is told already, or it ends the reading
-  pub ended : (told why : Option ServiceFault) → (told ≡ None → numbers left ≡ []) → History capacity s now book told left came → HasCause s.input source writer keeper (numbers left) came told
-      → HasCause s.input source writer keeper [] came why
+  pub ended : (told why : Option ServiceFault) → (told ≡ None → numbers left ≡ []) → History capacity s now book told left came → HasCause s.input (told_at told) told → HasCause s.input (told_at told) why
       → StandsAtEnd capacity s (λ pending. record { book = book; written = now; source_failed = source; writer_failed = writer; keeper_failed = keeper; fault = option_or told why; pending = pending; came = came })
   ended (Some f) why idle h was cause = record { pending = numbers left; stands = stands (Some f) h was; none_pending = λ none. absurd cc }
   ended None why idle h was cause = record {
     pending = numbers left;
-    stands = stands why (on_same capacity s now book left came None h why left came h.once h.seen (written_still capacity s.opening s.before now h.list h.text why)) (rw (idle refl) cause);
+    stands = stands why (on_same capacity s now book left came None h why left came h.once h.seen (written_still capacity s now h.list h.text why)) (is_told why cause);
     none_pending = λ _. idle refl;
   }

@@ -1,13 +1,13 @@
 -- What stands behind it in a scribe: what each open line has seen, lines that are answered, and those
--- whose changes are made together. No public clause speaks of it.
+-- whose changes are made together. Of it public clauses cite `moment` and `numbers` alone.
 use Rattle.std.specs.{Io.KnownBytes.Appends, List.range_with_len, List.remove, List.Sorted.IsPermutation, Option.option_or, Str.bytes_eq}
 use Rattle.std.specs.Prelude.{◌≡◌, ◌⊎◌, ℕ, ◌<◌, ◌≤◌, ◌+◌, List, [], ◌∷◌, ◌++◌, Bool, true, false, All, if◌then◌else◌, IfSome, Option, Some, None, length, map, set, slice_get}
 use Rattle.cred_phc.specs.Values.{RecordValue}
 use Rattle.cred_book.specs.{Accounts.Accounts, Works.Task, declared.reply.Reply.Reply}
-use Rattle.cred_cli.specs.{History.Answer, History.Changed, Outcome.FrontWritten, Steps.reply_answer}
-use Rattle.cred_many.specs.{Asks.Entry, Service.IsLine, Service.Service, Service.asked, declared.ask.Ask.Ask, declared.fault.ServiceFault.ServiceFault}
-use Rattle.cred_many.specs.Served.{AreFor, IsWritten, answers, book_after, change_from, changes, entry_numbers, most_together, name_asked, record_at, tries}
-use Rattle.cred_many.specs.{declared.fault.ServiceFault.TheVariants.Write, declared.open.Open.Open, declared.open.Sight.Sight}
+use Rattle.cred_cli.specs.{History.Answer, History.Changed, Outcome.FrontWritten, Steps.reply_answer, Watched.failed_of, Watched.inner_of}
+use Rattle.cred_many.specs.{Asks.Entry, Service.IsLine, Service.Service, declared.ask.Ask.Ask, declared.fault.ServiceFault.ServiceFault}
+use Rattle.cred_many.specs.Served.{AreFor, IsWritten, Moment, answers, book_after, change_from, changes, entry_numbers, most_together, name_asked, record_at, tries}
+use Rattle.cred_many.specs.{declared.fault.ServiceFault.TheVariants.Write, declared.open.Open.Open, declared.open.Sight.Sight, declared.output.Output.Output}
 use Rattle.std.specs.FinMap as fin
 
 -- ---- what an open line has seen
@@ -102,12 +102,27 @@ pub record IsGroup (capacity : ℕ) (s : Service) (book changed : Accounts) (lis
 
 -- ---- the whole
 
+-- what a scribe has that has these, where functions tell the book and the failure of a keeper, and
+-- the bytes of a writer
+abbrev pub moment : {K W : Type 0} → (K → Accounts) → (K → Bool) → (W → Option (List ℕ)) → K
+    → Output W → ℕ → Bool → Moment
+moment book failed contents keeper output came source_failed = record {
+  book = book keeper;
+  written = contents (inner_of output.writer);
+  source_failed = source_failed;
+  writer_failed = failed_of output.writer;
+  keeper_failed = failed keeper;
+  fault = output.fault;
+  pending = numbers output.pending;
+  came = came;
+}
+
 -- one history, of which each open line saw what it notes
 pub record History (capacity : ℕ) (s : Service) (now : Option (List ℕ)) (book : Accounts)
     (why : Option ServiceFault) (open_lines : List Open) (came : ℕ) : Type 0 where
   pub list : List Entry
-  pub each : IfSome s.input (λ bytes. AreFor capacity s.opening (asked s bytes) list)
+  pub each : IfSome s.input (λ bytes. AreFor capacity s bytes list)
   pub once : IsPermutation (entry_numbers list ++ numbers open_lines) (range_with_len 0 came)
   pub seen : All (SightHolds capacity s.opening list) open_lines
   pub book_is : book ≡ book_after capacity s.opening list
-  pub text : IsWritten capacity s.opening s.before now list why
+  pub text : IsWritten capacity s now list why

@@ -1,6 +1,6 @@
 -- What a service stands for at every moment: one list of lines, each done whole, one after another.
 use Rattle.std.specs.{Io.KnownBytes.Appends, List.range_with_len, List.Sorted.IsPermutation, Option.option_map}
-use Rattle.std.specs.Prelude.{◌≡◌, ◌≢◌, ◌⊎◌, ℕ, ◌<◌, ◌≤◌, ◌+◌, ◌-◌, ◌^◌, List, [], ◌∷◌, ◌++◌, Bool, true, false, if◌then◌else◌, IfSome, nat_lt, Option, Some, None, length, map, take, slice_get, slice_index_or, unwrap_or}
+use Rattle.std.specs.Prelude.{◌≡◌, ◌≢◌, ◌⊎◌, ℕ, ◌<◌, ◌≤◌, ◌+◌, ◌-◌, ◌^◌, List, [], ◌∷◌, ◌++◌, Bool, true, false, if◌then◌else◌, IfSome, is_some, nat_lt, Option, Some, None, length, map, take, slice_get, slice_index_or, unwrap_or}
 use Rattle.cred_phc.specs.Values.{RecordValue}
 use Rattle.cred_book.specs.{Accounts.Accounts, Works.name_of, Works.new_record, Works.same, Works.seq, declared.reply.Reply.Reply}
 use Rattle.cred_cli.specs.{History.Done, History.Refused, History.show_answer, Script.lines_of, Texts.line_of, Texts.reply_line}
@@ -109,13 +109,10 @@ abbrev pub NeedsMemory : ℕ → Accounts → Ask → Type 0
 NeedsMemory capacity book (Quick (Account name)) =
     (fin.contains_key book name ≡ false) × (fin.len book < capacity)
 NeedsMemory capacity book (Quick (Load name stored)) = fin.contains_key book name ≡ true
-NeedsMemory capacity book (Quick (Show name)) =
-    (stored : RecordValue) × (fin.get book name ≡ Some (Some stored))
-NeedsMemory capacity book (Quick (Names from most)) = Unit {0}
+NeedsMemory capacity book (Quick (Show name)) = is_some (record_at book name) ≡ true
 NeedsMemory capacity book (Quick (Change change)) =
     (edit_status (edited book change).0 ≡ status.Done) × (lacks_room capacity book change ≡ false)
-NeedsMemory capacity book (Quick (DisableShown name)) =
-    (stored : RecordValue) × (fin.get book name ≡ Some (Some stored))
+NeedsMemory capacity book (Quick (DisableShown name)) = is_some (record_at book name) ≡ true
 NeedsMemory capacity book (Quick (Bad why)) = ⊥
 NeedsMemory capacity book _ = Unit {0}
 
@@ -125,26 +122,27 @@ tries = 8
 
 -- a line that asks for this is answered so behind these: for want of memory, or since the lines
 -- before changed the record so often
-abbrev pub IsGivenUp : ℕ → Accounts → List Entry → Ask → Ask → Type 0
-IsGivenUp capacity opening before line told =
+abbrev pub IsGivenUp : ℕ → Service → List Entry → Ask → Ask → Type 0
+IsGivenUp capacity s before line told =
     ((told ≡ refused (refusal.Book error.Memory))
-    × NeedsMemory capacity (book_after capacity opening before) line)
-    ⊎ ((told ≡ refused refusal.Busy) × (tries ≤ changes capacity opening (name_asked line) before))
+    × NeedsMemory capacity (book_after capacity s.opening before) line)
+    ⊎ ((told ≡ refused refusal.Busy)
+    × (tries ≤ changes capacity s.opening (name_asked line) before))
 
 -- ---- at every moment
 
 -- it is for one of the lines that were asked: that line, or that line given up
-pub record IsFor (capacity : ℕ) (opening : Accounts) (lines before : List Entry) (e : Entry) : Type 0
-  where
-    pub line : Entry
-    pub came : slice_get lines e.number ≡ Some line
-    pub tag : e.tag ≡ line.tag
-    pub ask : (e.ask ≡ line.ask) ⊎ IsGivenUp capacity opening before line.ask e.ask
+pub record IsFor (capacity : ℕ) (s : Service) (bytes : List ℕ) (before : List Entry) (e : Entry)
+    : Type 0 where
+  pub line : Entry
+  pub came : slice_get (asked s bytes) e.number ≡ Some line
+  pub tag : e.tag ≡ line.tag
+  pub ask : (e.ask ≡ line.ask) ⊎ IsGivenUp capacity s before line.ask e.ask
 
 -- so is each of them, behind those before it
-abbrev pub AreFor : ℕ → Accounts → List Entry → List Entry → Type 0
-AreFor capacity opening lines list = (i : ℕ) (d : Entry) → i < length list
-    → IsFor capacity opening lines (take i list) (slice_index_or list i d)
+abbrev pub AreFor : ℕ → Service → List ℕ → List Entry → Type 0
+AreFor capacity s bytes list = (i : ℕ) (d : Entry) → i < length list
+    → IsFor capacity s bytes (take i list) (slice_index_or list i d)
 
 abbrev pub entry_numbers : List Entry → List ℕ
 entry_numbers list = map (λ e. e.number) list
@@ -155,28 +153,13 @@ most_together = 64
 
 -- The answers to these lines are written: all of them, unless the writer failed; then those to the
 -- last lines may be cut off, so many at most.
-pub record IsWritten (capacity : ℕ) (opening : Accounts) (before now : Option (List ℕ))
-    (list : List Entry) (why : Option ServiceFault) : Type 0 where
+pub record IsWritten (capacity : ℕ) (s : Service) (now : Option (List ℕ)) (list : List Entry)
+    (why : Option ServiceFault) : Type 0 where
   pub bytes : ℕ
-  pub front : Appends before now (take bytes (answers capacity opening list))
-  pub whole : why ≢ Some fault.Write → bytes ≡ length (answers capacity opening list)
+  pub front : Appends s.before now (take bytes (answers capacity s.opening list))
+  pub whole : why ≢ Some fault.Write → bytes ≡ length (answers capacity s.opening list)
   pub most :
-      length (answers capacity opening (take (length list - most_together) list)) ≤ bytes
-
--- It answers no more since a call on the source, the writer or the keeper failed; since as many
--- lines came as are read; or since one that came has no answer. Of memory nothing is said, and of
--- threads that no call on the source failed.
-abbrev pub HasCause : Option (List ℕ) → Bool → Bool → Bool → List ℕ → ℕ → Option ServiceFault
-    → Type 0
-HasCause input source writer keeper pending came None = Unit {0}
-HasCause input source writer keeper pending came (Some fault.Read) = source ≡ true
-HasCause input source writer keeper pending came (Some fault.Write) = writer ≡ true
-HasCause input source writer keeper pending came (Some fault.Keeper) = keeper ≡ true
-HasCause input source writer keeper pending came (Some fault.TooLong) = 2 ^ 63 ≤ came
-HasCause input source writer keeper pending came (Some fault.Lost) =
-    (pending ≢ []) ⊎ IfSome input (λ bytes. came ≢ length (lines_of bytes))
-HasCause input source writer keeper pending came (Some fault.Memory) = Unit {0}
-HasCause input source writer keeper pending came (Some fault.Threads) = source ≡ false
+      length (answers capacity s.opening (take (length list - most_together) list)) ≤ bytes
 
 -- what a scribe has at a moment: the book; what its writer holds, if that is known; whether a call on
 -- the source, the writer or the keeper has failed; why it answers no more; the lines that came and
@@ -191,16 +174,29 @@ pub record Moment : Type 0 where
   pub pending : List ℕ
   pub came : ℕ
 
+-- It answers no more since a call on the source, the writer or the keeper failed; since as many
+-- lines came as are read; or since one that came has no answer. Of memory nothing is said, and of
+-- threads that no call on the source failed.
+abbrev pub HasCause : Option (List ℕ) → Moment → Option ServiceFault → Type 0
+HasCause input m None = Unit {0}
+HasCause input m (Some fault.Read) = m.source_failed ≡ true
+HasCause input m (Some fault.Write) = m.writer_failed ≡ true
+HasCause input m (Some fault.Keeper) = m.keeper_failed ≡ true
+HasCause input m (Some fault.TooLong) = 2 ^ 63 ≤ m.came
+HasCause input m (Some fault.Lost) =
+    (m.pending ≢ []) ⊎ IfSome input (λ bytes. m.came ≢ length (lines_of bytes))
+HasCause input m (Some fault.Memory) = Unit {0}
+HasCause input m (Some fault.Threads) = m.source_failed ≡ false
+
 -- There is one list of lines, each for a line of the input. Each line that came stands in it once,
 -- or is pending. The book is the one after the list, and the answers to it are written.
 pub record Stands (capacity : ℕ) (s : Service) (m : Moment) : Type 0 where
   pub list : List Entry
-  pub each : IfSome s.input (λ bytes. AreFor capacity s.opening (asked s bytes) list)
+  pub each : IfSome s.input (λ bytes. AreFor capacity s bytes list)
   pub once : IsPermutation (entry_numbers list ++ m.pending) (range_with_len 0 m.came)
   pub book : m.book ≡ book_after capacity s.opening list
-  pub text : IsWritten capacity s.opening s.before m.written list m.fault
-  pub cause :
-      HasCause s.input m.source_failed m.writer_failed m.keeper_failed m.pending m.came m.fault
+  pub text : IsWritten capacity s m.written list m.fault
+  pub cause : HasCause s.input m m.fault
 
 -- what is left of a service, with these lines pending, where these tell the book and the failure of
 -- a keeper, the bytes of a writer, and the failure of a source

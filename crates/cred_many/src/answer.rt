@@ -1,10 +1,9 @@
 //! Operations without hashing, each done in one go.
 
-ghost use Rattle.std.specs.Prelude.{◌≡◌, IfOk, OnErr, OnOk, Some};
-ghost use Rattle.cred_phc.specs.Values.{RecordValue};
+ghost use Rattle.std.specs.Prelude.{◌≡◌, IfOk, is_some, OnErr, OnOk, true};
 ghost use Rattle.cred_admin.specs.Edits.{disabling};
 ghost use Rattle.cred_cli.specs.Answers.{line_bytes};
-ghost use Rattle.cred_many.specs.{Served.NeedsMemory, Served.disabled_line, Served.done, declared.ask.Ask.TheVariants.Quick};
+ghost use Rattle.cred_many.specs.{Served.NeedsMemory, Served.disabled_line, Served.done, Served.record_at, declared.ask.Ask.TheVariants.Quick};
 ghost use Rattle.std.specs.FinMap as map;
 
 use crate::ask::QuickAsk;
@@ -68,8 +67,7 @@ fn disable_shown<K: Host>(
         line_bytes line ≡ disabled_line name (map.get (K.book keeper.old) name)) }
     ensures book { OnOk result (K.book keeper.new ≡ (disabling (K.book keeper.old) name).1) }
     ensures refused { OnErr result (K.book keeper.new ≡ K.book keeper.old) }
-    ensures needs { OnErr result
-        ((stored : RecordValue) × (map.get (K.book keeper.old) name ≡ Some (Some stored))) }
+    ensures needs { OnErr result (is_some (record_at (K.book keeper.old) name) ≡ true) }
 {
     let stored = match keeper.accounts().show(&name) {
         Ok(Some(stored)) => stored,

@@ -1,9 +1,9 @@
 //! The book that is served, the lines that are open, and the writer of their answers.
 
 ghost use Rattle.std.specs.Prelude.{◌≡◌, ◌↔◌, [], Bool, false, IfSome, IsTrue, is_some, length, None, option_map, Some, true, unwrap_or};
-ghost use Rattle.cred_cli.specs.{Script.lines_of, Watched.failed_of, Watched.inner_of};
+ghost use Rattle.cred_cli.specs.{Script.lines_of, Watched.inner_of};
 ghost use Rattle.cred_book.specs.Works.{is_for_current, name_of};
-ghost use Rattle.cred_many.specs.{Asks.IsJobOf, Asks.hashed_for, Asks.is_reset, Scribe.History, Scribe.IsBusy, Scribe.IsReady, Scribe.is_changed, Scribe.numbers, declared.ask.Ask.TheVariants.Quick};
+ghost use Rattle.cred_many.specs.{Asks.IsJobOf, Asks.hashed_for, Asks.is_reset, Scribe.History, Scribe.IsBusy, Scribe.IsReady, Scribe.is_changed, Scribe.moment, Scribe.numbers, declared.ask.Ask.TheVariants.Quick};
 ghost use Rattle.cred_many.specs.Served.{HasCause, NeedsMemory, Stands, StandsAtEnd, left_of, record_at, told_reply};
 
 mod groups;
@@ -44,8 +44,8 @@ pub struct Scribe<J: ServiceId, K: Host, W: Write> {
 
     ghost history: { ∥ History K.capacity J.service (W.contents (inner_of output.writer))
         (K.book keeper) output.fault output.pending came ∥₁ },
-    ghost cause: { (source : Bool) → ∥ HasCause J.service.input source (failed_of output.writer)
-        (K.failed keeper) (numbers output.pending) came output.fault ∥₁ },
+    ghost cause: { (source_failed : Bool) → ∥ HasCause J.service.input
+        (moment K.book K.failed W.contents keeper output came source_failed) output.fault ∥₁ },
 }
 
 impl<J: ServiceId, K: Host, W: Write> Scribe<J, K, W> {
@@ -68,16 +68,8 @@ impl<J: ServiceId, K: Host, W: Write> Scribe<J, K, W> {
 
     /// The law of every scribe, at each moment between two calls.
     pub fn holds(&self)
-        ensures { ∥ Stands K.capacity J.service (record {
-          book = K.book self.now.keeper;
-          written = W.contents (inner_of self.now.output.writer);
-          source_failed = false;
-          writer_failed = failed_of self.now.output.writer;
-          keeper_failed = K.failed self.now.keeper;
-          fault = self.now.output.fault;
-          pending = numbers self.now.output.pending;
-          came = self.now.came;
-        }) ∥₁ }
+        ensures { ∥ Stands K.capacity J.service (moment K.book K.failed W.contents self.now.keeper
+            self.now.output self.now.came false) ∥₁ }
     {
         let _came = &self.came;
     }
@@ -140,8 +132,8 @@ impl<J: ServiceId, K: Host, W: Write> Scribe<J, K, W> {
     /// The remains of the service, and the reason why not all lines came.
     fn left<S: Source>(self, source: Option<S>, why: Option<ServiceFault>) -> Served<K, W, S>
         requires idle { self.output.fault ≡ None → numbers self.output.pending ≡ [] }
-        requires cause { HasCause J.service.input (unwrap_or (option_map S.failed source) false)
-            (failed_of self.output.writer) (K.failed self.keeper) [] self.came why }
+        requires cause { HasCause J.service.input (moment K.book K.failed W.contents self.keeper
+            self.output self.came (unwrap_or (option_map S.failed source) false)) why }
         ensures served { ∥ StandsAtEnd K.capacity J.service
             (left_of K.book K.failed W.contents S.failed result) ∥₁ }
         ensures lines { result.lines ≡ self.came }
