@@ -6,3 +6,4 @@ pub mod Seen
 pub mod Serving
 pub mod Groups
 pub mod Shares
+pub mod Turns

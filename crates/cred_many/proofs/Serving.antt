@@ -9,7 +9,7 @@ use Rattle.cred_book.specs.Accounts.{Accounts}
 use Rattle.cred_cli.specs.{History.Refused, Script.lines_of, Texts.line_of}
 use Rattle.cred_cli.proofs.Unended.{length-unended}
 use Rattle.cred_many.specs.{Asks.Entry, Asks.entry, Asks.refused, Served.AreFor, Served.HasCause, Served.IsFor, Served.IsGivenUp, Served.IsWritten, Served.Moment, Served.NeedsMemory, Served.Stands, Served.StandsAtEnd, Served.answers, Served.book_after, Served.done, Served.entry_numbers, Served.line_at, Served.most_together, Served.record_at}
-use Rattle.cred_many.specs.{declared.ask.Ask.Ask, declared.fault.ServiceFault.ServiceFault, declared.open.Open.Open, Scribe.AreClosed, Scribe.History, Scribe.IsBusy, Scribe.IsConcluded, Scribe.IsReady, Scribe.Notes, Scribe.SightHolds, Scribe.numbers, Scribe.unseen}
+use Rattle.cred_many.specs.{declared.ask.Ask.Ask, declared.fault.ServiceFault.ServiceFault, declared.open.Open.Open, Scribe.AreClosed, Scribe.History, Scribe.IsAnswered, Scribe.IsBusy, Scribe.IsConcluded, Scribe.IsReady, Scribe.Notes, Scribe.SightHolds, Scribe.numbers, Scribe.unseen}
 use Rattle.cred_many.specs.Service.{IsLine, Service, asked, asked_from, cut_line}
 use Rattle.cred_many.proofs.Seen.{answers-append, book_after-append, looked_numbers, watched_looked, watched_on, watched_rest, worn}
 use Rattle.cred_book.specs.declared.error.BookError.TheVariants as error
@@ -72,10 +72,15 @@ module _ (capacity : ℕ) (s : Service) (bytes : List ℕ) (list es : List Entry
 -- ---- each number once
 
 -- an open line is taken out
+numbers_without : (left : List Open) (place : ℕ) → numbers (remove left place) ≡ remove (numbers left) place
+numbers_without left place = simp (map-append, take-map, drop-map)
+
+pub answered_at : (left rest : List Open) (place n : ℕ) → slice_get (numbers left) place ≡ Some n → rest ≡ remove left place → IsAnswered n (numbers left) (numbers rest)
+answered_at left rest place n there is = (place, there, ap numbers is ∙ numbers_without left place)
+
 removal : (n : ℕ) (left : List Open) (place : ℕ) → slice_get (numbers left) place ≡ Some n → IsPermutation (n ∷ numbers (remove left place)) (numbers left)
 removal n left place is =
-    let cut : remove (numbers left) place ≡ numbers (remove left place) = simp (map-append, take-map, drop-map) in
-    IsPermutation-sym _ _ (rw cut at (IsPermutation-remove (numbers left) place n (slice_get_within (numbers left) place n is) (sym (get_or_from_slice_get (numbers left) place n n is))))
+    IsPermutation-sym _ _ (rw (sym (numbers_without left place)) at (IsPermutation-remove (numbers left) place n (slice_get_within (numbers left) place n is) (sym (get_or_from_slice_get (numbers left) place n n is))))
 
 -- so are several
 closed_once : (es : List Entry) (left rest : List Open) → AreClosed es left rest → IsPermutation (entry_numbers es ++ numbers rest) (numbers left)

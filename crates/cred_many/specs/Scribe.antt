@@ -1,5 +1,6 @@
 -- What stands behind it in a scribe: what each open line has seen, lines that are answered, and those
--- whose changes are made together. Of it public clauses cite `moment` and `numbers` alone.
+-- whose changes are made together. Of it public clauses cite `moment`, `numbers`, `HasTurn` and
+-- `IsAnswered` alone.
 use Rattle.std.specs.{Io.KnownBytes.Appends, List.range_with_len, List.remove, List.Sorted.IsPermutation, Option.option_or, Str.bytes_eq}
 use Rattle.std.specs.Prelude.{◌≡◌, ◌⊎◌, ℕ, ◌<◌, ◌≤◌, ◌+◌, List, [], ◌∷◌, ◌++◌, Bool, true, false, All, if◌then◌else◌, IfSome, Option, Some, None, length, map, set, slice_get}
 use Rattle.cred_phc.specs.Values.{RecordValue}
@@ -7,7 +8,7 @@ use Rattle.cred_book.specs.{Accounts.Accounts, Works.Task, declared.reply.Reply.
 use Rattle.cred_cli.specs.{History.Answer, History.Changed, Outcome.FrontWritten, Steps.reply_answer, Watched.failed_of, Watched.inner_of}
 use Rattle.cred_many.specs.{Asks.Entry, Service.IsLine, Service.Service, declared.ask.Ask.Ask, declared.fault.ServiceFault.ServiceFault}
 use Rattle.cred_many.specs.Served.{AreFor, IsWritten, Moment, answers, book_after, change_from, changes, entry_numbers, most_together, name_asked, record_at, tries}
-use Rattle.cred_many.specs.{declared.fault.ServiceFault.TheVariants.Write, declared.open.Open.Open, declared.open.Sight.Sight, declared.output.Output.Output}
+use Rattle.cred_many.specs.{declared.fault.ServiceFault.TheVariants.Write, declared.job.Message.Message, declared.job.Message.TheVariants.Hashed, declared.job.Message.TheVariants.NoMemory, declared.open.Open.Open, declared.open.Sight.Sight, declared.output.Output.Output}
 use Rattle.std.specs.FinMap as fin
 
 -- ---- what an open line has seen
@@ -57,6 +58,26 @@ abbrev pub AreClosed : List Entry → List Open → List Open → Type 0
 AreClosed [] old new = new ≡ old
 AreClosed (e ∷ es) old new = (place : ℕ) × (slice_get (numbers old) place ≡ Some e.number)
     × AreClosed es (remove old place) new
+
+-- one of the pending lines has this number
+abbrev pub IsPending : ℕ → List ℕ → Type 0
+IsPending number pending = (place : ℕ) × (slice_get pending place ≡ Some number)
+
+-- it is pending no more, and the others are
+abbrev pub IsAnswered : ℕ → List ℕ → List ℕ → Type 0
+IsAnswered number old new =
+    (place : ℕ) × (slice_get old place ≡ Some number) × (new ≡ remove old place)
+
+-- a pending line of this number is answered, unless a fault is told
+abbrev pub HasTurn : {W : Type 0} → ℕ → Output W → Output W → Type 0
+HasTurn number old new = IsPending number (numbers old.pending) → new.fault ≡ None
+    → IsAnswered number (numbers old.pending) (numbers new.pending)
+
+-- a message says what came of hashing for this line
+abbrev pub IsOf : {J : Type 0} → Entry → Message J → Type 0
+IsOf line (Hashed hashed) = hashed.0 ≡ line
+IsOf line (NoMemory job) = job.0 ≡ line
+IsOf line _ = ⊥
 
 -- no fault is told, and the open line of this number stands at this place
 pub record IsReady (why : Option ServiceFault) (left : List Open) (place number : ℕ) : Type 0 where

@@ -2,7 +2,7 @@
 
 ghost use Rattle.std.specs.Prelude.{◌≡◌, ◌≤◌};
 ghost use Rattle.cred_cli.specs.Costs.{memory_alone};
-ghost use Rattle.cred_many.specs.Costs.{compared_memory, job_memory, made_memory};
+ghost use Rattle.cred_many.specs.{Costs.compared_memory, Costs.job_memory, Costs.made_memory, Scribe.IsOf};
 
 use crate::budget::{Budget, Idle, Limit, Taken};
 use crate::costs::{Costs, NO_SALT};
@@ -59,7 +59,9 @@ impl<L: Limit> Hashing<L> {
         scratch: &mut Scratch,
         job: Job<J>,
         idle: Idle<L>,
-    ) -> (Message<J>, Idle<L>) {
+    ) -> (Message<J>, Idle<L>)
+        ensures { IsOf job.0 result.0 }
+    {
         match self.budget.take(rt, idle, self.memory_of(&job.ticket)) {
             Ok(taken) => {
                 let message = self.hash(scratch, job, &taken);
@@ -74,6 +76,7 @@ impl<L: Limit> Hashing<L> {
     #[tactic(auto, using(crate::proofs::Shares::covered, crate::proofs::Shares::covered_in_vain))]
     fn hash<J: ServiceId>(&self, scratch: &mut Scratch, job: Job<J>, taken: &Taken<L>) -> Message<J>
         requires { job_memory self.now.costs job.1 ≤ taken.now.kib }
+        ensures { IsOf job.0 result }
     {
         let request = job.ticket.request();
         if job.ticket.copy().is_none() && self.hash_for_nothing(scratch, &request, taken).is_err() {

@@ -1,6 +1,7 @@
 //! The messages between the thread with the book and those that hash and read.
 
-ghost use Rattle.cred_many.specs.{Asks.IsJobOf, Costs.Covers};
+ghost use Rattle.std.specs.Prelude.{◌≡◌};
+ghost use Rattle.cred_many.specs.{Asks.IsJobOf, Costs.Covers, Scribe.IsOf};
 
 use crate::budget::{Limit, Taken};
 use crate::line::Line;
@@ -63,6 +64,7 @@ pub(crate) enum Message<J: ServiceId> {
 impl<J: ServiceId> Job<J> {
     pub(crate) fn new(line: Line<J>, ticket: Ticket) -> Job<J>
         requires { IsJobOf line.ask ticket }
+        ensures { result.0 ≡ line }
     {
         Job { line, ticket }
     }
@@ -76,6 +78,7 @@ impl<J: ServiceId> Job<J> {
         taken: &Taken<L>,
     ) -> Message<J>
         requires { Covers taken.now.kib self.1 }
+        ensures { IsOf self.0 result }
     {
         let Job { line, ticket } = self;
         match ticket.work_in(scratch, alloc, &NoGate) {
@@ -88,6 +91,7 @@ impl<J: ServiceId> Job<J> {
 impl<J: ServiceId> Hashed<J> {
     pub(crate) fn new(line: Line<J>, worked: Worked) -> Hashed<J>
         requires { IsJobOf line.ask worked }
+        ensures { result.0 ≡ line }
     {
         Hashed { line, worked }
     }

@@ -1,8 +1,8 @@
 //! The lines that have come and aren't answered yet.
 
-ghost use Rattle.std.specs.Prelude.{◌≡◌, ◌≤◌, ◌<◌, ◌++◌, ◌∷◌, [], IfSome, MatchBool, OnErr, OnOk, Some, length, slice_get};
+ghost use Rattle.std.specs.Prelude.{◌≡◌, ◌≤◌, ◌<◌, ◌++◌, ◌∷◌, [], IfNone, IfSome, MatchBool, OnErr, OnOk, Some, length, slice_get};
 ghost use Rattle.std.specs.List.{remove};
-ghost use Rattle.cred_many.specs.Scribe.{AreClosed, Notes, counted, entries_of, numbers, unseen};
+ghost use Rattle.cred_many.specs.Scribe.{AreClosed, IsPending, Notes, counted, entries_of, numbers, unseen};
 
 use crate::job::Hashed;
 use crate::service_id::ServiceId;
@@ -64,6 +64,7 @@ impl OpenLines {
     pub(crate) fn place_of(&self, number: u64) -> Option<usize>
         ensures within { IfSome result (λ i. i < length self.now) }
         ensures there { IfSome result (λ i. slice_get (numbers self.now) i ≡ Some number) }
+        ensures absent { IfNone result (IsPending number (numbers self.now) → ⊥) }
     {
         for i in 0..self.lines.len() {
             if self.lines[i].number == number {

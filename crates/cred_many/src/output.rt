@@ -2,7 +2,7 @@
 
 ghost use Rattle.std.specs.{Io.KnownBytes.Appends, List.remove, Prelude.◌≡◌, Prelude.◌∷◌, Prelude.◌++◌, Prelude.IfSome, Prelude.OnErr, Prelude.OnOk, Prelude.None, Prelude.true};
 ghost use Rattle.cred_cli.specs.{Outcome.FrontWritten, Watched.failed_of, Watched.inner_of};
-ghost use Rattle.cred_many.specs.{Scribe.IsConcluded, Scribe.IsReady, Service.IsLine};
+ghost use Rattle.cred_many.specs.{Scribe.HasTurn, Scribe.IsConcluded, Scribe.IsReady, Service.IsLine};
 
 use crate::fault::ServiceFault;
 use crate::line::Line;
@@ -26,6 +26,7 @@ impl<W: Write> Output<W> {
         requires { IsReady self.old.fault self.old.pending place line.now.number }
         ensures came { IfSome J.service.input (λ bytes. IsLine J.service bytes line.now) }
         ensures closed { self.new.pending ≡ remove self.old.pending place }
+        ensures turn { HasTurn line.now.number self.old self.new }
         ensures told { IsConcluded (line.now.tag ++ 32 ∷ answer.now)
             (W.contents (inner_of self.old.writer)) (W.contents (inner_of self.new.writer))
             (failed_of self.new.writer) self.new.fault }

@@ -1,9 +1,9 @@
 //! The book that is served, the lines that are open, and the writer of their answers.
 
-ghost use Rattle.std.specs.Prelude.{◌≡◌, ◌↔◌, [], Bool, false, IfSome, IsTrue, is_some, length, None, option_map, Some, true, unwrap_or};
+ghost use Rattle.std.specs.Prelude.{◌≡◌, ◌↔◌, ◌+◌, ◌++◌, [], ◌∷◌, Bool, false, IfSome, IsTrue, is_some, length, None, option_map, Some, true, unwrap_or};
 ghost use Rattle.cred_cli.specs.{Script.lines_of, Watched.inner_of};
 ghost use Rattle.cred_book.specs.Works.{is_for_current, name_of};
-ghost use Rattle.cred_many.specs.{Asks.IsJobOf, Asks.hashed_for, Asks.is_reset, Scribe.History, Scribe.IsBusy, Scribe.IsReady, Scribe.is_changed, Scribe.moment, Scribe.numbers, declared.ask.Ask.TheVariants.Quick};
+ghost use Rattle.cred_many.specs.{Asks.IsJobOf, Asks.hashed_for, Asks.is_reset, Scribe.HasTurn, Scribe.History, Scribe.IsAnswered, Scribe.IsBusy, Scribe.IsReady, Scribe.is_changed, Scribe.moment, Scribe.numbers, Scribe.unseen, declared.ask.Ask.TheVariants.Quick};
 ghost use Rattle.cred_many.specs.Served.{HasCause, NeedsMemory, Stands, StandsAtEnd, left_of, record_at, told_reply};
 
 mod groups;
@@ -162,7 +162,13 @@ impl<J: ServiceId, K: Host, W: Write> Scribe<J, K, W> {
     }
 
     /// Takes a line that came, and answers it unless it needs a hash.
-    pub fn take(&mut self, alloc: Global, line: Line<J>) -> Option<Job<J>> {
+    pub fn take(&mut self, alloc: Global, line: Line<J>) -> Option<Job<J>>
+        ensures came { line.number ≡ self.old.came → self.new.output.fault ≡ None
+            → self.new.came ≡ self.old.came + 1 }
+        ensures turn { line.number ≡ self.old.came → self.new.output.fault ≡ None → result ≡ None
+            → IsAnswered line.number (numbers self.old.output.pending ++ line.number ∷ [])
+            (numbers self.new.output.pending) }
+    {
         if self.output.fault.is_some() {
             return None;
         }
@@ -186,8 +192,13 @@ impl<J: ServiceId, K: Host, W: Write> Scribe<J, K, W> {
     /// Opens the next line, and returns its place.
     fn admit(&mut self, line: &Line<J>) -> Option<usize>
         requires { self.old.output.fault ≡ None }
-        ensures { IfSome result (λ place.
+        ensures ready { IfSome result (λ place.
             IsReady self.new.output.fault self.new.output.pending place line.now.number) }
+        ensures opened { IfSome result
+            (λ _. self.new.output.pending ≡ self.old.output.pending ++ unseen line.now.number ∷ []) }
+        ensures came { IfSome result (λ _. self.new.came ≡ self.old.came + 1) }
+        ensures next { line.now.number ≡ self.old.came → result ≡ None
+            → is_some self.new.output.fault ≡ true }
     {
         let number = line.number();
         if number < self.came {
@@ -212,6 +223,8 @@ impl<J: ServiceId, K: Host, W: Write> Scribe<J, K, W> {
         requires current { is_for_current request ≡ true }
         requires asked { hashed_for line.ask ≡ Some request }
         requires kept { is_reset line.ask ≡ false }
+        ensures turn { result ≡ None → HasTurn line.number self.old.output self.new.output }
+        ensures same_came { self.new.came ≡ self.old.came }
     {
         let ticket = ticket_of(&self.keeper, request);
         let changes = self
@@ -229,6 +242,8 @@ impl<J: ServiceId, K: Host, W: Write> Scribe<J, K, W> {
     fn answer_at_once(&mut self, alloc: Global, place: usize, line: Line<J>, ask: QuickAsk)
         requires ready { IsReady self.old.output.fault self.old.output.pending place line.number }
         requires asked { Quick ask ≡ line.ask }
+        ensures turn { HasTurn line.number self.old.output self.new.output }
+        ensures same_came { self.new.came ≡ self.old.came }
     {
         match do_ask(alloc, &mut self.keeper, ask) {
             Ok(text) => self.output.answer(place, &line, text.bytes()),
@@ -238,7 +253,9 @@ impl<J: ServiceId, K: Host, W: Write> Scribe<J, K, W> {
 
     /// Commits a whole operation, and answers it, if the record still equals the
     /// copy. Otherwise the record is copied again.
-    pub fn commit(&mut self, hashed: Hashed<J>) -> Option<Job<J>> {
+    pub fn commit(&mut self, hashed: Hashed<J>) -> Option<Job<J>>
+        ensures { result ≡ None → HasTurn hashed.0.number self.old.output self.new.output }
+    {
         if self.output.fault.is_some() {
             return None;
         }
@@ -255,6 +272,7 @@ impl<J: ServiceId, K: Host, W: Write> Scribe<J, K, W> {
         requires ready { IsReady self.old.output.fault self.old.output.pending place line.number }
         requires asked { hashed_for line.ask ≡ Some worked.0 }
         requires kept { is_reset line.ask ≡ false }
+        ensures turn { result ≡ None → HasTurn line.number self.old.output self.new.output }
     {
         let ask = line.ask();
         let request = worked.request();
@@ -278,6 +296,7 @@ impl<J: ServiceId, K: Host, W: Write> Scribe<J, K, W> {
         requires ready { IsReady self.old.output.fault self.old.output.pending place line.number }
         requires asked { IsJobOf line.ask worked.now }
         requires reset { is_reset line.ask ≡ true }
+        ensures turn { HasTurn line.number self.old.output self.new.output }
     {
         let Some(stored) = worked.after() else {
             unreachable!()
@@ -289,7 +308,9 @@ impl<J: ServiceId, K: Host, W: Write> Scribe<J, K, W> {
     }
 
     /// Answers a line without memory for its hash.
-    pub fn no_memory(&mut self, job: Job<J>) {
+    pub fn no_memory(&mut self, job: Job<J>)
+        ensures { HasTurn job.0.number self.old.output self.new.output }
+    {
         let Job { line, .. } = job;
         self.starve(line);
     }
@@ -297,7 +318,8 @@ impl<J: ServiceId, K: Host, W: Write> Scribe<J, K, W> {
     /// Refuses a line for want of memory, unless no more lines are answered.
     fn starve(&mut self, line: Line<J>)
         requires { NeedsMemory K.capacity (K.book self.old.keeper) line.ask }
-        ensures { K.book self.new.keeper ≡ K.book self.old.keeper }
+        ensures book { K.book self.new.keeper ≡ K.book self.old.keeper }
+        ensures turn { HasTurn line.number self.old.output self.new.output }
     {
         if self.output.fault.is_some() {
             return;
@@ -311,7 +333,9 @@ impl<J: ServiceId, K: Host, W: Write> Scribe<J, K, W> {
     fn refuse(&mut self, place: usize, line: Line<J>)
         requires ready { IsReady self.old.output.fault self.old.output.pending place line.number }
         requires needs { NeedsMemory K.capacity (K.book self.old.keeper) line.ask }
-        ensures { K.book self.new.keeper ≡ K.book self.old.keeper }
+        ensures book { K.book self.new.keeper ≡ K.book self.old.keeper }
+        ensures turn { HasTurn line.number self.old.output self.new.output }
+        ensures same_came { self.new.came ≡ self.old.came }
     {
         if self.keeper.has_failed() {
             self.output.fault = Some(ServiceFault::Keeper);
@@ -325,6 +349,8 @@ impl<J: ServiceId, K: Host, W: Write> Scribe<J, K, W> {
     fn give_up_as_busy(&mut self, place: usize, line: Line<J>)
         requires ready { IsReady self.old.output.fault self.old.output.pending place line.number }
         requires busy { IsBusy self.old.output.pending place line.ask }
+        ensures turn { HasTurn line.number self.old.output self.new.output }
+        ensures same_came { self.new.came ≡ self.old.came }
     {
         self.output.answer(place, &line, Refusal::Busy.line());
     }
