@@ -242,6 +242,11 @@ class Faults(Commands):
             said = self.run_command("--database", "mysql://x/y", "list", status=5)
         self.assertEqual(said, "rigzumal: OperationalError: it failed\n")
 
+    @each("import nowhere", "--secret nowhere report")
+    def test_a_file_that_is_missing(self, words):
+        said = self.run_command(*words.split(), status=2)
+        self.assertEqual(said, "rigzumal: nowhere: No such file or directory\n")
+
     def test_a_name_that_the_table_keeps(self):
         """Whatever refuses another name, it isn't said that the other exists."""
         self.insert({"ann": RECORD})
