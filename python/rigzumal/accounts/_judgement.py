@@ -137,8 +137,7 @@ class Judge:
         rest = f"${'A' * 22}${encoded(bytes(_TAG_SIZE))}"
         self._old = frozenset(parts(costs + rest).costs for costs in upgrade_from)
         if self._parts.costs in self._old:
-            fault = "upgrade_from has the hasher's own costs"
-            raise ValueError(fault)
+            raise ValueError("upgrade_from has the hasher's own costs")
 
     def new_record(self, password: Secret) -> str:
         """A new record of a password that an account may have."""
@@ -149,11 +148,10 @@ class Judge:
         request, copy = ticket.request, ticket.copy
         if self.foreign is None or not isinstance(copy, str):
             return None
-        if request.kind in (Kind.ENROL, Kind.RESET) or not request.can_be_right:
+        is_judged = request.kind not in (Kind.ENROL, Kind.RESET)
+        if not (is_judged and request.can_be_right) or _library.is_record(copy):
             return None
-        return (
-            None if _library.is_record(copy) else (self.foreign, copy, request.password)
-        )
+        return self.foreign, copy, request.password
 
     def work(self, ticket: Ticket, right: Optional[bool] = None) -> Worked:
         """The effect of the whole operation at the ticket's copy.
