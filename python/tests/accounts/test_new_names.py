@@ -63,6 +63,7 @@ class NewNames(Base):
                     lambda: accounts.enrol(name, "one"),
                     lambda: accounts.perform(Request(Kind.ENROL, name, "one")),
                     lambda: accounts.begin(Request(Kind.ENROL, name, "one")),
+                    lambda: self.dialect.check_new_key(Name(name)),
                 ):
                     self.assertRaisesRegex(ValueError, f"^{fault}$", enrol)
                 self.assertEqual(self.names(), ["eve"])
