@@ -14,8 +14,7 @@ from dataclasses import dataclass, replace
 
 from .book import UNAVAILABLE, Book, decoded
 from .clients import LONGEST, TAG, Client
-from .journal import Audit
-from .locks import Locks
+from .journal import Audit, Locks
 from .log import log_seldom
 from .options import OPERATIONS, Kind, Options
 from .tries import PEOPLE, TRIED, Tally
