@@ -13,12 +13,12 @@ from typing import Any
 from unittest import mock
 
 from served import PYTHON, Case, Client, need_root
-from daemon import clients, turns
+from daemon import clients
 from daemon.clients import share_of
 from daemon.doors import FEW, Door
 from daemon.options import Options
 from daemon.service import Service
-from daemon.turns import Rota
+from daemon.turns import Places
 
 # What a client may send that costs the book nothing, and the end of each answer.
 IDLE_LINES = {
@@ -94,11 +94,8 @@ class Floods(Case):
                 client.connect(door.path)
                 if is_flooded:
                     client.close()
-            came: list[object] = []
-            with mock.patch.object(time, "monotonic", lambda: float(len(came))):
-                with mock.patch("daemon.doors.ACCEPTING", count):
-                    with mock.patch.object(door, "client", self.noted(door, came)):
-                        door.accept(door.listener, service)
+            with mock.patch("daemon.doors.ACCEPTED", count):
+                door.accept(door.listener, service)
             self.assertEqual(len(door.clients), 0 if is_flooded else count)
             more = [socket.socket(socket.AF_UNIX) for _ in range(2 * FEW)]
             for client in more:
@@ -113,16 +110,6 @@ class Floods(Case):
 
         self.assertEqual(asyncio.run(waiting(200, is_flooded=True)), FEW + 1)
         self.assertEqual(asyncio.run(waiting(200, is_flooded=False)), 2 * FEW)
-
-    def noted(self, door: Door, came: list[object]) -> Any:
-        """How a door makes its clients, which are noted too."""
-        made = door.client
-
-        def client(*words: Any) -> Any:
-            came.append(words)
-            return made(*words)
-
-        return client
 
     def test_services_of_root(self) -> None:
         """Each service that asks as root has connections of its own."""
@@ -169,52 +156,52 @@ class Shares(Case):
 
 
 class Step:
-    """A connection that notes its steps, of which each takes so long."""
+    """A connection that notes its steps, and has so many."""
 
-    is_due = False
+    def __init__(self, test: "Steps", places: Places[Any], user: str, name: str, count: int) -> None:
+        self.test, self.places, self.user, self.name = test, places, user, name
+        self.count = count
 
-    def __init__(self, test: "Rotas", user: str, name: str, steps: int) -> None:
-        self.test, self.user, self.name, self.steps = test, user, name, steps
+    def submit(self) -> None:
+        self.places.submit(self.user, self, self)
 
     def step(self) -> None:
         self.test.said += self.name
-        self.test.clock += 0.1
-        self.steps -= 1
-        if self.steps:
-            self.test.rota.add(self)  # type: ignore[arg-type]
+        self.count -= 1
+        if self.count:
+            self.submit()
+        self.places.release(self.user)
 
 
-class Rotas(Case):
-    """A rota by itself; each connection is a letter."""
+class Steps(Case):
+    """The places for connections that send a line; each connection is a letter."""
 
-    def setUp(self) -> None:
-        super().setUp()
-        self.said, self.clock, self.rota = "", 0.0, Rota()
-        self.enterContext(mock.patch.object(time, "monotonic", lambda: self.clock))
+    said = ""
 
-    def passes(self, slice_: float, *connections: tuple[str, str, int]) -> list[str]:
-        """The steps of each pass of the loop."""
+    def passes(self, count: int, *connections: tuple[str, str, int]) -> list[str]:
+        """The steps of each pass of the loop, with so many places."""
         found = []
 
         async def run() -> None:
+            with mock.patch("daemon.service.STEPS", count):
+                places: Places[Any] = Service(Options()).steps
             for connection in connections:
-                self.rota.add(Step(self, *connection))  # type: ignore[arg-type]
-            while self.rota.users:
+                Step(self, places, *connection).submit()
+            while places.users or places.running.total():
                 await asyncio.sleep(0)
                 found.append(self.said)
                 self.said = ""
 
-        with mock.patch.object(turns, "SLICE", slice_):
-            asyncio.run(run())
+        asyncio.run(run())
         return found
 
     def test_turns(self) -> None:
         """Users take turns, then the connections of each."""
-        given = (("one", "a", 3), ("one", "b", 2), ("one", "c", 1), ("two", "x", 2))
-        self.assertEqual("".join(self.passes(99, *given)), "axbxcaba")
+        given = (("one", "a", 3), ("one", "b", 2), ("one", "c", 1), ("two", "x", 3))
+        self.assertEqual("".join(self.passes(1, *given)), "abxcxaxba")
 
-    def test_slices(self) -> None:
-        """A pass of the loop has a slice of steps, and one at least."""
-        given = (("one", "a", 5), ("two", "x", 2))
-        self.assertEqual(self.passes(0.25, *given), ["axa", "xaa", "a"])
-        self.assertEqual(self.passes(0.05, *given), list("axaxaaa"))
+    def test_passes(self) -> None:
+        """A pass of the loop has so many steps, and one of whoever comes beside a flood."""
+        flood = [("one", it, 2) for it in "abcde"]
+        said = self.passes(4, *flood, ("two", "x", 3))
+        self.assertEqual(said, ["abcx", "dex", "abx", "cde"])

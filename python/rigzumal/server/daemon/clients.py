@@ -15,11 +15,10 @@ if TYPE_CHECKING:
     from .service import Service
 
 LONGEST = 960  # bytes of a line
-READ, WRITTEN = 4096, 16384  # bytes of a step
+READ, WRITTEN = 4096, 16384  # bytes at a time
 # Seconds until a connection goes on behind an answer that took no work of the book, times
 # its user's connections: all of a user's get a thousand such answers a second.
 PAUSE = 0.001
-TAG = re.compile(rb"[a-z0-9]{1,20}")
 # The first two names of a control group: /system.slice/ssh.service,
 # /user.slice/user-1000.slice.
 GROUP = re.compile(rb"^\d+:(?:name=systemd)?:((?:/[^/\n]+){1,2})", re.M)
@@ -48,12 +47,13 @@ def group_of(pid: int, second: int) -> str:
 class Client:
     """One that sends lines, and gets an answer to each, in any order.
 
-    Little is read at a time, and nothing while answers are unread. A step takes one request.
+    Little is read at a time, and nothing while answers are unread.
     """
 
     most = 32  # requests that run at once
     no_room = b"* unavailable\n"
     is_cutting = False  # the rest of a line that is too long
+    is_watched = is_due = is_paused = is_ending = is_gone = False
 
     def __init__(self, service: Service, door: Door, sock: socket.socket) -> None:
         self.service, self.door, self.socket = service, door, sock
@@ -63,8 +63,7 @@ class Client:
         self.input, self.output = bytearray(), bytearray()  # to be taken, to be sent
         self.running, self.active = 0, time.monotonic()
         self.file, self.loop = sock.fileno(), asyncio.get_running_loop()
-        self.is_watched = self.is_due = self.is_paused = False
-        self.is_ending = self.is_gone = False
+        sock.setblocking(False)
 
     # ---- requests
 
@@ -73,17 +72,11 @@ class Client:
         return b"\n" in self.input or len(self.input) > LONGEST
 
     def take_request(self) -> None:
-        """Submits a line; a long one is refused, and its rest passed over."""
-        size = self.input.find(b"\n")
-        line = bytes(self.input[: size if size >= 0 else None])
-        del self.input[: len(line) + 1]
-        if len(line) > LONGEST and not self.is_cutting:
-            tag = line.partition(b" ")[0]
-            self.refuse(tag if TAG.fullmatch(tag) else b"*", b"bad 16 long")
-        elif not self.is_cutting:
-            self.active = time.monotonic()
-            self.service.submit(self, line)
-        self.is_cutting = size < 0
+        """Submits a line; of a long one the beginning, which is refused."""
+        line, end, self.input = self.input.partition(b"\n")
+        if not self.is_cutting:
+            self.service.submit(self, bytes(line))
+        self.is_cutting = not end
 
     def reply(self, tag: bytes, answer: bytes) -> None:
         """Writes the answer to a request."""
@@ -92,7 +85,6 @@ class Client:
     def answer(self, tag: bytes, answer: bytes) -> None:
         """Answers a request that was running."""
         self.running -= 1
-        self.active = time.monotonic()
         self.reply(tag, answer)
         self.go_on()
 
@@ -108,60 +100,62 @@ class Client:
 
     # ---- steps
 
-    def wake(self) -> None:
-        """Reads a little, and has a step once it is its user's turn."""
-        if self.is_due:
-            return self.watch(False)  # it has enough
-        self.read()
-        self.service.rota.add(self)
-
-    def step(self) -> None:
-        if not self.is_gone and not self.is_full() and self.has_request():
-            self.take_request()
-        self.go_on()
-
     def is_full(self) -> bool:
         return self.running >= self.most or self.is_paused or bool(self.output)
 
     def go_on(self) -> None:
-        """Has the next step run once work is left."""
-        if self.is_gone:
+        """Takes the next request in its turn, or waits for one, or closes behind the last."""
+        if self.is_gone or self.is_due or self.is_full():
             return
-        has_request, is_full = self.has_request(), self.is_full()
-        if self.is_ending and not (self.running or self.output or has_request):
-            return self.close()
-        self.watch(not (is_full or has_request or self.is_ending))
-        if has_request and not is_full:
-            self.service.rota.add(self)
+        if self.has_request():
+            self.is_due = True
+            self.service.steps.submit(self.user, self, self)
+        elif not self.is_ending:
+            if not self.is_watched:
+                self.is_watched = True
+                self.loop.add_reader(self.file, self.wake)
+        elif not self.running:
+            self.close()
 
-    def watch(self, is_watched: bool) -> None:
-        """Watches the socket for input, or stops watching it."""
-        if is_watched and not self.is_watched:
-            self.loop.add_reader(self.file, self.wake)
-        elif self.is_watched and not is_watched:
+    def step(self) -> None:
+        """Takes a request, if it still may."""
+        self.is_due = False
+        try:
+            if not self.is_gone and not self.is_full() and self.has_request():
+                self.take_request()
+            self.go_on()
+        finally:
+            self.service.steps.release(self.user)
+
+    def wake(self) -> None:
+        """Reads a little, unless it has enough."""
+        if self.is_due or self.is_full() or self.is_ending:
+            self.is_watched = False
             self.loop.remove_reader(self.file)
-        self.is_watched = is_watched
+        else:
+            self.read()
+            self.go_on()
 
     # ---- input and output
 
     def read(self) -> None:
         """Reads the input; at its end the client still gets its answers, if it can."""
         try:
-            more = self.socket.recv(READ)
-            self.input += more
-            if not more:
+            if more := self.socket.recv(READ):
+                self.input += more
+            else:
                 self.is_ending = True
                 self.socket.send(b"")  # which fails where nobody reads any more
-        except (BlockingIOError, InterruptedError):
+        except BlockingIOError:
             return
         except OSError:
             self.close()
 
     def write(self, text: bytes) -> None:
         """Sends it, and what the client doesn't take now once it does."""
-        is_first = not self.output
+        self.active = time.monotonic()
         self.output += text
-        if is_first and self.send():
+        if len(self.output) == len(text) and self.send():
             self.loop.add_writer(self.file, self.write_more)
 
     def write_more(self) -> None:
@@ -174,7 +168,7 @@ class Client:
         """Sends a piece of the output; whether some is left, and a client to take it."""
         try:
             del self.output[: self.socket.send(self.output[:WRITTEN])]
-        except (BlockingIOError, InterruptedError):
+        except BlockingIOError:
             pass
         except OSError:
             self.close()
@@ -188,18 +182,11 @@ class Client:
         self.input.clear()
         self.go_on()
 
-    def end_if_idle(self, since: float) -> None:
-        if self.active < since and (self.output or self.is_ending):
-            self.close()  # it doesn't read
-        elif self.active < since and not self.running:
-            self.end()
-
     def close(self) -> None:
         """Closes the connection at once. Its running requests go on, unanswered."""
-        if self.is_gone:
-            return
-        self.is_gone = True
-        self.watch(False)
-        self.loop.remove_writer(self.file)
-        self.socket.close()
-        self.door.forget(self)
+        if not self.is_gone:
+            self.is_gone = True
+            self.loop.remove_reader(self.file)
+            self.loop.remove_writer(self.file)
+            self.socket.close()
+            self.door.forget(self)

@@ -8,7 +8,6 @@ import grp
 import os
 import pathlib
 import socket
-import time
 from collections import Counter
 from dataclasses import dataclass, field
 from typing import TYPE_CHECKING, Hashable, Optional
@@ -20,7 +19,7 @@ if TYPE_CHECKING:
     from .service import Service
 
 CLIENTS, FEW = 1024, 64  # a door's, and how many wait to be let in
-ACCEPTING = 0.001  # seconds in a pass of the loop
+ACCEPTED = 16  # clients in a pass of the loop: then others have steps
 
 
 @dataclass(eq=False)
@@ -69,7 +68,7 @@ class Door:
                 os.mkdir(folder)
                 os.chmod(folder, 0o755)
         with problems_at(path):
-            it = os.open(path, os.O_RDWR | os.O_CREAT | os.O_CLOEXEC, 0o600)
+            it = os.open(path, os.O_RDWR | os.O_CREAT, 0o600)
             try:
                 fcntl.flock(it, fcntl.LOCK_EX | fcntl.LOCK_NB)
             except BlockingIOError:
@@ -78,10 +77,7 @@ class Door:
     def bound(self) -> socket.socket:
         """A socket of its own, whose mode is set before it listens."""
         if self.port:
-            made = socket.socket()
-            made.setsockopt(socket.SOL_SOCKET, socket.SO_REUSEADDR, 1)
-            made.bind(("127.0.0.1", self.port))
-            return made
+            return socket.create_server(("127.0.0.1", self.port))
         made = socket.socket(socket.AF_UNIX)
         if pathlib.Path(self.path).is_socket():
             if made.connect_ex(self.path) == 0:
@@ -112,24 +108,21 @@ class Door:
             self.listener = None
 
     def accept(self, listening: socket.socket, service: Service) -> None:
-        """Lets in new connections, for so long in a pass: others have steps too."""
-        end, let_in, gone = time.monotonic() + ACCEPTING, 0, 0
+        """Lets in some new clients."""
+        gone = 0
         try:
-            while time.monotonic() < end:
-                sock, _ = listening.accept()
-                sock.setblocking(False)
-                client = self.client(service, self, sock)
+            for _ in range(ACCEPTED):
+                client = self.client(service, self, listening.accept()[0])
                 self.let_in(client)
-                let_in += 1
                 gone += client.is_gone
-            # Where most have gone, one who comes isn't to wait behind a thousand of these.
-            listening.listen(FEW if gone > let_in / 2 else CLIENTS)
-        except (BlockingIOError, InterruptedError, ConnectionAbortedError):
-            listening.listen(CLIENTS)
+        except (BlockingIOError, ConnectionAbortedError):
+            gone = 0
         except OSError:  # no descriptor is free
             loop = asyncio.get_running_loop()
             loop.remove_reader(listening)
             loop.call_later(0.1, self.watch, service)
+        # Where most have gone, one who comes isn't to wait behind a thousand of these.
+        listening.listen(FEW if gone > ACCEPTED / 2 else CLIENTS)
 
     def let_in(self, client: Client) -> None:
         """A user has at most half of the places that others leave."""

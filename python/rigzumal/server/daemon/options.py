@@ -32,12 +32,14 @@ class Kind:
     changes: bool = False
     tries: bool = False  # it takes the present password, so it may be a guess
     is_login: bool = False
+    new: int = 0  # which field is a new password, if any
 
 
 KINDS = {
     "verify login": Kind(hashes=True, tries=True, is_login=True),
-    "change upgrade remove": Kind(hashes=True, tries=True, changes=True),
-    "enrol reset": Kind(hashes=True, changes=True),
+    "change": Kind(hashes=True, tries=True, changes=True, new=3),
+    "upgrade remove": Kind(hashes=True, tries=True, changes=True),
+    "enrol reset": Kind(hashes=True, changes=True, new=2),
     "account load disable delete lock unlock expire": Kind(changes=True),
     "rename": Kind(changes=True, names=2),
     "known show": Kind(),

@@ -88,8 +88,10 @@ async def sweep(service: Service) -> None:
     idle = service.options.idle or float("inf")
     while True:
         await asyncio.sleep(min(idle / 10, 60.0))
-        for client in service.clients():
-            client.end_if_idle(time.monotonic() - idle)
+        for it in service.clients():
+            is_held = it.running and not (it.output or it.is_ending)
+            if it.active < time.monotonic() - idle and not is_held:
+                it.close()
 
 
 async def end(service: Service) -> int:
@@ -122,11 +124,10 @@ async def end_clients(service: Service, began: float) -> None:
     while (service.clients() or service.tasks) and seconds <= LINES_SECONDS:
         await asyncio.sleep(0.01)
         seconds = time.monotonic() - began
-        if seconds > LINES_SECONDS:
-            count = sum(client.running for client in service.clients())
-            log.error("%d lines had no answer after %d s", count, seconds)
-            for places in (service.hashes, service.changes, service.looks):
-                places.users.clear()
         for client in service.clients():
-            if seconds > (LINES_SECONDS if client.running else UNREAD_SECONDS):
+            if not client.running and seconds > UNREAD_SECONDS:
                 client.close()
+    if count := sum(client.running for client in service.clients()):
+        log.error("%d lines had no answer after %d s", count, seconds)
+    for client in service.clients():
+        client.close()

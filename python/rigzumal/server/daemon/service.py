@@ -13,19 +13,20 @@ from collections import deque
 from dataclasses import dataclass, replace
 
 from .book import UNAVAILABLE, Book, decoded
-from .clients import LONGEST, TAG, Client
+from .clients import LONGEST, Client
 from .journal import Audit, Locks
 from .log import log_seldom
 from .options import OPERATIONS, Kind, Options
 from .tries import PEOPLE, TRIED, Tally
-from .turns import Places, Rota, Rounds
+from .turns import Places, Rounds
 
-NEW = {b"enrol": 2, b"reset": 2, b"change": 3}  # where a line has a new password
-LATER = b"later"
+TAG = re.compile(rb"[a-z0-9]{1,20}")
+LONG, LATER = b"bad 16 long", b"later"
 # What `known` says where `show` has no record.
 KNOWN = {b"none": b"absent", b"bad 5 noaccount": b"noaccount"}
 HASHED_ANEW = (b"absent", b"noaccount")  # took a hash of the costs of new records
-LOOKS, CHANGES = 16, 128  # places for lines that change nothing, and for quick changes
+STEPS = 8  # places for connections that send a line, in a pass of the loop
+LOOKS, CHANGES = 16, 128  # for lines that change nothing, and for quick changes
 SYNC = 0.01  # seconds that a change waits for the disk, more or less
 
 
@@ -59,14 +60,16 @@ class Service:
 
     def __init__(self, options: Options) -> None:
         self.options, self.book, self.tally = options, Book(), Tally(options)
+        loop = asyncio.get_running_loop()
+        self.steps = Places[Client](STEPS, lambda client: loop.call_soon(client.step))
         self.hashes = Places(options.workers(), self.dispatch)
         self.changes = Places(CHANGES, self.dispatch)
         self.looks = Places(LOOKS, self.dispatch)
         self.logins, self.rounds = 0, Rounds(lambda: self.logins > 0)
         self.hash_seconds = 1.0  # what a hash takes if nothing else waits
         self.login_seconds = deque[float](maxlen=16)  # what the last logins took
-        self.tasks, self.rota = set[asyncio.Task[None]](), Rota()
-        self.is_upgrading = self.is_ending = False
+        self.tasks, self.is_ending = set[asyncio.Task[None]](), False
+        self.upgrading = asyncio.Lock()
         self.audit = Audit(options.audit, options.audit_tries)
         self.answer = self.ask  # or an old file's, where the book lacks the name
         if options.foreign:
@@ -83,46 +86,39 @@ class Service:
     def submit(self, client: Client, line: bytes) -> None:
         """Has a line answered, now or once it had a place."""
         tag, *words = line.split(b" ")
+        is_tag, is_long = TAG.fullmatch(tag), len(line) > LONGEST
+        if is_long or not is_tag:
+            answer = LONG if is_long else b"bad 11 line"
+            return client.refuse(tag if is_tag else b"*", answer)
         words += [b"", b""][len(words) :]  # an operation, and one field at least
-        if not TAG.fullmatch(tag):
-            return client.refuse(b"*", b"bad 11 line")
-        answer = self.own_answer(client, words)
-        if answer and answer != LATER:
+        if answer := self.own_answer(client, words):
             return client.refuse(tag, answer)
         client.running += 1
-        if answer:
-            # After the time of a hash: names that the book lacks take that too.
-            self.tally.counts["later"] += 1
-            seconds = random.choice(self.login_seconds or [self.hash_seconds])
-            client.loop.call_later(seconds, client.answer, tag, answer)
-        else:
-            kind = OPERATIONS[words[0]]
-            is_quick = kind.changes and self.hash_seconds <= SYNC
-            # A line waits for a hash, for the disk, or for neither.
-            places = self.changes if kind.changes else self.looks
-            places = self.hashes if kind.hashes and not is_quick else places
-            request = Request(client, tag, words, places, time.monotonic())
-            places.submit(client.user, client, request)
+        kind = OPERATIONS[words[0]]
+        is_quick = kind.changes and self.hash_seconds <= SYNC
+        # A line waits for a hash, for the disk, or for neither.
+        places = self.changes if kind.changes else self.looks
+        places = self.hashes if kind.hashes and not is_quick else places
+        request = Request(client, tag, words, places, time.monotonic())
+        places.submit(client.user, client, request)
 
     def own_answer(self, client: Client, words: list[bytes]) -> bytes:
         """The server's answer to a line that the book needn't be asked for, or nothing."""
-        kind = OPERATIONS.get(words[0])
-        if kind is None or words[0] not in client.door.operations:
-            what = words[0].decode() if kind else "an unknown operation"
+        if words[0] not in client.door.operations:
+            is_known = words[0] in OPERATIONS
+            what = words[0].decode() if is_known else "an unknown operation"
             values = (client.door.name, client.uid, what)
             log_seldom(values, "denied at %s to uid %d: %s", *values)
             self.tally.counts["denied"] += 1
             return b"denied"
+        kind = OPERATIONS[words[0]]
         names = slice(1, 1 + kind.names)
         words[names] = map(self.in_book, words[names])
-        name = words[1].decode(errors="replace")
         if sum(map(len, words)) + len(words) > LONGEST:  # with names that became longer
-            return b"bad 16 long"
+            return LONG
         if own := self.tally.own.get(words[0]):
-            return own(name).encode()
-        if kind.tries and self.tally.limiter.rest(name, f"uid {client.uid}"):
-            return LATER
-        for field in words[NEW.get(words[0], LONGEST) :][:1]:
+            return own(words[1].decode(errors="replace")).encode()
+        for field in words[kind.new : kind.new + 1] if kind.new else ():
             password = decoded(field)  # if it is none, the book refuses it
             letters = (password or b"").decode(errors="surrogateescape")
             if password is not None and len(letters) < self.options.least_length:
@@ -151,13 +147,18 @@ class Service:
 
     async def process(self, request: Request) -> None:
         """Has a request answered, unless its client has gone and it changes nothing."""
-        client, kind, answer = request.client, request.kind, LATER
+        client, kind, answer = request.client, request.kind, b""
         self.tally.waited += time.monotonic() - request.came
         try:
             if kind.changes or not client.is_gone:
                 answer = await self.attempt(request)
         finally:
             request.places.release(client.user)
+        if answer == LATER:
+            # After the time of a hash: names that the book lacks take that too.
+            await asyncio.sleep(
+                random.choice(self.login_seconds or [self.hash_seconds])
+            )
         recorded = request.without_record(answer)
         if kind.changes and not await self.audit.record(request, recorded):
             answer = UNAVAILABLE  # nobody says that a change was made that isn't noted
@@ -169,11 +170,9 @@ class Service:
 
     async def attempt(self, request: Request) -> bytes:
         """The answer, which is counted. Guesses at a name wait for one another."""
-        uid, kind, limiter = request.client.uid, request.kind, self.tally.limiter
-        keys = [
-            request.words[1].decode(errors="replace")
-        ]  # at which a failed try counts
-        keys += [f"uid {uid}"] if uid in PEOPLE else []
+        kind, limiter, began = request.kind, self.tally.limiter, time.monotonic()
+        name, uid = request.words[1].decode(errors="replace"), request.client.uid
+        keys = [name, f"uid {uid}"] if uid in PEOPLE else [name]  # of a failed try
         tries = keys if kind.tries else []
         if not await limiter.begin(*tries):
             self.tally.counts["later"] += 1
@@ -184,7 +183,7 @@ class Service:
             limiter.end(*tries)
         said = request.without_record(answer).decode()
         if kind.is_login and said in TRIED:
-            self.login_seconds.append(time.monotonic() - request.came)
+            self.login_seconds.append(time.monotonic() - began)
         elif said == "bad 4 memory":
             log_seldom(said, "no memory for a hash: see --memory, and the machine's")
         self.tally.count(kind, keys, said)
@@ -224,13 +223,12 @@ class Service:
 
     async def upgrade(self, request: Request) -> None:
         """Upgrades a record of other costs, after its password was right; one at a time."""
-        if self.is_upgrading:
+        if self.upgrading.locked():
             return
-        self.is_upgrading = True
-        name, password = request.words[1:3]
-        record = await self.book.ask(b"show", name)
-        costs = f"{self.options.upgrade}$".encode()
-        if record[:1] == b"$" and not record.startswith(costs):
-            answer = await self.ask_besides(request, b"upgrade", name, password)
-            self.tally.counts["upgraded"] += answer == b"upgraded"
-        self.is_upgrading = False
+        async with self.upgrading:
+            name, password = request.words[1:3]
+            record = await self.book.ask(b"show", name)
+            costs = f"{self.options.upgrade}$".encode()
+            if record[:1] == b"$" and not record.startswith(costs):
+                answer = await self.ask_besides(request, b"upgrade", name, password)
+                self.tally.counts["upgraded"] += answer == b"upgraded"

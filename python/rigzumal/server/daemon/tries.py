@@ -59,8 +59,7 @@ class Limiter:
         self.limits = most, most_of_user  # or 0 for no limit
         # Fewer than most, and those that have to wait, both by their last failed try.
         self.few, self.many = OrderedDict[str, Tries](), OrderedDict[str, Tries]()
-        # Tries that run, and those that wait for the end of one.
-        self.running, self.ends = Counter[str](), dict[str, asyncio.Event]()
+        self.running, self.ended = Counter[str](), asyncio.Event()
 
     def most(self, key: str) -> int:
         return self.limits[" " in key]
@@ -73,11 +72,10 @@ class Limiter:
     async def begin(self, *keys: str) -> bool:
         """Waits while as many tries run as may fail; false if it is too early for one more."""
         while not self.rest(*keys):
-            full = next(filter(self.is_full, keys), None)
-            if full is None:
+            if not any(map(self.is_full, keys)):
                 self.running.update(keys)
                 return True
-            await self.ends.setdefault(full, asyncio.Event()).wait()
+            await self.ended.wait()
         return False
 
     def is_full(self, key: str) -> bool:
@@ -88,12 +86,9 @@ class Limiter:
 
     def end(self, *keys: str) -> None:
         """Ends a try that ran."""
-        for key in keys:
-            self.running[key] -= 1
-            if not self.running[key]:
-                del self.running[key]
-            if event := self.ends.pop(key, None):
-                event.set()
+        self.running -= Counter(keys)
+        self.ended.set()
+        self.ended = asyncio.Event()
 
     def fail(self, key: str) -> None:
         now, most = time.monotonic(), self.most(key)

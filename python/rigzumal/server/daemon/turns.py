@@ -1,4 +1,4 @@
-"""Turns: for connections to be read, for lines to go to the book, for changes."""
+"""Turns: for connections to send a line, for lines to go to the book, for changes."""
 
 from __future__ import annotations
 
@@ -6,53 +6,28 @@ import asyncio
 import time
 from collections import Counter, OrderedDict, deque
 from collections.abc import Callable
-from typing import TYPE_CHECKING, Generic, Hashable, TypeVar
+from typing import Generic, Hashable, TypeVar
 
-if TYPE_CHECKING:
-    from .clients import Client
-
-SLICE = 0.001  # seconds of steps in a pass of the loop: then it looks at the sockets
 REST, LONGEST_REST = 1.5, 0.1  # of the time that a round took, and seconds
 Item = TypeVar("Item")
 
 
-class Queue(Generic[Item]):
-    """Waiting items: users take turns, then the clients of each, an item each."""
-
-    def __init__(self) -> None:
-        self.users = OrderedDict[Hashable, OrderedDict[Hashable, deque[Item]]]()
-
-    def put(self, user: Hashable, client: Hashable, item: Item) -> None:
-        clients = self.users.setdefault(user, OrderedDict())
-        clients.setdefault(client, deque()).append(item)
-
-    def pop(self, user: Hashable) -> Item:
-        """The next item of a user, whose next turn is behind the others'."""
-        clients = self.users.pop(user)
-        client, items = clients.popitem(last=False)
-        item = items.popleft()
-        if items:
-            clients[client] = items
-        if clients:
-            self.users[user] = clients
-        return item
-
-
-class Places(Queue[Item]):
-    """Places at the book, and the items that wait for one.
+class Places(Generic[Item]):
+    """Places, and the items that wait for one: users take turns, then the clients of each.
 
     The user with the fewest running items has the next. The last place is for a user
     with none: so a flood leaves it free.
     """
 
     def __init__(self, count: int, start: Callable[[Item], object]) -> None:
-        super().__init__()
         self.free, self.start = count, start
         self.running = Counter[Hashable]()
+        self.users = OrderedDict[Hashable, OrderedDict[Hashable, deque[Item]]]()
 
     def submit(self, user: Hashable, client: Hashable, item: Item) -> None:
         """Starts an item once it has a place, which may be now."""
-        self.put(user, client, item)
+        clients = self.users.setdefault(user, OrderedDict())
+        clients.setdefault(client, deque()).append(item)
         self.start_next()
 
     def release(self, user: Hashable) -> None:
@@ -70,37 +45,16 @@ class Places(Queue[Item]):
             self.running[user] += 1
             self.start(self.pop(user))
 
-
-class Rota(Queue["Client"]):
-    """Connections that are due. A step of one takes one request.
-
-    So a newcomer waits for a slice, and for a step of each other user, whatever these
-    send.
-    """
-
-    is_begun = False
-
-    def add(self, client: Client) -> None:
-        """Has a connection wait for its step, in the next pass of the loop."""
-        if not client.is_due:
-            client.is_due = True
-            self.put(client.user, client, client)
-            self.begin()
-
-    def begin(self) -> None:
-        if not self.is_begun:
-            self.is_begun = True
-            asyncio.get_running_loop().call_soon(self.run)
-
-    def run(self) -> None:
-        """Goes on with the waiting connections, for a slice."""
-        end, self.is_begun = time.monotonic() + SLICE, False
-        while self.users and time.monotonic() < end:
-            client = self.pop(next(iter(self.users)))
-            client.is_due = False
-            client.step()
-        if self.users:
-            self.begin()
+    def pop(self, user: Hashable) -> Item:
+        """The next item of a user, whose next turn is behind the others'."""
+        clients = self.users.pop(user)
+        client, items = clients.popitem(last=False)
+        item = items.popleft()
+        if items:
+            clients[client] = items
+        if clients:
+            self.users[user] = clients
+        return item
 
 
 class Rounds:

@@ -5,7 +5,6 @@ from __future__ import annotations
 import base64
 import math
 import re
-import time
 from collections.abc import Sequence
 from typing import Any, Optional
 
@@ -67,7 +66,6 @@ class WebClient(Client):
             has_body = not isinstance(self.http.next_event(), h11.EndOfMessage)
         except h11.RemoteProtocolError as fault:
             return self.respond(fault.error_status_hint)
-        self.active = time.monotonic()
         fields = credentials(request.headers)
         if has_body:
             self.respond(413)
