@@ -13,7 +13,6 @@ from typing import Any
 from unittest import mock
 
 from served import PYTHON, Case, Client, need_root
-from daemon import clients
 from daemon.clients import share_of
 from daemon.doors import FEW, Door
 from daemon.options import Options
@@ -148,7 +147,6 @@ class Shares(Case):
             "5:memory:/a/b\n0::/\n": "uid 0",
             "": "uid 0",
         }.items():
-            clients.group_of.cache_clear()
             with mock.patch.object(builtins, "open", lambda *_, **__: io.BytesIO(text.encode())):
                 self.assertEqual(share_of(0, 1), ought, text)
                 self.assertEqual(share_of(33, 1), "uid 33")

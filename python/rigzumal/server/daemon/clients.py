@@ -7,7 +7,7 @@ import re
 import socket
 import struct
 import time
-from functools import lru_cache
+from contextlib import suppress
 from typing import TYPE_CHECKING
 
 if TYPE_CHECKING:
@@ -29,19 +29,13 @@ def share_of(uid: int, pid: int) -> str:
 
     Most servers that log users in ask as root; none of them shuts the others out.
     """
-    group = group_of(pid, int(time.monotonic())) if uid == 0 else ""
+    found = None
+    if uid == 0:
+        with suppress(OSError):  # the process has gone, or is hidden
+            with open(f"/proc/{pid}/cgroup", "rb", buffering=0) as file:
+                found = GROUP.search(file.read(4096))
+    group = found[1].decode(errors="replace") if found else ""
     return f"uid {uid} in {group}" if group else f"uid {uid}"
-
-
-@lru_cache(maxsize=1024)
-def group_of(pid: int, second: int) -> str:
-    """The group of a process, kept for a second; empty if it has gone, or is hidden."""
-    try:
-        with open(f"/proc/{pid}/cgroup", "rb", buffering=0) as file:
-            found = GROUP.search(file.read(4096))
-    except OSError:
-        return ""
-    return found[1].decode(errors="replace") if found else ""
 
 
 class Client:
@@ -64,8 +58,6 @@ class Client:
         self.running, self.active = 0, time.monotonic()
         self.file, self.loop = sock.fileno(), asyncio.get_running_loop()
         sock.setblocking(False)
-
-    # ---- requests
 
     def has_request(self) -> bool:
         """Whether the input may have one."""
@@ -97,8 +89,6 @@ class Client:
     def end_pause(self) -> None:
         self.is_paused = False
         self.go_on()
-
-    # ---- steps
 
     def is_full(self) -> bool:
         return self.running >= self.most or self.is_paused or bool(self.output)
@@ -136,8 +126,6 @@ class Client:
             self.read()
             self.go_on()
 
-    # ---- input and output
-
     def read(self) -> None:
         """Reads the input; at its end the client still gets its answers, if it can."""
         try:
@@ -173,8 +161,6 @@ class Client:
         except OSError:
             self.close()
         return bool(self.output) and not self.is_gone
-
-    # ---- its end
 
     def end(self) -> None:
         """Takes no more requests, and closes once those that run are answered."""

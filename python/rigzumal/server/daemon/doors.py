@@ -32,7 +32,7 @@ class Door:
     group: str
     operations: frozenset[bytes]
     client: type[Client] = Client  # what its clients speak
-    port: Optional[int] = None
+    port: int = 0  # of 127.0.0.1
     listener: Optional[socket.socket] = None  # systemd's, or the server's own
     clients: set[Client] = field(default_factory=set)
     counts: Counter[Hashable] = field(default_factory=Counter)  # clients of each user

@@ -15,7 +15,7 @@ import os
 import re
 import time
 from contextlib import suppress
-from typing import TYPE_CHECKING, Any, Optional
+from typing import TYPE_CHECKING, Any
 from weakref import WeakValueDictionary
 
 from .book import UNAVAILABLE, decoded
@@ -27,8 +27,8 @@ if TYPE_CHECKING:
 
 NAME = re.compile(rb"[a-z0-9._-]{1,32}")  # of a book
 LACKS = (b"absent", b"noaccount")
-HAS = (b"yes", b"replaced", b"upgraded", b"kept")  # answered of a record alone
-SET = (b"enrolled", b"exists", b"replaced")  # the book has a record
+# Answered to a password if the book has a record.
+HAS = (b"yes", b"replaced", b"upgraded", b"kept", b"enrolled", b"exists")
 # What an operation that makes a name is answered if the file has the name.
 TAKES = {b"account": b"bad 1 exists", b"rename": b"exists"}
 # What ends a name's record, and the answer where the file alone had one.
@@ -59,8 +59,6 @@ class Foreign:
         crypt_r()
         with problems_at(path):
             self.read()
-
-    # ---- the file
 
     def read(self) -> None:
         """Reads the file once it stands still: htpasswd empties it, and writes it again."""
@@ -100,8 +98,6 @@ class Foreign:
         """The same, as the file was read last."""
         return b"" if name in self.moved.of else self.records.get(name, b"")
 
-    # ---- a request
-
     async def answer(self, request: Request) -> bytes:
         """The answer: the book's, or the file's where the book lacks the name."""
         operation, name = request.words[:2]
@@ -117,20 +113,23 @@ class Foreign:
                 if shown[:1] == b"$" and not await self.moved.put(name):
                     return UNAVAILABLE
         answer = await self.service.ask(request)
+        if answer in LACKS and (record := await self.record(name)):
+            if operation == b"known":
+                return b"yes"
+            if request.kind.tries:
+                return await self.move(request, record)
+            if operation == b"reset":
+                async with self.locks.setdefault(name, asyncio.Lock()):
+                    await self.service.ask_besides(request, b"account", name)
+                    answer = await self.service.ask(request)
         if request.kind.hashes and answer in HAS and self.last_record(name):
             await self.moved.put(name)
-        if answer not in LACKS or not (record := await self.record(name)):
-            return answer
-        if operation == b"known":
-            return b"yes"
-        if operation == b"reset":
-            return await self.reset(request)
-        return await self.move(request, record) if request.kind.tries else answer
+        return answer
 
     async def end(self, request: Request) -> bytes:
         """Disables or deletes a user whom the book has, or the file, or both."""
         operation, name = request.words[:2]
-        async with self.lock(name):
+        async with self.locks.setdefault(name, asyncio.Lock()):
             is_old = bool(await self.record(name))
             if not await self.moved.put(name):
                 return UNAVAILABLE
@@ -141,35 +140,20 @@ class Foreign:
                 await self.service.ask_besides(request, b"account", name)
             return ENDS[operation]
 
-    async def reset(self, request: Request) -> bytes:
-        """Resets the password of a user whom the file alone has."""
-        name = request.words[1]
-        async with self.lock(name):
-            await self.service.ask_besides(request, b"account", name)
-            answer = await self.service.ask(request)
-            if answer in SET:
-                await self.moved.put(name)
-            return answer
-
     async def move(self, request: Request, record: bytes) -> bytes:
         """Judges a password by the file, and moves the user if it is right."""
-        operation, name, field = request.words[:3]
-        if not await asyncio.to_thread(is_right, record, decoded(field)):
+        name, field = request.words[1:3]
+        if not await asyncio.to_thread(is_right, record, decoded(field) or b""):
             return request.wrong
-        async with self.lock(name):
+        async with self.locks.setdefault(name, asyncio.Lock()):
             if await self.record(name) == record:  # as before that hash
-                ask = self.service.ask_besides
-                await ask(request, b"account", name)
-                answer = await ask(request, b"enrol", name, field)
-                if answer not in SET:
+                await self.service.ask_besides(request, b"account", name)
+                words = (b"enrol", name, field)
+                answer = await self.service.ask_besides(request, *words)
+                if answer not in HAS:
                     return answer
-                if not await self.moved.put(name) and operation == b"remove":
-                    return UNAVAILABLE  # by the file the user would still get in
-        return await self.service.book.ask(*request.words)
-
-    def lock(self, name: bytes) -> asyncio.Lock:
-        """The lock for moving or ending a name."""
-        return self.locks.setdefault(name, asyncio.Lock())
+                await self.moved.put(name)
+        return await self.answer(request)
 
 
 def version_of(path: str) -> tuple[int, ...]:
@@ -191,12 +175,11 @@ def why_stuck(name: bytes, record: bytes) -> str:
     return "DES" if is_des else "plain text, or another scheme"
 
 
-def is_right(record: bytes, password: Optional[bytes]) -> bool:
+def is_right(record: bytes, password: bytes) -> bool:
     """Whether a record is of a password; false for a scheme that isn't one of SCHEMES."""
     scheme = next(filter(record.startswith, SCHEMES), b"")
-    if not scheme or password is None or b"\0" in password:
-        return False
-    if scheme in BCRYPT and len(password) > LONGEST_BCRYPT:
+    is_cut = scheme in BCRYPT and len(password) > LONGEST_BCRYPT
+    if not scheme or is_cut or b"\0" in password:
         return False
     if scheme == APACHE:
         with suppress(ValueError):  # a record that has no such form

@@ -114,15 +114,11 @@ class Options:
 
     def book_words(self) -> list[str]:
         """The book's command."""
-        given = {
-            "--at-once": self.workers(),
-            "--memory": self.memory,
-            "--most-memory": self.most_memory,
-            "--most-work": self.most_work,
-            "--setting": self.upgrade or self.setting,
-        }
         words = [self.credkeep, "--wait", self.wait, self.file, "serve", "--tagged"]
-        words += [word for pair in given.items() if pair[1] for word in pair]
+        words += ["--at-once", self.workers()]
+        for name in ("memory", "most_memory", "most_work", "setting"):
+            if value := getattr(self, name):
+                words += ["--" + name.replace("_", "-"), value]
         return [str(word) for word in words]
 
 
@@ -182,8 +178,8 @@ def door(name: str, path: str, mode: str, group: str, operations: str) -> Door:
 def web_door(address: str, first: Door) -> Door:
     """The door of --http, whose mode and group are those of the first socket."""
     loopback = re.fullmatch(r"127\.0\.0\.1:([1-9][0-9]{0,4})", address)
-    port = int(loopback[1]) if loopback else None
-    if (port is None and "/" not in address) or (port or 0) > 65535:
+    port = int(loopback[1]) if loopback else 0
+    if port > 65535 or not (port or "/" in address):
         text = f"--http takes the path of a socket or 127.0.0.1:PORT, not {address!r}"
         raise Problem(text)
     client = importlib.import_module(".web", __package__).WebClient
@@ -198,10 +194,10 @@ def parse(words: Sequence[str]) -> Options:
         return options
     if not options.file:
         raise Problem("FILE is missing; --help shows all options")
-    needed = hash_memory(options.upgrade or options.setting)
-    size = re.fullmatch(
-        "([0-9]{1,12})([KMG]?)", options.memory
-    )  # or credkeep refuses it
+    options.setting = options.upgrade or options.setting
+    needed = hash_memory(options.setting)
+    # Another form of a size credkeep refuses.
+    size = re.fullmatch("([0-9]{1,12})([KMG]?)", options.memory)
     if size and int(size[1]) * UNITS[size[2]] < needed:
         text = "is less than a hash of a new record needs"
         raise Problem(f"--memory {options.memory} {text}: {needed}K")

@@ -81,8 +81,6 @@ class Service:
     def clients(self) -> list[Client]:
         return [client for door in self.options.doors for client in door.clients]
 
-    # ---- before a line has a place
-
     def submit(self, client: Client, line: bytes) -> None:
         """Has a line answered, now or once it had a place."""
         tag, *words = line.split(b" ")
@@ -142,8 +140,6 @@ class Service:
         task = asyncio.ensure_future(self.process(request))
         self.tasks.add(task)
         task.add_done_callback(self.tasks.discard)
-
-    # ---- once it has one
 
     async def process(self, request: Request) -> None:
         """Has a request answered, unless its client has gone and it changes nothing."""
