@@ -13,11 +13,10 @@ from typing import Any
 from unittest import mock
 
 from served import PYTHON, Case, Client, need_root
-from daemon.clients import share_of
-from daemon.doors import FEW, Door
+from daemon.clients import FEW, Door
 from daemon.options import Options
 from daemon.service import Service
-from daemon.turns import Places
+from daemon.turns import Places, share_of
 
 # What a client may send that costs the book nothing, and the end of each answer.
 IDLE_LINES = {
@@ -93,7 +92,7 @@ class Floods(Case):
                 client.connect(door.path)
                 if is_flooded:
                     client.close()
-            with mock.patch("daemon.doors.ACCEPTED", count):
+            with mock.patch("daemon.clients.ACCEPTED", count):
                 door.accept(door.listener, service)
             self.assertEqual(len(door.clients), 0 if is_flooded else count)
             more = [socket.socket(socket.AF_UNIX) for _ in range(2 * FEW)]

@@ -11,7 +11,7 @@ import time
 from collections.abc import Callable
 
 from served import SECRET, Case, Client, is_listening, need, until
-from daemon import doors
+from daemon.clients import Door
 from daemon.options import Options
 from daemon.service import Service
 
@@ -105,7 +105,7 @@ class Endings(Case):
         """Once it is ending, who comes is told and closed: none is waited for, however its line falls."""
 
         async def said() -> bytes:
-            service, door = Service(Options()), doors.Door("a", "", 0, "-", frozenset())
+            service, door = Service(Options()), Door("a", "", 0, "-", frozenset())
             service.is_ending = True
             ours, theirs = socket.socketpair()
             with theirs:

@@ -4,6 +4,7 @@ from __future__ import annotations
 
 import asyncio
 import base64
+import itertools
 import os
 import re
 import signal
@@ -33,7 +34,7 @@ class Book:
     def __init__(self) -> None:
         self.pending = dict[bytes, asyncio.Future[bytes]]()  # answers, by their tags
         self.lines = list[bytes]()  # that are written together
-        self.last = self.strays = 0
+        self.tags, self.strays = itertools.count(1), 0
 
     async def start(self, words: Sequence[str]) -> None:
         with problems_at(words[0]):
@@ -50,14 +51,11 @@ class Book:
 
     def ask(self, *words: bytes) -> asyncio.Future[bytes]:
         """The answer to a line; UNAVAILABLE if the book ends before it has one."""
-        loop = asyncio.get_running_loop()
-        answer: asyncio.Future[bytes] = loop.create_future()
+        loop, tag = asyncio.get_running_loop(), b"%d" % next(self.tags)
+        answer = self.pending[tag] = loop.create_future()
         if self.ended.done():
             answer.set_result(UNAVAILABLE)
             return answer
-        self.last += 1
-        tag = b"%d" % self.last
-        self.pending[tag] = answer
         if not self.lines:
             loop.call_soon(self.write)
         self.lines.append(b"%b %b\n" % (tag, b" ".join(words)))

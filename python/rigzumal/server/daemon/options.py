@@ -13,7 +13,7 @@ from dataclasses import dataclass, field, fields
 from functools import partial
 from typing import Any, NoReturn
 
-from .doors import Door
+from .clients import Door
 from .log import Problem
 
 VERSION = "0.2.0"

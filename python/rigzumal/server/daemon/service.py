@@ -45,14 +45,15 @@ class Request:
         return OPERATIONS[self.words[0]]
 
     @property
+    def keys(self) -> list[str]:
+        """At what a failed try counts: the name, and the user if it is a person."""
+        name, uid = self.words[1].decode(errors="replace"), self.client.uid
+        return [name, f"uid {uid}"] if uid in PEOPLE else [name]
+
+    @property
     def wrong(self) -> bytes:
         """The answer to a wrong password."""
         return b"wrong" if self.kind.changes else b"no"
-
-    def without_record(self, answer: bytes) -> bytes:
-        """An answer without the record that `disable NAME show` removes and shows."""
-        is_shown = self.words[0] == b"disable" and b":" in answer
-        return b"disabled" if is_shown else answer
 
 
 class Service:
@@ -144,19 +145,24 @@ class Service:
     async def process(self, request: Request) -> None:
         """Has a request answered, unless its client has gone and it changes nothing."""
         client, kind, answer = request.client, request.kind, b""
-        self.tally.waited += time.monotonic() - request.came
+        began = time.monotonic()
+        self.tally.waited += began - request.came
         try:
             if kind.changes or not client.is_gone:
                 answer = await self.attempt(request)
         finally:
             request.places.release(client.user)
+        is_shown = request.words[0] == b"disable" and b":" in answer  # with its record
+        noted = b"disabled" if is_shown else answer
+        self.tally.count(kind, request.keys, noted.decode())
         if answer == LATER:
             # After the time of a hash: names that the book lacks take that too.
             await asyncio.sleep(
                 random.choice(self.login_seconds or [self.hash_seconds])
             )
-        recorded = request.without_record(answer)
-        if kind.changes and not await self.audit.record(request, recorded):
+        elif kind.is_login and answer.decode() in TRIED:
+            self.login_seconds.append(time.monotonic() - began)
+        if kind.changes and not await self.audit.record(request, noted):
             answer = UNAVAILABLE  # nobody says that a change was made that isn't noted
         client.answer(request.tag, answer)
         if not kind.changes:
@@ -165,25 +171,14 @@ class Service:
             await self.upgrade(request)
 
     async def attempt(self, request: Request) -> bytes:
-        """The answer, which is counted. Guesses at a name wait for one another."""
-        kind, limiter, began = request.kind, self.tally.limiter, time.monotonic()
-        name, uid = request.words[1].decode(errors="replace"), request.client.uid
-        keys = [name, f"uid {uid}"] if uid in PEOPLE else [name]  # of a failed try
-        tries = keys if kind.tries else []
-        if not await limiter.begin(*tries):
-            self.tally.counts["later"] += 1
+        """The answer. Guesses at a name wait for one another."""
+        limiter, keys = self.tally.limiter, request.keys if request.kind.tries else []
+        if not await limiter.begin(*keys):
             return LATER
         try:
-            answer = await self.locks.answer(request)
+            return await self.locks.answer(request)
         finally:
-            limiter.end(*tries)
-        said = request.without_record(answer).decode()
-        if kind.is_login and said in TRIED:
-            self.login_seconds.append(time.monotonic() - began)
-        elif said == "bad 4 memory":
-            log_seldom(said, "no memory for a hash: see --memory, and the machine's")
-        self.tally.count(kind, keys, said)
-        return answer
+            limiter.end(*keys)
 
     async def ask(self, request: Request) -> bytes:
         """The book's answer."""

@@ -11,7 +11,7 @@ from collections.abc import Iterator, Sequence
 from dataclasses import dataclass
 from itertools import islice
 
-from .log import Problem, log, problems_at, utc
+from .log import Problem, log, log_seldom, problems_at, utc
 from .options import Kind, Options, folder_of
 
 REMEMBERED = 65536  # names and users
@@ -155,8 +155,11 @@ class Tally:
     def count(self, kind: Kind, keys: Sequence[str], answer: str) -> None:
         """Counts an answer, and the failed try that it may be, at its name and its user."""
         name, *users = keys
-        self.counts["memory"] += answer == "bad 4 memory"
+        self.counts["later"] += answer == "later"
         self.counts["changes"] += kind.changes and answer in CHANGED
+        if answer == "bad 4 memory":
+            self.counts["memory"] += 1
+            log_seldom(answer, "no memory for a hash: see --memory, and the machine's")
         if not kind.tries:
             if kind.hashes and answer in CHANGED:
                 self.limiter.forgive(name, "a new password")
