@@ -3,7 +3,6 @@
 from __future__ import annotations
 
 import argparse
-import importlib
 import os
 import pathlib
 import re
@@ -182,9 +181,10 @@ def web_door(address: str, first: Door) -> Door:
     if port > 65535 or not (port or "/" in address):
         text = f"--http takes the path of a socket or 127.0.0.1:PORT, not {address!r}"
         raise Problem(text)
-    client = importlib.import_module(".web", __package__).WebClient
+    from .web import WebClient  # which needs a package more
+
     path = address if port else os.path.abspath(address)
-    return Door("http", path, first.mode, first.group, WEB, client, port)
+    return Door("http", path, first.mode, first.group, WEB, WebClient, port)
 
 
 def parse(words: Sequence[str]) -> Options:

@@ -95,29 +95,12 @@ async def sweep(service: Service) -> None:
 
 
 async def end(service: Service) -> int:
-    """Ends the clients, and then the book; returns its status."""
-    began, book, status = time.monotonic(), service.book, 0
+    """Ends the clients, each once it has its answers, then the book; returns its status."""
+    began, book = time.monotonic(), service.book
     service.is_ending = True
     notify("STOPPING=1")
     for door in service.options.doors:
         door.close()
-    await end_clients(service, began)
-    book.stdin.close()
-    rest = began + LAST_SECONDS - time.monotonic()
-    if (await asyncio.wait([book.ended], timeout=rest))[0]:
-        status = book.ended.result()
-    else:
-        log.error("the book is killed: it still runs after %d s", LAST_SECONDS)
-        book.kill()
-        await book.ended
-    if book.strays:
-        log.error("the book wrote %d answers to no line", book.strays)
-    log.info("end: status %d, %s", status, service.tally.stats(""))
-    return status
-
-
-async def end_clients(service: Service, began: float) -> None:
-    """Ends each client once its answers are sent, or once it leaves them unread."""
     for client in service.clients():
         client.end()
     seconds = 0.0
@@ -131,3 +114,13 @@ async def end_clients(service: Service, began: float) -> None:
         log.error("%d lines had no answer after %d s", count, seconds)
     for client in service.clients():
         client.close()
+    book.stdin.close()
+    await asyncio.wait([book.ended], timeout=began + LAST_SECONDS - time.monotonic())
+    if not book.ended.done():
+        log.error("the book is killed: it still runs after %d s", LAST_SECONDS)
+        book.kill()
+    status = await book.ended
+    if book.strays:
+        log.error("the book wrote %d answers to no line", book.strays)
+    log.info("end: status %d, %s", status, service.tally.stats(""))
+    return status

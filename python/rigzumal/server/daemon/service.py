@@ -5,7 +5,6 @@ from __future__ import annotations
 import asyncio
 import base64
 import hashlib
-import importlib
 import random
 import re
 import time
@@ -74,8 +73,9 @@ class Service:
         self.audit = Audit(options.audit, options.audit_tries)
         self.answer = self.ask  # or an old file's, where the book lacks the name
         if options.foreign:
-            foreign = importlib.import_module(".foreign", __package__)
-            self.answer = foreign.Foreign(self, options.foreign).answer
+            from .foreign import Foreign  # which needs a package more
+
+            self.answer = Foreign(self, options.foreign).answer
         self.locks = Locks(self)
         self.tally.own[b"locks"] = self.locks.shown
 
