@@ -116,10 +116,11 @@ async def end(service: Service) -> int:
         client.close()
     book.stdin.close()
     await asyncio.wait([book.ended], timeout=began + LAST_SECONDS - time.monotonic())
+    status = book.ended.result() if book.ended.done() else 0
     if not book.ended.done():
         log.error("the book is killed: it still runs after %d s", LAST_SECONDS)
         book.kill()
-    status = await book.ended
+        await book.ended
     if book.strays:
         log.error("the book wrote %d answers to no line", book.strays)
     log.info("end: status %d, %s", status, service.tally.stats(""))
