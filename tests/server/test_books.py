@@ -293,14 +293,21 @@ class OverCredkeep(Case):
             self.assertTrue(0.6 * ours < cost(row) < 1.7 * ours, f"{row}: a wrong one is {ours} s")
         self.assertLess(cost("known zoe -> noaccount"), 0.3 * ours, "known costs a hash")
 
-    def test_costs_that_are_none(self) -> None:
-        """Costs that credkeep doesn't take end the start, with its text and its status."""
-        start = "$argon2id$"
-        for costs in ("v=19$m=64", "m=64,t=1,p=1", "v=19$t=1,m=64,p=1"):
+    def test_options_that_cant_be_met(self) -> None:
+        """Costs that credkeep doesn't take, and memory for no hash of theirs, end the start, with its text and a status."""
+        start, more = "--upgrade $argon2id$", "--memory: a hash under --setting needs more:"
+        for words, said in (
+            *((f"{start}{it}", "--setting: ") for it in ("v=19$m=64", "m=64,t=1,p=1")),
+            (f"{start}v=19$t=1,m=64,p=1", "--setting: "),
+            *((f"--memory {it}", f"{more} 65536 KiB") for it in ("32M", "0", "65535")),
+            ("--memory 1G --setting $argon2id$v=19$m=2097152,t=1,p=1", f"{more} 2097152 KiB"),
+            ("--memory 64K --upgrade $argon2i$v=19$m=65,t=3,p=1", f"{more} 65 KiB"),
+            ("--memory 16383K --setting $scrypt$ln=14,r=8,p=2", f"{more} 16384 KiB"),
+        ):
             given: dict[str, Any] = {"program": real_book(), "waits": False}
-            service = self.serving("--upgrade", start + costs, **given)
-            self.assertEqual(service.process.wait(timeout=30), 1, f"{costs}: {service.log()}")
-            for text in ("credkeep: --setting: ", "end: status 1"):
+            service = self.serving(*words.split(), **given)
+            self.assertNotEqual(service.process.wait(timeout=30), 0, service.log())
+            for text in (f"credkeep: {said}", "end: status "):
                 self.assertIn(text, service.log())
             self.assertNotRegex(service.log(), "start:|Traceback")
 

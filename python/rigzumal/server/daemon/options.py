@@ -19,7 +19,6 @@ VERSION = "0.2.0"
 BOOKS, SOCKETS = pathlib.Path("/var/lib/rigzumal"), pathlib.Path("/run/rigzumal")
 LONGEST_PATH = 107  # bytes of a socket's path: unix(7)
 MOST_AT_ONCE = 254  # of a user: credkeep takes 255
-UNITS = {"": 1, "K": 1, "M": 1 << 10, "G": 1 << 20}  # KiB of a size, as credkeep has it
 
 
 @dataclass(frozen=True)
@@ -121,14 +120,6 @@ class Options:
         return [str(word) for word in words]
 
 
-def hash_memory(setting: str) -> int:
-    """KiB that a hash of these costs, or of credkeep's own, needs."""
-    costs = {key: int(value) for key, value in re.findall(r"(\w+)=(\d{1,9})", setting)}
-    if setting.startswith("$scrypt$"):  # credkeep has one of its tables at a time
-        return ((costs.get("r", 0) << min(costs.get("ln", 0), 40)) + 7) // 8
-    return costs.get("m", 65536 if not setting else 0)
-
-
 class Parser(argparse.ArgumentParser):
     def error(self, message: str) -> NoReturn:
         raise Problem(f"{message}; --help shows all options")
@@ -195,12 +186,6 @@ def parse(words: Sequence[str]) -> Options:
     if not options.file:
         raise Problem("FILE is missing; --help shows all options")
     options.setting = options.upgrade or options.setting
-    needed = hash_memory(options.setting)
-    # Another form of a size credkeep refuses.
-    size = re.fullmatch("([0-9]{1,12})([KMG]?)", options.memory)
-    if size and int(size[1]) * UNITS[size[2]] < needed:
-        text = "is less than a hash of a new record needs"
-        raise Problem(f"--memory {options.memory} {text}: {needed}K")
     folder = folder_of(options.file)
     given = options.socket or [
         ["login", f"{folder}/login.sock", "0660", "rigzumal", "verify,change,known"],
