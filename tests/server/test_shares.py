@@ -13,10 +13,10 @@ from typing import Any
 from unittest import mock
 
 from served import PYTHON, Case, Client, need_root
+from daemon.book import Places, share_of
 from daemon.clients import FEW, Door
 from daemon.options import Options
 from daemon.service import Service
-from daemon.turns import Places, share_of
 
 # What a client may send that costs the book nothing, and the end of each answer.
 IDLE_LINES = {

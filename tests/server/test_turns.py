@@ -6,7 +6,7 @@ from collections.abc import Callable
 from unittest import mock
 
 from served import Case
-from daemon.turns import Places, Rounds
+from daemon.book import Places, Rounds
 
 
 class Waiting(Case):

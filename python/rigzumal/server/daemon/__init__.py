@@ -3,6 +3,119 @@
 It imports nothing of the rest of rigzumal, so that bin/credkeep-server can run it alone.
 """
 
-from .server import main
+from __future__ import annotations
 
-__all__ = ["main"]
+import asyncio
+import logging
+import os
+import resource
+import signal
+import sys
+import time
+
+from .book import UNAVAILABLE
+from .log import Problem, log, log_fault, notify, watchdog_seconds
+from .options import Options, parse
+from .service import Service
+from .tries import metrics
+
+PROBE = (b"verify", b"-", b"-")  # a hash, whether the name is there or not
+# After a signal to end: until unread answers are dropped, lines are, and the book is killed.
+UNREAD_SECONDS, LINES_SECONDS, LAST_SECONDS = 0.5, 18.0, 20.0
+
+
+def main() -> int:
+    """Runs the program, and returns its status."""
+    logging.basicConfig(format="credkeep-server: %(message)s", level=logging.INFO)
+    logging.getLogger("asyncio").disabled = True  # what it says may quote a line
+    os.umask(0o177)
+    signal.signal(signal.SIGHUP, signal.SIG_IGN)
+    resource.setrlimit(resource.RLIMIT_CORE, (0, 0))
+    most = resource.getrlimit(resource.RLIMIT_NOFILE)[1]
+    resource.setrlimit(resource.RLIMIT_NOFILE, (most, most))
+    try:
+        options = parse(sys.argv[1:])
+        if options.metrics:
+            print(metrics(options.metrics), end="")
+            return 0
+        return asyncio.run(serve(options))
+    except Problem as problem:
+        log.error("%s", problem)
+        return 1
+
+
+async def serve(options: Options) -> int:
+    """Answers clients until the book ends or a signal comes; returns the status."""
+    for door in options.doors:
+        door.prepare()
+    service = Service(options)
+    loop, stop = asyncio.get_running_loop(), asyncio.Event()
+    loop.set_exception_handler(log_fault)
+    for number in (signal.SIGTERM, signal.SIGINT):
+        loop.add_signal_handler(number, stop.set)
+    await service.book.start(options.book_words())
+    opening = loop.create_task(open_doors(service))
+    ends = [opening, service.book.ended, loop.create_task(stop.wait())]
+    await asyncio.wait(ends, return_when=asyncio.FIRST_COMPLETED)
+    status = await end(service)
+    if opening.done():
+        opening.result()  # or its exception
+    return status
+
+
+async def open_doors(service: Service) -> None:
+    """Lets clients in once the book answers; tells systemd, and looks for the idle, then."""
+    if await service.book.ask(b"show", b"-") == UNAVAILABLE:
+        return
+    for door in service.options.doors:
+        door.open(service)
+    log.info("start: %s", service.options.file)
+    notify("READY=1")
+    probing = asyncio.ensure_future(probe(service))
+    idle = service.options.idle or float("inf")
+    while await service.book.ask(b"show", b"-") != UNAVAILABLE:
+        notify("WATCHDOG=1")
+        service.tally.limiter.drop_expired()
+        for client in service.clients():
+            client.close_if_idle(time.monotonic() - idle)
+        await asyncio.sleep(min(watchdog_seconds(), idle / 10))
+    await probing
+
+
+async def probe(service: Service) -> None:
+    """Measures a hash some times, since other work on the machine may slow one down."""
+    for _ in range(3):
+        await service.log_in(*PROBE)
+
+
+async def end(service: Service) -> int:
+    """Ends the clients, each once it has its answers, then the book; returns its status."""
+    began, book = time.monotonic(), service.book
+    service.is_ending = True
+    notify("STOPPING=1")
+    for door in service.options.doors:
+        door.close()
+    for client in service.clients():
+        client.end()
+    seconds = 0.0
+    while (service.clients() or service.tasks) and seconds <= LINES_SECONDS:
+        await asyncio.sleep(0.01)
+        seconds = time.monotonic() - began
+        for client in service.clients():
+            if not client.running and seconds > UNREAD_SECONDS:
+                client.close()
+    if count := sum(client.running for client in service.clients()):
+        log.error("%d lines had no answer after %d s", count, seconds)
+    for client in service.clients():
+        client.close()
+    book.stdin.close()
+    await asyncio.wait([book.ended], timeout=began + LAST_SECONDS - time.monotonic())
+    status = book.ended.result() if book.ended.done() else 0
+    if not book.ended.done():
+        log.error("the book is killed: it still runs after %d s", LAST_SECONDS)
+        book.kill()
+        await book.ended
+    if book.strays:
+        log.error("the book wrote %d answers to no line", book.strays)
+    log.info("end: status %d, %s", status, service.tally.stats(""))
+    return status

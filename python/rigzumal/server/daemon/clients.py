@@ -14,8 +14,8 @@ from collections import Counter
 from dataclasses import dataclass, field
 from typing import TYPE_CHECKING, Hashable, Optional
 
+from .book import share_of
 from .log import Problem, log_seldom, problems_at
-from .turns import share_of
 
 if TYPE_CHECKING:
     from .service import Service
@@ -159,6 +159,12 @@ class Client:
         self.input.clear()
         self.go_on()
 
+    def close_if_idle(self, since: float) -> None:
+        """Closes it if it has asked for nothing since then, or doesn't read its answers."""
+        is_waiting = self.running and not (self.output or self.is_ending)
+        if self.active < since and not is_waiting:
+            self.close()
+
     def close(self) -> None:
         """Closes the connection at once. Its running requests go on, unanswered."""
         if not self.is_gone:
@@ -288,6 +294,4 @@ class Door:
 
     def forget(self, client: Client) -> None:
         self.clients.discard(client)
-        self.counts[client.user] -= 1
-        if not self.counts[client.user]:
-            del self.counts[client.user]
+        self.counts -= Counter([client.user])

@@ -8,7 +8,6 @@ from __future__ import annotations
 
 import asyncio
 import ctypes
-import functools
 import hashlib
 import hmac
 import os
@@ -56,7 +55,6 @@ class Foreign:
         self.reading = asyncio.Lock()
         self.moved = Marks(f"{path}.moved")
         self.moved.begin()
-        crypt_r()
         with problems_at(path):
             self.read()
 
@@ -187,7 +185,7 @@ def is_right(record: bytes, password: bytes) -> bool:
         return False
     if scheme in CRYPT:
         data = ctypes.create_string_buffer(CRYPT_DATA)
-        made = crypt_r()(password, record, data) or b""
+        made = crypt_r(password, record, data) or b""
     else:
         record = decoded(record[len(scheme) :]) or b""
         salt = record[20:] if scheme == SALTED_SHA else b""
@@ -195,8 +193,7 @@ def is_right(record: bytes, password: bytes) -> bool:
     return hmac.compare_digest(made, record)
 
 
-@functools.lru_cache(1)
-def crypt_r() -> Any:
+def found_crypt() -> Any:
     """crypt(3), for many threads; a Problem where the machine has none."""
     for name in LIBRARIES:
         with suppress(OSError, AttributeError):
@@ -205,3 +202,6 @@ def crypt_r() -> Any:
             found.restype = ctypes.c_char_p
             return found
     raise Problem("--foreign needs crypt(3): libcrypt.so.1")
+
+
+crypt_r = found_crypt()

@@ -11,13 +11,12 @@ import time
 from collections import deque
 from dataclasses import dataclass, replace
 
-from .book import UNAVAILABLE, Book, decoded
+from .book import UNAVAILABLE, Book, Places, Rounds, decoded
 from .clients import LONGEST, Client
 from .journal import Audit, Locks
 from .log import log_seldom
 from .options import OPERATIONS, Kind, Options
 from .tries import PEOPLE, TRIED, Tally
-from .turns import Places, Rounds
 
 TAG = re.compile(rb"[a-z0-9]{1,20}")
 LONG, LATER = b"bad 16 long", b"later"
