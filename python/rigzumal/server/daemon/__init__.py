@@ -41,7 +41,9 @@ def main() -> int:
         return asyncio.run(serve(options))
     except Problem as problem:
         log.error("%s", problem)
-        return 1
+    except OSError as fault:
+        log.error("%s: %s", fault.filename, fault.strerror)
+    return 1
 
 
 async def serve(options: Options) -> int:

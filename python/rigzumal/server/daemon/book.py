@@ -15,8 +15,6 @@ from collections.abc import Callable, Sequence
 from contextlib import suppress
 from typing import Generic, Hashable, Optional, TypeVar
 
-from .log import problems_at
-
 LONGEST_ANSWER = 65536  # bytes
 UNAVAILABLE = b"unavailable"
 REST, LONGEST_REST = 1.5, 0.1  # of the time that a round took, and seconds
@@ -40,37 +38,29 @@ class Book:
 
     def __init__(self) -> None:
         self.pending = dict[bytes, asyncio.Future[bytes]]()  # answers, by their tags
-        self.lines = list[bytes]()  # that are written together
         self.tags, self.strays = itertools.count(1), 0
 
     async def start(self, words: Sequence[str]) -> None:
-        with problems_at(words[0]):
-            self.process = await asyncio.create_subprocess_exec(
-                *words,
-                stdin=PIPE,
-                stdout=PIPE,
-                limit=LONGEST_ANSWER,
-                start_new_session=True,  # signals to a terminal are the server's
-            )
+        self.process = await asyncio.create_subprocess_exec(
+            *words,
+            stdin=PIPE,
+            stdout=PIPE,
+            limit=LONGEST_ANSWER,
+            start_new_session=True,  # signals to a terminal are the server's
+        )
         assert self.process.stdin and self.process.stdout
         self.stdin, self.stdout = self.process.stdin, self.process.stdout
         self.ended = asyncio.ensure_future(self.read())
 
     def ask(self, *words: bytes) -> asyncio.Future[bytes]:
         """The answer to a line; UNAVAILABLE if the book ends before it has one."""
-        loop, tag = asyncio.get_running_loop(), b"%d" % next(self.tags)
-        answer = self.pending[tag] = loop.create_future()
+        tag = b"%d" % next(self.tags)
+        answer = self.pending[tag] = asyncio.get_running_loop().create_future()
         if self.ended.done():
             answer.set_result(UNAVAILABLE)
-            return answer
-        if not self.lines:
-            loop.call_soon(self.write)
-        self.lines.append(b"%b %b\n" % (tag, b" ".join(words)))
+        else:
+            self.stdin.write(b"%b %b\n" % (tag, b" ".join(words)))
         return answer
-
-    def write(self) -> None:
-        self.stdin.write(b"".join(self.lines))
-        self.lines.clear()
 
     async def read(self) -> int:
         """Hands over its answers until it ends, and returns its status."""

@@ -220,12 +220,11 @@ class Door:
             if not os.path.isdir(folder):
                 os.mkdir(folder)
                 os.chmod(folder, 0o755)
-        with problems_at(path):
-            it = os.open(path, os.O_RDWR | os.O_CREAT, 0o600)
-            try:
-                fcntl.flock(it, fcntl.LOCK_EX | fcntl.LOCK_NB)
-            except BlockingIOError:
-                raise Problem(f"another server has {self.path}") from None
+        it = os.open(path, os.O_RDWR | os.O_CREAT, 0o600)
+        try:
+            fcntl.flock(it, fcntl.LOCK_EX | fcntl.LOCK_NB)
+        except BlockingIOError:
+            raise Problem(f"another server has {self.path}") from None
 
     def bound(self) -> socket.socket:
         """A socket of its own, whose mode is set before it listens."""

@@ -19,7 +19,7 @@ from weakref import WeakValueDictionary
 
 from .book import UNAVAILABLE, decoded
 from .journal import Marks, check_regular
-from .log import Problem, log, log_seldom, needed, problems_at
+from .log import Problem, log, log_seldom, needed
 
 if TYPE_CHECKING:
     from .service import Request, Service
@@ -54,9 +54,8 @@ class Foreign:
         self.locks = WeakValueDictionary[bytes, asyncio.Lock]()
         self.reading = asyncio.Lock()
         self.moved = Marks(f"{path}.moved")
-        self.moved.begin()
-        with problems_at(path):
-            self.read()
+        self.moved.append(b"")
+        self.read()
 
     def read(self) -> None:
         """Reads the file once it stands still: htpasswd empties it, and writes it again."""
@@ -157,7 +156,7 @@ class Foreign:
 def version_of(path: str) -> tuple[int, ...]:
     """The marks of a file, which differ once it has been written or replaced."""
     it = os.stat(path)
-    check_regular(it)
+    check_regular(path, it)
     return it.st_ino, it.st_size, it.st_mtime_ns, it.st_ctime_ns
 
 

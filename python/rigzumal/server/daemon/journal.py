@@ -16,7 +16,7 @@ from dataclasses import replace
 from typing import TYPE_CHECKING, Any
 
 from .book import UNAVAILABLE
-from .log import log_seldom, problems_at, utc
+from .log import log_seldom, utc
 from .tries import TRIED
 
 if TYPE_CHECKING:
@@ -29,16 +29,16 @@ MARKS = {b"lock": b"locked", b"unlock": b"unlocked", b"expire": b"expired"}
 REFUSED = (b"noaccount", b"bad ", b"later")  # changes nothing; a name may be a password
 
 
-def check_regular(found: os.stat_result) -> None:
+def check_regular(path: str, found: os.stat_result) -> None:
     if not stat.S_ISREG(found.st_mode):
-        raise OSError(errno.EINVAL, "it isn't a regular file")
+        raise OSError(errno.EINVAL, "it isn't a regular file", path)
 
 
 def private(path: str, flags: int) -> int:
     """Opens a regular file for its owner alone; no link, and no pipe that has no reader."""
     made = os.open(path, flags | os.O_NOFOLLOW | os.O_NONBLOCK, 0o600)
     try:
-        check_regular(os.fstat(made))
+        check_regular(path, os.fstat(made))
     except OSError:
         os.close(made)
         raise
@@ -51,11 +51,6 @@ class Journal:
     def __init__(self, path: str) -> None:
         self.path, self.named = path, -1  # and the inode whose name is on the disk
         self.lines, self.one_at_a_time = list[bytes](), asyncio.Lock()
-
-    def begin(self) -> None:
-        """Makes the file if it doesn't exist; a Problem if it can't be written."""
-        with problems_at(self.path):
-            self.append(b"")
 
     def add(self, line: bytes) -> asyncio.Future[bool]:
         """Appends a line with those that come meanwhile: whether it is on the disk."""
@@ -99,7 +94,7 @@ class Audit(Journal):
         super().__init__(path)
         self.has_tries = has_tries
         if path:
-            self.begin()
+            self.append(b"")  # which fails now if it can't be written
 
     async def record(self, request: Request, answer: bytes) -> bool:
         """Adds a request and its answer, if it is one to be kept; false if it can't."""
@@ -123,7 +118,7 @@ class Marks(Journal):
     def __init__(self, path: str) -> None:
         super().__init__(path)
         self.of = dict[bytes, set[bytes]]()
-        with problems_at(path), suppress(FileNotFoundError):
+        with suppress(FileNotFoundError):
             with open(path, "rb", opener=private) as file:
                 for it in map(MARKED.fullmatch, file.read().split(b"\n")):
                     if it:
