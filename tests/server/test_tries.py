@@ -179,20 +179,27 @@ class Limiters(Case):
         for key in keys:
             limiter.fail(key)
 
+    def parts(self, limiter: Limiter) -> tuple[list[str], list[str]]:
+        """Who failed fewer than so many times, and who has to wait."""
+        few, many = list[str](), list[str]()
+        for key, it in limiter.tries.items():
+            (few if it.count < limiter.most(key) else many).append(key)
+        return few, many
+
     def test_others_dont_free_a_victim(self) -> None:
         """What is remembered has a bound: those who needn't wait are forgotten first, the oldest first."""
         limiter, last = Limiter(10), tries.REMEMBERED + 999
         self.tried(limiter, *["victim"] * 12, *(f"n{at}" for at in range(last + 1)))
         self.assertTrue(limiter.rest("victim"))
-        self.assertEqual(len(limiter.few) + len(limiter.many), tries.REMEMBERED)
-        self.assertTrue(f"n{last}" in limiter.few and "n0" not in limiter.few)
+        self.assertEqual(len(limiter.tries), tries.REMEMBERED)
+        self.assertTrue(f"n{last}" in limiter.tries and "n0" not in limiter.tries)
 
     def test_all_may_wait(self) -> None:
         """If all who are remembered wait, the oldest goes."""
         self.remembering(3)
         limiter = Limiter(1)
         self.tried(limiter, *"abcd")
-        self.assertEqual(list(limiter.many), ["b", "c", "d"])
+        self.assertEqual(list(limiter.tries), ["b", "c", "d"])
 
     def test_expired_go_first(self) -> None:
         """What is an hour old goes before what isn't, though it had more tries."""
@@ -201,7 +208,7 @@ class Limiters(Case):
         self.tried(limiter, "old", "old")
         self.clock = 4000.0
         self.tried(limiter, "one", "two")
-        self.assertEqual((list(limiter.many), list(limiter.few)), ([], ["one", "two"]))
+        self.assertEqual(self.parts(limiter), (["one", "two"], []))
 
     def test_swept(self) -> None:
         """A sweep forgets what is an hour old, and nothing else; the end of a wait is logged."""
@@ -211,7 +218,7 @@ class Limiters(Case):
                 self.tried(limiter, *keys)
             for self.clock, waiting in ((3600.5, ["w", "v"]), (3601.5, ["v"])):
                 limiter.drop_expired()
-                self.assertEqual((list(limiter.few), list(limiter.many)), (["b"], waiting))
+                self.assertEqual(self.parts(limiter), (["b"], waiting))
         said = [it.getMessage() for it in logged.records]
         begun = [f"{name} has to wait after 2 failed tries" for name in "wv"]
         self.assertEqual(said, [*begun, "w has to wait no more: no failed try for an hour"])
@@ -224,10 +231,10 @@ class Limiters(Case):
             *((1002.0 + 3599, 5, 4), (4605.0 + 3600, 1, 0), (8205.0 + 3599, 2, 0)),
         ):
             limiter.fail("x")
-            found = limiter.many.get("x") or limiter.few["x"]
+            found = limiter.tries["x"]
             self.assertEqual((found.count, found.until), (count, self.clock + wait))
         self.tried(limiter, *["x"] * 3000)
-        self.assertEqual(limiter.many["x"].until, self.clock + 900)
+        self.assertEqual(limiter.tries["x"].until, self.clock + 900)
 
     def test_forgiven(self) -> None:
         """Forgiving tells whether anything was there, of few tries and of many."""
@@ -266,7 +273,7 @@ class Limiters(Case):
         for is_early in (True, False):
             limiter.lower("x")
             self.assertEqual(limiter.rest("x") > 0, is_early)
-            self.assertEqual((len(limiter.many), len(limiter.few)), (is_early, not is_early))
+            self.assertEqual(self.parts(limiter), ([], ["x"]) if is_early else (["x"], []))
         limiter.fail("x")
         self.assertTrue(limiter.rest("x"), "the other try was forgotten")
         for _ in range(5):

@@ -51,7 +51,6 @@ class Client:
         sock.setblocking(False)
 
     def has_request(self) -> bool:
-        """Whether the input may have one."""
         return b"\n" in self.input or len(self.input) > LONGEST
 
     def take_request(self) -> None:
@@ -62,7 +61,6 @@ class Client:
         self.is_cutting = not end
 
     def reply(self, tag: bytes, answer: bytes) -> None:
-        """Writes the answer to a request."""
         self.write(b"%b %b\n" % (tag, answer))
 
     def answer(self, tag: bytes, answer: bytes) -> None:
@@ -99,7 +97,6 @@ class Client:
             self.close()
 
     def step(self) -> None:
-        """Takes a request, if it still may."""
         self.is_due = False
         try:
             if not self.is_gone and not self.is_full() and self.has_request():
@@ -253,7 +250,6 @@ class Door:
             asyncio.get_running_loop().add_reader(it, self.accept, it, service)
 
     def close(self) -> None:
-        """Lets nobody in any more."""
         if it := self.listener:
             asyncio.get_running_loop().remove_reader(it)
             it.close()

@@ -150,7 +150,6 @@ class Locks(Marks):
         self.service = service
 
     def shown(self, _: str) -> str:
-        """The names with their marks."""
         pairs = [
             f"{name.decode('ascii', 'replace')}:{MARKS[mark].decode()}"
             for name in sorted(self.of)
@@ -205,7 +204,6 @@ class Locks(Marks):
         return answer
 
     async def clear(self, name: bytes) -> None:
-        """Removes the marks of a name."""
         for undo, mark in UNDOES.items():
             if self.has(name, mark):
                 await self.put(name, undo)

@@ -180,7 +180,6 @@ class Service:
             limiter.end(*keys)
 
     async def ask(self, request: Request) -> bytes:
-        """The book's answer."""
         operation, *fields = request.words
         if operation == b"known":
             answer = await self.book.ask(b"show", *fields)

@@ -43,8 +43,8 @@ COUNTED = [*" ".join(counts for counts, _ in METRICS.values()).split(), "book"]
 class Tries:
     """The number of failed tries, and the moment until which the next has to wait."""
 
-    count: int
-    until: float
+    count: int = 0
+    until: float = 0.0
 
 
 class Limiter:
@@ -57,8 +57,7 @@ class Limiter:
 
     def __init__(self, most: int, most_of_user: int = 0) -> None:
         self.limits = most, most_of_user  # or 0 for no limit
-        # Fewer than most, and those that have to wait, both by their last failed try.
-        self.few, self.many = OrderedDict[str, Tries](), OrderedDict[str, Tries]()
+        self.tries = OrderedDict[str, Tries]()  # by their last failed try
         self.running, self.ended = Counter[str](), asyncio.Event()
 
     def most(self, key: str) -> int:
@@ -66,8 +65,8 @@ class Limiter:
 
     def rest(self, *keys: str) -> float:
         """For how many seconds more the next try has to wait."""
-        found = [self.many[key].until for key in keys if key in self.many]
-        return max(0.0, max(found) - time.monotonic()) if found else 0.0
+        found = (self.tries[key].until for key in keys if key in self.tries)
+        return max(0.0, max(found, default=0.0) - time.monotonic())
 
     async def begin(self, *keys: str) -> bool:
         """Waits while as many tries run as may fail; false if it is too early for one more."""
@@ -80,12 +79,10 @@ class Limiter:
 
     def is_full(self, key: str) -> bool:
         """Whether as many run as may fail, and one at least."""
-        found, most = self.many.get(key) or self.few.get(key), self.most(key)
-        may_fail = max(1, most - (found.count if found else 0))
-        return most > 0 and self.running[key] >= may_fail
+        failed, most = self.tries.get(key, Tries()).count, self.most(key)
+        return most > 0 and self.running[key] >= max(1, most - failed)
 
     def end(self, *keys: str) -> None:
-        """Ends a try that ran."""
         self.running -= Counter(keys)
         self.ended.set()
         self.ended = asyncio.Event()
@@ -94,50 +91,49 @@ class Limiter:
         now, most = time.monotonic(), self.most(key)
         if most == 0:
             return
-        tries = self.many.pop(key, None) or self.few.pop(key, None)
-        if tries is None or now >= tries.until + FORGOTTEN:
-            tries = Tries(0, now)
-        tries.count, tries.until = tries.count + 1, now
-        if tries.count < most:
-            self.few[key] = tries
-        else:
+        tries = self.tries.pop(key, Tries())
+        tries.count = 1 if now >= tries.until + FORGOTTEN else tries.count + 1
+        tries.until = now
+        if tries.count >= most:
             tries.until += min(2.0 ** min(tries.count - most, 60), LONGEST_WAIT)
-            self.many[key] = tries
-            if tries.count == most:
-                log.info("%s has to wait after %d failed tries", key, most)
-        if len(self.few) + len(self.many) > REMEMBERED:
+        if tries.count == most:
+            log.info("%s has to wait after %d failed tries", key, most)
+        self.tries[key] = tries
+        if len(self.tries) > REMEMBERED:
             self.drop_expired()
-        if len(self.few) + len(self.many) > REMEMBERED:
-            (self.few or self.many).popitem(last=False)
+        if len(self.tries) > REMEMBERED:
+            few = (it for it in self.tries if self.tries[it].count < self.most(it))
+            del self.tries[next(few, next(iter(self.tries)))]
 
     def drop_expired(self) -> None:
-        """Forgets tries that are an hour old."""
+        """Forgets the oldest tries, if they are an hour old."""
         then = time.monotonic() - FORGOTTEN
-        for key in [key for key, tries in self.many.items() if tries.until <= then]:
-            self.forgive(key, "no failed try for an hour")
-        while self.few and next(iter(self.few.values())).until <= then:
-            self.few.popitem(last=False)
+        while self.tries and next(iter(self.tries.values())).until <= then:
+            self.forgive(next(iter(self.tries)), "no failed try for an hour")
 
     def forgive(self, key: str, why: str) -> bool:
         """Forgets the tries of a key; false if there are none."""
-        if self.many.pop(key, None) is None:
-            return self.few.pop(key, None) is not None
-        log.info("%s has to wait no more: %s", key, why)
-        return True
+        tries = self.tries.pop(key, None)
+        if tries and tries.count >= self.most(key):
+            log.info("%s has to wait no more: %s", key, why)
+        return tries is not None
 
     def lower(self, key: str) -> None:
         """Takes one failed try back."""
-        if found := self.many.get(key) or self.few.get(key):
-            found.count -= 1
-            if found.count < self.most(key) and self.forgive(key, "right passwords"):
-                if found.count:
-                    self.few[key] = Tries(found.count, time.monotonic())
+        if tries := self.tries.get(key):
+            if tries.count <= self.most(key):
+                self.forgive(key, "right passwords")
+                tries.until = time.monotonic()
+                if tries.count > 1:
+                    self.tries[key] = tries
+            tries.count -= 1
 
     def waits(self) -> Iterator[str]:
         """Who has to wait: KEY:FAILED:SECONDS, a user as uid=1000, which is no name."""
-        for key, tries in self.many.items():
-            if rest := self.rest(key):
-                yield f"{key.replace(' ', '=')}:{tries.count}:{rest:.0f}"
+        now = time.monotonic()
+        for key, tries in self.tries.items():
+            if tries.until > now:
+                yield f"{key.replace(' ', '=')}:{tries.count}:{tries.until - now:.0f}"
 
 
 class Tally:
