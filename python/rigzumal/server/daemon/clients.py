@@ -67,12 +67,11 @@ class Client:
         """Answers a request that was running."""
         self.running -= 1
         self.reply(tag, answer)
-        self.go_on()
 
     def refuse(self, tag: bytes, answer: bytes) -> None:
         """Answers a request with which the book had no work, and pauses."""
-        self.reply(tag, answer)
         self.is_paused = True
+        self.reply(tag, answer)
         self.loop.call_later(PAUSE * self.door.counts[self.user], self.end_pause)
 
     def end_pause(self) -> None:
@@ -128,27 +127,25 @@ class Client:
             self.close()
 
     def write(self, text: bytes) -> None:
-        """Sends it, and what the client doesn't take now once it does."""
-        self.active = time.monotonic()
+        """Sends it, and goes on once the client has taken all."""
         self.output += text
-        if len(self.output) == len(text) and self.send():
-            self.loop.add_writer(self.file, self.write_more)
+        if len(self.output) == len(text):
+            self.send()
 
-    def write_more(self) -> None:
-        if not self.send():
-            self.loop.remove_writer(self.file)
-            self.active = time.monotonic()
-            self.go_on()
-
-    def send(self) -> bool:
-        """Sends a piece of the output; whether some is left, and a client to take it."""
+    def send(self) -> None:
+        """Sends a piece of the output, and the next one once the client takes it."""
         try:
             del self.output[: self.socket.send(self.output[:WRITTEN])]
         except BlockingIOError:
             pass
         except OSError:
-            self.close()
-        return bool(self.output) and not self.is_gone
+            return self.close()
+        self.active = time.monotonic()
+        if self.output:
+            self.loop.add_writer(self.file, self.send)
+        else:
+            self.loop.remove_writer(self.file)
+            self.go_on()
 
     def end(self) -> None:
         """Takes no more requests, and closes once those that run are answered."""

@@ -89,10 +89,6 @@ class Foreign:
             except OSError as fault:
                 log_seldom(self.path, "%s: %s", self.path, fault.strerror)
                 self.records, self.version = {}, ()
-        return self.last_record(name)
-
-    def last_record(self, name: bytes) -> bytes:
-        """The same, as the file was read last."""
         return b"" if name in self.moved.of else self.records.get(name, b"")
 
     async def answer(self, request: Request) -> bytes:
@@ -119,8 +115,9 @@ class Foreign:
                 async with self.locks.setdefault(name, asyncio.Lock()):
                     await self.service.ask_besides(request, b"account", name)
                     answer = await self.service.ask(request)
-        if request.kind.hashes and answer in HAS and self.last_record(name):
-            await self.moved.put(name)
+        if request.kind.hashes and answer in HAS and self.records.get(name):
+            if name not in self.moved.of:
+                await self.moved.put(name)
         return answer
 
     async def end(self, request: Request) -> bytes:
