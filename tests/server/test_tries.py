@@ -246,23 +246,31 @@ class Limiters(Case):
     def test_names_and_users(self) -> None:
         """A try runs once neither its name nor its user has as many running as may fail there."""
         limiter, begun = Limiter(2, 3), list[str]()
+        ends = {name: asyncio.Semaphore(0) for name in "abc"}
 
-        async def begin(name: str) -> None:
-            self.assertTrue(await limiter.begin(name, "uid 1000"))
-            begun.append(name)
+        async def judge(name: str) -> None:
+            async def answer() -> bytes:
+                begun.append(name)
+                await ends[name].acquire()
+                return b"no"
+
+            self.assertEqual(await limiter.judge(answer, name, "uid 1000"), b"no")
 
         async def run() -> None:
-            tasks = [asyncio.ensure_future(begin(it)) for it in "aaabc"]
+            tasks = [asyncio.ensure_future(judge(it)) for it in "aaabc"]
             for ended, ought in (("", "aab"), ("b", "aabc"), ("a", "aabca")):
                 if ended:
-                    limiter.end(ended, "uid 1000")
-                for _ in range(3):
+                    ends[ended].release()
+                for _ in range(6):
                     await asyncio.sleep(0)
                 self.assertEqual("".join(begun), ought)
-            await asyncio.gather(*tasks)
             self.assertEqual(limiter.running, {"a": 2, "c": 1, "uid 1000": 3})
             self.tried(limiter, *["uid 1000"] * 3)
-            self.assertFalse(await limiter.begin("d", "uid 1000"), "its user has to wait")
+            said = await limiter.judge(mock.Mock(), "d", "uid 1000")
+            self.assertEqual(said, b"later", "its user has to wait")
+            for name in "aac":
+                ends[name].release()
+            await asyncio.gather(*tasks)
 
         asyncio.run(run())
 

@@ -3,8 +3,6 @@
 It imports nothing of the rest of rigzumal, so that bin/credkeep-server can run it alone.
 """
 
-from __future__ import annotations
-
 import asyncio
 import logging
 import os

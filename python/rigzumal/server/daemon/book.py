@@ -1,7 +1,5 @@
 """The book's process, and the turns of those who ask it."""
 
-from __future__ import annotations
-
 import asyncio
 import base64
 import itertools
@@ -100,8 +98,9 @@ def share_of(uid: int, pid: int) -> str:
         with suppress(OSError):  # the process has gone, or is hidden
             with open(f"/proc/{pid}/cgroup", "rb", buffering=0) as file:
                 found = GROUP.search(file.read(4096))
-    group = found[1].decode(errors="replace") if found else ""
-    return f"uid {uid} in {group}" if group else f"uid {uid}"
+    return (
+        f"uid {uid} in {found[1].decode(errors='replace')}" if found else f"uid {uid}"
+    )
 
 
 class Places(Generic[Item]):
@@ -123,7 +122,6 @@ class Places(Generic[Item]):
         self.start_next()
 
     def release(self, user: Hashable) -> None:
-        """Frees the place of a user's item."""
         self.free += 1
         self.running[user] -= 1
         self.start_next()
@@ -135,18 +133,14 @@ class Places(Generic[Item]):
                 return
             self.free -= 1
             self.running[user] += 1
-            self.start(self.pop(user))
-
-    def pop(self, user: Hashable) -> Item:
-        """The next item of a user, whose next turn is behind the others'."""
-        clients = self.users.pop(user)
-        client, items = clients.popitem(last=False)
-        item = items.popleft()
-        if items:
-            clients[client] = items
-        if clients:
-            self.users[user] = clients
-        return item
+            clients = self.users.pop(user)
+            client, items = clients.popitem(last=False)
+            item = items.popleft()
+            if items:
+                clients[client] = items  # whose next turn is behind the others'
+            if clients:
+                self.users[user] = clients
+            self.start(item)
 
 
 class Rounds:

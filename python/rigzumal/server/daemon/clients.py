@@ -64,7 +64,6 @@ class Client:
         self.write(b"%b %b\n" % (tag, answer))
 
     def answer(self, tag: bytes, answer: bytes) -> None:
-        """Answers a request that was running."""
         self.running -= 1
         self.reply(tag, answer)
 
@@ -253,7 +252,6 @@ class Door:
             self.listener = None
 
     def accept(self, listening: socket.socket, service: Service) -> None:
-        """Lets in some new clients."""
         gone = 0
         try:
             for _ in range(ACCEPTED):

@@ -34,7 +34,6 @@ TAKES = {b"account": b"bad 1 exists", b"rename": b"exists"}
 ENDS = {b"disable": b"disabled", b"delete": b"deleted"}
 STILL, LOOKS = 0.1, 20  # seconds, and how often the file is looked at
 MOST_TOLD = 20  # names in a line of the log
-LIBRARIES = ("libcrypt.so.1", "libcrypt.so.2", None)  # musl has crypt(3) in its libc
 CRYPT_DATA = 131232  # bytes of crypt_r's own in the oldest libraries, which need most
 APACHE, SHA, SALTED_SHA = b"$apr1$", b"{SHA}", b"{SSHA}"
 BCRYPT, LONGEST_BCRYPT = (b"$2a$", b"$2b$", b"$2y$"), 72  # bytes: it ignores all behind
@@ -191,7 +190,7 @@ def is_right(record: bytes, password: bytes) -> bool:
 
 def found_crypt() -> Any:
     """crypt(3), for many threads; a Problem where the machine has none."""
-    for name in LIBRARIES:
+    for name in ("libcrypt.so.1", "libcrypt.so.2", None):  # musl has it in its libc
         with suppress(OSError, AttributeError):
             found = ctypes.CDLL(name).crypt_r
             found.argtypes = [ctypes.c_char_p, ctypes.c_char_p, ctypes.c_void_p]

@@ -1,7 +1,5 @@
 """Messages: problems, lines on standard error, systemd's notices."""
 
-from __future__ import annotations
-
 import importlib
 import logging
 import os

@@ -1,7 +1,5 @@
 """The command line, and the operations that a socket may allow."""
 
-from __future__ import annotations
-
 import argparse
 import os
 import pathlib
@@ -46,7 +44,6 @@ KINDS = {
     "stats waits locks": Kind(names=0),
     "forgive last": Kind(),
 }
-WEB = frozenset([b"verify"])  # what --http takes
 OPERATIONS = {word.encode(): it for key, it in KINDS.items() for word in key.split()}
 
 
@@ -68,7 +65,6 @@ def costs(word: str) -> str:
 
 
 def option(text: str, metavar: str, default: object = "", kind: object = None) -> Any:
-    """An option with a value."""
     text += f" ({default})" if default != "" else ""
     kind = kind or (str if default == "" else number)
     shown = {"help": text, "metavar": metavar, "type": kind}
@@ -111,7 +107,6 @@ class Options:
         return 1 + min(self.at_once or len(os.sched_getaffinity(0)), MOST_AT_ONCE)
 
     def book_words(self) -> list[str]:
-        """The book's command."""
         words = [self.credkeep, "--wait", self.wait, self.file, "serve", "--tagged"]
         words += ["--at-once", self.workers()]
         for name in ("memory", "most_memory", "most_work", "setting"):
@@ -174,8 +169,8 @@ def web_door(address: str, first: Door) -> Door:
         raise Problem(text)
     from .web import WebClient  # which needs a package more
 
-    path = address if port else os.path.abspath(address)
-    return Door("http", path, first.mode, first.group, WEB, WebClient, port)
+    path, takes = address if port else os.path.abspath(address), frozenset([b"verify"])
+    return Door("http", path, first.mode, first.group, takes, WebClient, port)
 
 
 def parse(words: Sequence[str]) -> Options:

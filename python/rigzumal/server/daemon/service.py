@@ -10,16 +10,17 @@ import re
 import time
 from collections import deque
 from dataclasses import dataclass, replace
+from functools import partial
 
 from .book import UNAVAILABLE, Book, Places, Rounds, decoded
 from .clients import LONGEST, Client
 from .journal import Audit, Locks
 from .log import log_seldom
 from .options import OPERATIONS, Kind, Options
-from .tries import PEOPLE, TRIED, Tally
+from .tries import LATER, PEOPLE, TRIED, Tally
 
 TAG = re.compile(rb"[a-z0-9]{1,20}")
-LONG, LATER = b"bad 16 long", b"later"
+LONG = b"bad 16 long"
 # What `known` says where `show` has no record.
 KNOWN = {b"none": b"absent", b"bad 5 noaccount": b"noaccount"}
 HASHED_ANEW = (b"absent", b"noaccount")  # took a hash of the costs of new records
@@ -142,13 +143,18 @@ class Service:
         task.add_done_callback(self.tasks.discard)
 
     async def process(self, request: Request) -> None:
-        """Has a request answered, unless its client has gone and it changes nothing."""
+        """Has a request answered, unless its client has gone and it changes nothing.
+
+        Guesses at a name wait for one another.
+        """
         client, kind, answer = request.client, request.kind, b""
         began = time.monotonic()
         self.tally.waited += began - request.came
         try:
             if kind.changes or not client.is_gone:
-                answer = await self.attempt(request)
+                keys, ask = request.keys, partial(self.locks.answer, request)
+                limiter = self.tally.limiter
+                answer = await limiter.judge(ask, *(keys if kind.tries else ()))
         finally:
             request.places.release(client.user)
         is_shown = request.words[0] == b"disable" and b":" in answer  # with its record
@@ -168,16 +174,6 @@ class Service:
             await self.audit.record(request, answer)
         if answer == b"yes" and self.options.upgrade and request.words[0] == b"verify":
             await self.upgrade(request)
-
-    async def attempt(self, request: Request) -> bytes:
-        """The answer. Guesses at a name wait for one another."""
-        limiter, keys = self.tally.limiter, request.keys if request.kind.tries else []
-        if not await limiter.begin(*keys):
-            return LATER
-        try:
-            return await self.locks.answer(request)
-        finally:
-            limiter.end(*keys)
 
     async def ask(self, request: Request) -> bytes:
         operation, *fields = request.words

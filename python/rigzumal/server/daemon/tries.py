@@ -1,19 +1,18 @@
 """Failed tries and how long the next has to wait, and what else was answered."""
 
-from __future__ import annotations
-
 import asyncio
 import re
 import socket
 import time
 from collections import Counter, OrderedDict
-from collections.abc import Iterator, Sequence
+from collections.abc import Awaitable, Callable, Iterator, Sequence
 from dataclasses import dataclass
 from itertools import islice
 
 from .log import Problem, log, log_seldom, problems_at, utc
 from .options import Kind, Options, folder_of
 
+LATER = b"later"  # for this try it is too early
 REMEMBERED = 65536  # names and users
 LONGEST_WAIT, FORGOTTEN = 900.0, 3600.0  # seconds
 PEOPLE = range(1000, 60001)  # uids whose failed tries count: a service logs in many
@@ -68,24 +67,25 @@ class Limiter:
         found = (self.tries[key].until for key in keys if key in self.tries)
         return max(0.0, max(found, default=0.0) - time.monotonic())
 
-    async def begin(self, *keys: str) -> bool:
-        """Waits while as many tries run as may fail; false if it is too early for one more."""
+    async def judge(self, answer: Callable[[], Awaitable[bytes]], *keys: str) -> bytes:
+        """An answer to a try, which waits while as many run as may fail; or LATER."""
         while not self.rest(*keys):
-            if not any(map(self.is_full, keys)):
-                self.running.update(keys)
-                return True
-            await self.ended.wait()
-        return False
+            if any(map(self.is_full, keys)):
+                await self.ended.wait()
+                continue
+            self.running.update(keys)
+            try:
+                return await answer()
+            finally:
+                self.running -= Counter(keys)
+                self.ended.set()
+                self.ended = asyncio.Event()
+        return LATER
 
     def is_full(self, key: str) -> bool:
         """Whether as many run as may fail, and one at least."""
         failed, most = self.tries.get(key, Tries()).count, self.most(key)
         return most > 0 and self.running[key] >= max(1, most - failed)
-
-    def end(self, *keys: str) -> None:
-        self.running -= Counter(keys)
-        self.ended.set()
-        self.ended = asyncio.Event()
 
     def fail(self, key: str) -> None:
         now, most = time.monotonic(), self.most(key)

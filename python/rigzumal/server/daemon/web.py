@@ -1,7 +1,5 @@
 """HTTP for nginx's auth_request and its like: Basic comes in, and a status goes out."""
 
-from __future__ import annotations
-
 import base64
 import math
 import re
@@ -15,9 +13,8 @@ h11 = needed("h11", "--http", "python3-h11")
 MOST_HEAD = 8192  # bytes of a request
 # A right password that must be changed is `expired`; what is in none of these is 503.
 STATUSES = {b"yes": 200, b"expired": 403, b"denied": 403, b"later": 429}
-STATUSES.update(dict.fromkeys((b"no", b"absent", b"noaccount"), 401))
-# Of a name or a password that no book has, or a line that is too long: 401.
-NOBODY = (b"bad 3 ", b"bad 13 ", b"bad 16 ")
+# Also of a name or a password that no book has, or a line that is too long: 401.
+NOBODY = (b"no", b"absent", b"bad 3 ", b"bad 13 ", b"bad 16 ")
 HEADERS = {
     401: [("WWW-Authenticate", 'Basic realm="book", charset="UTF-8"')],
     405: [("Allow", "GET, HEAD")],
