@@ -6,13 +6,14 @@ It imports nothing of the rest of rigzumal, so that bin/credkeep-server can run 
 import asyncio
 import logging
 import os
+import re
 import resource
 import signal
 import sys
 import time
 
 from .book import UNAVAILABLE
-from .log import Problem, log, log_fault, notify, watchdog_seconds
+from .log import Problem, log, log_fault, notify
 from .options import Options, parse
 from .service import Service
 from .tries import metrics
@@ -73,12 +74,16 @@ async def open_doors(service: Service) -> None:
     notify("READY=1")
     probing = asyncio.ensure_future(probe(service))
     idle = service.options.idle or float("inf")
+    usec = os.environ.get("WATCHDOG_USEC", "")
+    beat = int(usec) / 2e6 if re.fullmatch("[1-9][0-9]{0,18}", usec) else 30.0
     while await service.book.ask(b"show", b"-") != UNAVAILABLE:
         notify("WATCHDOG=1")
         service.tally.limiter.drop_expired()
-        for client in service.clients():
-            client.close_if_idle(time.monotonic() - idle)
-        await asyncio.sleep(min(watchdog_seconds(), idle / 10))
+        for it in service.clients():
+            is_waiting = it.running and not (it.output or it.is_ending)
+            if it.active < time.monotonic() - idle and not is_waiting:
+                it.close()
+        await asyncio.sleep(min(beat, idle / 10))
     await probing
 
 

@@ -152,12 +152,6 @@ class Client:
         self.input.clear()
         self.go_on()
 
-    def close_if_idle(self, since: float) -> None:
-        """Closes it if it has asked for nothing since then, or doesn't read its answers."""
-        is_waiting = self.running and not (self.output or self.is_ending)
-        if self.active < since and not is_waiting:
-            self.close()
-
     def close(self) -> None:
         """Closes the connection at once. Its running requests go on, unanswered."""
         if not self.is_gone:
@@ -175,10 +169,11 @@ class Door:
     name: str
     path: str  # or 127.0.0.1:PORT, which each user of the machine may reach
     mode: int
-    group: str
+    group: str  # or "-" for none
     operations: frozenset[bytes]
     client: type[Client] = Client  # what its clients speak
     port: int = 0  # of 127.0.0.1
+    gid: int = -1
     listener: Optional[socket.socket] = None  # systemd's, or the server's own
     clients: set[Client] = field(default_factory=set)
     counts: Counter[Hashable] = field(default_factory=Counter)  # clients of each user
@@ -186,7 +181,6 @@ class Door:
     def prepare(self) -> None:
         """Finds systemd's socket, or else takes the lock of its own."""
         if os.environ.get("LISTEN_PID") != str(os.getpid()):
-            self.group_id()
             return self.lock()
         names = os.environ.get("LISTEN_FDNAMES", "").split(":")
         if self.name not in names:
@@ -197,15 +191,12 @@ class Door:
             what = f"the socket {self.name} that systemd handed over"
             raise Problem(f"{what} is no stream")
 
-    def group_id(self) -> int:
-        """The group that the socket is given, or -1."""
+    def lock(self) -> None:
+        """Finds the group, and locks the socket for as long as this process lives."""
         try:
-            return -1 if self.group == "-" else grp.getgrnam(self.group).gr_gid
+            self.gid = -1 if self.group == "-" else grp.getgrnam(self.group).gr_gid
         except KeyError:
             raise Problem(f"there is no group {self.group}, for {self.path}") from None
-
-    def lock(self) -> None:
-        """Takes the lock beside the socket, for as long as this process lives."""
         folder, path = os.path.dirname(self.path), f"{self.path}.lock"
         if self.port:
             return  # which is its server's alone
@@ -229,7 +220,7 @@ class Door:
                 raise Problem(f"another server listens at {self.path}")
             os.unlink(self.path)
         made.bind(self.path)
-        os.chown(self.path, -1, self.group_id())
+        os.chown(self.path, -1, self.gid)
         os.chmod(self.path, self.mode)
         return made
 

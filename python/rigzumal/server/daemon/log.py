@@ -3,7 +3,6 @@
 import importlib
 import logging
 import os
-import re
 import socket
 import time
 from collections.abc import Iterator
@@ -63,9 +62,3 @@ def notify(text: str) -> None:
                 it.sendto(text.encode(), to)
         except OSError as fault:
             log_seldom("systemd", "NOTIFY_SOCKET: %s", fault.strerror)
-
-
-def watchdog_seconds() -> float:
-    """The seconds between notices that the book answers, for systemd or for nobody."""
-    given = os.environ.get("WATCHDOG_USEC", "")
-    return int(given) / 2e6 if re.fullmatch("[1-9][0-9]{0,18}", given) else 30.0

@@ -5,10 +5,8 @@ from __future__ import annotations
 import asyncio
 import base64
 import hashlib
-import random
 import re
 import time
-from collections import deque
 from dataclasses import dataclass, replace
 from functools import partial
 
@@ -17,7 +15,7 @@ from .clients import LONGEST, Client
 from .journal import Audit, Locks
 from .log import log_seldom
 from .options import OPERATIONS, Kind, Options
-from .tries import LATER, PEOPLE, TRIED, Tally
+from .tries import LATER, PEOPLE, Tally
 
 TAG = re.compile(rb"[a-z0-9]{1,20}")
 LONG = b"bad 16 long"
@@ -66,8 +64,8 @@ class Service:
         self.changes = Places(CHANGES, self.dispatch)
         self.looks = Places(LOOKS, self.dispatch)
         self.logins, self.rounds = 0, Rounds(lambda: self.logins > 0)
-        self.hash_seconds = 1.0  # what a hash takes if nothing else waits
-        self.login_seconds = deque[float](maxlen=16)  # what the last logins took
+        # What a hash takes if nothing else waits, and what the last login took.
+        self.hash_seconds = self.login_seconds = 1.0
         self.tasks, self.is_ending = set[asyncio.Task[None]](), False
         self.upgrading = asyncio.Lock()
         self.audit = Audit(options.audit, options.audit_tries)
@@ -148,13 +146,12 @@ class Service:
         Guesses at a name wait for one another.
         """
         client, kind, answer = request.client, request.kind, b""
-        began = time.monotonic()
-        self.tally.waited += began - request.came
+        self.tally.waited += time.monotonic() - request.came
         try:
             if kind.changes or not client.is_gone:
-                keys, ask = request.keys, partial(self.locks.answer, request)
-                limiter = self.tally.limiter
-                answer = await limiter.judge(ask, *(keys if kind.tries else ()))
+                ask = partial(self.locks.answer, request)
+                keys = request.keys if kind.tries else []
+                answer = await self.tally.limiter.judge(ask, *keys)
         finally:
             request.places.release(client.user)
         is_shown = request.words[0] == b"disable" and b":" in answer  # with its record
@@ -162,11 +159,7 @@ class Service:
         self.tally.count(kind, request.keys, noted.decode())
         if answer == LATER:
             # After the time of a hash: names that the book lacks take that too.
-            await asyncio.sleep(
-                random.choice(self.login_seconds or [self.hash_seconds])
-            )
-        elif kind.is_login and answer.decode() in TRIED:
-            self.login_seconds.append(time.monotonic() - began)
+            await asyncio.sleep(self.login_seconds)
         if kind.changes and not await self.audit.record(request, noted):
             answer = UNAVAILABLE  # nobody says that a change was made that isn't noted
         client.answer(request.tag, answer)
@@ -195,9 +188,10 @@ class Service:
         self.logins += 1
         answer = await self.book.ask(*words)
         self.logins -= 1
+        if answer in (b"yes", b"no", *HASHED_ANEW):
+            self.login_seconds = time.monotonic() - began
         if answer in HASHED_ANEW:
-            seconds = time.monotonic() - began
-            self.hash_seconds = min(seconds, 1.01 * self.hash_seconds)
+            self.hash_seconds = min(self.login_seconds, 1.01 * self.hash_seconds)
         return answer
 
     async def ask_besides(self, request: Request, *words: bytes) -> bytes:
