@@ -18,13 +18,11 @@ from .options import Options, parse
 from .service import Service
 from .tries import metrics
 
-PROBE = (b"verify", b"-", b"-")  # a hash, whether the name is there or not
 # After a signal to end: until unread answers are dropped, lines are, and the book is killed.
 UNREAD_SECONDS, LINES_SECONDS, LAST_SECONDS = 0.5, 18.0, 20.0
 
 
 def main() -> int:
-    """Runs the program, and returns its status."""
     logging.basicConfig(format="credkeep-server: %(message)s", level=logging.INFO)
     logging.getLogger("asyncio").disabled = True  # what it says may quote a line
     os.umask(0o177)
@@ -65,7 +63,7 @@ async def serve(options: Options) -> int:
 
 
 async def open_doors(service: Service) -> None:
-    """Lets clients in once the book answers; tells systemd, and looks for the idle, then."""
+    """Lets clients in once the book answers, and tells systemd for as long as it does."""
     if await service.book.ask(b"show", b"-") == UNAVAILABLE:
         return
     for door in service.options.doors:
@@ -90,7 +88,7 @@ async def open_doors(service: Service) -> None:
 async def probe(service: Service) -> None:
     """Measures a hash some times, since other work on the machine may slow one down."""
     for _ in range(3):
-        await service.log_in(*PROBE)
+        await service.log_in(b"verify", b"-", b"-")  # which hashes, as for any name
 
 
 async def end(service: Service) -> int:

@@ -24,8 +24,8 @@ CLIENTS, FEW = 1024, 64  # a door's, and how many wait to be let in
 ACCEPTED = 16  # clients in a pass of the loop: then others have steps
 LONGEST = 960  # bytes of a line
 READ, WRITTEN = 4096, 16384  # bytes at a time
-# Seconds until a connection goes on behind an answer that took no work of the book, times
-# its user's connections: all of a user's get a thousand such answers a second.
+# Seconds behind an answer that took no work of the book, times a user's connections: all
+# of these get a thousand such answers a second.
 PAUSE = 0.001
 
 
@@ -38,6 +38,7 @@ class Client:
     most = 32  # requests that run at once
     no_room = b"* unavailable\n"
     is_cutting = False  # the rest of a line that is too long
+    has_more = False  # what was read, and not taken
     is_watched = is_due = is_paused = is_ending = is_gone = False
 
     def __init__(self, service: Service, door: Door, sock: socket.socket) -> None:
@@ -148,7 +149,7 @@ class Client:
 
     def end(self) -> None:
         """Takes no more requests, and closes once those that run are answered."""
-        self.is_ending = True
+        self.is_ending, self.has_more = True, False
         self.input.clear()
         self.go_on()
 
@@ -159,7 +160,8 @@ class Client:
             self.loop.remove_reader(self.file)
             self.loop.remove_writer(self.file)
             self.socket.close()
-            self.door.forget(self)
+            self.door.clients.discard(self)
+            self.door.counts -= Counter([self.user])
 
 
 @dataclass(eq=False)
@@ -272,7 +274,3 @@ class Door:
             text = "no more connections at %s for %s, which has %d"
             log_seldom(client.user, text, *client.user, own)
             client.service.tally.counts["refused"] += 1
-
-    def forget(self, client: Client) -> None:
-        self.clients.discard(client)
-        self.counts -= Counter([client.user])

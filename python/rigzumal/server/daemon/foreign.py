@@ -1,8 +1,4 @@
-"""An htpasswd file whose users move into the book, each by a right password.
-
-The server never writes that file. HTPASSWD.moved has the names that have left it. Its
-records are judged as nginx judges them: Apache's, LDAP's and crypt(3)'s.
-"""
+"""An htpasswd file, never written, whose users move into the book by right passwords."""
 
 from __future__ import annotations
 
@@ -10,16 +6,17 @@ import asyncio
 import ctypes
 import hashlib
 import hmac
+import importlib
 import os
 import re
 import time
 from contextlib import suppress
-from typing import TYPE_CHECKING, Any
+from typing import TYPE_CHECKING
 from weakref import WeakValueDictionary
 
 from .book import UNAVAILABLE, decoded
 from .journal import Marks, check_regular
-from .log import Problem, log, log_seldom, needed
+from .log import Problem, log, log_seldom
 
 if TYPE_CHECKING:
     from .service import Request, Service
@@ -40,11 +37,19 @@ BCRYPT, LONGEST_BCRYPT = (b"$2a$", b"$2b$", b"$2y$"), 72  # bytes: it ignores al
 # Without DES, to which the first eight letters of a password are all of it.
 CRYPT = (*BCRYPT, b"$1$", b"$5$", b"$6$", b"$7$", b"$gy$", b"$y$")
 SCHEMES = (APACHE, SHA, SALTED_SHA, *CRYPT)
-apache = needed("passlib.hash", "--foreign", "python3-passlib").apr_md5_crypt
+apache = importlib.import_module("passlib.hash").apr_md5_crypt  # has no types
+for library in ("libcrypt.so.1", "libcrypt.so.2", None):  # musl's libc has crypt(3)
+    with suppress(OSError, AttributeError):
+        crypt_r = ctypes.CDLL(library).crypt_r  # for many threads
+        crypt_r.argtypes = [ctypes.c_char_p, ctypes.c_char_p, ctypes.c_void_p]
+        crypt_r.restype = ctypes.c_char_p
+        break
+else:
+    raise Problem("--foreign needs crypt(3): libcrypt.so.1")
 
 
 class Foreign:
-    """The file, which is read again whenever it has changed."""
+    """The file, read again once it has changed. HTPASSWD.moved has who has left it."""
 
     def __init__(self, service: Service, path: str) -> None:
         self.service, self.path = service, path
@@ -137,7 +142,7 @@ class Foreign:
         """Judges a password by the file, and moves the user if it is right."""
         name, field = request.words[1:3]
         if not await asyncio.to_thread(is_right, record, decoded(field) or b""):
-            return request.wrong
+            return request.kind.wrong
         async with self.locks.setdefault(name, asyncio.Lock()):
             if await self.record(name) == record:  # as before that hash
                 await self.service.ask_besides(request, b"account", name)
@@ -169,7 +174,7 @@ def why_stuck(name: bytes, record: bytes) -> str:
 
 
 def is_right(record: bytes, password: bytes) -> bool:
-    """Whether a record is of a password; false for a scheme that isn't one of SCHEMES."""
+    """Whether a record is of a password, as nginx judges it, by one of SCHEMES."""
     scheme = next(filter(record.startswith, SCHEMES), b"")
     is_cut = scheme in BCRYPT and len(password) > LONGEST_BCRYPT
     if not scheme or is_cut or b"\0" in password:
@@ -186,17 +191,3 @@ def is_right(record: bytes, password: bytes) -> bool:
         salt = record[20:] if scheme == SALTED_SHA else b""
         made = hashlib.sha1(password + salt).digest() + salt
     return hmac.compare_digest(made, record)
-
-
-def found_crypt() -> Any:
-    """crypt(3), for many threads; a Problem where the machine has none."""
-    for name in ("libcrypt.so.1", "libcrypt.so.2", None):  # musl has it in its libc
-        with suppress(OSError, AttributeError):
-            found = ctypes.CDLL(name).crypt_r
-            found.argtypes = [ctypes.c_char_p, ctypes.c_char_p, ctypes.c_void_p]
-            found.restype = ctypes.c_char_p
-            return found
-    raise Problem("--foreign needs crypt(3): libcrypt.so.1")
-
-
-crypt_r = found_crypt()

@@ -1,7 +1,4 @@
-"""Files of lines that only grow: a line is on the disk before anybody is answered.
-
-One has who did what, one the names that are locked or whose passwords must be changed.
-"""
+"""Files of lines that only grow, each on the disk before anybody is answered."""
 
 from __future__ import annotations
 
@@ -118,11 +115,10 @@ class Marks(Journal):
     def __init__(self, path: str) -> None:
         super().__init__(path)
         self.of = dict[bytes, set[bytes]]()
-        with suppress(FileNotFoundError):
-            with open(path, "rb", opener=private) as file:
-                for it in map(MARKED.fullmatch, file.read().split(b"\n")):
-                    if it:
-                        self.apply(it[1], it[2] or b"")
+        with suppress(FileNotFoundError), open(path, "rb", opener=private) as file:
+            for it in map(MARKED.fullmatch, file.read().split(b"\n")):
+                if it:
+                    self.apply(it[1], it[2] or b"")
 
     def apply(self, name: bytes, mark: bytes) -> None:
         marks = self.of.pop(name, set())
@@ -171,7 +167,7 @@ class Locks(Marks):
             asked = replace(request, words=[b"verify", *request.words[1:3]])
         answer = await self.service.answer(asked)
         if answer in (b"yes", b"no") and (is_locked or self.has(name, b"lock")):
-            return b"absent" if operation == b"known" else request.wrong
+            return b"absent" if operation == b"known" else request.kind.wrong
         if answer == b"yes" and self.has(name, b"expire"):
             return b"expired"
         if answer in (b"replaced", b"enrolled") and self.has(name, b"expire"):

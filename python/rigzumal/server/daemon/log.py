@@ -1,6 +1,5 @@
 """Messages: problems, lines on standard error, systemd's notices."""
 
-import importlib
 import logging
 import os
 import socket
@@ -25,14 +24,6 @@ def problems_at(path: str) -> Iterator[None]:
         yield
     except OSError as fault:
         raise Problem(f"{path}: {fault.strerror or fault}") from None
-
-
-def needed(module: str, option: str, package: str) -> Any:
-    """A module that an option needs, from a package of Debian's."""
-    try:
-        return importlib.import_module(module)
-    except ImportError:
-        raise Problem(f"{option} needs {package}") from None
 
 
 def log_fault(_: object, context: dict[str, Any]) -> None:

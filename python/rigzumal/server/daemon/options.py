@@ -27,12 +27,12 @@ class Kind:
     hashes: bool = False
     changes: bool = False
     tries: bool = False  # it takes the present password, so it may be a guess
-    is_login: bool = False
+    wrong: bytes = b"wrong"  # the answer to a wrong password
     new: int = 0  # which field is a new password, if any
 
 
 KINDS = {
-    "verify login": Kind(hashes=True, tries=True, is_login=True),
+    "verify login": Kind(hashes=True, tries=True, wrong=b"no"),
     "change": Kind(hashes=True, tries=True, changes=True, new=3),
     "upgrade remove": Kind(hashes=True, tries=True, changes=True),
     "enrol reset": Kind(hashes=True, changes=True, new=2),
@@ -122,14 +122,15 @@ class Parser(argparse.ArgumentParser):
 
 def parser() -> Parser:
     made = Parser(
-        prog="credkeep-server",
         usage="credkeep-server [OPTION].. FILE",
         description="Lets many clients of Unix sockets ask the kept book FILE.",
         epilog="credkeep-server(8) tells more.",
     )
     text = "the book, which `credkeep FILE init` makes"
     made.add_argument("file", metavar="FILE", nargs="?", default="", help=text)
-    made.add_argument("--version", action="version", version=f"%(prog)s {VERSION}")
+    made.add_argument(
+        "--version", action="version", version=f"credkeep-server {VERSION}"
+    )
     words = ("NAME", "PATH", "MODE", "GROUP", "OPERATIONS")
     text = "a socket in place of the login and the admin socket; for each one"
     made.add_argument("--socket", nargs=5, action="append", metavar=words, help=text)
@@ -140,7 +141,6 @@ def parser() -> Parser:
 
 
 def folder_of(file: str) -> pathlib.Path:
-    """The folder of a book's sockets, by the book's name or path."""
     path = pathlib.Path(os.path.abspath(file)).with_suffix("")
     return SOCKETS / (path.name if path.parent == BOOKS else "-".join(path.parts[1:]))
 
@@ -167,8 +167,10 @@ def web_door(address: str, first: Door) -> Door:
     if port > 65535 or not (port or "/" in address):
         text = f"--http takes the path of a socket or 127.0.0.1:PORT, not {address!r}"
         raise Problem(text)
-    from .web import WebClient  # which needs a package more
-
+    try:
+        from .web import WebClient
+    except ImportError:
+        raise Problem("--http needs python3-h11") from None
     path, takes = address if port else os.path.abspath(address), frozenset([b"verify"])
     return Door("http", path, first.mode, first.group, takes, WebClient, port)
 

@@ -7,13 +7,13 @@ import base64
 import hashlib
 import re
 import time
-from dataclasses import dataclass, replace
+from dataclasses import dataclass, field, replace
 from functools import partial
 
 from .book import UNAVAILABLE, Book, Places, Rounds, decoded
 from .clients import LONGEST, Client
 from .journal import Audit, Locks
-from .log import log_seldom
+from .log import Problem, log_seldom
 from .options import OPERATIONS, Kind, Options
 from .tries import LATER, PEOPLE, Tally
 
@@ -35,7 +35,7 @@ class Request:
     tag: bytes
     words: list[bytes]  # the operation and its fields
     places: Places[Request]
-    came: float
+    came: float = field(default_factory=time.monotonic)
 
     @property
     def kind(self) -> Kind:
@@ -47,19 +47,13 @@ class Request:
         name, uid = self.words[1].decode(errors="replace"), self.client.uid
         return [name, f"uid {uid}"] if uid in PEOPLE else [name]
 
-    @property
-    def wrong(self) -> bytes:
-        """The answer to a wrong password."""
-        return b"wrong" if self.kind.changes else b"no"
-
 
 class Service:
     """The book, its doors, and who may ask what and when."""
 
     def __init__(self, options: Options) -> None:
         self.options, self.book, self.tally = options, Book(), Tally(options)
-        loop = asyncio.get_running_loop()
-        self.steps = Places[Client](STEPS, lambda client: loop.call_soon(client.step))
+        self.steps = Places[Client](STEPS, lambda it: it.loop.call_soon(it.step))
         self.hashes = Places(options.workers(), self.dispatch)
         self.changes = Places(CHANGES, self.dispatch)
         self.looks = Places(LOOKS, self.dispatch)
@@ -71,8 +65,10 @@ class Service:
         self.audit = Audit(options.audit, options.audit_tries)
         self.answer = self.ask  # or an old file's, where the book lacks the name
         if options.foreign:
-            from .foreign import Foreign  # which needs a package more
-
+            try:
+                from .foreign import Foreign
+            except ImportError:
+                raise Problem("--foreign needs python3-passlib") from None
             self.answer = Foreign(self, options.foreign).answer
         self.locks = Locks(self)
         self.tally.own[b"locks"] = self.locks.shown
@@ -96,8 +92,7 @@ class Service:
         # A line waits for a hash, for the disk, or for neither.
         places = self.changes if kind.changes else self.looks
         places = self.hashes if kind.hashes and not is_quick else places
-        request = Request(client, tag, words, places, time.monotonic())
-        places.submit(client.user, client, request)
+        places.submit(client.user, client, Request(client, tag, words, places))
 
     def own_answer(self, client: Client, words: list[bytes]) -> bytes:
         """The server's answer to a line that the book needn't be asked for, or nothing."""
@@ -173,7 +168,7 @@ class Service:
         if operation == b"known":
             answer = await self.book.ask(b"show", *fields)
             return b"yes" if answer[:1] == b"$" else KNOWN.get(answer, answer)
-        if request.kind.is_login:
+        if request.kind.tries and not request.kind.changes:
             return await self.log_in(*request.words)
         if request.places is not self.changes:
             return await self.book.ask(*request.words)

@@ -7,7 +7,6 @@ import time
 from collections import Counter, OrderedDict
 from collections.abc import Awaitable, Callable, Iterator, Sequence
 from dataclasses import dataclass
-from itertools import islice
 
 from .log import Problem, log, log_seldom, problems_at, utc
 from .options import Kind, Options, folder_of
@@ -40,10 +39,8 @@ COUNTED = [*" ".join(counts for counts, _ in METRICS.values()).split(), "book"]
 
 @dataclass
 class Tries:
-    """The number of failed tries, and the moment until which the next has to wait."""
-
-    count: int = 0
-    until: float = 0.0
+    count: int = 0  # of failed ones
+    until: float = 0.0  # the moment until which the next has to wait
 
 
 class Limiter:
@@ -181,7 +178,7 @@ class Tally:
         return " ".join(["stats", *(f"{it}={now.get(it, 0)}" for it in COUNTED)])
 
     def waits(self, _: str) -> str:
-        return " ".join(["waits", *islice(self.limiter.waits(), MOST_SHOWN)])
+        return " ".join(["waits", *[*self.limiter.waits()][:MOST_SHOWN]])
 
     def forgive(self, name: str) -> str:
         key = name.replace("uid=", "uid ", 1)

@@ -6,10 +6,10 @@ import re
 from collections.abc import Sequence
 from typing import Any, Optional
 
-from .clients import Client
-from .log import needed
+import h11
 
-h11 = needed("h11", "--http", "python3-h11")
+from .clients import Client
+
 MOST_HEAD = 8192  # bytes of a request
 # A right password that must be changed is `expired`; what is in none of these is 503.
 STATUSES = {b"yes": 200, b"expired": 403, b"denied": 403, b"later": 429}
@@ -42,7 +42,7 @@ class WebClient(Client):
 
     most = 1
     no_room = b"HTTP/1.1 503 Service Unavailable\r\nContent-Length: 0\r\nConnection: close\r\n\r\n"
-    name, has_more = b"", False
+    name = b""
 
     def __init__(self, *words: Any) -> None:
         super().__init__(*words)
@@ -79,8 +79,6 @@ class WebClient(Client):
 
     def respond(self, status: int) -> None:
         """Sends a status, and goes on with the next request if there may be one."""
-        if self.is_gone:
-            return
         headers = [("Content-Length", "0"), *HEADERS.get(status, ())]
         if status == 429:
             name = self.service.in_book(self.name).decode(errors="replace")
@@ -93,7 +91,3 @@ class WebClient(Client):
             self.go_on()
         else:
             self.end()
-
-    def end(self) -> None:
-        self.has_more = False
-        super().end()
