@@ -39,7 +39,7 @@ def main() -> int:
     except Problem as problem:
         log.error("%s", problem)
     except OSError as fault:
-        log.error("%s: %s", fault.filename, fault.strerror)
+        log.error("%s: %s", fault.filename or "the system", fault.strerror)
     return 1
 
 

@@ -5,8 +5,10 @@ from __future__ import annotations
 import asyncio
 import base64
 import hashlib
+import random
 import re
 import time
+from collections import deque
 from dataclasses import dataclass, field, replace
 from functools import partial
 
@@ -58,8 +60,8 @@ class Service:
         self.changes = Places(CHANGES, self.dispatch)
         self.looks = Places(LOOKS, self.dispatch)
         self.logins, self.rounds = 0, Rounds(lambda: self.logins > 0)
-        # What a hash takes if nothing else waits, and what the last login took.
-        self.hash_seconds = self.login_seconds = 1.0
+        self.hash_seconds = 1.0  # what a hash takes if nothing else waits
+        self.login_seconds = deque[float](maxlen=16)  # what the last logins took
         self.tasks, self.is_ending = set[asyncio.Task[None]](), False
         self.upgrading = asyncio.Lock()
         self.audit = Audit(options.audit, options.audit_tries)
@@ -154,7 +156,8 @@ class Service:
         self.tally.count(kind, request.keys, noted.decode())
         if answer == LATER:
             # After the time of a hash: names that the book lacks take that too.
-            await asyncio.sleep(self.login_seconds)
+            seconds = random.choice(self.login_seconds or [self.hash_seconds])
+            await asyncio.sleep(seconds)
         if kind.changes and not await self.audit.record(request, noted):
             answer = UNAVAILABLE  # nobody says that a change was made that isn't noted
         client.answer(request.tag, answer)
@@ -183,10 +186,11 @@ class Service:
         self.logins += 1
         answer = await self.book.ask(*words)
         self.logins -= 1
+        seconds = time.monotonic() - began
         if answer in (b"yes", b"no", *HASHED_ANEW):
-            self.login_seconds = time.monotonic() - began
+            self.login_seconds.append(seconds)
         if answer in HASHED_ANEW:
-            self.hash_seconds = min(self.login_seconds, 1.01 * self.hash_seconds)
+            self.hash_seconds = min(seconds, 1.01 * self.hash_seconds)
         return answer
 
     async def ask_besides(self, request: Request, *words: bytes) -> bytes:
