@@ -112,8 +112,8 @@ class Service:
             return LONG
         if own := self.tally.own.get(words[0]):
             return own(words[1].decode(errors="replace")).encode()
-        for field in words[kind.new : kind.new + 1] if kind.new else ():
-            password = decoded(field)  # if it is none, the book refuses it
+        for typed in words[kind.new : kind.new + 1] if kind.new else ():
+            password = decoded(typed)  # if it is none, the book refuses it
             letters = (password or b"").decode(errors="surrogateescape")
             if password is not None and len(letters) < self.options.least_length:
                 return b"short"
