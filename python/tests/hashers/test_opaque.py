@@ -20,9 +20,12 @@ class Opaque(unittest.TestCase):
         ):
             with self.subTest(text=text):
                 self.assertEqual(opaque_string(text), wanted)
-        for text in ("", "my cat is a \u0009by"):
+        for text, said in (
+            ("", "the password is empty"),
+            ("my cat is a \u0009by", "the password has a character that can't be typed"),
+        ):
             with self.subTest(text=text):
-                self.assertRaises(ValueError, opaque_string, text)
+                self.assertRaisesRegex(ValueError, f"^{said}$", opaque_string, text)
 
     @each("caf\u00e9", "\u1e9b\u0323", "\uac00", "na\u00efve \u212b")
     def test_each_keyboard_makes_the_same(self, text):
