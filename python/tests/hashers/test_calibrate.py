@@ -100,7 +100,9 @@ class Safety(unittest.TestCase):
     def test_a_slow_machine_has_them_all_the_same(self, machine):
         for memory in (19456, 20000, 47103, 47104, 65536, 2**20):
             for lanes in (1, 4, 255):
-                last = tried(machine, 20, memory, lanes, below=False)[-1].hasher
+                found = [it.hasher for it in tried(machine, 20, memory, lanes, below=False)]
+                self.assertGreaterEqual(min(it.memory_cost for it in found), 19456)
+                last = found[-1]
                 self.assertTrue(_calibrate.is_safe(last), (memory, last))
                 self.assertLessEqual(last.memory_cost, memory)
 
