@@ -157,7 +157,7 @@ class Step:
 
     def __init__(self, test: "Steps", places: Places[Any], user: str, name: str, count: int) -> None:
         self.test, self.places, self.user, self.name = test, places, user, name
-        self.count = count
+        self.count, self.loop = count, asyncio.get_running_loop()
 
     def submit(self) -> None:
         self.places.submit(self.user, self, self)
