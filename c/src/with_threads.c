@@ -10,13 +10,19 @@
 /* What a tag is made of, and where to. */
 struct tag_inputs {
     const struct tag_numbers *numbers;
-    const struct argon2_inputs *inputs;
+    const struct rigzumal_inputs *inputs;
     uint8_t *tag;
 };
 
+/* As the exports take them. */
+#define PROVED(it)                                                                                 \
+    BYTES(it->password, it->password_size), BYTES(it->salt, it->salt_size),                        \
+        BYTES(it->secret, it->secret_size), BYTES(it->associated, it->associated_size)
+
 static uint8_t begin_tag(const void *inputs, struct argon2_block *first, size_t count) {
     const struct tag_inputs *it = inputs;
-    return CALL(cred_argon2_begin, it->numbers, it->inputs, first, count);
+    struct argon2_inputs all = {PROVED(it->inputs)};
+    return CALL(cred_argon2_begin, it->numbers, &all, first, count);
 }
 
 static uint8_t end_tag(const void *inputs, const struct argon2_block *last, size_t count) {
@@ -29,18 +35,15 @@ int rigzumal_argon2_from(void *tag, size_t tag_size, const struct rigzumal_argon
     int fault = null_fault(inputs);
     if (fault != RIGZUMAL_OK)
         return fault;
-    struct argon2_inputs proved = {BYTES(inputs->password, inputs->password_size),
-                                   BYTES(inputs->salt, inputs->salt_size),
-                                   BYTES(inputs->secret, inputs->secret_size),
-                                   BYTES(inputs->associated, inputs->associated_size)};
-    struct tag_numbers all = {numbers->kind,   numbers->version, numbers->memory,
-                              numbers->passes, numbers->lanes,   (uint32_t)tag_size};
-    uint32_t threads = lanes_useful_threads(&all, inputs->threads);
-    if (threads == 1 || tag_size > UINT32_MAX)
-        return cleared(
-            CALL(cred_argon2, numbers, &proved, tag_size == 0 ? NOTHING : tag, tag_size));
-    struct tag_inputs made = {&all, &proved, tag};
-    struct task task = {all, begin_tag, end_tag, &made, NULL};
+    struct tag_numbers of_parts = {numbers->kind,   numbers->version, numbers->memory,
+                                   numbers->passes, numbers->lanes,   (uint32_t)tag_size};
+    uint32_t threads = lanes_useful_threads(&of_parts, inputs->threads);
+    if (threads == 1 || tag_size > UINT32_MAX) {
+        struct argon2_inputs all = {PROVED(inputs)};
+        return cleared(CALL(cred_argon2, numbers, &all, tag_size == 0 ? NOTHING : tag, tag_size));
+    }
+    struct tag_inputs made = {&of_parts, inputs, tag};
+    struct task task = {of_parts, begin_tag, end_tag, &made, NULL};
     return cleared(lanes_work(&task, threads));
 }
 

@@ -36,10 +36,6 @@ static unsigned char *map_stack(size_t size) {
     return mapping + PAGE;
 }
 
-static void unmap_stack(unsigned char *stack, size_t size) {
-    CHECK(munmap(stack - PAGE, PAGE + size) == 0);
-}
-
 static void call(void) {
     answer = answer_of(job, &vault);
 }
@@ -94,7 +90,7 @@ int main(void) {
         answer = -1;
         unsigned char *stack = map_stack(size);
         ways[at % COUNT(ways)].call(stack, size);
-        unmap_stack(stack, size);
+        CHECK(munmap(stack - PAGE, PAGE + size) == 0);
         CHECK_NUMBER(answer, job->answer);
     }
     return 0;

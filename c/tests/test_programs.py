@@ -23,10 +23,8 @@ PROGRAMS = (
     ("lanes", FAST, LANES, "150", "marks"),
     ("lanes", SANITIZED, LANES, "60"),
     ("lanes", RACES, LANES, "60"),
-    *(
-        ("forked_lanes", [*FAST, f"-DTHREAD_LOCAL={size}"], [*LANES, "src/heap.c"])
-        for size in (1, 56 << 10)
-    ),
+    ("forked_lanes", [*FAST, "-DTHREAD_LOCAL=1"], [*LANES, "src/heap.c"]),
+    ("forked_lanes", [*FAST, "-DTHREAD_LOCAL=57344"], [*LANES, "src/heap.c"]),
     ("calls", [*RACES, *JOBS], ALL),
     ("interrupted", FAST, SOURCES),
     ("interrupted", SANITIZED, SOURCES),
