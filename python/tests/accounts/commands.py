@@ -1,13 +1,10 @@
 """The command on a file of SQLite: how it is run, and its answers as tables."""
 
-import contextlib
-import io
 import os
 import pathlib
-import sys
 from unittest import mock
 
-from support import LOW, Base
+from support import LOW, Base, streams
 from rigzumal.accounts import cli
 
 COSTS = "--memory 64 --passes 1 --lanes 1".split()
@@ -29,29 +26,15 @@ class Commands(Base):
         if self.has_table:
             self.streams("init")
 
-    def streams(self, *words, given=b"", typed=(), shows=False, status=0):
-        """What the command writes on standard output, and on standard error: with something typed
-        the input is a terminal, and with `shows` standard error is one."""
-        said, error = io.StringIO(), io.StringIO()
-        error.isatty = lambda: shows
-        given = given.encode() if isinstance(given, str) else given
-        stdin = mock.Mock(buffer=io.BytesIO(given), isatty=lambda: bool(typed))
-        asked = mock.patch("getpass.getpass", side_effect=typed)
-        with mock.patch.object(sys, "stdin", stdin), asked, contextlib.redirect_stdout(said):
-            with contextlib.redirect_stderr(error):
-                try:
-                    found = cli.main([*COSTS, *map(str, words)])
-                except SystemExit as end:  # of argparse
-                    found = end.code
-        self.assertEqual(found, status, said.getvalue() + error.getvalue())
-        return said.getvalue(), error.getvalue()
+    def streams(self, *words, **more):
+        """What the command writes on each stream."""
+        return streams(cli.main, *COSTS, *words, **more)
 
     def run_command(self, *words, **more):
         return "".join(self.streams(*words, **more))
 
     def assert_answers(self, *rows, **more):
-        """Rows are words, the input or a list of what is typed, and what is answered; or the status
-        of a refusal, which standard error explains."""
+        """Rows are words, the input (a list is typed), and the answer or an explained status."""
         for words, given, answer in rows:
             status = answer if isinstance(answer, int) else 4 * (answer in NO)
             given = {"typed" if isinstance(given, list) else "given": given}

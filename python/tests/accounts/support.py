@@ -40,8 +40,7 @@ SERVERS = {}
 
 
 def server(kind):
-    """A server for all tests of a run, and of SQLite a file of one's own; a skipped test if it
-    isn't there."""
+    """A server for all tests of a run, and of SQLite a file; a skipped test if none is there."""
     if kind is servers.SqliteFile:
         return kind().start()
     if kind not in SERVERS:
@@ -63,8 +62,7 @@ def module(name):
 
 
 class Base(unittest.TestCase):
-    """A table of accounts on an engine (on SQLite, if a class names no other), in which `ann` has
-    the password "one"."""
+    """A table on an engine (SQLite, if a class names no other), in which `ann` has "one"."""
 
     kind, dialect = servers.SqliteFile, Sqlite("users", "name", "record")
     low, high = LOW, HIGH
@@ -193,15 +191,31 @@ class Base(unittest.TestCase):
 
     @contextlib.contextmanager
     def hashes(self, count):
-        """So many turns of hashing are within."""
-        with counted() as found:
+        """So many turns of hashing are within: steps, and checks of a dummy."""
+        made, step, is_right = [], _judgement.step, _judgement.is_right
+
+        def counted_step(kind, copy, *given):
+            made.extend([kind.value] if copy is not None or kind is Kind.ENROL else [])
+            return step(kind, copy, *given)
+
+        def counted_check(*given):
+            made.append("dummy")
+            return is_right(*given)
+
+        with mock.patch.multiple(_judgement, step=counted_step, is_right=counted_check):
             yield
-        self.assertEqual(len(found), count, found)
+        self.assertEqual(len(made), count, made)
 
     @contextlib.contextmanager
-    def statements(self, words, kind=Session):
+    def statements(self, words):
         """What is sent within are statements with these first words."""
-        with sent(kind) as found:
+        found, execute = [], Session.execute
+
+        async def noted(session, sql, *values):
+            found.append(sql.split()[0])
+            return await execute(session, sql, *values)
+
+        with mock.patch.object(Session, "execute", noted):
             yield
         self.assertEqual(" ".join(found), words)
 
@@ -210,9 +224,8 @@ class Base(unittest.TestCase):
 
     def assert_no_record(self, error):
         """None is in what is raised, nor in what it was raised from."""
-        self.assertNotIn(
-            "$argon2", "".join(traceback.format_exception(type(error), error, error.__traceback__))
-        )
+        lines = traceback.format_exception(type(error), error, error.__traceback__)
+        self.assertNotIn("$argon2", "".join(lines))
 
 
 def is_right(record, password, hasher=LOW):
@@ -231,15 +244,28 @@ def called(accounts, text, **more):
     return getattr(accounts, name)(key, *given, **more).value
 
 
-def commanded(main, *words, given=b"", status=0):
-    """What a command writes on both streams, if it ends with this status."""
-    said, stdin = io.StringIO(), mock.Mock(buffer=io.BytesIO(given), isatty=lambda: False)
-    with contextlib.redirect_stdout(said), contextlib.redirect_stderr(said):
-        with mock.patch.object(sys, "stdin", stdin):
-            found = main([*map(str, words)])
+def streams(main, *words, given=b"", typed=(), shows=False, status=0):
+    """What a command writes on standard output, and on standard error, if it ends with this status:
+    with something typed the input is a terminal, and with `shows` standard error is one."""
+    said, error = io.StringIO(), io.StringIO()
+    error.isatty = lambda: shows
+    given = given.encode() if isinstance(given, str) else given
+    stdin = mock.Mock(buffer=io.BytesIO(given), isatty=lambda: bool(typed))
+    asked = mock.patch("getpass.getpass", side_effect=typed)
+    with mock.patch.object(sys, "stdin", stdin), asked, contextlib.redirect_stdout(said):
+        with contextlib.redirect_stderr(error):
+            try:
+                found = main([*map(str, words)])
+            except SystemExit as end:  # of argparse
+                found = end.code
     if found != status:
-        raise AssertionError(f"{words}: status {found}\n{said.getvalue()}")
-    return said.getvalue()
+        raise AssertionError(f"status {found}\n{said.getvalue()}{error.getvalue()}")
+    return said.getvalue(), error.getvalue()
+
+
+def commanded(main, *words, **more):
+    """What a command writes on both streams."""
+    return "".join(streams(main, *words, **more))
 
 
 def closed(conn):
@@ -288,19 +314,6 @@ def in_threads(act, count):
         return [*pool.map(act, range(count))]
 
 
-@contextlib.contextmanager
-def sent(kind=Session):
-    """The first words of the statements that are sent within."""
-    found, execute = [], kind.execute
-
-    async def noted(session, sql, *values):
-        found.append(sql.split()[0])
-        return await execute(session, sql, *values)
-
-    with mock.patch.object(kind, "execute", noted):
-        yield found
-
-
 class Scripted:
     """A session that answers what it is told, one statement after another."""
 
@@ -313,23 +326,6 @@ class Scripted:
         if isinstance(answer, Exception):
             raise answer
         return answer
-
-
-@contextlib.contextmanager
-def counted():
-    """The turns of hashing within: steps, and checks of a dummy."""
-    made, step, is_right = [], _judgement.step, _judgement.is_right
-
-    def counted_step(kind, copy, *given):
-        made.extend([kind.value] if copy is not None or kind is Kind.ENROL else [])
-        return step(kind, copy, *given)
-
-    def counted_check(*given):
-        made.append("dummy")
-        return is_right(*given)
-
-    with mock.patch.multiple(_judgement, step=counted_step, is_right=counted_check):
-        yield made
 
 
 class Awaiting:

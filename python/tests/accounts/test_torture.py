@@ -103,18 +103,14 @@ class Tortures(Base):
         """The whole, one with a statement of its own, the parts, a caller's transaction
         and the login; an exception of a process is a fault."""
 
-        def broken(accounts):
-            setattr(accounts, name, mock.Mock(side_effect=RuntimeError))
-
+        broken = lambda accounts: setattr(accounts, name, mock.Mock(side_effect=RuntimeError))
         mix = {"login" if name == "login" else "change": 1}
         given = {"table": f"t{name}{way}", "seconds": 10, "ways": (way,), "mix": mix}
         with self.assertRaisesRegex(StoreFault, "2 processes ended by an exception"):
             self.run_one(alter=broken, **given)
 
     def test_an_unknown_outcome_is_no_failure(self):
-        def unknown(accounts):
-            losing(accounts._dialect, before=False, times=10**6)
-
+        unknown = lambda accounts: losing(accounts._dialect, before=False, times=10**6)
         mix = {"enrol": 1, "remove": 2, "reset": 1}
         accounts = self.run_one(alter=unknown, mix=mix, patience=0.0)
         lines = [it for one in self.lines() for it in one if it["event"] == "answer"]
@@ -126,8 +122,7 @@ class Tortures(Base):
         kinds, replies = set(), set()
         wanted = {"upgraded", "kept", "yes", "no", "wrong"}
         for turn in range(10):
-            folder = pathlib.Path(f"{self.logs}{turn}")
-            mix = {"login": 3, "change": 1, "reset": 1}
+            folder, mix = pathlib.Path(f"{self.logs}{turn}"), {"login": 3, "change": 1, "reset": 1}
             accounts = self.run_one(mix=mix, folder=folder, table=f"t{turn}")
             self.assertIsNone(torture.verdict(accounts))
             kinds |= {it.kind for it in self.operations(accounts)}
@@ -140,12 +135,7 @@ class Tortures(Base):
     def test_a_login_that_says_yes_is_refused(self):
         def careless(accounts):
             login = accounts.login
-
-            def yes(*given):
-                login(*given)
-                return Reply.YES
-
-            accounts.login = yes
+            accounts.login = lambda *given: (login(*given), Reply.YES)[1]
 
         accounts = self.run_one(alter=careless, mix={"login": 1, "reset": 1})
         self.assertIn("was answered yes", str(torture.verdict(accounts)))
@@ -167,7 +157,7 @@ class Tortures(Base):
         end = f"{self.server.path}.end"
         with contextlib.closing(sqlite3.connect(end)) as conn:
             conn.execute("CREATE TABLE ended (name TEXT PRIMARY KEY, record TEXT)")
-            conn.executemany("INSERT INTO ended VALUES (?, ?)", [("user0", "x"), ("user1", "y")])
+            conn.execute("INSERT INTO ended VALUES ('user0', 'x'), ('user1', 'y')")
             conn.commit()
         given = {"table": "ended", "accounts": 2, "mix": {"verify": 1}, "seconds": 0.2}
         accounts = self.run_one(end_url=f"sqlite:///{end}", **given)
@@ -176,9 +166,7 @@ class Tortures(Base):
 
     def test_one_that_shows_nothing(self):
         for words in ("--processes=0", "--seconds=0", "--accounts=-1", "--seconds=x"):
-            with self.assertRaises(SystemExit) as raised:
-                self.command(words)
-            self.assertEqual(raised.exception.code, 1)
+            self.command(words, status=1)
         with mock.patch.object(torture.Torture, "_load", return_value=0):
             said = self.command("--accounts=1", status=4)
         self.assertIn("no change was made", said)
