@@ -23,8 +23,7 @@ from served import CHEAP, FAST_BOOK, TOP, Case, Client, Given, Service, chosen_b
 
 sys.path[:0] = str(TOP / "python"), str(TOP / "python/tests/accounts")
 try:
-    from torture._order import Attempt, Operation  # noqa: E402
-    from torture.history import Account, Illegal, check  # noqa: E402
+    from torture.history import Account, Attempt, Illegal, Operation, check  # noqa: E402
 except ImportError as fault:
     raise unittest.SkipTest(str(fault).partition(":")[0]) from None
 

@@ -15,7 +15,7 @@ from support import server
 import torture
 from rigzumal.accounts import Accounts, MariaDB, PerThread, Reply
 from torture import logs
-from torture._worker import LOW, hasher
+from torture._torture import LOW, hasher
 
 SECONDS = float(os.environ.get("RIGZUMAL_SECONDS", "8"))
 

@@ -14,110 +14,72 @@ import unittest
 from collections import Counter
 
 from support import each
-from torture import _order, history, logs
-from torture._order import Attempt, Operation
-from torture.history import Account, Illegal
+from torture import history, logs
+from torture.history import Account, Attempt, Illegal, Operation
 
 HISTORIES = int(os.environ.get("RIGZUMAL_HISTORIES", "4000"))
 KINDS = ("enrol", "enrol", "verify", "change", "upgrade", "remove", "remove", "reset")
 
 
-def whole(op, record, password, costs):
-    """The reply of the whole operation, and whether it puts or takes a record."""
+def whole(op, state, fresh):
+    """The reply of the whole operation, and the state after it, with this record if one is put."""
+    record, password, costs = state
+    new = op.new_password if op.kind in ("change", "reset") else op.password
+    put = fresh, new, op.costs
     if record is None:
-        if op.kind in ("enrol", "reset"):
-            return "enrolled", "puts"
-        return "absent", ""
+        return ("enrolled", put) if op.kind in ("enrol", "reset") else ("absent", state)
     if op.kind == "reset":
-        return "replaced", "puts"
+        return "replaced", put
     if op.kind == "enrol":
-        return "exists", ""
+        return "exists", state
     if op.password != password:
-        return ("no" if op.kind == "verify" else "wrong"), ""
+        return ("no" if op.kind == "verify" else "wrong"), state
     if op.kind == "upgrade" and costs >= op.costs:
-        return "kept", ""
+        return "kept", state
     return {
-        "verify": ("yes", ""),
-        "change": ("replaced", "puts"),
-        "upgrade": ("upgraded", "puts"),
-        "remove": ("removed", "takes"),
+        "verify": ("yes", state),
+        "change": ("replaced", put),
+        "upgrade": ("upgraded", put),
+        "remove": ("removed", (None, None, 0)),
     }[op.kind]
 
 
 def after(op, state, claim):
     """The state after an operation, or None if it doesn't do what it claims."""
-    record, password, costs = state
-    before, stands, said = claim
-    if before != record:
+    before, stands, _ = claim
+    reply, new = whole(op, state, stands)
+    is_put = reply in ("enrolled", "replaced", "upgraded")
+    if claim != (state[0], new[0], reply) or is_put and stands in (None, before):
         return None
-    reply, effect = whole(op, record, password, costs)
-    if reply != said:
-        return None
-    if not effect:
-        return state if stands == record else None
-    if effect == "takes":
-        return (None, None, 0) if stands is None else None
-    if stands is None or stands == record:
-        return None
-    new = op.new_password if op.kind in ("change", "reset") else op.password
-    return stands, new, op.costs
+    return new
 
 
-def ordered(ops, state, stood, then, is_end=lambda left, state: not left):
-    """Whether all can be done in some order, by trying each; `then` has what one leads to."""
-    seen = set()
+def some_order(account):
+    """Whether there is a legal order, by trying each; what had no answer may be left out."""
+    ops = [it for it in account.operations if it.reply not in ("failed", "changed")]
+    ops, seen = [it for it in ops if it.reply or it.attempts], set()
 
     def go(state, stood, left):
         if (state, stood, left) in seen:
             return False
         seen.add((state, stood, left))
         todo = [it for it in ops if it.id in left]
-        if is_end(todo, state):
+        if state[0] == account.end.before and not any(it.reply for it in todo):
             return True
         bound = min((it.answered for it in todo if it.reply), default=math.inf)
-        ways = ((then(it, state, stood), it.id) for it in todo if it.called <= bound)
-        return any(way and go(*way, left - {done}) for way, done in ways)
-
-    return go(state, stood - {None}, frozenset(it.id for it in ops))
-
-
-def some_order(account):
-    """Whether there is a legal order; what had no answer may be left out."""
-    ops = [it for it in account.operations if it.reply not in ("failed", "changed")]
-
-    def then(it, state, stood):
-        claim = (it.before, it.after, it.reply) if it.reply else it.attempts[-1]
-        new = after(it, state, claim)
-        if new is None or (new[0] != state[0] and new[0] in stood):
-            return None  # each record is put once
-        return new, stood | {new[0]} - {None}
-
-    def is_end(left, state):
-        return state[0] == account.end.before and not any(it.reply for it in left)
+        for it in todo:
+            claim = (it.before, it.after, it.reply) if it.reply else it.attempts[-1]
+            new = after(it, state, claim) if it.called <= bound else None
+            # Each record is put once.
+            if new is None or (new[0] != state[0] and new[0] in stood):
+                continue
+            if go(new, stood | {new[0]} - {None}, left - {it.id}):
+                return True
+        return False
 
     first = account.seed
     state = (first.after, first.password if first.after else None, first.costs)
-    ops = [it for it in ops if it.reply or it.attempts]
-    return ordered(ops, state, frozenset({first.after}), then, is_end)
-
-
-def some_order_of_part(events):
-    """The same of a part: others may put and replace what this part doesn't."""
-    makers = {it.after for it in events if it.makes_change and it.after}
-    replaced = {it.before for it in events if it.makes_change and it.before}
-
-    def then(it, state, stood):
-        between = state in replaced or it.before in stood or it.before in makers
-        if it.before != state and between:
-            return None  # others can't have done something between
-        if it.kind == "end" and it.before in replaced:
-            return None  # what stands at the end is replaced by nobody
-        now = it.after if it.makes_change else it.before
-        if now is not None and now != it.before and now in stood | {it.before}:
-            return None
-        return now, stood | {it.before, now} - {None}
-
-    return ordered(events, object(), frozenset(), then)
+    return go(state, frozenset({first.after}) - {None}, frozenset(it.id for it in ops))
 
 
 def made(rng):
@@ -131,15 +93,14 @@ def made(rng):
         password, new = ("one" if it == "1" else "two" for it in words)
         costs = rng.choice([1, 2]) if kind == "upgrade" else 1
         op = Operation(f"o{number}", kind, password, 0.0, new, costs)
-        reply, effect = whole(op, *state)
-        stands = {"": state[0], "takes": None, "puts": f"r{number + 1}"}[effect]
-        op.reply, op.before, op.after = reply, state[0], stands
-        state = after(op, state, (op.before, stands, reply))
+        op.reply, new = whole(op, state, f"r{number + 1}")
+        op.before, op.after = state[0], new[0]
         op.called = float(number * 4 - rng.randint(0, 9))
         op.answered = float(number * 4 + rng.randint(0, 9))
-        if effect:
-            op.attempts = [Attempt(op.before, op.after, reply)]
+        if new != state:
+            op.attempts = [Attempt(op.before, op.after, op.reply)]
         account.operations.append(op)
+        state = new
     account.end.before = account.end.after = state[0]
     for _ in range(rng.choice([0, 0, 1, 1, 2, 3])):
         bend(rng, account)
@@ -177,8 +138,7 @@ def bend(rng, account):
 
 
 def add_lost_ones(rng, account, record):
-    """Some without answers, which perhaps never took place, one at what the one before was to put;
-    a way out at times."""
+    """Some without answers, each at what the one before was to put; a way out at times."""
     for _ in range(rng.randint(1, 3)):
         kind = rng.choice(["change", "change", "remove"] if record else ["enrol", "change"])
         word = rng.choice(["one", "one", "two"])
@@ -216,30 +176,15 @@ class Small(unittest.TestCase):
             shown = [str(it) for it in (kept.seed, *kept.operations, kept.end)]
             self.assertEqual(verdict, wanted, f"history {number}: {shown}")
             found[verdict] += 1
-            if part and _order.conflict(part):
+            if part and history.conflict(part):
                 found["part"] += 1
-                rests = [[other for other in part if other is not it] for it in part]
-                for events in (part, *rests):
-                    is_part = events is part
-                    self.assertEqual(_order.conflict(events) is not None, is_part, shown)
-                    if all(it.kind in ("seed", "end") or shaped(it, events) for it in events):
-                        self.assertEqual(some_order_of_part(events), not is_part, shown)
+                for it in part:
+                    rest = [other for other in part if other is not it]
+                    self.assertIsNone(history.conflict(rest), shown)
         self.assertGreater(found[True], HISTORIES // 4)
         self.assertGreater(found[False], HISTORIES // 5)
         self.assertGreater(found["part"], HISTORIES // 10)
         print(dict(found))
-
-
-def shaped(op, events):
-    """Whether an operation is in order with the one that put its record."""
-    makers = [it for it in events if it.makes_change and it.after == op.before]
-    if op.before is not None and makers:
-        maker = makers[0]
-        new = maker.new_password if maker.kind in ("change", "reset") else maker.password
-        states = [(op.before, new, maker.costs)]
-    else:
-        states = [(op.before, word, costs) for word in ("one", "two") for costs in (1, 2)]
-    return any(after(op, it, (op.before, op.after, op.reply)) for it in states)
 
 
 def written(text):

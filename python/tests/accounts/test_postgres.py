@@ -18,7 +18,7 @@ from rigzumal import InvalidRecordError
 from rigzumal.accounts import AsyncAccounts, OutcomeUnknown, Reply, StoreFault, Unavailable
 from rigzumal.accounts.types import Kind, Request
 from rigzumal.accounts.pools import PerUse
-from torture import _worker
+from torture import _torture
 
 
 class OnPostgres(engines.OnPostgres, Base):
@@ -233,7 +233,7 @@ class OnPostgres(engines.OnPostgres, Base):
                 self.torture("broken", alter=broken, seconds=2.0)
         silent, seconds = [], 2.0
         while not silent:
-            with mock.patch.object(_worker, "HASTY", 0.002):
+            with mock.patch.object(_torture, "HASTY", 0.002):
                 accounts = self.torture(f"hasty{seconds:.0f}", seconds=seconds)
             self.assertIsNone(torture.verdict(accounts))
             every = [it for one in accounts.values() for it in one.operations]

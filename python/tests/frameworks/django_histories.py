@@ -35,8 +35,7 @@ from rigzumal.django.hashers import Argon2PasswordHasher
 from rigzumal.django.users import CompareAndSetMixin
 
 sys.path.append(os.path.join(os.path.dirname(os.path.dirname(__file__)), "accounts"))
-from torture._order import Operation
-from torture.history import Account, Illegal, check
+from torture.history import Account, Illegal, Operation, check
 
 OLD, NEW, THREADS = 64, 72, 6
 Argon2PasswordHasher.time_cost = Argon2PasswordHasher.parallelism = 1

@@ -15,20 +15,16 @@ from torture import logs  # noqa: E402
 
 
 def parser():
-    words = Words(
-        prog="torture",
-        description=torture.__doc__,
-        formatter_class=argparse.RawDescriptionHelpFormatter,
-    )
-    url = os.environ.get("RIGZUMAL_DATABASE", "")
-    words.add_argument("--database", metavar="URL", default=url)
+    form, url = argparse.RawDescriptionHelpFormatter, os.environ.get("RIGZUMAL_DATABASE", "")
+    words = Words(prog="torture", description=torture.__doc__, formatter_class=form)
+    words.add_argument("--database", metavar="URL", default=url, dest="url")
     words.add_argument("--table", default="rigzumal_torture", help="made, and dropped again")
     words.add_argument("--processes", type=positive, default=8)
     words.add_argument("--seconds", type=positive, default=60)
     words.add_argument("--accounts", type=positive, default=4)
     words.add_argument("--kill", action="store_true", help="processes, now and then")
     words.add_argument("--confirm", action="store_true", help="each answer, by a write")
-    words.add_argument("--logs", type=pathlib.Path, help="a folder for the logs")
+    words.add_argument("--logs", type=pathlib.Path, dest="folder", help="a folder for the logs")
     words.add_argument("log", metavar="LOG", nargs="*", help="of a run, which is judged")
     return words
 
@@ -48,16 +44,15 @@ def fault_of(made):
 
 def main(words=None):
     """Runs the command, and answers its exit status."""
-    given = parser().parse_args(words)
-    if given.log:
-        return 0 if logs.is_legal(logs.read(given.log)) else 4
-    names = ("processes", "seconds", "accounts", "kill", "confirm")
-    named = {name: getattr(given, name) for name in names}
-    made = torture.Torture(given.database, given.table, folder=given.logs, **named)
+    given = vars(parser().parse_args(words))
+    paths, folder = given.pop("log"), given["folder"]
+    if paths:
+        return 0 if logs.is_legal(logs.read(paths)) else 4
+    made = torture.Torture(**given)
     fault = fault_of(made)
     if fault:
         say(fault)
-    elif given.logs is None:
+    elif folder is None:
         shutil.rmtree(made.folder)
     return 4 if fault else 0
 

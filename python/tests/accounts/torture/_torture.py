@@ -1,29 +1,44 @@
-"""What is done to a database, and by how many."""
+"""What is done to a database, by how many processes, and what each of them asks of accounts whose
+operations are logged."""
 
 import asyncio
 import dataclasses
 import functools
+import inspect
 import multiprocessing
+import os
 import pathlib
 import random
 import sys
 import tempfile
 import time
 from collections.abc import Callable, Mapping
+from contextlib import contextmanager
 from typing import Any, Optional
 
-from rigzumal.accounts import Accounts, PerThread, StoreFault
+from rigzumal import PasswordHasher
+from rigzumal.accounts import Accounts, AccountsError, AsyncAccounts, OutcomeUnknown, PerThread
+from rigzumal.accounts import Reply, StoreFault, Unavailable
+from rigzumal.accounts._connections import LOGGER
+from rigzumal.accounts._operations import Operations
+from rigzumal.accounts._session import Session, run
 from rigzumal.accounts.database import Database
-from rigzumal.accounts.types import Kind, Request
+from rigzumal.accounts.dialects._dialect import Verdict, is_of_driver
+from rigzumal.accounts.pools import PerUse
+from rigzumal.accounts.types import Answer, Kind, Request
 from torture import logs
-from torture._worker import LOW, Worker, hasher
 
-MIX = {
-    **{"enrol": 2, "verify": 6, "login": 4, "change": 4},
-    **{"upgrade": 2, "remove": 1, "reset": 1},
-}
+LOW, HIGH = 64, 72  # KiB of the two costs between which upgrades go
+PASSWORDS = ("one", "two")
+PATIENT, HASTY = 60.0, 0.02  # seconds after which a task of asyncio is cancelled
+MIX = dict(enrol=2, verify=6, login=4, change=4, upgrade=2, remove=1, reset=1)
 WAYS = ("whole", "also", "parts", "within")
 RISK = 0.01
+
+
+def hasher(memory):
+    """A hasher that costs next to nothing; memory is in KiB."""
+    return PasswordHasher(time_cost=1, memory_cost=memory, parallelism=1)
 
 
 @dataclasses.dataclass
@@ -43,7 +58,8 @@ class Torture:
     end_url: Optional[str] = None  # where what stands at the end is read
     mix: Mapping[str, int] = dataclasses.field(default_factory=lambda: dict(MIX))
     ways: tuple[str, ...] = WAYS  # of doing an operation; a login has its own
-    tasks: int = 4  # in every fourth process on PostgreSQL; some are cancelled
+    tasks: int = 4  # in the processes of asyncio; some are cancelled
+    every: int = 4  # of so many processes one is of asyncio, on PostgreSQL
     patience: float = 30.0
     confirm: bool = False
     alter: Optional[Callable[[Any], None]] = None  # a test may break what is used
@@ -87,16 +103,15 @@ class Torture:
         return kind(pool, self.dialect(), hasher(memory), replica=replica, **given)
 
     def is_awaited(self, number):
-        """Whether a process is one of asyncio: every fourth one, on PostgreSQL."""
-        is_postgres = self.url.startswith("postgres")
-        return is_postgres and self.tasks > 0 and number % 4 == 3
+        """Whether a process is one of asyncio."""
+        is_last = number % self.every == self.every - 1
+        return self.url.startswith("postgres") and self.tasks > 0 and is_last
 
     def _fill(self, names, top):
         conn = Database(self.url).connect()
         if self.url.startswith("sqlite"):
             conn.execute("PRAGMA journal_mode = WAL")
-        dialect = self.dialect()
-        cursor = conn.cursor()
+        dialect, cursor = self.dialect(), conn.cursor()
         cursor.execute(dialect.create())
         for number, name in enumerate(names):
             cursor.execute(dialect.insert, (name,))
@@ -117,8 +132,7 @@ class Torture:
 
         If they are killed, the first of them is so at its first change.
         """
-        end, faults = time.monotonic() + self.seconds, 0
-        running = {}
+        end, faults, running = time.monotonic() + self.seconds, 0, {}
         for number in range(self.processes):
             risk = (1.0 if number == 0 else RISK) if self.kill else 0.0
             running[number] = self._start(number, names, end, risk)
@@ -149,3 +163,167 @@ class Torture:
         process = multiprocessing.get_context("fork").Process(target=work)
         process.start()
         return process
+
+
+async def done(said):
+    """What was said, or is once it was awaited."""
+    return await said if inspect.isawaitable(said) else said
+
+
+class Logged(Operations):
+    """Operations that are written down in `log`, with `memory` as costs; `last` is the answer."""
+
+    _name = ""
+
+    def _before_commit(self, worked):
+        self.log.tried(self._name, worked)
+
+    @contextmanager
+    def call(self, request):
+        """Logs a call, and what is put into the list within as its answer."""
+        said = []
+        name = self._name = self.log.begin(request, self.memory)
+        try:
+            yield said
+        except AccountsError as fault:
+            is_unknown = isinstance(fault, OutcomeUnknown)
+            self.log.end(name, "unknown" if is_unknown else "failed")
+            raise
+        self.log.answered(name, said[0])
+
+    async def _perform(self, request, also=None, patience=None):
+        with self.call(request) as said:
+            said.append(await super()._perform(request, also, patience))
+        self.last = said[0]
+        return said[0]
+
+
+class LoggedAccounts(Logged, Accounts):
+    """Over a blocking driver."""
+
+
+class LoggedAsyncAccounts(Logged, AsyncAccounts):
+    """For asyncio."""
+
+
+def _looks(conn, reply):
+    """A statement of a caller's own: over asyncio it is awaited."""
+    cursor = conn.cursor()
+    said = cursor.execute("SELECT 1")
+    return said if inspect.isawaitable(said) else cursor.fetchall()
+
+
+class Worker:
+    """One process of it."""
+
+    def __init__(self, torture, number, risk):
+        LOGGER.disabled = True  # its warnings are what a torture is made of
+        self.torture, name = torture, f"{number}-{os.getpid()}"
+        self.log = logs.Log(torture.folder / f"log-{name}", name, risk)
+        self.database = Database(torture.url, number)
+        self.is_awaited = torture.is_awaited(number)
+        self.replica = None
+        if torture.replica and not self.is_awaited:
+            self.replica = PerThread(Database(torture.replica, number).connect)
+
+    async def work(self, names, end):
+        count = self.torture.tasks if self.is_awaited else 1
+        await asyncio.gather(*(self._task(names, end) for _ in range(count)))
+
+    async def _task(self, names, end):
+        rng = random.Random(os.urandom(8))
+        accounts = {memory: self._accounts(memory) for memory in (LOW, HIGH)}
+        kinds, weights = zip(*self.torture.mix.items())
+        while time.monotonic() < end:
+            kind, key = rng.choices(kinds, weights)[0], rng.choice(names)
+            costs = (LOW, HIGH) if kind in ("upgrade", "login") else (LOW,)
+            asked = accounts[rng.choice(costs)]
+            # A task that is cancelled is one more whose answer never comes.
+            seconds = HASTY if self.is_awaited and rng.random() < 0.1 else PATIENT
+            one, two = rng.choice(PASSWORDS), rng.choice(PASSWORDS)
+            way = "login" if kind == "login" else rng.choice(self.torture.ways)
+            of_kind = Kind.VERIFY if way == "login" else Kind(kind)
+            doing = getattr(self, f"_{way}")(asked, Request(of_kind, key, one, two))
+            try:
+                await asyncio.wait_for(doing, seconds)
+            except AccountsError as fault:
+                print(f"{type(fault).__name__}: {fault}", file=sys.stderr, flush=True)
+            except asyncio.TimeoutError:
+                pass
+
+    # ---- the ways of doing an operation
+
+    async def _login(self, accounts, request):
+        """Logged as its parts, and as its caller is told: as a verify at what it leaves."""
+        with accounts.call(request) as said:
+            reply = await done(accounts.login(request.key, request.password))
+            stands = accounts.last.after
+            said.append(Answer(reply, stands, stands))
+
+    async def _whole(self, accounts, request, also=None):
+        await done(accounts.perform(request, also=also))
+
+    # With a statement of its own in the transaction.
+    _also = functools.partialmethod(_whole, also=_looks)
+
+    async def _parts(self, accounts, request):
+        with accounts.call(request) as said:
+            worked = await self._worked(accounts, request)
+            said.append(await done(accounts.commit(worked)))
+
+    async def _within(self, accounts, request):
+        """In a transaction of the caller's."""
+        dialect, name = accounts._dialect, accounts._table.name
+
+        async def job(session):
+            await dialect.start(session)
+            answer = await done(accounts.commit_in(session.conn, worked))
+            if answer.reply is Reply.CHANGED:
+                await dialect.undo(session)
+                return answer
+            if worked.reply.makes_change:
+                accounts._before_commit(worked)
+            try:
+                await dialect.commit(session)
+            except Exception as error:
+                raise OutcomeUnknown(name(error)) from error
+            return answer
+
+        with accounts.call(request) as said:
+            worked = await self._worked(accounts, request)
+            try:
+                pool = accounts._connections.primary
+                said.append(await accounts._runtime.use(pool, job))
+            except Exception as error:
+                # What fails before COMMIT was sent is known to be undone.
+                if not is_of_driver(error) or dialect.verdict(error) is Verdict.REFUSED:
+                    raise
+                raise Unavailable(name(error)) from error
+
+    async def _worked(self, accounts, request):
+        ticket = await done(accounts.begin(request))
+        return await done(accounts.work(ticket))
+
+    # ---- what it asks
+
+    def _accounts(self, memory):
+        if self.is_awaited:
+            kind, pool = LoggedAsyncAccounts, PerUse(self._connect_awaited)
+        else:
+            kind, pool = LoggedAccounts, PerThread(self._connect)
+        made = self.torture.made(kind, pool, memory, self.replica)
+        made.log, made.memory = self.log, memory
+        if self.torture.alter is not None:
+            self.torture.alter(made)
+        return made
+
+    def _connect(self):
+        conn = self.database.connect()
+        for sql in self.torture.settings:
+            run(Session(conn).execute(sql))
+        return conn
+
+    async def _connect_awaited(self):
+        from psycopg import AsyncConnection
+
+        return await AsyncConnection.connect(self.torture.url, autocommit=True)

@@ -1,33 +1,230 @@
 """Decides whether what was answered is one legal history of each account.
 
-A history is legal if each operation can be given one moment between its call and its
-answer, so that every reply, and the record after it, is what the whole operation does
-at the record that stands at its moment. An operation without an answer has one moment
-after its call, or took no place. The law `updates_are_one_history` of the crate
-cred_book proves this of any store whose update is one comparison and one writing, and
-of any function from what stands to a reply and what stands after: resets and texts of
-other schemes too.
+A history is legal if each operation can be given one moment between its call and its answer, so
+that every reply, and the record after it, is what the whole operation does at the record that
+stands at its moment. An operation without an answer has one moment after its call, or took no
+place. The law `updates_are_one_history` of the crate cred_book proves this of any store whose
+update is one comparison and one writing, and of any function from what stands to a reply and what
+stands after: resets and texts of other schemes too.
 
-Why the check is exact. Each record has a fresh salt, so it stands during one period,
-and each change names the record that it replaces. So the changes of an account fall
-into chains, and the order within a chain is given: it can be kept if and only if the
-earliest moments, taken one after another, are in time. A chain can come before another,
-or before what was done where no record stood, if and only if none of its calls is after
-one of the other's answers. There are moments for all if and only if each two have an
-order. Sorting apart, this takes time in proportion to the history.
+Why the check is exact. Each record has a fresh salt, so it stands during one period, and each
+change names the record that it replaces. So the changes of an account fall into chains, and the
+order within a chain is given: it can be kept if and only if the earliest moments, taken one after
+another, are in time. A chain can come before another, or before what was done where no record
+stood, if and only if none of its calls is after one of the other's answers. There are moments for
+all if and only if each two have an order. Sorting apart, this takes time in proportion to the
+history.
 
-What an operation without an answer was about to commit is no evidence that it read what
-stood: a crash may take away what nobody was answered by. It took place exactly if what
-was answered wants it: a record that somebody was told of had been put, and one that is
-gone had been replaced.
+What an operation without an answer was about to commit is no evidence that it read what stood: a
+crash may take away what nobody was answered by. It took place exactly if what was answered wants
+it: a record that somebody was told of had been put, and one that is gone had been replaced.
 """
 
+from __future__ import annotations
+
 import collections
+import math
 from dataclasses import dataclass, field
+from typing import NamedTuple, Optional
 
-from torture._order import Operation, conflict, possible
+Record = Optional[str]
 
+CHANGES = frozenset({"enrolled", "replaced", "upgraded", "removed"})
 NO_EFFECT = frozenset({"failed", "changed"})
+
+
+class Attempt(NamedTuple):
+    """A change that was about to be committed."""
+
+    before: Record
+    after: Record
+    reply: str
+
+
+@dataclass(eq=False)
+class Operation:
+    """An operation with the times of its call and its answer, in any unit; and what
+    stands at first and at the end, of the kinds "seed" and "end"."""
+
+    id: str
+    kind: str
+    password: Optional[str]
+    called: float
+    new_password: Optional[str] = None
+    costs: float = 0
+    answered: float = math.inf
+    reply: Optional[str] = None
+    before: Record = None
+    after: Record = None
+    attempts: list[Attempt] = field(default_factory=list)
+    found_out: bool = False
+
+    @classmethod
+    def seed(cls, record, password, costs=0):
+        """What stood at first."""
+        first = -math.inf
+        made = cls("seed", "seed", password, first, None, costs, first, "seed")
+        made.after = record
+        return made
+
+    @classmethod
+    def end(cls, record, time):
+        """What stands when all is over."""
+        return cls("end", "end", None, time, reply="end", before=record, after=record)
+
+    @property
+    def makes_change(self):
+        return self.reply in CHANGES or (self.kind == "seed" and self.after is not None)
+
+    @property
+    def password_after(self):
+        """The password of the record that this operation put."""
+        return self.new_password if self.kind in ("change", "reset") else self.password
+
+    def took_place(self, end):
+        """Notes that its last attempt was made before the end, and its answer was lost."""
+        self.before, self.after, self.reply = self.attempts[-1]
+        self.answered, self.found_out = end, True
+
+    def __str__(self):
+        if self.kind in ("seed", "end"):
+            return f"{self.kind}: {self.before or self.after or 'no record'}"
+        span = f"{self.called:.0f} to {self.answered:.0f}"
+        said = f"{self.reply} at {self.before or 'no record'}"
+        if self.makes_change:
+            said += f", after it {self.after or 'no record'}"
+        given = "/".join(it for it in (self.password, self.new_password) if it)
+        return f"{self.id} {self.kind}({given}), {span}: {said}"
+
+
+class _Conflict(Exception):
+    """Operations that contradict each other."""
+
+
+def conflict(events):
+    """Why these operations have no legal order, or None if they have one."""
+    try:
+        _one_after_another(_Records(events).spans())
+    except _Conflict as found:
+        return str(found)
+    return None
+
+
+def possible(it, record, maker):
+    """The replies that an operation may have at a record that the maker put."""
+    if record is None:
+        return {"enrolled" if it.kind in ("enrol", "reset") else "absent"}
+    if it.kind in ("enrol", "reset"):
+        return {"exists" if it.kind == "enrol" else "replaced"}
+    wrong = "no" if it.kind == "verify" else "wrong"
+    rights = {"verify": "yes", "change": "replaced", "remove": "removed"}
+    right = rights.get(it.kind)
+    if maker is None:
+        return {wrong, right} if right else {wrong, "kept", "upgraded"}
+    if maker.password_after != it.password:
+        return {wrong}
+    return {right or ("upgraded" if it.costs > maker.costs else "kept")}
+
+
+class _Span(NamedTuple):
+    """A chain, or an operation at no record.
+
+    Of two spans one can come before the other if its last call isn't after the other's
+    first answer.
+    """
+
+    first: float  # answer
+    last: float  # call
+    name: str
+
+
+class _Records:
+    """What was done at each record, and who put and replaced it."""
+
+    def __init__(self, events):
+        self.maker, self.replacer, self.at_none = {}, {}, []
+        self.looks = collections.defaultdict(list)
+        events = list(events)
+        for it in events:
+            if it.makes_change:
+                self._note_change(it)
+            elif it.before is None:
+                self.at_none.append(it)
+            else:
+                self.looks[it.before].append(it)
+        for it in events:
+            self._judge(it)
+
+    def _note_change(self, it):
+        sides = ((it.after, self.maker, "put"), (it.before, self.replacer, "replaced"))
+        for record, known, word in sides:
+            other = it if record is None else known.setdefault(record, it)
+            if other is not it:
+                raise _Conflict(f"{other.id} and {it.id} both {word} {record}")
+
+    def _judge(self, it):
+        """Refuses a reply that isn't that of the whole operation at the record."""
+        record, by = it.before or "no record", self.replacer.get(it.before or "")
+        if it.kind == "end" and by is not None:
+            raise _Conflict(f"{by.id} replaced {record}, which stands at the end")
+        if it.kind in ("seed", "end"):
+            return
+        if it.reply not in possible(it, it.before, self.maker.get(it.before or "")):
+            raise _Conflict(f"{it.id} ({it.kind}) was answered {it.reply} at {record}")
+        ends_with = it.after is not None if it.reply != "removed" else it.after is None
+        if it.makes_change and (not ends_with or it.after == it.before):
+            put = it.after or "no record"
+            raise _Conflict(f"{it.id} was answered {it.reply}, and put {put}")
+
+    def spans(self):
+        """The spans of the chains, and of what was done where no record stood."""
+        records = self.maker.keys() | self.replacer.keys() | self.looks.keys()
+        spans, walked = [], 0
+        for record in records:
+            maker = self.maker.get(record)
+            if maker is None or maker.before is None:
+                span, length = self._walk(record, maker)
+                spans.append(span)
+                walked += length
+        if walked < len(records):
+            raise _Conflict("records replaced each other in a ring")
+        return spans + [_Span(it.answered, it.called, it.id) for it in self.at_none]
+
+    def _walk(self, record, maker):
+        """A chain's span and number of records, if the earliest moments are in time."""
+        moment = latest = -math.inf if maker is None else maker.called
+        first = math.inf if maker is None else maker.answered
+        late = maker
+        start, length = record, 0
+        current = record
+        while current is not None:
+            length += 1
+            by = self.replacer.get(current)
+            for group in (self.looks.get(current, ()), [by] if by else []):
+                for it in group:
+                    if it.answered < moment:
+                        name = late.id if late else "another"
+                        said = f"{it.id} was answered before {name} was called"
+                        raise _Conflict(f"{said}, and can come after it alone")
+                for it in group:
+                    first, latest = min(first, it.answered), max(latest, it.called)
+                    if it.called > moment:
+                        moment, late = it.called, it
+            current = by.after if by else None
+        return _Span(first, latest, f"the chain from {start}"), length
+
+
+def _one_after_another(spans):
+    """Refuses two spans of which neither can come before the other.
+
+    If each two have an order, that of their middles is one of all.
+    """
+    spans.sort(key=lambda it: it.first + it.last)
+    latest = _Span(-math.inf, -math.inf, "")
+    for it in spans:
+        if latest.last > it.first:
+            raise _Conflict(f"{latest.name} and {it.name} stand at a time")
+        latest = max(latest, it, key=lambda span: span.last)
 
 
 @dataclass
@@ -48,8 +245,7 @@ class Illegal(Exception):
 
     def __init__(self, reason, part):
         self.reason, self.part = reason, tuple(part)
-        lines = [reason, *(f"  {operation}" for operation in self.part)]
-        super().__init__("\n".join(lines))
+        super().__init__("\n".join([reason, *(f"  {it}" for it in self.part)]))
 
 
 def verdict(accounts):
@@ -63,8 +259,7 @@ def verdict(accounts):
 
 
 def check(account):
-    """Raises Illegal unless the account's history is legal; notes which lost changes were
-    made."""
+    """Raises Illegal unless the account's history is legal; notes which lost changes were made."""
     account.operations.sort(key=lambda operation: operation.called)
     _settle(account)
     events = [account.seed, *_effective(account.operations), account.end]
@@ -84,52 +279,39 @@ def _effective(operations):
 def _settle(account):
     """Notes which operations without an answer took place, by their last attempts.
 
-    A record that an answer names was put, and so was the one that it replaced. A record
-    that is gone, and that nothing so far replaced, was led to a removal by others
-    without an answer.
+    A record that an answer names was put, and so was the one that it replaced. A record that is
+    gone, and that nothing so far replaced, was led to a removal by others without an answer.
     """
-    end, lost = account.end.called, _Lost(account.operations)
-    seen = {account.end.before, *(it.before for it in _effective(account.operations))}
-    todo = list(seen)
+    end, putting, at = account.end.called, {}, collections.defaultdict(list)
+    for it in account.operations:
+        if not it.reply and it.attempts:
+            at[it.attempts[-1].before].append(it)
+            putting[it.attempts[-1].after] = it
+    todo = [account.end.before, *(it.before for it in _effective(account.operations))]
     while todo:
-        it = lost.putting.get(todo.pop())
-        if it is not None and not it.reply:
+        record = todo.pop()
+        it = putting.get(record)
+        if record is not None and it is not None and not it.reply:
             it.took_place(end)
-            if it.before not in seen:
-                seen.add(it.before)
-                todo.append(it.before)
+            todo.append(it.before)
     for record, maker in _unreplaced(account).items():
-        for it in lost.way_out(record, maker):
+        # Of several ways out the one whose last call is first, since nobody was told of what
+        # stood between.
+        ways = _ways_out(record, maker, at)
+        for it in min(ways, key=lambda way: max(it.called for it in way), default=()):
             it.took_place(end)
 
 
-class _Lost:
-    """Operations that had no answer, by what their last attempts were to put."""
-
-    def __init__(self, operations):
-        self.putting, self._at = {}, collections.defaultdict(list)
-        for it in operations:
-            if not it.reply and it.attempts:
-                self._at[it.attempts[-1].before].append(it)
-                if it.attempts[-1].after is not None:
-                    self.putting[it.attempts[-1].after] = it
-
-    def way_out(self, record, maker):
-        """What led from a record to none; of several ways the one whose last call is first,
-        since nobody was told of what stood between."""
-        found, ways = [], [(record, maker, [])]
-        while ways:
-            at, maker, way = ways.pop()
-            for it in self._at.get(at, ()):
-                last = it.attempts[-1]
-                if it in way or it.reply or last.reply not in possible(it, at, maker):
-                    continue
-                longer = [*way, it]
-                if last.after is not None:
-                    ways.append((last.after, it, longer))
-                else:
-                    found.append(longer)
-        return min(found, key=lambda way: max(it.called for it in way), default=[])
+def _ways_out(record, maker, at, way=()):
+    """Each way from a record to none, of operations without an answer, by where they were tried."""
+    for it in at[record]:
+        last = it.attempts[-1]
+        if it in way or it.reply or last.reply not in possible(it, record, maker):
+            continue
+        if last.after is None:
+            yield (*way, it)
+        else:
+            yield from _ways_out(last.after, it, at, (*way, it))
 
 
 def _unreplaced(account):
@@ -146,10 +328,8 @@ def _complete(account, events):
         if it.before is not None and it.before not in put:
             raise Illegal(f"nobody put the record {it.before}", [it])
     for record, maker in _unreplaced(account).items():
-        raise Illegal(
-            f"the record {record} is gone, and nothing replaced it",
-            [maker, account.end],
-        )
+        reason = f"the record {record} is gone, and nothing replaced it"
+        raise Illegal(reason, [maker, account.end])
 
 
 def _shrunk(events):

@@ -1,7 +1,6 @@
 """The logs of what was asked and answered, as `history` takes them.
 
-The logs are lines of JSON, of any number of processes and of one clock
-(CLOCK_MONOTONIC):
+The logs are lines of JSON, of any number of processes and of one clock (CLOCK_MONOTONIC):
 
     {"event": "seed", "key", "record", "password", "costs"}    what stood at first
     {"event": "call", "id", "time", "kind", "key", "password", "new_password", "costs"}
@@ -9,9 +8,9 @@ The logs are lines of JSON, of any number of processes and of one clock
     {"event": "answer", "id", "time", "reply", "before", "after"}
     {"event": "end", "key", "time", "record"}           what stands when all is over
 
-Records are texts, or null where none stands. Passwords are labels. An answer's reply
-may be "unknown" (none came) or "failed" (surely nothing was done). Costs are numbers:
-an upgrade is answered "kept" unless its costs are above the record's.
+Records are texts, or null where none stands. Passwords are labels. An answer's reply may be
+"unknown" (none came) or "failed" (surely nothing was done). Costs are numbers: an upgrade is
+answered "kept" unless its costs are above the record's.
 """
 
 import json
@@ -22,8 +21,7 @@ import signal
 import time
 
 from rigzumal.accounts.types import NO_ROW
-from torture._order import Attempt, Operation
-from torture.history import Account, verdict
+from torture.history import Account, Attempt, Operation, verdict
 
 
 class Log:
@@ -76,42 +74,25 @@ class Log:
             os.kill(os.getpid(), signal.SIGKILL)
 
 
+EVENTS = ("seed", "end", "call", "try", "answer")
+
+
 def read(paths):
     """The accounts' histories out of the logs of all processes.
 
-    The last line of a file may be unfinished, as by a killed process; of any other that
-    is none of the format it raises ValueError.
+    The last line of a file may be unfinished, as by a killed process. Of any other that is none of
+    the format, or an account whose first or last record is in none, it raises ValueError.
     """
+    accounts, operations = {}, {}
     try:
-        return _read(line for path in paths for line in _lines(path))
+        lines = [line for path in paths for line in _lines(path)]
+        for line in sorted(lines, key=lambda line: EVENTS.index(line["event"])):
+            _note(line, accounts, operations)
     except (KeyError, TypeError) as fault:
-        raise ValueError(f"a line is none of a log: {fault}") from None
-
-
-def _read(lines):
-    seeds, ends, operations, answers = {}, {}, {}, []
-    for line in lines:
-        event = line["event"]
-        if event == "seed":
-            given = line["record"], line["password"], line["costs"]
-            seeds[line["key"]] = Operation.seed(*given)
-        elif event == "end":
-            ends[line["key"]] = Operation.end(line["record"], line["time"])
-        elif event == "call":
-            operations[line["id"]] = (line["key"], _called(line))
-        else:
-            answers.append(line)
-    for line in answers:
-        _note(operations[line["id"]][1], line)
-    missing = seeds.keys() ^ ends.keys()
+        raise ValueError(f"a line is none of a log, or another is missing: {fault}") from None
+    missing = [key for key, account in accounts.items() if account.end is None]
     if missing:
-        what = "what stood at first or at the end isn't known"
-        raise ValueError(f"{what} of {sorted(missing)}")
-    accounts = {key: Account(seed, ends[key]) for key, seed in seeds.items()}
-    for key, operation in operations.values():
-        if key not in accounts:
-            raise ValueError(f"what stood at first isn't known of {key!r}")
-        accounts[key].operations.append(operation)
+        raise ValueError(f"what stood at the end isn't known of {missing}")
     return accounts
 
 
@@ -122,15 +103,24 @@ def _lines(path):
                 yield json.loads(line)
 
 
-def _called(line):
-    given = line["id"], line["kind"], line["password"], line["time"]
-    return Operation(*given, line.get("new_password"), line.get("costs") or 0)
-
-
-def _note(operation, line):
-    if line["event"] == "try":
-        operation.attempts.append(Attempt(line["before"], line["after"], line["reply"]))
+def _note(line, accounts, operations):
+    """Takes a line in, once those of the EVENTS before its own were taken in."""
+    event = line["event"]
+    if event == "seed":
+        seed = Operation.seed(line["record"], line["password"], line["costs"])
+        accounts[line["key"]] = Account(seed, None)
+    elif event == "end":
+        accounts[line["key"]].end = Operation.end(line["record"], line["time"])
+    elif event == "call":
+        given = line["id"], line["kind"], line["password"], line["time"]
+        made = Operation(*given, line.get("new_password"), line.get("costs") or 0)
+        operations[line["id"]] = made
+        accounts[line["key"]].operations.append(made)
+    elif event == "try":
+        attempt = Attempt(line["before"], line["after"], line["reply"])
+        operations[line["id"]].attempts.append(attempt)
     elif line["reply"] != "unknown":
+        operation = operations[line["id"]]
         operation.answered, operation.reply = line["time"], line["reply"]
         operation.before, operation.after = line.get("before"), line.get("after")
 
