@@ -42,12 +42,10 @@ class Load:
 
     def __init__(self, url, number=0):
         self.rng, self.database = random.Random(number), Database(url, number)
-        self.pool = PerThread(self.connect)
-        self.kind = self.database.dialect_kind()
+        self.pool, self.kind = PerThread(self.connect), self.database.dialect_kind()
         self.accounts, self.several = self.over(CHEAP), self.over(CHEAP)
         self.several._dialect.at_once = ""
-        self.record = CHEAP.hash("pw")
-        self.dialect = self.accounts._dialect
+        self.record, self.dialect = CHEAP.hash("pw"), self.accounts._dialect
         self.plain = self.dialect.update.partition(" AND ")[0]
 
     def connect(self):
@@ -192,13 +190,10 @@ def times():
     accounts, took = load.over(MIDDLE), collections.defaultdict(list)
     accounts.reset("user0", "pw")
     accounts.remove("user1", "pw")
+    tried = (("right", "user0", "pw"), ("wrong", "user0", "x"))
+    tried += (("no record", "user1", "x"), ("no account", "nobody", "x"))
     for _ in range(60):
-        for what, name, password in (
-            ("right", "user0", "pw"),
-            ("wrong", "user0", "x"),
-            ("no record", "user1", "x"),
-            ("no account", "nobody", "x"),
-        ):
+        for what, name, password in tried:
             begun = time.perf_counter()
             accounts.verify(name, password)
             took[what].append(1000 * (time.perf_counter() - begun))

@@ -131,19 +131,16 @@ OWN = ("whole", "parts")
 
 def queued(accounts):
     """Answers of COMMITs are lost, and each process has a pool of another way."""
-    lossy(accounts, Queue)
-    for name in ("_perform", "_commit"):
-        setattr(accounts, name, unknown_if_left(getattr(accounts, name)))
 
-
-def unknown_if_left(act):
-    async def acted(*given):
+    async def acted(act, *given):
         try:
             return await act(*given)
         except Left:
             raise OutcomeUnknown from None
 
-    return acted
+    lossy(accounts, Queue)
+    for name in ("_perform", "_commit"):
+        setattr(accounts, name, functools.partial(acted, getattr(accounts, name)))
 
 
 def lossy(accounts, pool=LeavesOpen):

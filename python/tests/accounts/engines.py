@@ -6,6 +6,7 @@ import sqlite3
 import uuid
 
 import servers
+from galera import Galera
 from support import CHECK_FAILED, HIGH, LOW, Awaiting, Base
 from rigzumal import ScryptHasher
 from rigzumal.accounts import AsyncAccounts, MariaDB, MySQL, Postgres, Sqlite
@@ -15,6 +16,9 @@ DISK = sqlite3.OperationalError("disk I/O error")
 DISK.sqlite_errorcode, DISK.sqlite_errorname = 10, "SQLITE_IOERR"
 NUMBERS = itertools.count()
 BEFORE_UPDATE = "CREATE TRIGGER tr BEFORE UPDATE ON users"
+AFTER_UPDATE = "CREATE TRIGGER tr AFTER UPDATE ON users"
+PUTS = "BEGIN UPDATE users SET record = {} WHERE name = NEW.name; END"  # on SQLite
+LEVELS = ("repeatable read", "serializable", "read committed")
 
 
 class OnSqlite:
@@ -31,15 +35,9 @@ class OnSqlite:
     lock_timeout = statement_timeout = "PRAGMA busy_timeout = 10"
     # Columns of keys, with a key, and with another that no row has.
     keys = (("BIGINT", int, 7, 8), ("BLOB", bytes, b"\0\xff", b"x"))
-    shouting = (
-        "CREATE TRIGGER tr AFTER UPDATE ON users WHEN NEW.record LIKE '%m=%' BEGIN"
-        " UPDATE users SET record = upper(NEW.record) WHERE name = NEW.name; END",
-    )
+    shouting = (f"{AFTER_UPDATE} WHEN NEW.record LIKE '%m=%' {PUTS.format('upper(NEW.record)')}",)
     ignoring = (f"{BEFORE_UPDATE} BEGIN SELECT RAISE(IGNORE); END",)
-    emptying = (
-        "CREATE TRIGGER tr AFTER UPDATE ON users BEGIN"
-        " UPDATE users SET record = NULL WHERE name = NEW.name; END",
-    )
+    emptying = (f"{AFTER_UPDATE} {PUTS.format('NULL')}",)
     # Columns whose collation takes other texts for the same, columns that change a record, and
     # settings of connections under which they do.
     folding, changing, modes = ("TEXT COLLATE NOCASE",), (), ()
@@ -86,10 +84,7 @@ def postgres_trigger(body, when=BEFORE_UPDATE):
 class OnPostgres(OnServer):
     kind, dialect = servers.PostgresServer, Postgres("users", "name", "record")
     one, several, confirmed = "UPDATE", "BEGIN UPDATE COMMIT", "BEGIN UPDATE COMMIT"
-    levels = tuple(
-        f"SET default_transaction_isolation = '{it}'"
-        for it in ("repeatable read", "serializable", "read committed")
-    )
+    levels = [f"SET default_transaction_isolation = '{it}'" for it in LEVELS]
     keys = (
         ("bigint", int, 7, 8),
         ("smallint", int, 7, 2**40),
@@ -152,10 +147,7 @@ class OnMariaDB(OnServer):
     kind, dialect = servers.MariaServer, MariaDB("users", "name", "record")
     one, several = "BEGIN", "START UPDATE SELECT COMMIT"
     confirmed = "START UPDATE UPDATE SELECT COMMIT"
-    levels = tuple(
-        f"SET SESSION TRANSACTION ISOLATION LEVEL {it}"
-        for it in ("REPEATABLE READ", "SERIALIZABLE", "READ COMMITTED")
-    )
+    levels = [f"SET SESSION TRANSACTION ISOLATION LEVEL {it}" for it in LEVELS]
     keys = (("BIGINT", int, 7, 8), ("VARBINARY(16)", bytes, b"\0\xff", b"x"))
     check_number = "4025"
     lock_timeout = "SET innodb_lock_wait_timeout = 1"
@@ -185,11 +177,9 @@ class OnMariaDB(OnServer):
         return self.connect, lambda: set_to(0)
 
     def end_sessions(self, conn=None):
-        for (number,) in self.execute(
-            "SELECT id FROM information_schema.processlist"
-            " WHERE id <> CONNECTION_ID() AND user = 'store'",
-            conn=conn,
-        ):
+        others = "WHERE id <> CONNECTION_ID() AND user = 'store'"
+        sql = f"SELECT id FROM information_schema.processlist {others}"
+        for (number,) in self.execute(sql, conn=conn):
             self.execute(f"KILL {number}", conn=conn)
 
     def as_dictionaries(self):
@@ -199,11 +189,10 @@ class OnMariaDB(OnServer):
 
     def of_role(self, grants):
         """What connects as a user who may do this alone."""
-        self.server.as_root(
-            "DROP USER IF EXISTS looker@'127.0.0.1'",
-            f"CREATE USER looker@'127.0.0.1' IDENTIFIED BY '{self.server.password}'",
-            f"GRANT {grants} ON store.users TO looker@'127.0.0.1'",
-        )
+        name, password = "looker@'127.0.0.1'", self.server.password
+        made = f"CREATE USER {name} IDENTIFIED BY '{password}'"
+        granted = f"GRANT {grants} ON store.users TO {name}"
+        self.server.as_root(f"DROP USER IF EXISTS {name}", made, granted)
         return lambda: self.connect(user="looker")
 
 
@@ -219,7 +208,7 @@ class OnPgBouncer(OnPostgres):
 
 
 class OnGalera(OnMariaDB):
-    kind = servers.GaleraPair
+    kind = Galera
     # Of writers of one row at both nodes one is undone at its COMMIT, again and again.
     test_strangers_guesses_beside_the_owner = None
 
@@ -231,9 +220,8 @@ class OnGalera(OnMariaDB):
 
 def made(suite, *bases, **more):
     """The name and the class of a suite's tests over an engine, for a module's globals."""
-    name = "".join(it.__name__ for it in (suite, *bases, *more.values()))
-    held = {it: staticmethod(more[it]) for it in more}
-    return name, type(name, (*bases, suite, Base), {"__doc__": suite.__doc__, **held})
+    name = "".join([*(it.__name__ for it in (suite, *bases)), *more.values()])
+    return name, type(name, (*bases, suite, Base), {"__doc__": suite.__doc__, **more})
 
 
 class Awaited:

@@ -9,15 +9,18 @@ import time
 import unittest
 
 import breaking
-from breaking import OWN, lossy, queued, queued_tasks
-from runs import GALERA, MARIADB, POSTGRES, SECONDS, SQLITE, Crashes, Pair, Run, Tasks
+from breaking import OWN, lossy, queued, queued_tasks, resent_at_none
+from runs import GALERA, MARIADB, POSTGRES, SECONDS, SQLITE, Crashes, Pair, Run
 from runs import galera, killed_servers, lagging, legal, maria, maria_without_log, postgres, refused
 
 LOST = {"alter": lossy, "patience": 5.0}
 LOST_IN_POOLS = {"alter": queued, "patience": 5.0, "ways": OWN}
+# All processes are of asyncio, with four tasks each, cancelled now and then.
+TASKS = {"every": 1, "tasks": 4}
+LOST_IN_TASKS = {"alter": queued_tasks, "ways": OWN, **TASKS}
 # Without upgrades and looks, so that records come and go as fast as they can.
 CHANGES = {"mix": {"enrol": 3, "verify": 3, "change": 6, "remove": 2, "reset": 1}}
-NONE = {"mix": {"enrol": 6, "remove": 6, "verify": 2}, "accounts": 1}
+NONE = {"mix": {"enrol": 6, "remove": 6, "verify": 2}, "accounts": 1, "alter": resent_at_none}
 WHOLE = {"patience": 3.0, "ways": ("whole",)}
 WAITS = {"settings": ("SET SESSION wsrep_sync_wait = 1",)}
 # Galera's default: a node may read what was replaced at another.
@@ -51,10 +54,8 @@ class Histories(unittest.TestCase):
     test_sqlite_lost_commits_in_pools = is_legal(SQLITE, **LOST_IN_POOLS)
     test_postgres_lost_commits = is_legal(POSTGRES, **LOST)
     test_postgres_lost_commits_in_pools = is_legal(POSTGRES, **LOST_IN_POOLS)
-    test_postgres_tasks_cancelled = is_legal(POSTGRES, kind=Tasks)
-    test_postgres_tasks_lost_commits_in_pools = is_legal(
-        POSTGRES, kind=Tasks, alter=queued_tasks, tasks=4, ways=OWN
-    )
+    test_postgres_tasks_cancelled = is_legal(POSTGRES, **TASKS)
+    test_postgres_tasks_lost_commits_in_pools = is_legal(POSTGRES, **LOST_IN_TASKS)
     test_mariadb_lost_commits = is_legal(MARIADB, **LOST)
     test_mariadb_lost_commits_in_pools = is_legal(MARIADB, **LOST_IN_POOLS)
     test_galera = is_legal(GALERA, kill=True, **WAITS)
@@ -67,9 +68,7 @@ class Histories(unittest.TestCase):
     test_refused_snapshots_postgres = is_refused(POSTGRES, **SNAPSHOTS)
     test_refused_snapshots_mariadb = is_refused(MARIADB, **SNAPSHOTS)
     test_refused_resent = is_refused(POSTGRES, alter=breaking.resent, **CHANGES, **WHOLE)
-    test_refused_resent_at_none = is_refused(
-        POSTGRES, alter=breaking.resent_at_none, **NONE, **WHOLE
-    )
+    test_refused_resent_at_none = is_refused(POSTGRES, **NONE, **WHOLE)
     test_refused_galera_without_sync_wait = is_refused(GALERA, **NO_WAITS)
 
     def test_postgres_with_kills(self):
@@ -139,11 +138,11 @@ class Histories(unittest.TestCase):
     def test_galera_with_a_node_killed(self):
         """A node is killed amid the load, and comes back."""
         run = Run(GALERA(), seconds=2 * SECONDS, **WAITS)
-        node = galera()[2]
+        node = galera().nodes[2]
         time.sleep(SECONDS / 2)
         node.kill()
         time.sleep(SECONDS / 2)
-        node.start(wait=120)
+        node.start()
         self.told(legal(run))
 
 

@@ -11,6 +11,7 @@ import sys
 import time
 
 import servers
+from galera import Galera
 from support import server
 import torture
 from rigzumal.accounts import Accounts, MariaDB, PerThread, Reply
@@ -25,13 +26,13 @@ class Run:
 
     numbers = itertools.count(1)
 
-    def __init__(self, url, kind=torture.Torture, **given):
+    def __init__(self, url, **given):
         number = next(Run.numbers)
         self.folder = servers.ROOM / f"run{number}"
         # What is altered is the accounts of a process, and none of asyncio's.
         given = {"tasks": 0 if "alter" in given else 4, **given}
         given = {"seconds": SECONDS, "table": f"t{number}", **given}
-        self.torture = kind(url, folder=self.folder, **given)
+        self.torture = torture.Torture(url, folder=self.folder, **given)
         self.said = multiprocessing.SimpleQueue()
         self.process = multiprocessing.Process(target=self.judge)
         self.process.start()
@@ -76,12 +77,7 @@ def refused(start, turns=8):
 
 
 class WithoutLog(servers.MariaServer):
-    has_binary_log = False
-
-
-@functools.cache
-def galera():
-    return servers.galera()
+    more_lines = ()
 
 
 # Each engine's server, which is started when it is asked for, and its URL.
@@ -89,17 +85,11 @@ postgres, maria, maria_without_log = (
     functools.partial(server, it)
     for it in (servers.PostgresServer, servers.MariaServer, WithoutLog)
 )
+galera = functools.cache(lambda: Galera("galera", 3).start())
 SQLITE = lambda: servers.SqliteFile().url
 POSTGRES = lambda: postgres().url
 MARIADB = lambda: maria().url
-GALERA = lambda: servers.cluster_url(galera())
-
-
-class Tasks(torture.Torture):
-    """All processes are of asyncio, with four tasks each, cancelled now and then."""
-
-    def is_awaited(self, number):
-        return True
+GALERA = lambda: galera().url
 
 
 def killed_servers(run, node, pause=1.5):
@@ -107,10 +97,7 @@ def killed_servers(run, node, pause=1.5):
     count = 0
     time.sleep(1.5)
     while run.process.is_alive():
-        if count % 2:
-            node.end(signal.SIGQUIT)
-        else:
-            node.kill()
+        node.end(signal.SIGQUIT) if count % 2 else node.kill()
         node.start()
         count += 1
         run.process.join(pause)
@@ -140,12 +127,8 @@ class Pair:
 
     @property
     def url(self):
-        ports = f"{self.primary.port},{self.standby.port}"
-        hosts = "127.0.0.1,127.0.0.1"
-        return (
-            f"postgresql:///postgres?user=store&host={hosts}&port={ports}"
-            "&target_session_attrs=read-write"
-        )
+        places = f"host=127.0.0.1,127.0.0.1&port={self.primary.port},{self.standby.port}"
+        return f"postgresql:///postgres?user=store&{places}&target_session_attrs=read-write"
 
     def end(self):
         for node in (self.primary, self.standby):

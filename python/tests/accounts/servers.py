@@ -82,12 +82,6 @@ def descendants(pid):
     return found
 
 
-def kill(pids, number=signal.SIGKILL):
-    for pid in pids:
-        with contextlib.suppress(ProcessLookupError):
-            os.kill(pid, number)
-
-
 class Server:
     """A server in a folder of its own, as a child of this process."""
 
@@ -106,14 +100,14 @@ class Server:
         if done.returncode:
             raise RuntimeError(f"{words}: {done.stdout.decode(errors='replace')}")
 
-    def start(self, *more, wait=120.0):
+    def start(self, *more):
         """Starts it, and waits until it answers."""
         with open(self.log, "ab") as log:
             streams = {"stdin": subprocess.DEVNULL, "stdout": log, "stderr": log}
             given = {"cwd": ROOM, "start_new_session": True, **as_user(self.user)}
             words = [*map(str, self.words()), *more]
             self.process = subprocess.Popen(words, **streams, **given)
-        end = time.monotonic() + wait
+        end = time.monotonic() + 120
         while not self.ready():
             if self.process.poll() is not None or time.monotonic() > end:
                 tail = self.log.read_text(errors="replace")[-3000:]
@@ -123,7 +117,9 @@ class Server:
 
     def kill(self):
         """As a crash: all of its processes end at once."""
-        kill(descendants(self.process.pid))
+        for pid in descendants(self.process.pid):
+            with contextlib.suppress(ProcessLookupError):
+                os.kill(pid, signal.SIGKILL)
         self.process.wait()
 
     def end(self, number=None):
@@ -230,6 +226,8 @@ class PostgresServer(OfPostgres):
 class PooledPostgres(OfPostgres):
     """A PostgreSQL behind PgBouncer, which gives sessions out for a transaction each."""
 
+    mode = "transaction"
+
     def __init__(self, name):
         self.program = need(psycopg, "python3-psycopg", "pgbouncer")
         super().__init__(name)
@@ -240,15 +238,15 @@ class PooledPostgres(OfPostgres):
         self.file.write_text(
             f"[databases]\npostgres = host=127.0.0.1 port={self.of.port} user=store\n"
             f"[pgbouncer]\nlisten_addr = 127.0.0.1\nlisten_port = {self.port}\n"
-            "auth_type = any\npool_mode = transaction\ndefault_pool_size = 3\n"
+            f"auth_type = any\npool_mode = {self.mode}\ndefault_pool_size = 3\n"
             f"unix_socket_dir =\nlogfile = {self.folder}.bouncer.log\n"
         )
         self.file.chmod(0o644)
         return [self.program, self.file]
 
-    def start(self, *more, wait=120.0):
+    def start(self, *more):
         self.of.start()
-        return super().start(*more, wait=wait)
+        return super().start(*more)
 
     def connect(self, prepare_threshold=None, **more):
         """The tests' own statements aren't prepared either, if they name no threshold."""
@@ -284,8 +282,8 @@ class OfMySql(Server):
             return False
         return True
 
-    def start(self, *more, wait=120.0):
-        super().start(*more, wait=wait)
+    def start(self, *more):
+        super().start(*more)
         self.as_root("CREATE DATABASE IF NOT EXISTS store CHARACTER SET utf8mb4")
         for owner in ("store@'127.0.0.1'", "store@'localhost'"):
             self.as_root(
@@ -296,12 +294,11 @@ class OfMySql(Server):
 
 
 class MariaServer(OfMySql):
-    """One server of MariaDB, or one node of a Galera cluster."""
+    """One server of MariaDB."""
 
     user = "mysql"
-    has_binary_log = True
-
-    cluster = ()
+    # What is read is on the disk then: docs/SCALE.md.
+    more_lines = ("log_bin=binlog", "sync_binlog=1", "server_id=1")
 
     def __init__(self, name):
         self.program = need(pymysql, "python3-pymysql", "mariadbd", "mariadb-install-db")
@@ -325,37 +322,11 @@ class MariaServer(OfMySql):
             *("bind-address=127.0.0.1", "skip-name-resolve", "max_connections=100"),
             *("innodb_buffer_pool_size=32M", "innodb_log_file_size=16M"),
             *("innodb_flush_log_at_trx_commit=1", "performance_schema=OFF"),
+            "log_bin_trust_function_creators=1",
+            *self.more_lines,
         ]
-        if self.cluster:
-            lines += self.of_cluster()
-        elif self.has_binary_log:
-            # What is read is on the disk then: docs/SCALE.md.
-            lines += ["log_bin=binlog", "sync_binlog=1", "server_id=1"]
-            lines += ["log_bin_trust_function_creators=1"]
         self.file.write_text("\n".join(lines) + "\n")
         return [self.program, f"--defaults-file={self.file}"]
-
-    def of_cluster(self):
-        base = self.port + 1
-        nodes = ",".join(f"127.0.0.1:{it.port + 1}" for it in self.cluster)
-        return [
-            *("binlog_format=ROW", "innodb_autoinc_lock_mode=2"),
-            "log_bin_trust_function_creators=1",
-            *("wsrep_on=ON", "wsrep_provider=/usr/lib/galera/libgalera_smm.so"),
-            *("wsrep_cluster_name=rigzumal", f"wsrep_cluster_address=gcomm://{nodes}"),
-            f"wsrep_node_name={self.folder.name}",
-            f"wsrep_node_address=127.0.0.1:{base}",
-            f"wsrep_sst_receive_address=127.0.0.1:{self.port + 4}",
-            "wsrep_sst_method=rsync",
-            f'wsrep_provider_options="base_port={base};gcache.size=32M;'
-            f"ist.recv_addr=127.0.0.1:{self.port + 3};"
-            f'gmcast.listen_addr=tcp://127.0.0.1:{base}"',
-        ]
-
-    def ready(self):
-        return super().ready() and (
-            not self.cluster or self.as_root("SHOW STATUS LIKE 'wsrep_ready'")[0][1] == "ON"
-        )
 
 
 class MySqlServer(OfMySql):
@@ -385,52 +356,11 @@ class MySqlServer(OfMySql):
         return ["/usr/sbin/chroot", self.root, "/usr/sbin/mysqld", *given]
 
     def words(self):
-        return self.mysqld(
-            f"--port={self.port}",
-            "--bind-address=127.0.0.1",
-            f"--socket={self.data}.sock",
-            f"--pid-file={self.data}.pid",
-            *("--mysqlx=OFF", "--skip-name-resolve", "--secure-file-priv=NULL"),
-            "--log-bin-trust-function-creators=1",
-        )
+        more = ("--mysqlx=OFF", "--skip-name-resolve", "--secure-file-priv=NULL")
+        own = (f"--socket={self.data}.sock", f"--pid-file={self.data}.pid", f"--port={self.port}")
+        local = ("--bind-address=127.0.0.1", "--log-bin-trust-function-creators=1")
+        return self.mysqld(*own, *local, *more)
 
     def stop_at_exit(self):
         super().stop_at_exit()
         shutil.rmtree(f"{self.root}{self.data}", ignore_errors=True)
-
-
-def galera(count=3):
-    """The started nodes of a cluster."""
-    if not os.path.exists("/usr/lib/galera/libgalera_smm.so"):
-        raise Missing("galera-4 is not there")
-    need(pymysql, "python3-pymysql", "rsync")
-    nodes = [MariaServer(f"galera{number}") for number in range(count)]
-    for node in nodes:
-        node.cluster = nodes
-    nodes[0].start("--wsrep-new-cluster")
-    for node in nodes[1:]:
-        node.start(wait=120)
-    return nodes
-
-
-class GaleraPair:
-    """Two nodes of a cluster, whose connections are of each by turns and read what was committed."""
-
-    def __init__(self, name):
-        self.nodes, self.url = [], ""
-
-    def start(self):
-        self.nodes = galera(2)
-        self.turns, self.url = itertools.cycle(self.nodes), cluster_url(self.nodes)
-        return self
-
-    def connect(self, **more):
-        conn = next(self.turns).connect(**more)
-        with conn.cursor() as cursor:
-            cursor.execute("SET SESSION wsrep_sync_wait = 1")
-        return conn
-
-
-def cluster_url(nodes):
-    places = ",".join(f"127.0.0.1:{node.port}" for node in nodes)
-    return f"mysql://store:store@{places}/store"

@@ -13,7 +13,7 @@ from unittest import mock
 import engines
 import of_engines
 from support import LOW, Awaiting, Base, each, module
-from rigzumal.accounts import Accounts, AsyncAccounts, PerThread, Reply, StoreFault, Unavailable
+from rigzumal.accounts import AsyncAccounts, PerThread, Reply, StoreFault, Unavailable
 from rigzumal.accounts.pools import PerUse
 
 BUSY = sqlite3.OperationalError("database is locked")
@@ -23,16 +23,9 @@ class Alarm(BaseException):
     """As a timeout of gevent, a cancelled task or an interrupt."""
 
 
-def interrupted(worked):
-    raise Alarm
-
-
 class Pool:
-    """A pool over one connection, blocking and for asyncio, by what it does after an exception.
-
-    `way` is a function of the connection, which may raise, and says whether the exception is
-    swallowed.
-    """
+    """A pool over one connection, blocking and for asyncio, by what it does after an exception. One
+    that raises another does as a rollback that fails on a broken connection."""
 
     def __init__(self, way, conn):
         self.way, self.conn = way, conn
@@ -46,8 +39,14 @@ class Pool:
         return self.conn
 
     def __exit__(self, kind, error, traceback):
-        if error is not None or self.way is raises_at_any_end:
-            return self.way(self.conn)
+        if error is None and self.way != "raises_at_any_end":
+            return None
+        self.conn.rollback()
+        if self.way == "raises_a_base_exception":
+            raise Alarm
+        if self.way.startswith("raises"):
+            raise BUSY
+        return self.way == "swallows"
 
     async def __aenter__(self):
         return Awaiting(self.conn)
@@ -56,38 +55,13 @@ class Pool:
         return self.__exit__(*given)
 
 
-def raises_another(conn):
-    """As a rollback that fails on a broken connection."""
-    conn.rollback()
-    raise BUSY
-
-
-def raises_at_any_end(conn):
-    conn.rollback()
-    raise BUSY
-
-
-def raises_a_base_exception(conn):
-    conn.rollback()
-    raise Alarm
-
-
-def swallows(conn):
-    conn.rollback()
-    return True
-
-
-def rolls_back(conn):
-    conn.rollback()
-
-
-WAYS = (raises_another, raises_at_any_end, swallows, rolls_back)
+WAYS = ("raises_another", "raises_at_any_end", "swallows", "rolls_back")
 
 
 class OfThreads(engines.OnSqlite):
     """Accounts over a pool of some way."""
 
-    way = staticmethod(rolls_back)
+    way = "rolls_back"
 
     def accounts(self, hasher=LOW, dialect=None, **more):
         self.pool = Pool(self.way, self.conn)
@@ -101,23 +75,23 @@ class OfTasks(OfThreads, engines.OnSqliteTasks):
 class Endings:
     """What a pool does at its end changes nothing of what its caller is told."""
 
-    @each(*WAYS, raises_a_base_exception)
+    @each(*WAYS, "raises_a_base_exception")
     def test_a_fault_is_said(self, way):
         """What a job raised is what its caller is told, and an interrupt above it."""
         self.way = way
         accounts = self.accounts()
         self.conn.execute("ALTER TABLE users RENAME TO gone")
-        wanted = Alarm if way is raises_a_base_exception else StoreFault
+        wanted = Alarm if way == "raises_a_base_exception" else StoreFault
         self.assertRaises(wanted, accounts.verify, "ann", "one")
         self.assertEqual(self.pool.uses, 1)
         self.conn.execute("ALTER TABLE gone RENAME TO users")
 
-    @each(*WAYS, raises_a_base_exception)
+    @each(*WAYS, "raises_a_base_exception")
     def test_an_interrupt_is_no_lost_connection(self, way):
         """It comes through, whatever the pool makes of it; nothing is sent again."""
         self.way = way
         accounts = self.accounts()
-        accounts._table.before_commit = interrupted
+        accounts._table.before_commit = mock.Mock(side_effect=Alarm)
         self.assertRaises(Alarm, accounts.change, "ann", "one", "two")
         self.assertEqual(self.pool.uses, 2)
         self.assertTrue(self.is_right("one"))
@@ -125,7 +99,7 @@ class Endings:
     @each((True, "one"), (False, "two"))
     def test_an_interrupt_after_a_lost_answer(self, before, right):
         """The change is settled by nobody."""
-        self.way = raises_a_base_exception
+        self.way = "raises_a_base_exception"
         self.give("one")
         self.assertRaises(Alarm, self.losing(before).change, "ann", "one", "two")
         self.assertTrue(self.is_right(right))
@@ -134,20 +108,17 @@ class Endings:
         """What it raises before a job was begun comes through, and nothing was done."""
 
         class Shut(Pool):
-            def __enter__(self):
-                raise RuntimeError("the pool is shut")
+            __enter__ = mock.Mock(side_effect=RuntimeError("the pool is shut"))
+            __exit__ = mock.Mock(side_effect=AssertionError("it never was entered"))
 
             async def __aenter__(self):
                 self.__enter__()
 
-            def __exit__(self, *given):
-                raise AssertionError("it never was entered")
-
-        accounts = self.over(Shut(rolls_back, None))
+        accounts = self.over(Shut("rolls_back", None))
         self.assertRaisesRegex(RuntimeError, "the pool is shut", accounts.verify, "ann", "old")
 
     def test_what_examine_says_is_not_swallowed(self):
-        accounts = self.over(Pool(swallows, self.conn))
+        accounts = self.over(Pool("swallows", self.conn))
         self.assertEqual(accounts.examine(), [])
         self.dialect.examine = None
         self.assertRaises(TypeError, accounts.examine)
@@ -294,11 +265,9 @@ class Openings(Base):
             links = glob.glob("/proc/self/fd/*")
             return sum(os.path.realpath(it).startswith(self.server.path) for it in links)
 
-        def threads():
-            return {it for it in threading.enumerate() if "asyncio" not in it.name}
-
-        def connect():
-            return aiosqlite.connect(self.server.path, isolation_level=None, timeout=20)
+        threads = lambda: {it for it in threading.enumerate() if "asyncio" not in it.name}
+        given = {"isolation_level": None, "timeout": 20}
+        connect = functools.partial(aiosqlite.connect, self.server.path, **given)
 
         async def counted(conn, *args, **more):
             requests.append(1)

@@ -1,0 +1,61 @@
+"""A cluster of MariaDB in a temporary folder."""
+
+import itertools
+import os
+
+from servers import MariaServer, Missing, need, pymysql
+
+LIBRARY = "/usr/lib/galera/libgalera_smm.so"
+
+
+class Node(MariaServer):
+    """One node of a cluster."""
+
+    cluster = ()
+
+    @property
+    def more_lines(self):
+        base, port = self.port + 1, self.port
+        nodes = ",".join(f"127.0.0.1:{it.port + 1}" for it in self.cluster)
+        return [
+            *("binlog_format=ROW", "innodb_autoinc_lock_mode=2"),
+            *("wsrep_on=ON", f"wsrep_provider={LIBRARY}", "wsrep_sst_method=rsync"),
+            *("wsrep_cluster_name=rigzumal", f"wsrep_cluster_address=gcomm://{nodes}"),
+            f"wsrep_node_name={self.folder.name}",
+            f"wsrep_node_address=127.0.0.1:{base}",
+            f"wsrep_sst_receive_address=127.0.0.1:{port + 4}",
+            f'wsrep_provider_options="base_port={base};gcache.size=32M;'
+            f"ist.recv_addr=127.0.0.1:{port + 3};"
+            f'gmcast.listen_addr=tcp://127.0.0.1:{base}"',
+        ]
+
+    def ready(self):
+        shown = "SHOW STATUS LIKE 'wsrep_ready'"
+        return super().ready() and self.as_root(shown)[0][1] == "ON"
+
+
+class Galera:
+    """A cluster's nodes, whose connections are of each by turns and read what was committed."""
+
+    def __init__(self, name, count=2):
+        if not os.path.exists(LIBRARY):
+            raise Missing("galera-4 is not there")
+        need(pymysql, "python3-pymysql", "rsync")
+        self.nodes = [Node(f"{name}{number}") for number in range(count)]
+        places = ",".join(f"127.0.0.1:{node.port}" for node in self.nodes)
+        self.turns, self.url = itertools.cycle(self.nodes), f"mysql://store:store@{places}/store"
+        for node in self.nodes:
+            node.cluster = self.nodes
+
+    def start(self):
+        first, *others = self.nodes
+        first.start("--wsrep-new-cluster")
+        for node in others:
+            node.start()
+        return self
+
+    def connect(self, **more):
+        conn = next(self.turns).connect(**more)
+        with conn.cursor() as cursor:
+            cursor.execute("SET SESSION wsrep_sync_wait = 1")
+        return conn
