@@ -5,7 +5,7 @@ from unittest import mock
 
 import engines
 import support
-from support import CHECK_FAILED, LOW, each
+from support import CHECK_FAILED, each
 from rigzumal.accounts import PerThread, Reply, StoreFault
 from rigzumal.accounts.types import Kind
 
@@ -19,10 +19,24 @@ SLOW, PUT = "key-not-indexed: no index finds name", "no record can be written: "
 OF_ONE_CASE = ("lower(name)", "upper(name)", "LOWER ( name )")
 OF_MORE = ("lower(record)", "lower(name || record)", "coalesce(record, lower(name))")
 SHORT = "CHECK (length(record) < 60)"
+KEY, RECORD, INDEX = "name VARCHAR(90)", "record VARCHAR(512)", "CREATE UNIQUE INDEX i ON users"
+TEXTS, TEXT_KEY = "name TEXT, record TEXT", "name TEXT PRIMARY KEY, record TEXT"
+OTHER_INDEXES = ("name, record", "record, name", "record")
+# Tables of any engine, by their columns and statements after them, and what is said of each: an
+# index of the key alone and of all rows, and what takes a record.
+TABLES = (
+    (f"{KEY}, {RECORD}", NOT_UNIQUE),
+    *((f"{KEY}, {RECORD}, UNIQUE ({it})", NOT_UNIQUE) for it in OTHER_INDEXES),
+    (f"{KEY}, {RECORD}, mail INT, PRIMARY KEY (name, mail)", NOT_UNIQUE),
+    (f"{KEY}, {RECORD}; {INDEX} (name)",),
+    (f"{KEY} PRIMARY KEY, {RECORD} NOT NULL", "NOT NULL: no account can be without"),
+    (f"{KEY} PRIMARY KEY, {RECORD} CHECK (record LIKE '$argon2%')",),
+)
 
 
 class Said:
-    """What is found is what was wrong, and nothing else."""
+    """What is found is what was wrong, and nothing else: in an engine's own `tables`, and by the
+    `settings` of a connection, which are statements."""
 
     table_of = "CREATE TABLE users ({})"
 
@@ -32,9 +46,10 @@ class Said:
         for word in words:
             self.assertIn(word, "; ".join(f"{it.code}: {it}" for it in faults))
 
-    def each_table(self, *cases):
-        """A case is a table's columns, statements after them, and what is said."""
-        for sql, *words in cases:
+    def test_tables(self):
+        """The rows of each stay as they are."""
+        refused = f"{KEY} PRIMARY KEY, {RECORD} {SHORT}", PUT + self.refused
+        for sql, *words in (*TABLES, refused, *self.tables):
             with self.subTest(sql=sql):
                 self.execute("DROP TABLE IF EXISTS users")
                 columns, *more = sql.split("; ")
@@ -45,56 +60,48 @@ class Said:
                 self.assert_faults(words)
                 self.assertEqual(self.execute("SELECT * FROM users"), rows)
 
-    def test_keys_and_checks(self):
-        """Of any engine: an index of the key alone and of all rows, and what takes a record."""
-        name, record = "name VARCHAR(90)", "record VARCHAR(512)"
-        self.each_table(
-            *(
-                (f"{name}, {record}{it}", NOT_UNIQUE)
-                for it in (
-                    "",
-                    *(f", UNIQUE ({it})" for it in ("name, record", "record, name", "record")),
-                )
-            ),
-            (f"{name}, {record}, mail INT, PRIMARY KEY (name, mail)", NOT_UNIQUE),
-            (f"{name}, {record}; CREATE UNIQUE INDEX i ON users (name)",),
-            (f"{name} PRIMARY KEY, {record} NOT NULL", "NOT NULL: no account can be without"),
-            (f"{name} PRIMARY KEY, {record} {SHORT}", PUT + self.refused),
-            (f"{name} PRIMARY KEY, {record} CHECK (record LIKE '$argon2%')",),
-        )
+    def test_settings(self):
+        for sql, *words in self.settings:
+            with self.subTest(sql=sql):
+                self.assert_faults(words, self.accounts(connect=self.setting(sql)))
+
+
+SQLITE_REFUSES, MAIL = f"IntegrityError {CHECK_FAILED}".rstrip(), "mail TEXT NOT NULL"
+ROW = "INSERT INTO users VALUES ('ann', {})"
+SQLITE_TABLES = (
+    (TEXT_KEY,),
+    ("name TEXT COLLATE NOCASE PRIMARY KEY, record TEXT", CASE),
+    ("name TEXT COLLATE RTRIM PRIMARY KEY, record TEXT", BLANKS),
+    (f"name TEXT COLLATE NOCASE, record TEXT; {INDEX} (name COLLATE BINARY)", CASE),
+    (f"{TEXTS}; {INDEX} (name) WHERE record IS NULL", NOT_UNIQUE),
+    (f"{TEXTS}; {INDEX} (name, lower(record))", NOT_UNIQUE),
+    *((f"{TEXTS}; {INDEX} ({it})", SLOW) for it in OF_ONE_CASE),
+    *((f"{TEXTS}; {INDEX} ({it})", NOT_UNIQUE) for it in OF_MORE),
+    (f"{TEXTS}; {INDEX} (NAME)",),
+    # Rows that the trial can't make: it is done at one that is there.
+    (f"{TEXT_KEY}, {MAIL}",),
+    (f"{TEXT_KEY} {SHORT}, b UNIQUE; {ROW.format('NULL, 1')}", PUT + SQLITE_REFUSES),
+    (f"{TEXT_KEY} {SHORT}, {MAIL}; {ROW.format('NULL, 2')}", PUT + SQLITE_REFUSES),
+    (f"{TEXT_KEY}, {MAIL}; {ROW.format('3, 4')}",),
+)
+POWER, BUSY = "not-durable: synchronous is below FULL", "busy-timeout: the busy timeout"
 
 
 class OnSqlite(Said, engines.OnSqlite, support.Base):
-    refused = f"IntegrityError {CHECK_FAILED}".rstrip()
-
-    def test_tables(self):
-        key, index = "name TEXT PRIMARY KEY, record TEXT", "CREATE UNIQUE INDEX i ON users"
-        refused, insert = PUT + self.refused, "INSERT INTO users VALUES"
-        self.each_table(
-            (key,),
-            ("name TEXT COLLATE NOCASE PRIMARY KEY, record TEXT", CASE),
-            ("name TEXT COLLATE RTRIM PRIMARY KEY, record TEXT", BLANKS),
-            (f"name TEXT COLLATE NOCASE, record TEXT; {index} (name COLLATE BINARY)", CASE),
-            (f"name TEXT, record TEXT; {index} (name) WHERE record IS NULL", NOT_UNIQUE),
-            (f"name TEXT, record TEXT; {index} (name, lower(record))", NOT_UNIQUE),
-            *((f"name TEXT, record TEXT; {index} ({it})", SLOW) for it in OF_ONE_CASE),
-            *((f"name TEXT, record TEXT; {index} ({it})", NOT_UNIQUE) for it in OF_MORE),
-            (f"name TEXT, record TEXT; {index} (NAME)",),
-            # Rows that the trial can't make: it is done at one that is there.
-            (f"{key}, mail TEXT NOT NULL",),
-            (f"{key} {SHORT}, b UNIQUE; {insert} ('ann', NULL, 1)", refused),
-            (f"{key} {SHORT}, mail TEXT NOT NULL; {insert} ('ann', NULL, 'x')", refused),
-            (f"{key}, mail TEXT NOT NULL; {insert} ('ann', 'old', 'x')",),
-        )
+    refused, tables = SQLITE_REFUSES, SQLITE_TABLES
+    settings = (
+        *((f"PRAGMA synchronous = {it}", POWER) for it in (0, 1)),
+        *((f"PRAGMA busy_timeout = {it}", BUSY) for it in (0, 999)),
+        *((f"PRAGMA {it}",) for it in ("synchronous = 3", "busy_timeout = 1000")),
+        ("PRAGMA query_only = 1", f"{PUT}OperationalError"),
+    )
 
     def test_schemas_and_spellings(self):
         """As a statement finds the table, so it is examined."""
         self.execute("CREATE TRIGGER tr AFTER UPDATE ON users BEGIN SELECT 1; END")
         self.give("one")
-        for names in (
-            {"table": "main.users"},
-            {"table": "Users", "key": "NAME", "record": "Record"},
-        ):
+        spellings = {"table": "Users", "key": "NAME", "record": "Record"}
+        for names in ({"table": "main.users"}, spellings):
             accounts = self.accounts(dialect=self.another_dialect(**names))
             self.assert_faults(["trigger tr"], accounts)
             self.assertIs(accounts.verify("ann", "one"), Reply.YES)
@@ -120,42 +127,22 @@ class OnSqlite(Said, engines.OnSqlite, support.Base):
         self.assertEqual(str(fault), fault.text)
 
     @each(
-        ("TEXT", str, ""),
         ("TEXT", int, "name is TEXT, and keys are int"),
-        ("VARCHAR(9)", bytes, ""),
-        ("BIGINT", int, ""),
-        ("INTEGER", str, "name is INTEGER, and keys are str"),
-        ("DECIMAL(9)", str, "name is DECIMAL(9), and keys are str"),
-        ("DECIMAL(9)", int, ""),
-        ("BLOB", str, ""),
-        ("BLOB", int, ""),
-        ("", str, ""),
-        ("TEXT COLLATE NOCASE", bytes, ""),
+        *((it, str, f"name is {it}, and keys are str") for it in ("INTEGER", "DECIMAL(9)")),
+        *((it, int, "") for it in ("BIGINT", "DECIMAL(9)", "BLOB")),
+        *((it, str, "") for it in ("TEXT", "BLOB", "")),
+        *((it, bytes, "") for it in ("VARCHAR(9)", "TEXT COLLATE NOCASE")),
     )
     def test_types_of_keys(self, column, kind, words):
         self.table(key=column)
         said = self.said(self.accounts(dialect=self.another_dialect(key_type=kind)))
         self.assertEqual(said[: len(words)] if words else said, words)
 
-    def test_settings(self):
-        power, busy = "not-durable: synchronous is below FULL", "busy-timeout: the busy timeout"
-        for pragma, *words in (
-            ("synchronous = 0", power),
-            ("synchronous = 1", power),
-            ("synchronous = 3",),
-            ("busy_timeout = 0", busy),
-            ("busy_timeout = 999", busy),
-            ("busy_timeout = 1000",),
-            ("query_only = 1", f"{PUT}OperationalError"),
-        ):
-            with self.subTest(pragma=pragma):
-                connect = self.setting(f"PRAGMA {pragma}")
-                self.assert_faults(words, self.accounts(connect=connect))
+    def test_uncommitted_reads(self):
         self.server.path = f"file:{self.server.path}?cache=shared"
         connect = self.setting("PRAGMA read_uncommitted = 1", uri=True)
-        self.assert_faults(
-            ["read-uncommitted: read_uncommitted is on"], self.accounts(connect=connect)
-        )
+        said = ["read-uncommitted: read_uncommitted is on"]
+        self.assert_faults(said, self.accounts(connect=connect))
 
     def test_journals(self):
         for mode in ("delete", "truncate", "persist", "memory", "off"):
@@ -167,39 +154,61 @@ class OnSqlite(Said, engines.OnSqlite, support.Base):
 
     def test_it_leaves_no_transaction_open(self):
         conn = self.another()
-        accounts = self.kept(conn=conn)
-        self.assert_faults([], accounts)
-        self.assertFalse(conn.in_transaction)
-        self.conn.execute("DROP TABLE users")
-        self.assert_faults(["no column users.name", "no column users.record"], accounts)
-        self.assertFalse(conn.in_transaction)
+        accounts, missing = self.kept(conn=conn), ["no column users.name", "no column users.record"]
+        for sql, words in (("SELECT 1", []), ("DROP TABLE users", missing)):
+            self.conn.execute(sql)
+            self.assert_faults(words, accounts)
+            self.assertFalse(conn.in_transaction)
+
+
+def lengths(varchar):
+    """Tables of a server, whose type this is, with columns of records that are too short."""
+    table = "name VARCHAR(150) PRIMARY KEY, record {}"
+    cut, shorter = (it.format(varchar + "({})") for it in (CUT, SHORTER))
+    return (
+        (table.format("VARCHAR(60)"), cut.format(60), PUT),
+        *((table.format(f"VARCHAR({it})"), cut.format(it)) for it in (96, 128, 151)),
+        *((table.format(f"VARCHAR({it})"), shorter.format(it)) for it in (152, 255, 511)),
+        *((table.format(it),) for it in ("VARCHAR(512)", "TEXT")),
+    )
 
 
 class OnServer(Said):
     """What both servers' tables have in common."""
 
+    def assert_no_account(self, accounts, text, **more):
+        """After a hash."""
+        with self.hashes(1):
+            self.assertIs(accounts.login(text, "x", **more), Reply.NO_ACCOUNT)
+        self.assertIs(accounts.reset(text, "x"), Reply.NO_ACCOUNT)
+
     @each(
-        ("", "SELECT", PUT),
-        ("", "SELECT, INSERT", PUT),
-        ("", "SELECT, INSERT, UPDATE"),
-        ("", "SELECT, UPDATE"),
-        (", mail INT NOT NULL", "SELECT", PUT),
-        (", mail INT NOT NULL", "SELECT, INSERT, UPDATE"),
+        *(("", rows, it, PUT) for rows in (0, 1) for it in ("SELECT", "SELECT, INSERT")),
+        *(("", it, "SELECT, UPDATE") for it in (0, 1)),
+        ("", 1, "SELECT, INSERT, UPDATE"),
+        (", mail INT NOT NULL", 1, "SELECT", PUT),
+        (", mail INT NOT NULL", 1, "SELECT, INSERT, UPDATE"),
     )
     def test_roles(self, row):
-        more, grants, *words = row
+        """An empty table tells nothing, and the server does."""
+        more, rows, grants, *words = row
         self.execute("DROP TABLE IF EXISTS users")
         table = f"name VARCHAR(150) PRIMARY KEY, record VARCHAR(512){more}"
         self.execute(self.table_of.format(table))
-        self.execute(f"INSERT INTO users VALUES ('ann', NULL{', 1' if more else ''})")
+        for _ in range(rows):
+            self.execute(f"INSERT INTO users VALUES ('ann', NULL{', 1' if more else ''})")
         self.assert_faults(words, self.accounts(connect=self.of_role(grants)))
+
+    def test_views(self):
+        self.execute("CREATE VIEW people AS SELECT * FROM users")
+        self.addCleanup(self.execute, "DROP VIEW people")
+        accounts = self.accounts(dialect=self.another_dialect(table="people"))
+        self.assert_faults([NOT_UNIQUE, "not-a-table: people is no table"], accounts)
 
     def test_names_of_tables_and_columns(self):
         """As a statement finds the table, so it is examined."""
-        here = self.execute(
-            "SELECT table_schema FROM information_schema.tables WHERE table_name"
-            " = 'users' AND table_schema IN ('public', 'store')"
-        )
+        ours = "table_name = 'users' AND table_schema IN ('public', 'store')"
+        here = self.execute(f"SELECT table_schema FROM information_schema.tables WHERE {ours}")
         for names, *words in (
             ({"table": f"{here[0][0]}.users"},),
             ({"table": "nowhere"}, "no column nowhere.name", "no column nowhere.record"),
@@ -210,23 +219,6 @@ class OnServer(Said):
                 self.assert_faults(words, self.accounts(dialect=self.another_dialect(**names)))
         numbers = self.accounts(dialect=self.another_dialect(key_type=int))
         self.assertIn("and keys are int", self.said(numbers))
-
-    def test_lengths(self):
-        table = "name VARCHAR(150) PRIMARY KEY, record {}"
-        cut, shorter = (it.format(self.varchar + "({})") for it in (CUT, SHORTER))
-        self.each_table(
-            (table.format("VARCHAR(60)"), cut.format(60), PUT),
-            *((table.format(f"VARCHAR({it})"), cut.format(it)) for it in (96, 128, 151)),
-            *((table.format(f"VARCHAR({it})"), shorter.format(it)) for it in (152, 255, 511)),
-            *((table.format(it),) for it in ("VARCHAR(512)", "TEXT")),
-        )
-
-    def test_a_role_and_no_row(self):
-        """An empty table tells nothing, and the server does."""
-        for grants, *words in (("SELECT", PUT), ("SELECT, INSERT", PUT), ("SELECT, UPDATE",)):
-            with self.subTest(grants=grants):
-                self.create()
-                self.assert_faults(words, self.accounts(connect=self.of_role(grants)))
 
     def test_a_replica(self):
         """It refuses, or it is away; and one that will do."""
@@ -239,43 +231,51 @@ class OnServer(Said):
         self.assert_faults([f"{said}: nobody there"], self.accounts(replica=away))
 
 
-class OnPostgres(OnServer, engines.OnPostgres, support.Base):
-    refused, varchar = "CheckViolation 23514", "character varying"
+NOTHING, COMMITS = "CREATE RULE r AS ON UPDATE TO users DO INSTEAD NOTHING", "synchronous_commit"
+UNSAFE = f"not-durable: {COMMITS} is"
+POSTGRES_TABLES = (
+    *lengths("character varying"),
+    ("name char(20) PRIMARY KEY, record text", BLANKS),
+    *((f"name {it} PRIMARY KEY, record text", CASE) for it in ("citext", "text COLLATE ci")),
+    ("name text COLLATE ai PRIMARY KEY, record text", ACCENTS),
+    *((f"name {it} PRIMARY KEY, record text",) for it in ("name", "short")),
+    (f"{TEXTS}; {INDEX} (name) WHERE record IS NULL", NOT_UNIQUE),
+    *((f"{TEXTS}; {INDEX} ({it})", SLOW) for it in OF_ONE_CASE),
+    *((f"{TEXTS}; {INDEX} (({it}))", NOT_UNIQUE) for it in OF_MORE),
+    (f"name varchar(90), record text; {INDEX} (lower(name))", SLOW),
+    (f"{TEXTS}, EXCLUDE (name WITH =)",),
+    (f"{TEXTS}, EXCLUDE (name WITH =) WHERE (record = 'x')", NOT_UNIQUE),
+    (f"{TEXTS}, EXCLUDE (record WITH =)", NOT_UNIQUE),
+    (f"{TEXTS}; {INDEX} (name) INCLUDE (record)",),
+    ("name text PRIMARY KEY, record char(300)", "character(300)", "than the one that was written"),
+    ("name text PRIMARY KEY, record bytea", "record is bytea, not text", "the record is not text"),
+    ("name text PRIMARY KEY, record citext",),
+    ("name other.ci PRIMARY KEY, record other.ci", CASE),
+    ("name text PRIMARY KEY, record short", SHORTER.format("character varying(200)")),
+    ("name text PRIMARY KEY, record bound", "NOT NULL"),
+    (f"{TEXT_KEY}; ALTER TABLE users ADD {SHORT} NOT VALID", f"{PUT}CheckViolation 23514"),
+    (f"{TEXT_KEY}; {NOTHING}", f"{PUT}FeatureNotSupported"),
+    (f"{TEXT_KEY}; ALTER TABLE users SET UNLOGGED", "not-durable: users is unlogged"),
+    (f"{TEXT_KEY}; ALTER TABLE users ENABLE ROW LEVEL SECURITY", "row-security: row security"),
+)
 
-    def test_columns(self):
-        for sql in (
-            "CREATE SCHEMA IF NOT EXISTS other",
-            "DROP DOMAIN IF EXISTS short, bound, other.ci",
-            "CREATE DOMAIN short AS varchar(200)",
-            "CREATE DOMAIN bound AS text NOT NULL",
-            "CREATE DOMAIN other.ci AS citext CHECK (length(VALUE) < 513)",
-        ):
-            self.execute(sql)
-        collation = "(provider = icu, locale = 'und-u-ks-level1-kc-true', deterministic = false)"
-        self.execute(f"CREATE COLLATION IF NOT EXISTS ai {collation}")
-        index, record = "CREATE UNIQUE INDEX ON users", "name text PRIMARY KEY, record"
-        self.each_table(
-            ("name char(20) PRIMARY KEY, record text", BLANKS),
-            ("name citext PRIMARY KEY, record text", CASE),
-            ("name text COLLATE ci PRIMARY KEY, record text", CASE),
-            ("name text COLLATE ai PRIMARY KEY, record text", ACCENTS),
-            ("name name PRIMARY KEY, record text",),
-            (f"name text, record text; {index} (name) WHERE record IS NULL", NOT_UNIQUE),
-            *((f"name text, record text; {index} ({it})", SLOW) for it in OF_ONE_CASE),
-            *((f"name text, record text; {index} (({it}))", NOT_UNIQUE) for it in OF_MORE),
-            (f"name varchar(90), record text; {index} (lower(name))", SLOW),
-            ("name text, record text, EXCLUDE (name WITH =)",),
-            ("name text, record text, EXCLUDE (name WITH =) WHERE (record = 'x')", NOT_UNIQUE),
-            ("name text, record text, EXCLUDE (record WITH =)", NOT_UNIQUE),
-            (f"name text, record text; {index} (name) INCLUDE (record)",),
-            (f"{record} char(300)", "character(300)", "than the one that was written"),
-            (f"{record} bytea", "record is bytea, not text", "the record is not text"),
-            (f"{record} citext",),
-            ("name other.ci PRIMARY KEY, record other.ci", CASE),
-            (f"{record} short", SHORTER.format("character varying(200)")),
-            (f"{record} bound", "NOT NULL"),
-            ("name short PRIMARY KEY, record text",),
+
+class OnPostgres(OnServer, engines.OnPostgres, support.Base):
+    refused, tables = "CheckViolation 23514", POSTGRES_TABLES
+    settings = (
+        *((f"SET {COMMITS} = {it}",) for it in ("remote_apply", "on")),
+        *((f"SET {COMMITS} = {it}", f"{UNSAFE} {it}") for it in ("off", "local", "remote_write")),
+    )
+
+    def test_tables(self):
+        self.execute(
+            "CREATE SCHEMA IF NOT EXISTS other; DROP DOMAIN IF EXISTS short, bound, other.ci;"
+            " CREATE DOMAIN short AS varchar(200); CREATE DOMAIN bound AS text NOT NULL;"
+            " CREATE DOMAIN other.ci AS citext CHECK (length(VALUE) < 513);"
+            " CREATE COLLATION IF NOT EXISTS ai"
+            " (provider = icu, locale = 'und-u-ks-level1-kc-true', deterministic = false)"
         )
+        super().test_tables()
 
     def test_numeric_keys_and_heirs(self):
         self.table("text", "numeric")
@@ -291,12 +291,9 @@ class OnPostgres(OnServer, engines.OnPostgres, support.Base):
     def test_encodings(self):
         """Names that a database lacks are no accounts, after a hash; texts aren't bytes."""
         given = "TEMPLATE template0 LC_COLLATE 'C' LC_CTYPE 'C' ENCODING"
-        for encoding, *words in (
-            ("UTF8",),
-            ("LATIN1", LATIN.format("LATIN1")),
-            ("EUC_JP", LATIN.format("EUC_JP")),
-            ("SQL_ASCII", "encoding: client_encoding is SQL_ASCII: texts come as bytes"),
-        ):
+        as_bytes = "encoding: client_encoding is SQL_ASCII: texts come as bytes"
+        others = ((it, LATIN.format(it)) for it in ("LATIN1", "EUC_JP"))
+        for encoding, *words in (("UTF8",), *others, ("SQL_ASCII", as_bytes)):
             name = f"en{encoding.lower()}"
             self.execute(f"CREATE DATABASE {name} {given} '{encoding}'")
             self.addCleanup(self.execute, f"DROP DATABASE {name} WITH (FORCE)")
@@ -310,34 +307,9 @@ class OnPostgres(OnServer, engines.OnPostgres, support.Base):
                     unicode = [LATIN.format(encoding)] if is_ascii else words
                     self.assert_faults(unicode if more else words, accounts)
                     for text in ("an\U0001f600", "\u0436ora", "\u0e01"):
-                        with self.hashes(1):
-                            self.assertIs(accounts.login(text, "x"), Reply.NO_ACCOUNT)
-                        self.assertIs(accounts.reset(text, "x"), Reply.NO_ACCOUNT)
+                        self.assert_no_account(accounts, text)
 
-    def test_tables(self):
-        table, alter = "name text PRIMARY KEY, record text", "ALTER TABLE users"
-        refused = PUT + self.refused
-        nothing = "CREATE RULE r AS ON UPDATE TO users DO INSTEAD NOTHING"
-        self.each_table(
-            (f"{table}; {alter} ADD {SHORT} NOT VALID", refused),
-            (f"{table}; {nothing}", f"{PUT}FeatureNotSupported"),
-            (f"{table}; {alter} SET UNLOGGED", "not-durable: users is unlogged"),
-            (f"{table}; {alter} ENABLE ROW LEVEL SECURITY", "row-security: row security"),
-        )
-        self.execute("CREATE VIEW people AS SELECT * FROM users")
-        self.addCleanup(self.execute, "DROP VIEW people")
-        dialect = self.another_dialect(table="people")
-        self.assert_faults(
-            ["no unique", "not-a-table: people is no table"], self.accounts(dialect=dialect)
-        )
-
-    def test_settings(self):
-        name = "synchronous_commit"
-        for value in ("off", "local", "remote_write", "remote_apply", "on"):
-            words = [] if value in ("remote_apply", "on") else [f"not-durable: {name} is {value}"]
-            with self.subTest(value=value):
-                connect = self.setting(f"SET {name} = {value}")
-                self.assert_faults(words, self.accounts(connect=connect))
+    def test_settings_of_the_server(self):
         for name in ("fsync", "full_page_writes"):
             self.server.set(**{name: "off"})
             try:
@@ -347,34 +319,43 @@ class OnPostgres(OnServer, engines.OnPostgres, support.Base):
             self.assert_faults([])
 
 
+COLLATED = "name VARCHAR(90) CHARACTER SET {} COLLATE {} PRIMARY KEY, record TEXT"
+ENGINE = f"{KEY} PRIMARY KEY, {RECORD}; ALTER TABLE users ENGINE={{}}; {ROW.format(1)}"
+ENGINES = ("MyISAM", "Aria", "MEMORY")
+MARIADB_TABLES = (
+    *lengths("varchar"),
+    *(
+        (COLLATED.format(it.partition("_")[0], it), *words)
+        for it, *words in (
+            ("utf8mb4_bin", BLANKS),
+            ("utf8mb4_general_ci", CASE, BLANKS, ACCENTS),
+            ("utf8mb4_unicode_ci", CASE, BLANKS, ACCENTS),
+            ("utf8mb4_unicode_nopad_ci", CASE, ACCENTS),
+            ("utf8mb4_nopad_bin",),
+            ("latin1_swedish_ci", LATIN.format("latin1"), CASE, BLANKS, ACCENTS),
+            ("ascii_bin", LATIN.format("ascii"), BLANKS),
+            *((f"{it}_nopad_bin", LATIN.format(it)) for it in ("latin1", "ascii", "utf8mb3")),
+        )
+    ),
+    (f"{KEY}, record TEXT, UNIQUE (name(5))",),
+    (f"{KEY}, record TEXT, UNIQUE (name(5), record(5))", NOT_UNIQUE),
+    (f"{KEY}, record TEXT, KEY (name)", NOT_UNIQUE),
+    (f"{KEY} PRIMARY KEY, record TINYTEXT", SHORTER.format("tinytext(255)")),
+    (f"{KEY} PRIMARY KEY, record CHAR(255)", SHORTER.format("char(255)")),
+    (f"{KEY} PRIMARY KEY, record TEXT CHARACTER SET ucs2", "is in ucs2"),
+    # Nothing is tried where nothing is undone.
+    *((ENGINE.format(it), f"no-transactions: users is of {it}") for it in ENGINES),
+    (f"{KEY} PRIMARY KEY, record VARBINARY(512)", "is varbinary, not text", "bytes"),
+)
+
+
 class OnMariaDB(OnServer, engines.OnMariaDB, support.Base):
     table_of = "CREATE TABLE users ({}) CHARACTER SET utf8mb4 COLLATE utf8mb4_nopad_bin"
-    refused, varchar = "OperationalError 4025", "varchar"
+    refused, tables = "OperationalError 4025", MARIADB_TABLES
 
-    def test_columns(self):
-        key = "name VARCHAR(90) CHARACTER SET {} COLLATE {} PRIMARY KEY, record TEXT"
-        name, record = "name VARCHAR(90), record TEXT", "name VARCHAR(90) PRIMARY KEY, record"
-        latin1 = LATIN.format("latin1")
-        self.each_table(
-            (key.format("utf8mb4", "utf8mb4_bin"), BLANKS),
-            (key.format("utf8mb4", "utf8mb4_general_ci"), CASE, BLANKS, ACCENTS),
-            (key.format("utf8mb4", "utf8mb4_unicode_ci"), CASE, BLANKS, ACCENTS),
-            (key.format("utf8mb4", "utf8mb4_unicode_nopad_ci"), CASE, ACCENTS),
-            (key.format("utf8mb4", "utf8mb4_nopad_bin"),),
-            (key.format("latin1", "latin1_swedish_ci"), latin1, CASE, BLANKS, ACCENTS),
-            (key.format("latin1", "latin1_nopad_bin"), latin1),
-            (key.format("ascii", "ascii_bin"), LATIN.format("ascii"), BLANKS),
-            (key.format("ascii", "ascii_nopad_bin"), LATIN.format("ascii")),
-            (key.format("utf8mb3", "utf8mb3_nopad_bin"), LATIN.format("utf8mb3")),
-            (f"{name}, UNIQUE (name(5))",),
-            (f"{name}, UNIQUE (name(5), record(5))", NOT_UNIQUE),
-            (f"{name}, KEY (name)", NOT_UNIQUE),
-            (f"{record} TINYTEXT", SHORTER.format("tinytext(255)")),
-            (f"{record} CHAR(255)", SHORTER.format("char(255)")),
-            (f"{record} TEXT CHARACTER SET ucs2", "is in ucs2"),
-            (f"{record} VARBINARY(512)", "is varbinary, not text", "bytes"),
-        )
-        self.give("one")
+    def test_tables(self):
+        super().test_tables()
+        self.give("one")  # as bytes
         self.assertRaises(StoreFault, self.accounts().verify, "ann", "one")
 
     def test_keys_that_are_padded(self):
@@ -391,47 +372,15 @@ class OnMariaDB(OnServer, engines.OnMariaDB, support.Base):
     def test_names_that_a_character_set_lacks(self):
         """They are no accounts, after a hash; and a connection may lack them too."""
         key = "VARCHAR(90) CHARACTER SET {} COLLATE {}"
-        for charset, connection in (
-            ("latin1", "utf8mb4"),
-            ("ascii", "utf8mb4"),
-            ("utf8mb3", "utf8mb4"),
-            ("utf8mb4", "latin1"),
-            ("utf8mb4", "utf8"),
-        ):
-            collation = f"{charset}_nopad_bin"
-            self.table("TEXT", key.format(charset, collation))
+        tables = [(it, it, "utf8mb4") for it in ("latin1", "ascii", "utf8mb3")]
+        connections = [(it, "utf8mb4", it) for it in ("latin1", "utf8")]
+        for lacking, charset, connection in (*tables, *connections):
+            self.table("TEXT", key.format(charset, f"{charset}_nopad_bin"))
             accounts = self.accounts(connect=self.setting(charset=connection))
-            lacking = charset if connection == "utf8mb4" else connection
             with self.subTest(charset=charset, connection=connection):
                 self.assertIn(f"names outside of {lacking}", self.said(accounts))
                 for more in ({}, {"also": lambda conn, reply: None}):
-                    with self.hashes(1):
-                        reply = accounts.login("an\U0001f600", "x", **more)
-                    self.assertIs(reply, Reply.NO_ACCOUNT)
-                self.assertIs(accounts.reset("an\U0001f600", "x"), Reply.NO_ACCOUNT)
-
-    def test_blanks_are_of_a_name(self):
-        """In the table that is made for accounts, 'ann ' is another name than 'ann'."""
-        accounts = self.accounts()
-        for name in ("ann ", " ann", "ANN", "ann\t", "\u00e4nn"):
-            self.assertIs(accounts.verify(name, "one"), Reply.NO_ACCOUNT)
-            self.execute(self.dialect.insert, name)
-            self.assertIs(accounts.verify(name, "one"), Reply.ABSENT)
-        self.assertIs(accounts.verify("ann", "one"), Reply.YES)
-
-    def test_nothing_is_tried_where_nothing_is_undone(self):
-        table = "name VARCHAR(90) PRIMARY KEY, record VARCHAR(600); ALTER TABLE users ENGINE={0};"
-        insert = " INSERT INTO users VALUES ('ann', 'old')"
-        for engine in ("MyISAM", "Aria", "MEMORY"):
-            said = f"no-transactions: users is of {engine}"
-            self.each_table((table.format(engine) + insert, said))
-            self.assertEqual(self.stands(), "old")
-
-    def test_views(self):
-        self.execute("CREATE VIEW people AS SELECT * FROM users")
-        self.addCleanup(self.execute, "DROP VIEW people")
-        accounts = self.accounts(dialect=self.another_dialect(table="people"))
-        self.assert_faults([NOT_UNIQUE, "not-a-table: people is no table"], accounts)
+                    self.assert_no_account(accounts, "an\U0001f600", **more)
 
     def test_settings(self):
         name = "innodb_flush_log_at_trx_commit"

@@ -36,19 +36,15 @@ class OnMariaDB(engines.OnMariaDB, Base):
         connect = self.setting("SET SESSION TRANSACTION ISOLATION LEVEL READ UNCOMMITTED")
         accounts, kept = self.accounts(connect=connect), connect()
         self.addCleanup(kept.close)
-        worked = [
-            self.worked(self.accounts(), kind, "one", new)
-            for kind, new in ((Kind.CHANGE, "two"), (Kind.REMOVE, ""))
-        ]
-        for act in (
-            lambda: accounts.login("ann", "one"),
-            lambda: accounts.commit(worked[0]),
-            lambda: accounts.commit(worked[1]),
-            # A connection that was refused is refused again.
-            lambda: run(self.dialect.prepare(support.Session(kept))),
-            lambda: run(self.dialect.prepare(support.Session(kept))),
+        changes = (Kind.CHANGE, "one", "two"), (Kind.REMOVE, "one")
+        worked = [self.worked(self.accounts(), *it) for it in changes]
+        prepare = lambda: run(self.dialect.prepare(support.Session(kept)))
+        for act, *given in (
+            (accounts.login, "ann", "one"),
+            *((accounts.commit, it) for it in worked),
+            *((prepare,), (prepare,)),  # a connection that was refused is refused again
         ):
-            self.assertRaisesRegex(StoreFault, "READ UNCOMMITTED", act)
+            self.assertRaisesRegex(StoreFault, "READ UNCOMMITTED", act, *given)
         self.assertIn("READ UNCOMMITTED", self.said(accounts))
 
     def test_a_connection_is_asked_once(self):
@@ -101,6 +97,15 @@ class OnMariaDB(engines.OnMariaDB, Base):
                 self.assertIn("the server keeps another name", said)
                 self.assertEqual(self.execute("SELECT * FROM accounts"), [])
 
+    def test_blanks_are_of_a_name(self):
+        """In the table that is made for accounts, 'ann ' is another name than 'ann'."""
+        accounts = self.accounts()
+        for name in ("ann ", " ann", "ANN", "ann\t", "\u00e4nn"):
+            self.assertIs(accounts.verify(name, "one"), Reply.NO_ACCOUNT)
+            self.execute(self.dialect.insert, name)
+            self.assertIs(accounts.verify(name, "one"), Reply.ABSENT)
+        self.assertIs(accounts.verify("ann", "one"), Reply.YES)
+
     def test_what_examine_says_of_a_session(self):
         """With a binary log, what isn't in it after a power cut is rolled back, so it is synced."""
         seen = dict(self.execute("SHOW SESSION VARIABLES"))
@@ -141,12 +146,9 @@ class OnMariaDB(engines.OnMariaDB, Base):
     def test_what_is_shown_early(self):
         """A fault where looks aren't confirmed: --confirm is for examine and torture too."""
         said = "log_bin is OFF: a crash may lose a change by which a login was answered"
-        for seen, words in (
-            ({"log_bin": "OFF"}, (said,)),
-            ({}, (said,)),
-            ({"log_bin": "ON"}, ()),
-            ({"log_bin": "OFF", "wsrep_on": "ON"}, ()),
-        ):
+        others = {"log_bin": "ON"}, {"log_bin": "OFF", "wsrep_on": "ON"}
+        for seen in ({"log_bin": "OFF"}, {}, *others):
+            words = () if seen in others else (said,)
             self.assertEqual(tuple(map(str, mariadb.shown_early(seen))), words)
         early = (mariadb.error("shown-early", "early"),)
         given = ("--database", self.server.url, "--table", "users")
@@ -163,13 +165,8 @@ class OnMariaDB(engines.OnMariaDB, Base):
 
     def test_the_two_updates(self):
         """What stands between them is never committed."""
-        for first, second, wanted in (
-            (0, None, 0),
-            (2, None, 2),
-            (1, 1, 1),
-            (1, 0, StoreFault),
-            (1, 2, StoreFault),
-        ):
+        refused = (1, 0, StoreFault), (1, 2, StoreFault)
+        for first, second, wanted in ((0, None, 0), (2, None, 2), (1, 1, 1), *refused):
             session = Scripted(Result([], first), Result([], second))
             put = self.dialect.put(session, "r", "ann", "r")
             if wanted is StoreFault:
