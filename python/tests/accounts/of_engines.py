@@ -7,6 +7,7 @@ its `kind` (a server that is started, and connects), its `dialect`, and its sett
 
 import contextlib
 import itertools
+import re
 import threading
 from unittest import mock
 
@@ -14,31 +15,21 @@ from support import after_hash, called, each, losing
 from rigzumal.accounts import Accounts, OutcomeUnknown, Reply, StoreFault, Unavailable
 from rigzumal.accounts.types import NO_ROW, Answer, Kind, Request
 
+AT_ONE = """verify ann one yes; verify ann two no; login ann one yes; login ann two no
+upgrade ann one kept; upgrade ann two wrong; change ann one x replaced; change ann two x wrong
+reset ann x replaced; remove ann one removed; remove ann two wrong; enrol ann x exists"""
+AT_NONE = """enrol ann x enrolled; reset ann x enrolled; verify ann one absent; login ann one absent
+upgrade ann one absent; remove ann one absent; change ann one x absent; verify bob one noaccount
+login bob one noaccount; upgrade bob one noaccount; remove bob one noaccount
+enrol bob one noaccount; reset bob one noaccount; change bob one x noaccount"""
+UPGRADED = "upgrade ann one upgraded; login ann one yes; login ann two no"
 # Costs of new records, what stands, what is called, and what is answered.
-READS = ("verify", "login", "upgrade", "remove")
-CALLS = (
-    ("low", "one", "verify ann one", "yes"),
-    ("low", "one", "verify ann two", "no"),
-    ("low", "one", "login ann one", "yes"),
-    ("low", "one", "login ann two", "no"),
-    ("low", "one", "upgrade ann one", "kept"),
-    ("low", "one", "upgrade ann two", "wrong"),
-    ("low", "one", "change ann one x", "replaced"),
-    ("low", "one", "change ann two x", "wrong"),
-    ("low", "one", "reset ann x", "replaced"),
-    ("low", "one", "remove ann one", "removed"),
-    ("low", "one", "remove ann two", "wrong"),
-    ("low", "one", "enrol ann x", "exists"),
-    ("low", None, "enrol ann x", "enrolled"),
-    ("low", None, "reset ann x", "enrolled"),
-    *(("low", None, f"{it} ann one", "absent") for it in READS),
-    ("low", None, "change ann one x", "absent"),
-    *(("low", None, f"{it} bob one", "noaccount") for it in (*READS, "enrol", "reset")),
-    ("low", None, "change bob one x", "noaccount"),
-    ("high", "one", "upgrade ann one", "upgraded"),
-    ("high", "one", "login ann one", "yes"),
-    ("high", "one", "login ann two", "no"),
-)
+TABLE = ("low", "one", AT_ONE), ("low", None, AT_NONE), ("high", "one", UPGRADED)
+CALLS = [
+    (costs, stands, *call.rsplit(" ", 1))
+    for costs, stands, calls in TABLE
+    for call in re.split("; |\n", calls)
+]
 
 
 class Operations:
@@ -81,13 +72,10 @@ class Operations:
         (None, Kind.RESET, "", "x"),
         ("one", Kind.RESET, "", "two"),
         ("one", Kind.CHANGE, "one", "two"),
-        ("one", Kind.UPGRADE, "one", ""),
-        ("one", Kind.REMOVE, "one", ""),
-        ("one", Kind.VERIFY, "one", ""),
+        *(("one", it, "one", "") for it in (Kind.UPGRADE, Kind.REMOVE, Kind.VERIFY)),
     )
     def test_each_change_compares(self, stood, kind, password, new):
-        """What was worked out at a record that is gone is put by no operation, and answered by
-        none."""
+        """No operation puts or answers what was worked out at a record that is gone."""
         self.give(stood)
         accounts = self.accounts(self.high)
         slow = self.worked(accounts, kind, password, new)
@@ -298,9 +286,7 @@ class OnServers:
         """What the server refused is refused at once, and not tried for all of patience."""
         self.execute("ALTER TABLE users ADD CHECK (record LIKE '%m=64,%')")
         dialect = losing(self.another_dialect(), True, 99, ConnectionError("planted"), ["undo"])
-        made = []
-        accounts = self.accounts(
-            self.high, dialect, lambda: made.append(self.connect()) or made[-1], patience=60.0
-        )
+        made, connect = [], lambda: made.append(self.connect()) or made[-1]
+        accounts = self.accounts(self.high, dialect, connect, patience=60.0)
         self.assertRaises(StoreFault, accounts.change, "ann", "one", "two")
         self.assertLess(len(made), 5)

@@ -2,6 +2,7 @@
 
 import contextlib
 import itertools
+from operator import methodcaller
 
 from of_engines import CALLS
 from servers import SqliteFile
@@ -117,9 +118,8 @@ class RowsOfOnesOwn:
 
         for (act, said), text in itertools.product(
             (
-                (lambda conn: conn.commit(), "has ended the operation's transaction"),
-                (lambda conn: conn.rollback(), "has ended the operation's transaction"),
-                (lambda conn: conn.close(), "closed its connection"),
+                *((methodcaller(it), "has ended the operation's") for it in ("commit", "rollback")),
+                (methodcaller("close"), "closed its connection"),
                 (rewrites, "has changed the account's own record"),
                 (nests, "connection is in use"),
                 # A generator function is its own answer, as is a coroutine function.

@@ -17,19 +17,11 @@ class Connections:
     def test_modes(self):
         """Connections that aren't in autocommit, or have a transaction open."""
         worked = self.worked(self.accounts(), Kind.CHANGE, "one", "two")
-        manual, opened = (
-            "the connections of the pool have to be in auto",
-            "is open .* a pool closes",
-        )
-        modes = (
-            (False, "", manual),
-            (False, "SELECT 1", manual),
-            (True, self.dialect.begin, opened),
-        )
-        acts = (("verify", "ann", "one"), ("change", "ann", "one", "two"), ("commit", worked))
-        for (autocommit, begin, said), (name, *given) in itertools.product(
-            modes, (*acts, ("examine",))
-        ):
+        manual, opened = "connections of the pool have to be in auto", "is open .* a pool closes"
+        modes = (False, "", manual), (False, "SELECT 1", manual), (True, self.dialect.begin, opened)
+        acts = ("verify", "ann", "one"), ("change", "ann", "one", "two"), ("commit", worked)
+        for mode, (name, *given) in itertools.product(modes, (*acts, ("examine",))):
+            autocommit, begin, said = mode
             conn = self.another(autocommit=autocommit)
             if begin:
                 self.execute(begin, conn=conn)
@@ -48,11 +40,8 @@ class Connections:
         """All or nothing; and a copy that is gone is not put."""
         accounts, caller = self.accounts(), self.another()
         worked = self.worked(accounts, Kind.CHANGE, "one", "two")
-        for end, reply, right in (
-            ("ROLLBACK", Reply.REPLACED, "one"),
-            ("COMMIT", Reply.REPLACED, "two"),
-            ("ROLLBACK", Reply.CHANGED, "two"),
-        ):
+        replaced = ("ROLLBACK", Reply.REPLACED, "one"), ("COMMIT", Reply.REPLACED, "two")
+        for end, reply, right in (*replaced, ("ROLLBACK", Reply.CHANGED, "two")):
             self.execute(self.dialect.begin, conn=caller)
             self.assertIs(accounts.commit_in(caller, worked).reply, reply)
             self.execute(end, conn=caller)

@@ -46,9 +46,8 @@ class Answers(Commands):
             *((f"{it} eve\udcff", "", "no account") for it in ("delete", "disable")),
             ("rename eve\udcff bob", "", "no account"),
             (f"--numbers delete {2**63}", "", "no account"),
+            *(("check ann", it, "no") for it in ("two", "one ")),
             ("check ann", "one\n", "yes"),
-            ("check ann", "two", "no"),
-            ("check ann", "one ", "no"),
             ("check ann", "", 6),
             ("check eve", "one", "no account"),
             ("reset ann", "two", "replaced"),
@@ -70,8 +69,7 @@ class Answers(Commands):
             ("check amy", "two", "no record"),
             ("disable amy", "", "no record"),
             ("disable eve", "", "no account"),
-            ("delete amy", "", "deleted"),
-            ("delete amy", "", "no account"),
+            *(("delete amy", "", it) for it in ("deleted", "no account")),
             ("add ann", "two", "enrolled"),
         )
         said, error = self.streams("import", two, status=4)
@@ -81,15 +79,12 @@ class Answers(Commands):
             (f"import {bad}", "", 6),
             ("import none", "", 2),
             ("list", "", f"ann {costs}\nbob {costs}"),
-            ("list hunter2", "", 1),
-            ("lists", "", 1),
-            ("--lanes 0 add eve", "one", 1),
-            ("add eve --log2-n 10", "one", 1),
+            *((it, "", 1) for it in ("list hunter2", "lists", "--database  examine")),
+            *((it, "one", 1) for it in ("--lanes 0 add eve", "add eve --log2-n 10")),
             ("add eve --scrypt", "one", 1),  # the costs in front are Argon2's
             ("--table none check ann", "two", 5),
             ("--database oracle://x examine", "", 1),
             ("--database sqlite:////nowhere/at/all.db examine", "", 5),
-            ("--database  examine", "", 1),
             ("examine", "", ""),
         )
         self.conn.execute("DROP TABLE accounts")
@@ -115,8 +110,7 @@ class Answers(Commands):
             (f"{names} add 7", "one", "enrolled"),
             (f"{names} check 7", "one", "yes"),
             (f"{names} check x", "one", 1),
-            (f"{names} rename 7 8", "one", "renamed"),
-            (f"{names} rename 8 7", "one", "renamed"),
+            *((f"{names} rename {it}", "one", "renamed") for it in ("7 8", "8 7")),
             (f"{names.rpartition(' ')[0]} check 7", "one", "yes"),
         )
         said = self.run_command(*names.split(), "check", "x", given="one", status=1)
@@ -161,11 +155,11 @@ class Words(Commands):
         ("bash", "rigzumal ", "hash verify calibrate accounts --version"),
         ("fish", "rigzumal ", "hash verify calibrate accounts"),
         ("fish", "rigzumal --v", "--version"),
+        ("fish", "rigzumal accounts check --pro", ""),
         *((it, "rigzumal hash --e", "--empty") for it in SHELLS),
         *((it, "rigzumal accounts re", "reset rename report") for it in SHELLS),
         *((it, "rigzumal accounts --database x re", "reset rename report") for it in SHELLS),
         *((it, "rigzumal accounts --json report --pro", "--prometheus") for it in SHELLS),
-        ("fish", "rigzumal accounts check --pro", ""),
         *((it, "rigzumal accounts --table ", "") for it in SHELLS),
         ("bash", "rigzumal accounts check --secret ", ""),
     )

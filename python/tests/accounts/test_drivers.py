@@ -3,13 +3,15 @@
 import asyncio
 import contextlib
 import threading
+import time
 import unittest
+from unittest import mock
 
 import engines
 import servers
 import support
 from engines import Awaited
-from support import LOW, called, module
+from support import HIGH, LOW, called, module
 from rigzumal.accounts import Accounts, AsyncAccounts, MariaDB, Postgres, Reply, Sqlite, StoreFault
 from rigzumal.accounts import Unavailable, of_engine
 from rigzumal.accounts.types import Kind, Request, Ticket
@@ -23,28 +25,21 @@ class Refused(unittest.TestCase):
         dialect = kind("users", "name", "record")
         accounts = Accounts(lambda: contextlib.nullcontext(conn), dialect, LOW, patience=0.0)
         ticket = Ticket(Request(Kind.CHANGE, "ann", "one", "two"), LOW.hash("one"))
+        acts = (("verify", "ann", "one"), ("change", "ann", "one", "two"), ("examine",))
         worked = accounts.work(ticket)
-        for act in (
-            lambda: accounts.verify("ann", "one"),
-            lambda: accounts.change("ann", "one", "two"),
-            lambda: accounts.examine(),
-            lambda: accounts.commit(worked),
-            lambda: accounts.commit_in(conn, worked),
-        ):
-            self.assertRaisesRegex(StoreFault, said, act)
+        for name, *given in (*acts, ("commit", worked), ("commit_in", conn, worked)):
+            self.assertRaisesRegex(StoreFault, said, getattr(accounts, name), *given)
 
     def test_psycopg2(self):
-        psycopg2 = module("psycopg2")
-        conn = psycopg2.connect(support.server(servers.PostgresServer).url)
+        conn = module("psycopg2").connect(support.server(servers.PostgresServer).url)
         self.addCleanup(conn.close)
         conn.autocommit = True
         self.assert_refused(conn, Postgres, "the driver is psycopg2 instead of psycopg 3")
 
     def test_mysqlclient(self):
-        mysql = module("MySQLdb")
-        server = support.server(servers.MariaServer)
-        given = {"host": "127.0.0.1", "port": server.port, "user": "store", "passwd": "store"}
-        conn = mysql.connect(db="store", autocommit=True, **given)
+        given = {"host": "127.0.0.1", "user": "store", "passwd": "store", "db": "store"}
+        port = support.server(servers.MariaServer).port
+        conn = module("MySQLdb").connect(port=port, autocommit=True, **given)
         self.addCleanup(conn.close)
         self.assert_refused(conn, MariaDB, "the driver is MySQLdb instead of PyMySQL")
 
@@ -67,14 +62,16 @@ class Refused(unittest.TestCase):
         """SQLAlchemy's own connections are named with what makes a pool of their engine."""
         sqlalchemys = type("Connection", (), {"__module__": "sqlalchemy.pool", "info": {}})
         for kind in (Sqlite, MariaDB, Postgres):
-            self.assert_refused(
-                sqlalchemys(), kind, "the driver is sqlalchemy instead of .* of_engine"
-            )
+            said = "the driver is sqlalchemy instead of .* of_engine"
+            self.assert_refused(sqlalchemys(), kind, said)
             self.assert_refused(object(), kind, "the driver is builtins")
 
 
 class Engines:
-    """SQLAlchemy's engine as the pool."""
+    """SQLAlchemy's engine as the pool: `name` is its word for the database."""
+
+    def url(self, driver):
+        return f"{self.name}+{driver}:{self.server.url.partition(':')[2]}"
 
     def setUp(self):
         super().setUp()
@@ -82,7 +79,7 @@ class Engines:
 
     def engine(self, **given):
         given = {"isolation_level": "AUTOCOMMIT", **given}
-        made = self.sqlalchemy.create_engine(self.sqlalchemy_url, **given)
+        made = self.sqlalchemy.create_engine(self.url(self.driver), **given)
         self.addCleanup(made.dispose)
         return made
 
@@ -91,10 +88,8 @@ class Engines:
 
     def test_operations(self):
         plain = self.engine(isolation_level=None)
-        for engine in (
-            self.engine(pool_size=2),
-            plain.execution_options(isolation_level="AUTOCOMMIT"),
-        ):
+        committing = plain.execution_options(isolation_level="AUTOCOMMIT")
+        for engine in (self.engine(pool_size=2), committing):
             accounts = self.over(engine)
             self.assertEqual(accounts.examine(), [])
             for _ in range(3):
@@ -105,10 +100,9 @@ class Engines:
 
     def test_pools_that_will_not_do(self):
         """An engine that isn't in autocommit, and its own connections, which are named."""
-        for pool, said in (
-            (of_engine(self.engine(isolation_level=None)), "have to be in autocommit"),
-            (self.engine().connect, "the driver is sqlalchemy instead of .* of_engine"),
-        ):
+        manual = of_engine(self.engine(isolation_level=None)), "have to be in autocommit"
+        own = self.engine().connect, "the driver is sqlalchemy instead of .* of_engine"
+        for pool, said in (manual, own):
             for name in ("verify", "login", "enrol"):
                 with self.assertRaisesRegex(StoreFault, said):
                     getattr(Accounts(pool, self.dialect, LOW), name)("ann", "one")
@@ -137,7 +131,7 @@ class AwaitedEngines(Engines):
             # SQLite's default keeps no connection, and so gives up each.
             kind = self.sqlalchemy.pool.AsyncAdaptedQueuePool
             given = {"isolation_level": "AUTOCOMMIT", "poolclass": kind, "pool_size": 1}
-            engine = create_async_engine(self.asynchronous_url, **given)
+            engine = create_async_engine(self.url(self.asynchronous_driver), **given)
             pool = of_engine(engine)
             accounts = AsyncAccounts(pool, self.dialect, LOW)
             self.assertIs(await accounts.reset("ann", "one"), Reply.REPLACED)
@@ -159,15 +153,7 @@ class AwaitedEngines(Engines):
 
 
 class EnginesOfSqlite(AwaitedEngines, engines.OnSqlite, support.Base):
-    asynchronous_driver = "aiosqlite"
-
-    @property
-    def sqlalchemy_url(self):
-        return f"sqlite:///{self.server.path}"
-
-    @property
-    def asynchronous_url(self):
-        return f"sqlite+aiosqlite:///{self.server.path}"
+    name, driver, asynchronous_driver = "sqlite", "pysqlite", "aiosqlite"
 
     def engine(self, **given):
         given.setdefault("poolclass", self.sqlalchemy.pool.QueuePool)
@@ -176,9 +162,7 @@ class EnginesOfSqlite(AwaitedEngines, engines.OnSqlite, support.Base):
 
 
 class EnginesOfMariaDB(Engines, engines.OnMariaDB, support.Base):
-    @property
-    def sqlalchemy_url(self):
-        return self.server.url.replace("mysql:", "mysql+pymysql:")
+    name, driver = "mysql", "pymysql"
 
     def test_a_restart(self):
         """The server is waited for: its refusals are the driver's, not SQLAlchemy's."""
@@ -194,13 +178,7 @@ class EnginesOfMariaDB(Engines, engines.OnMariaDB, support.Base):
 
 
 class EnginesOfPostgres(AwaitedEngines, engines.OnPostgres, support.Base):
-    asynchronous_driver = "psycopg"
-
-    @property
-    def sqlalchemy_url(self):
-        return self.server.url.replace("postgresql:", "postgresql+psycopg:")
-
-    asynchronous_url = sqlalchemy_url
+    name, driver, asynchronous_driver = "postgresql", "psycopg", "psycopg"
 
     def setUp(self):
         super().setUp()
@@ -237,3 +215,58 @@ class Pooler(engines.OnPgBouncer, support.Base):
 
         replies = ["replaced", "replaced", "yes", "removed", "enrolled"]
         self.assertEqual(support.in_threads(act, 4), [replies * 12] * 4)
+
+
+class OfStatements(servers.PooledPostgres):
+    """A pooler that gives sessions out for a statement each."""
+
+    mode = "statement"
+
+
+class StatementMode(support.Base):
+    """PgBouncer in statement mode, which has no transactions: it is named, whatever is asked."""
+
+    kind, dialect = OfStatements, Postgres("users", "name", "record")
+    named = "PgBouncer's pool_mode is statement, .* set it to transaction or session"
+
+    def create(self):
+        """By the server behind it: what a pooler's session keeps is no matter here."""
+        self.conn = self.server.of.connect()
+        self.addCleanup(self.conn.close)
+        super().create()
+
+    def test_examine(self):
+        (fault,) = self.accounts().examine()
+        self.assertTrue(fault.is_error)
+        self.assertRegex(str(fault), self.named)
+
+    def test_operations(self):
+        """What needs a transaction is a fault at once, and no record was written."""
+        record = LOW.hash("one")
+        self.put(record)
+        self.put(None, "ben")
+        accounts, dearer = self.accounts(), self.accounts(HIGH)
+        also, begun = mock.Mock(side_effect=AssertionError), time.monotonic()
+        confirming, own = self.accounts(confirm=True), {"also": also}
+        for of, text, more in (
+            *((accounts, it, {}) for it in ("enrol ben one", "remove ann one")),
+            *((accounts, it, own) for it in ("login ann one", "change ann one two")),
+            (confirming, "verify ann one", {}),
+        ):
+            self.assertRaisesRegex(StoreFault, self.named, called, of, text, **more)
+        self.assertLess(time.monotonic() - begun, accounts._connections.patience)
+        self.assertEqual((self.stands(), self.stands("ben")), (record, None))
+        # A look and a change are one statement each.
+        self.assert_replies("login ann one yes; change ann one two replaced", accounts)
+        self.assertIs(dearer.login("ann", "two"), Reply.YES)
+        self.assertTrue(self.is_right("two"))
+
+    def test_a_transaction_of_ones_own(self):
+        """It can't begin, so an operation is judged by none."""
+        self.put(LOW.hash("one"))
+        accounts = self.accounts()
+        worked = accounts.work(accounts.begin(Request(Kind.VERIFY, "ann", "one")))
+        conn = self.another()
+        self.assertRaises(StoreFault, accounts.commit_in, conn, worked)
+        with self.assertRaisesRegex(servers.psycopg.Error, "statement pooling mode"):
+            conn.execute("BEGIN")

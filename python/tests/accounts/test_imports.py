@@ -170,15 +170,9 @@ class Json(Commands):
     def test_lists_and_faults(self):
         self.insert({"ann": RECORD, "b\u00e9": RECORD, "cid": FOREIGN, "eve": None})
         costs = {"costs": f"$argon2id${SAME.replace(' ', '$')}"}
-        self.assertEqual(
-            self.told("list"),
-            [
-                {"name": "ann", **costs},
-                {"name": "b\u00e9", **costs},
-                {"name": "cid", "costs": None, "foreign": True},
-                {"name": "eve", "costs": None},
-            ],
-        )
+        listed = [{"name": it, **costs} for it in ("ann", "b\u00e9")]
+        listed += [{"name": "cid", "costs": None, "foreign": True}, {"name": "eve", "costs": None}]
+        self.assertEqual(self.told("list"), listed)
         self.conn.execute("DROP TABLE accounts")
         self.assertEqual(self.told("init"), [])
         self.conn.execute("DROP TABLE accounts")
@@ -194,8 +188,7 @@ class Json(Commands):
             ("current", 1, "argon2id", "v=19 m=128,t=1,p=1"),
             ("current", 1, "argon2i", SAME),
             ("rehash", 3, "argon2id", SAME),
-            ("foreign", 1, "2y", ""),
-            ("foreign", 1, "pbkdf2_sha256", ""),
+            *(("foreign", 1, it, "") for it in ("2y", "pbkdf2_sha256")),
             ("unreadable", 2, "", ""),
             ("absent", 1, "", ""),
         ]

@@ -19,13 +19,11 @@ class Upgrades(Base):
     @each(
         (PasswordHasher(4, 64, 1), PasswordHasher(1, 256, 1), True),
         (PasswordHasher(4, 64, 1), PasswordHasher(1, 128, 1), False),
-        (PasswordHasher(1, 64, 1), PasswordHasher(2, 64, 1), True),
-        (PasswordHasher(1, 64, 1), PasswordHasher(1, 64, 4), False),
-        (PasswordHasher(1, 64, 1), PasswordHasher(9, 64, 1, type=rigzumal.Type.I), False),
-        (ScryptHasher(4, 8, 1), ScryptHasher(4, 8, 2), True),
-        (ScryptHasher(4, 8, 2), ScryptHasher(5, 8, 1), True),
-        (ScryptHasher(4, 8, 4), ScryptHasher(5, 8, 1), False),
-        (ScryptHasher(4, 8, 1), ScryptHasher(3, 16, 1), False),
+        (LOW, PasswordHasher(2, 64, 1), True),
+        (LOW, PasswordHasher(1, 64, 4), False),
+        (LOW, PasswordHasher(9, 64, 1, type=rigzumal.Type.I), False),
+        *((ScryptHasher(4, 8, 1), ScryptHasher(*it), it[0] == 4) for it in ((4, 8, 2), (3, 16, 1))),
+        *((ScryptHasher(4, 8, it), ScryptHasher(5, 8, 1), it == 2) for it in (2, 4)),
     )
     def test_what_goes_up(self, one, two, up):
         """More memory for as much work, and more work in as much memory; and no way leads back."""
@@ -42,11 +40,9 @@ class Upgrades(Base):
     def test_from_one_scheme_to_another(self):
         """From costs that are listed alone."""
         self.put(ScryptHasher(log2_n=4).hash("one"))
-        for hasher, listed, costs in (
-            (LOW, (), "$scrypt$ln=4,"),
-            (ScryptHasher(log2_n=5), (), "$scrypt$ln=5,"),
-            (LOW, ["$scrypt$ln=5,r=8,p=1"], "$argon2id$"),
-        ):
+        higher = ScryptHasher(log2_n=5)
+        unlisted = (LOW, (), "$scrypt$ln=4,"), (higher, (), "$scrypt$ln=5,")
+        for hasher, listed, costs in (*unlisted, (LOW, [higher.costs], "$argon2id$")):
             self.assert_replies("login ann one yes", self.accounts(hasher, upgrade_from=listed))
             self.assertIn(costs, self.stands())
 
@@ -60,11 +56,9 @@ class Upgrades(Base):
     def test_what_a_judge_refuses(self):
         for size in (16, 31, 33, 64):
             self.assertRaises(ValueError, self.accounts, LOW.replace(hash_len=size))
-        for costs, error in (
-            ("$argon2id$v=19$m=64,t=1,p=1", ValueError),
-            ("$argon2id$m=64", rigzumal.InvalidRecordError),
-        ):
-            self.assertRaises(error, self.accounts, LOW, upgrade_from=[costs])
+        self.assertRaises(ValueError, self.accounts, LOW, upgrade_from=[LOW.costs])
+        with self.assertRaises(rigzumal.InvalidRecordError):
+            self.accounts(LOW, upgrade_from=["$argon2id$m=64"])
 
 
 class Peppers(Base):
@@ -89,15 +83,11 @@ class Peppers(Base):
         *itertools.product(
             ROTATED,
             (
-                ("verify ann one yes", None),
-                ("login ann two no", None),
+                *((it, None) for it in ("verify ann one yes", "login ann two no")),
                 (f"login ann {'x' * 257} no", None),
-                ("change ann two x wrong", None),
-                ("remove ann two wrong", None),
-                ("login ann one yes", "one"),
-                ("upgrade ann one upgraded", "one"),
-                ("change ann one two replaced", "two"),
-                ("reset ann two replaced", "two"),
+                *((it, None) for it in ("change ann two x wrong", "remove ann two wrong")),
+                *((it, "one") for it in ("login ann one yes", "upgrade ann one upgraded")),
+                *((it, "two") for it in ("change ann one two replaced", "reset ann two replaced")),
             ),
         )
     )
@@ -141,11 +131,8 @@ class Foreign(Base):
         return None
 
     @each(
-        ("verify ann one yes", None),
-        ("verify ann two no", None),
-        ("enrol ann two exists", None),
-        ("upgrade ann two wrong", None),
-        ("remove ann two wrong", None),
+        *((it, None) for it in ("verify ann one yes", "verify ann two no", "enrol ann two exists")),
+        *((f"{it} wrong", None) for it in ("upgrade ann two", "remove ann two")),
         ("change ann two x wrong", None),
         ("login ann one yes", "one"),
         ("change ann one new replaced", "new"),

@@ -45,8 +45,7 @@ class Operations(Base):
             self.assertIs(accounts.change("ann", other, "new"), Reply.WRONG, other)
 
     def test_changed_after_so_many_tries(self):
-        """An upgrade that never stood is no yes; what changes nothing is answered as it was
-        read."""
+        """An upgrade that never stood is no yes; what changes nothing is answered as read."""
         accounts, turns = self.accounts(HIGH, tries=3), []
 
         def changed():
@@ -54,13 +53,9 @@ class Operations(Base):
             self.give("one")
 
         after_hash(accounts, changed, 99)
-        for text, reply, count in (
-            ("remove ann one", "changed", 3),
-            ("change ann one two", "changed", 3),
-            ("login ann one", "changed", 3),
-            ("login ann two", "no", 1),
-            ("verify ann one", "yes", 1),
-        ):
+        changed = ("remove ann one", "change ann one two", "login ann one")
+        others = ("login ann two", "no", 1), ("verify ann one", "yes", 1)
+        for text, reply, count in (*((it, "changed", 3) for it in changed), *others):
             self.give("one")
             turns.clear()
             with self.subTest(text=text):
@@ -73,15 +68,11 @@ class Operations(Base):
     @each(
         (None, 0, None, StoreFault),
         (None, 0, "other", Reply.CHANGED),
-        ("copy", 0, None, Reply.CHANGED),
-        ("copy", 0, "other", Reply.CHANGED),
-        ("copy", 0, "copy", StoreFault),
-        ("copy", -1, "copy", StoreFault),
-        ("copy", 2, "copy", StoreFault),
+        *(("copy", 0, it, Reply.CHANGED) for it in (None, "other")),
+        *(("copy", it, "copy", StoreFault) for it in (0, -1, 2)),
     )
     def test_what_an_update_found(self, copy, count, stands, reply):
-        """It found a record, which was removed before the row was read; a driver that doesn't
-        count; a key of more than one row."""
+        """A record that is gone as its row is read; a driver without counts; a key of two rows."""
         ticket = Ticket(Request(Kind.RESET, "ann", "", "x"), copy)
         session = Scripted(*[Result([], count), Result([(stands,)], 1)] * 2)
         job = self.accounts()._table.compare(session, Worked(ticket, Reply.REPLACED, "new"))
@@ -106,11 +97,8 @@ class Operations(Base):
                 yield stale
 
         accounts = self.accounts(dialect=dialect, replica=replica)
-        one, none, gone = (
-            f"UPDATE old.users SET record = '{LOW.hash('old')}'",
-            "UPDATE old.users SET record = NULL",
-            "DELETE FROM old.users",
-        )
+        one = f"UPDATE old.users SET record = '{LOW.hash('old')}'"
+        none, gone = "UPDATE old.users SET record = NULL", "DELETE FROM old.users"
         # What has no record there, or no row, may have one by now.
         for sql, password, calls in (
             (one, "new", "verify ann old no; verify ann new yes"),
@@ -185,10 +173,7 @@ class Operations(Base):
     # ---- servers that fail, and connections that break
 
     def test_a_login_waits_once_for_a_server(self):
-        clock = [100.0]
-
-        def connect():
-            raise ConnectionError("nobody there")
+        clock, connect = [100.0], mock.Mock(side_effect=ConnectionError("nobody there"))
 
         async def pause(runtime, seconds):
             clock[0] += seconds
@@ -296,9 +281,7 @@ class Tasks(engines.OnSqliteTasks, Base):
             await awaited(conn, reply)
             raise KeyError("mine")
 
-        def future(conn, reply):
-            return asyncio.ensure_future(awaited(conn, reply))
-
+        future = lambda *given: asyncio.ensure_future(awaited(*given))
         for also in (plain, awaited, future):
             self.assert_replies("change ann one one replaced; login ann one yes", also=also)
         with self.assertRaises(KeyError):

@@ -43,9 +43,6 @@ class Arguments(Base):
         async def tasks():
             yield self.conn
 
-        def threads():
-            return contextlib.nullcontext(self.conn)
-
         nothing = type("Nothing", (), {})
         for pool in (self.connect, awaited, tasks, nothing):
             with self.assertRaisesRegex(TypeError, "gives connections by `with`, .* returned a"):
@@ -140,13 +137,8 @@ class Arguments(Base):
         record = stands if stands and stands[0] == "$" else self.give(stands)
         self.put(record)
         for tried in ("x" * 257, "one" + "\0" * 254, "\u00e9" * 129, "one\ud800", b"x" * 300):
-            for name, wrong, *new in (
-                ("verify", "no"),
-                ("login", "no"),
-                ("change", "wrong", "new"),
-                ("upgrade", "wrong"),
-                ("remove", "wrong"),
-            ):
+            wrongs = ("change", "wrong", "new"), ("upgrade", "wrong"), ("remove", "wrong")
+            for name, wrong, *new in (("verify", "no"), ("login", "no"), *wrongs):
                 with self.subTest(tried=tried, name=name), self.hashes(1):
                     reply = getattr(accounts, name)("ann", tried, *new)
                 self.assertEqual(reply.value, "absent" if stands is None else wrong)
@@ -155,9 +147,10 @@ class Arguments(Base):
 
     def test_rows_and_records_of_other_types(self):
         self.put(LOW.hash("one").encode())
+        odd = lambda cursor, row: object()
         for factory, said in (
             (None, "the record is not text, but bytes"),
-            (lambda cursor, row: object(), "a row is object"),
+            (odd, "a row is object"),
         ):
             conn = self.another()
             conn.row_factory = factory
@@ -234,8 +227,7 @@ class Errors(Base):
             )
 
     def test_of_sqlite(self):
-        """Whatever its text says, an error with a number means what the number does; before
-        Python 3.11 it has none."""
+        """An error means what its number does; before Python 3.11 it has its text alone."""
 
         def of(*codes):
             for code in codes:
@@ -245,15 +237,11 @@ class Errors(Base):
                     yield error
 
         others = (8, 10, 10 | 4 << 8, 13, 14)
-        self.assert_meanings(
-            self.dialect,
-            [
-                (of(5, 5 | 1 << 8, 5 | 2 << 8, 6, 6 | 1 << 8), Verdict.AGAIN, True),
-                (of(*others), Verdict.REFUSED, False),
-                ([sqlite3.OperationalError("database is locked")], Verdict.AGAIN, True),
-                ([sqlite3.OperationalError("no such table: users")], Verdict.REFUSED, False),
-            ],
-        )
+        locked, missing = map(sqlite3.OperationalError, ("database is locked", "no such table: x"))
+        again = [*of(5, 5 | 1 << 8, 5 | 2 << 8, 6, 6 | 1 << 8), locked]
+        refused = [*of(*others), missing]
+        cases = [(again, Verdict.AGAIN, True), (refused, Verdict.REFUSED, False)]
+        self.assert_meanings(self.dialect, cases)
 
     def test_modes_of_sqlite(self):
         """From Python 3.12 on there is an attribute; -1 stands for the older way."""
