@@ -29,13 +29,8 @@ EXPECTED = {
 
 
 # The numbers of argon2.h from which hypothesis draws.
-NUMBERS = types.SimpleNamespace(
-    ARGON2_MIN_PWD_LENGTH=0,
-    ARGON2_MIN_TIME=1,
-    ARGON2_MIN_LANES=1,
-    ARGON2_MIN_OUTLEN=4,
-    ARGON2_MIN_SALT_LENGTH=8,
-)
+LEAST = {"PWD_LENGTH": 0, "TIME": 1, "LANES": 1, "OUTLEN": 4, "SALT_LENGTH": 8}
+NUMBERS = types.SimpleNamespace(**{f"ARGON2_MIN_{name}": it for name, it in LEAST.items()})
 
 
 class Outcomes:

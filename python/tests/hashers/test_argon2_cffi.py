@@ -64,9 +64,8 @@ class LowLevel(Same):
                 "version": draw.choice((16, 19)),
             }
             for name in ("hash_secret", "hash_secret_raw"):
-                self.same(
-                    lambda it: getattr(it.low_level, name)(type=it.Type[kind], **named), named
-                )
+                call = lambda it: getattr(it.low_level, name)(type=it.Type[kind], **named)
+                self.same(call, named)
 
     def test_verdicts_are_theirs(self):
         hashed = theirs.low_level.hash_secret(b"x", b"somesalt", 1, 8, 1, 32, theirs.Type.ID)
@@ -86,20 +85,13 @@ class LowLevel(Same):
                 hashed = theirs.low_level.hash_secret(*given)
                 for password in (b"x", b"y"):
                     self.same_verdict(hashed, password, kind)
+        memory = (b"m=016", b"m=15", b"m=99999999999", b"m=4294967312")  # 2^32 + 16
+        sizes = (b"seven..", b"t" * 32), (b"", b"tag"), (b"s" * 60, b"")
         for damaged in (
-            hashed[:-1],
-            hashed + b"A",
-            hashed + b"$",
-            hashed.replace(b"m=16", b"m=016"),
-            hashed.replace(b"m=16", b"m=15"),
-            hashed.replace(b"m=16", b"m=99999999999"),
-            hashed.replace(b"m=16", b"m=4294967312"),  # 2^32 + 16
-            hashed.replace(b"t=1", b"t=0"),
-            hashed.replace(b"p=2", b"p=0"),
-            hashed[:-40] + b"!" + hashed[-39:],
-            encoded("m=8,t=1,p=1", b"seven..", b"t" * 32).encode(),
-            encoded("m=8,t=1,p=1", b"", b"tag").encode(),
-            encoded("m=8,t=1,p=1", b"s" * 60, b"").encode(),
+            *(hashed[:-1], hashed + b"A", hashed + b"$", hashed[:-40] + b"!" + hashed[-39:]),
+            *(hashed.replace(b"m=16", it) for it in memory),
+            *(hashed.replace(b"t=1", b"t=0"), hashed.replace(b"p=2", b"p=0")),
+            *(encoded("m=8,t=1,p=1", *it).encode() for it in sizes),
         ):
             self.same_verdict(damaged)
         with self.assertRaisesRegex(ours.exceptions.VerificationError, "Decoding failed"):
@@ -133,17 +125,18 @@ class Hashers(Same):
                         self.assertRaises(mismatches, reader.verify, hashed, "another")
 
     @each(
-        "",
-        "$argon2id$",
-        "x" * 20,
-        OLD,
-        OLD[:-1],
-        b"$argon2i$",
-        OLD.replace("2i", "2x"),
-        f" {OLD}",
-        f"{OLD} ",
-        f"{OLD}\n",
-        OLD.replace("$c29", "$ c29"),
+        *(
+            "",
+            "$argon2id$",
+            "x" * 20,
+            OLD,
+            OLD[:-1],
+            b"$argon2i$",
+            f" {OLD}",
+            f"{OLD} ",
+            f"{OLD}\n",
+        ),
+        *(OLD.replace("2i", "2x"), OLD.replace("$c29", "$ c29")),
     )
     def test_answers_are_theirs(self, given):
         self.same(lambda it: it.PasswordHasher(**COSTS).verify(given, "password"), given)
@@ -182,11 +175,8 @@ class Hashers(Same):
         """A zero byte and text that isn't ASCII are no hash, for each call, and a ValueError."""
         hasher = ours.PasswordHasher(**COSTS)
         for text in (hasher.hash("x") + "\0", "$argon2id$\ud800", "$argon2id$\xe9", "\ud800"):
-            for call in (
-                hasher.check_needs_rehash,
-                ours.extract_parameters,
-                lambda it: hasher.verify(it, "x"),
-            ):
+            verify = lambda it: hasher.verify(it, "x")
+            for call in (hasher.check_needs_rehash, ours.extract_parameters, verify):
                 with self.subTest(call=call):
                     with self.assertRaises(ours.exceptions.InvalidHash) as raised:
                         call(text)
@@ -214,10 +204,8 @@ class Parameters(Same):
         for text in texts:
 
             def values(it):
-                found = it.extract_parameters(text)
-                return [
-                    getattr(getattr(found, name), "name", getattr(found, name)) for name in names
-                ]
+                found = (getattr(it.extract_parameters(text), name) for name in names)
+                return [getattr(value, "name", value) for value in found]
 
             self.same(values, text)
 

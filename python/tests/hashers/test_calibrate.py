@@ -49,9 +49,7 @@ class Trials(unittest.TestCase):
         (linear(1 / 512), 256, 65536, 1, (65536, 2)),
         (linear(1 / 1024), 1000, 65536, 1, (65536, 15)),
         (linear(0.01), 40, 16, 1, (16, 250)),
-        (linear(1000), 1, 65536, 1, (8, 1)),
-        (linear(1000), 1, 65536, 2, (16, 1)),
-        (linear(1000), 1, 65536, 255, (2040, 1)),
+        *((linear(1000), 1, 65536, it, (8 * it, 1)) for it in (1, 2, 255)),
         (linear(1 / 64), 250, 65536, 4, (16000, 1)),
         (with_a_slow_start, 250, 65536, 1, (65536, 19)),
         (with_a_slow_start, 59.9, 65536, 1, (8, 1)),
@@ -73,9 +71,8 @@ class Trials(unittest.TestCase):
         for lanes, threads in ((1, 1), (4, 1), (4, 4), (7, 3)):
             for trial in tried(linear(1 / 512), 100, 65536, lanes, threads):
                 with self.subTest(lanes=lanes, threads=threads):
-                    self.assertEqual(
-                        (trial.hasher.parallelism, trial.hasher.threads), (lanes, threads)
-                    )
+                    found = trial.hasher.parallelism, trial.hasher.threads
+                    self.assertEqual(found, (lanes, threads))
         one, four = (tried(linear(1 / 512), 250, 65536, 4, n)[-1].hasher for n in (1, 4))
         self.assertEqual((one.time_cost, four.time_cost), (1, 7))
 
@@ -84,13 +81,8 @@ class Safety(unittest.TestCase):
     """What is never gone below unless it is asked for: OWASP's least costs."""
 
     @each(
-        (19456, 2, True),
-        (19456, 1, False),
-        (19455, 2, False),
-        (19455, 9, False),
-        (47103, 1, False),
-        (47104, 1, True),
-        (65536, 3, True),
+        *((*it, True) for it in ((19456, 2), (47104, 1), (65536, 3))),
+        *((*it, False) for it in ((19456, 1), (19455, 2), (19455, 9), (47103, 1))),
     )
     def test_the_least_costs_are_owasps(self, memory, passes, is_safe):
         hasher = PasswordHasher(passes, memory, 1)
@@ -114,8 +106,7 @@ class Safety(unittest.TestCase):
 
 class Busy(unittest.TestCase):
     @each(
-        (0.0, 4, None),
-        (2.0, 4, None),
+        *((it, 4, None) for it in (0.0, 2.0)),
         (2.1, 4, "the machine is busy (a load of 2.1 on 4 processors)"),
         (0.6, 1, "the machine is busy (a load of 0.6 on 1 processors)"),
     )
@@ -158,12 +149,7 @@ class Shell(unittest.TestCase):
 
     @each(
         ("", (250, 65536, 4, 1, False), "m=65536,t=3,p=4", None),
-        (
-            "--target-ms 20",
-            (20, 65536, 4, 1, False),
-            "m=19456,t=2,p=4",
-            "take 38 ms here; --below",
-        ),
+        ("--target-ms 20", (20, 65536, 4, 1, False), "m=19456,t=2,p=4", "take 38 ms here; --below"),
         ("--target-ms 20 --below", (20, 65536, 4, 1, True), "m=20480,t=1,p=4", None),
         (EACH_WORD, (70, 32768, 3, 2, True), "m=32768,t=4,p=3", None),
     )

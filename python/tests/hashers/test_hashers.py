@@ -5,12 +5,13 @@ import array
 import base64
 import hashlib
 import itertools
+import unicodedata
 import unittest
 
 from records import ARGON2, LEAST, LEAST_COSTS, OLD, SMALL, verdict
 
 import rigzumal
-from rigzumal import PasswordHasher, ScryptHasher, Type, argon2_cffi
+from rigzumal import PasswordHasher, ScryptHasher, Type, argon2_cffi, opaque_string
 from tests.helpers import each
 
 
@@ -47,12 +48,11 @@ class Kinds(unittest.TestCase):
                 self.assertEqual(hasher.check_needs_rehash(other), other != record)
                 self.assertTrue(hasher.verify(other, "password"))
 
-    def test_a_raw_tag_has_its_kind_and_version(self):
+    @each(*TAGS.items())
+    def test_a_raw_tag_has_its_kind_and_version(self, given, wanted):
         costs = {"time_cost": 2, "memory_cost": 256, "parallelism": 1}
-        for (kind, version), wanted in TAGS.items():
-            with self.subTest(kind=kind, version=version):
-                given = {"type": kind, "version": version, **costs}
-                self.assertEqual(rigzumal.argon2("password", b"somesalt", **given).hex(), wanted)
+        named = dict(zip(("type", "version"), given), **costs)
+        self.assertEqual(rigzumal.argon2("password", b"somesalt", **named).hex(), wanted)
 
 
 class Verifying(unittest.TestCase):
@@ -85,14 +85,14 @@ class Rehash(unittest.TestCase):
     def test_of_other_numbers(self):
         argon2 = {"time_cost": 2, "memory_cost": 64, "parallelism": 2}
         scrypt = {"log2_n": 4, "block_size": 2, "parallelism": 2}
-        for module, maker, numbers in (
-            (rigzumal, "PasswordHasher", argon2),
-            (argon2_cffi, "PasswordHasher", argon2),
-            (rigzumal, "ScryptHasher", scrypt),
+        for maker, kind, numbers in (
+            (PasswordHasher, Type, argon2),
+            (argon2_cffi.PasswordHasher, argon2_cffi.Type, argon2),
+            (ScryptHasher, None, scrypt),
         ):
-            with self.subTest(module=module, maker=maker):
-                maker, numbers = getattr(module, maker), {**numbers, "hash_len": 32, "salt_len": 16}
-                kinds = (module.Type.D, module.Type.I) if "time_cost" in numbers else ()
+            with self.subTest(maker=maker):
+                numbers = {**numbers, "hash_len": 32, "salt_len": 16}
+                kinds = (kind.D, kind.I) if kind else ()
                 hasher = maker(**numbers)
                 record = hasher.hash("x")
                 self.assertFalse(hasher.check_needs_rehash(record))
@@ -124,14 +124,10 @@ class Inputs(unittest.TestCase):
 
     def test_what_holds_bytes_is_taken_whole(self):
         words = array.array("I", [1, 2, 3, 0x04050607])
-        for holds in (
-            b"sixteen of bytes",
-            bytearray(b"sixteen of bytes"),
-            memoryview(b"sixteen of bytes"),
-            memoryview(bytearray(b"a longer one than sixteen")),
-            memoryview(words),
-            memoryview(b"_s_i_x_t_e_e_n__")[::2],
-        ):
+        longer = memoryview(bytearray(b"a longer one than sixteen"))
+        views = memoryview(words), memoryview(b"_s_i_x_t_e_e_n__")[::2]
+        kinds = (kind(b"sixteen of bytes") for kind in (bytes, bytearray, memoryview))
+        for holds in (*kinds, longer, *views):
             with self.subTest(holds=holds):
                 data = bytes(holds)
                 wanted = LEAST.hash(data, salt=data)
@@ -139,11 +135,11 @@ class Inputs(unittest.TestCase):
                 self.assertTrue(LEAST.verify(wanted, holds))
                 scrypt = ScryptHasher(1, 1, 1)
                 self.assertEqual(scrypt.hash(holds, salt=holds), scrypt.hash(data, salt=data))
-                tags = {
+                one, two = (
                     rigzumal.argon2(it, it, secret=it, associated=it, **LEAST_COSTS)
                     for it in (holds, data)
-                }
-                self.assertEqual(len(tags), 1)
+                )
+                self.assertEqual(one, two)
                 made = LEAST.replace(secret=holds).hash("x", salt=data)
                 self.assertTrue(LEAST.replace(secret=data).verify(made, "x"))
 
@@ -191,3 +187,49 @@ class Parts(unittest.TestCase):
         for kind, record in RECORDS.items():
             with self.subTest(kind=kind):
                 self.assertEqual(rigzumal.parts(record).scheme, f"argon2{kind.name.lower()}")
+
+
+class Opaque(unittest.TestCase):
+    """RFC 8265's form of a password."""
+
+    def test_examples_of_the_rfc(self):
+        """Its table 2, and the texts that it refuses."""
+        alike = "correct horse battery staple", "Correct Horse Battery Staple"
+        for text in (*alike, "\u03c0\u00df\u00e5", "Jack of \u2666s", "foo\u1680bar"):
+            with self.subTest(text=text):
+                self.assertEqual(opaque_string(text), text.replace("\u1680", " "))
+        for text, said in (
+            ("", "the password is empty"),
+            ("my cat is a \u0009by", "the password has a character that can't be typed"),
+        ):
+            with self.subTest(text=text):
+                self.assertRaisesRegex(ValueError, f"^{said}$", opaque_string, text)
+
+    @each("caf\u00e9", "\u1e9b\u0323", "\uac00", "na\u00efve \u212b")
+    def test_each_keyboard_makes_the_same(self, text):
+        made = {opaque_string(unicodedata.normalize(it, text)) for it in ("NFC", "NFD")}
+        self.assertEqual(len(made), 1)
+        self.assertEqual(opaque_string(*made), *made)  # once and for all
+
+    @each(
+        *("\0", "\n", "\r", "\x7f", "\x85", "\u00ad", "\u202e", "\u2028", "\ufeff"),
+        *("\ue000", "\ufdd0", "\U0010ffff", "\ud800", "\u0378", "\u115f", "\u3164"),
+        *("\u034f", "\u17b4", "\u180e", "\u0640", "\U000e0041", "\U000e0100", "\ufe00"),
+        # The exceptions of RFC 5892, section 2.6, and both ends of what nobody sees or types alone.
+        *("\u07fa", "\u302e", "\u302f", *"\u3031\u3032\u3033\u3034\u3035", "\u303b"),
+        *("\u1100", "\u11ff", "\u17b5", "\u180b", "\u180f", "\ua960", "\ua97c", "\ud7b0"),
+        *("\ud7fb", "\ufe0d", "\uffa0", "\U000e01ef"),
+    )
+    def test_what_nobody_types(self, odd):
+        """And no text is in what is raised."""
+        with self.subTest(odd=ascii(odd)), self.assertRaises(ValueError) as raised:
+            opaque_string(f"hunter{odd}2")
+        self.assertNotIn("hunter", str(raised.exception))
+
+    @each(
+        *("\u2764\ufe0f", "\U0001f469\u200d\U0001f680", "\u0646\u0627\u0645\u0647\u200c"),
+        *("\uff21\uff22", "\u0928\u094d\u200d", "\u5bc6\u7801", "\ud55c\uae00", "a\u0301b"),
+        *("\u3030\u3036", "\u1200", "\u2764\ufe0e"),
+    )
+    def test_what_people_type(self, text):
+        self.assertTrue(opaque_string(text))

@@ -61,11 +61,8 @@ class Names(unittest.TestCase):
     @each("", ".accounts", ".accounts.dialects", ".argon2_cffi", ".server")
     def test_what_a_package_exports_is_what_it_has(self, name):
         package = importlib.import_module(f"rigzumal{name}")
-        public = {
-            it
-            for it, value in vars(package).items()
-            if not it.startswith("_") and not inspect.ismodule(value)
-        }
+        named = {it for it, value in vars(package).items() if not inspect.ismodule(value)}
+        public = {it for it in named if not it.startswith("_")}
         self.assertEqual({*package.__all__} | public - {"annotations"}, {*package.__all__})
         for public_name in package.__all__:
             self.assertTrue(hasattr(package, public_name), f"{name}.{public_name}")

@@ -40,44 +40,36 @@ ARGON2_REFUSED = {
 SCRYPT = [(1, 1, 1, 1, 32), (4, 8, 1, 16, 4), (10, 8, 16, 48, 64), (14, 8, 1, 16, 32)]
 SCRYPT += [(15, 1, 1, 47, 32), (16, 2, 3, 16, 24), (1, 255, 255, 16, 32)]
 SCRYPT_REFUSED = {
-    (1, 256, 1, 16, 32): "range",
-    (1, 1, 256, 0, 65): "range",
-    (4, 8, 1, 0, 65): "salt",
-    (4, 8, 1, 49, 32): "salt",
-    (4, 8, 1, 16, 3): "tag",
-    (4, 8, 1, 16, 65): "tag",
+    **{it: "range" for it in ((1, 256, 1, 16, 32), (1, 1, 256, 0, 65))},
+    **{it: "salt" for it in ((4, 8, 1, 0, 65), (4, 8, 1, 49, 32))},
+    **{it: "tag" for it in ((4, 8, 1, 16, 3), (4, 8, 1, 16, 65))},
 }
-# A piece of a string, what stands in its place, and the fault: strings that no program makes, or none
-# without 2 GiB.
-ARGON2_EDITS = (
-    ("m=64", "m=15", "range"),
-    ("m=64", "m=2097153", "range"),
-    ("t=1", "t=0", "range"),
-    ("t=1", "t=4294967296", "range"),
-    ("p=2", "p=0", "range"),
-    ("v=19", "v=18", "version"),
-    ("m=64", "m=064", "params"),
-    ("m=64,t=1", "t=1,m=64", "params"),
-    (",p=2", "", "params"),
-    ("p=2", "p=2,keyid=Zm9v", "params"),
-    (r"\$[^$]+(\$[^$]+)\Z", r"$c29tZXNhbA\1", "salt"),  # of 7 bytes
-    (r"dA\$", "dA==$", "salt"),
-    (r"dA\$", "dB$", "salt"),  # a bit behind the last byte
-    (r"\$[^$]+\Z", "$YmFk", "tag"),  # of 3 bytes
-    (r"\$[^$]+\Z", "", "shape"),
-    (r"\Z", "$", "shape"),
-    (r"\Z", "\r", "tag"),
-    ("argon2id", "argon2", "scheme"),
-)
-SCRYPT_EDITS = (
-    ("ln=4", "ln=0", "range"),
-    ("ln=4", "ln=25", "range"),
-    ("ln=4,r=8", "ln=16,r=1", "range"),
-    ("ln=4,r=8", "ln=21,r=9", "range"),
-    ("r=8", "r=0", "range"),
-    ("p=1", "p=0", "range"),
-    ("ln=4", "n=16", "params"),
-)
+# By the fault, a piece of a string and what stands in its place: strings that no program makes, or
+# none without 2 GiB.
+WITH_SALT = r"\$[^$]+(\$[^$]+)\Z"
+ARGON2_EDITS = [
+    *(("range", "m=64", it) for it in ("m=15", "m=2097153")),
+    *(("range", "t=1", it) for it in ("t=0", "t=4294967296")),
+    ("range", "p=2", "p=0"),
+    ("version", "v=19", "v=18"),
+    ("scheme", "argon2id", "argon2"),
+    ("params", "m=64", "m=064"),
+    ("params", "m=64,t=1", "t=1,m=64"),
+    *(("params", ",p=2", it) for it in ("", ",p=2,keyid=Zm9v")),
+    ("salt", WITH_SALT, r"$c29tZXNhbA\1"),  # of 7 bytes
+    *(("salt", r"dA\$", it) for it in ("dA==$", "dB$")),  # a bit behind the last byte
+    ("tag", r"\$[^$]+\Z", "$YmFk"),  # of 3 bytes
+    ("tag", r"\Z", "\r"),
+    ("shape", r"\$[^$]+\Z", ""),
+    ("shape", r"\Z", "$"),
+]
+SCRYPT_EDITS = [
+    *(("range", "ln=4", it) for it in ("ln=0", "ln=25")),
+    *(("range", "ln=4,r=8", it) for it in ("ln=16,r=1", "ln=21,r=9")),
+    ("range", "r=8", "r=0"),
+    ("range", "p=1", "p=0"),
+    ("params", "ln=4", "n=16"),
+]
 # Handlers of passlib's for other schemes.
 OTHER_SCHEMES = (
     ("bcrypt", {"rounds": 4}, "scheme"),
@@ -111,11 +103,9 @@ def salt_of(size):
 
 def by_program(kind, version, numbers, password):
     m, t, p, salt, tag = numbers
-    line = (
-        f"argon2 {'somesalt' * 64:.{salt}} -{kind} -v {version:x} -e -k {m} -t {t} -p {p} -l {tag}"
-    )
-    done = subprocess.run(line.split(), input=password, stdout=subprocess.PIPE, check=True)
-    return done.stdout.decode().strip()
+    line = f"argon2 {'somesalt' * 64:.{salt}} -{kind} -v {version:x} -e -k {m} -t {t} -p {p}"
+    words, given = [*line.split(), "-l", str(tag)], {"input": password, "check": True}
+    return subprocess.run(words, stdout=subprocess.PIPE, **given).stdout.decode().strip()
 
 
 def argon2_by_passlib(kind, version, numbers, password):
@@ -171,7 +161,7 @@ class Judged(unittest.TestCase):
 
     def check_edited(self, text, edits):
         self.check_read(text, b"password")
-        for piece, new, word in edits:
+        for word, piece, new in edits:
             changed, times = re.subn(piece, new, text)
             self.assertEqual(times, 1, piece)
             self.check_refused(changed, word)
@@ -241,15 +231,13 @@ class OfPasslib(Judged):
             numbers = (m, t, p, salt, tag)
             self.assertEqual(made, argon2_by_passlib(name.lower(), 0x13, numbers, password))
             self.check_judged(cffi_says, made, password)
-            says = passlib.hash.argon2
-            self.check_judged(lambda text, it, says=says: says.verify(it, text), made, password)
+            self.check_judged(lambda text, it: passlib.hash.argon2.verify(it, text), made, password)
         for ln, r, p, salt, _ in SCRYPT:  # of a tag of 32 bytes, the one that passlib reads
             password = next(passwords)
             made = ScryptHasher(ln, r, p, salt_len=salt).hash(password, salt=salt_of(salt))
             self.assertEqual(made, scrypt_by_passlib((ln, r, p, salt, 32), password))
             self.check_judged(openssl_says, made, password)
-            says = passlib.hash.scrypt
-            self.check_judged(lambda text, it, says=says: says.verify(it, text), made, password)
+            self.check_judged(lambda text, it: passlib.hash.scrypt.verify(it, text), made, password)
 
 
 class Further(Judged):
@@ -293,8 +281,7 @@ class Further(Judged):
         need("php")
 
         def made(kind, options):
-            code = f"echo password_hash('correct horse', {kind}, {options});"
-            return run("php", "-r", code)
+            return run("php", "-r", f"echo password_hash('correct horse', {kind}, {options});")
 
         def says(text, password):
             code = "echo password_verify($argv[1], $argv[2]) ? 'yes' : 'no';"
@@ -303,10 +290,8 @@ class Further(Judged):
         if "argon2id" not in run("php", "-r", "echo implode(' ', password_algos());"):
             self.skipTest("this PHP has no Argon2")
         small = "['memory_cost' => 1024, 'time_cost' => 2, 'threads' => 1]"
-        kinds = ("PASSWORD_ARGON2I", "PASSWORD_ARGON2ID")
-        self.check_both_ways(
-            [made("PASSWORD_ARGON2ID", "[]"), *(made(it, small) for it in kinds)], says
-        )
+        texts = [made(it, small) for it in ("PASSWORD_ARGON2I", "PASSWORD_ARGON2ID")]
+        self.check_both_ways([made("PASSWORD_ARGON2ID", "[]"), *texts], says)
 
     def test_dovecot(self):
         need("doveadm")

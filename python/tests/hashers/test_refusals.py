@@ -26,11 +26,8 @@ class Exceptions(unittest.TestCase):
                     _library.raise_fault(number)
                 made = raised.exception
                 self.assertEqual((type(made), made.number), (kind, number))
-                for other in (
-                    pickle.loads(pickle.dumps(made)),
-                    copy.copy(made),
-                    copy.deepcopy(made),
-                ):
+                again = pickle.loads(pickle.dumps(made))
+                for other in (again, copy.copy(made), copy.deepcopy(made)):
                     with self.subTest(other=other):
                         copied = (type(other), other.number, other.word, str(other))
                         self.assertEqual(copied, (kind, number, made.word, str(made)))
@@ -46,28 +43,21 @@ class Refusals(unittest.TestCase):
             self.assertEqual((fault.word, str(fault)), (word, message or str(raised.exception)))
 
     @each(
-        ("", "shape"),
-        (ARGON2[:-1] + "\0", "shape"),
-        (ARGON2.rsplit("$", 1)[0], "shape"),
-        (SMALL.costs, "shape"),
+        *((it, "shape") for it in ("", ARGON2[:-1] + "\0", ARGON2.rsplit("$", 1)[0], SMALL.costs)),
         (ARGON2.replace("2id", "2x"), "scheme"),
         (ARGON2.replace("m=256", "m=7"), "range"),
         (ARGON2 * 9, "toolong"),
     )
     def test_texts(self, text, word):
-        for call in (
-            lambda it: SMALL.verify(it, "x"),
-            SMALL.check_needs_rehash,
-            rigzumal.parts,
-        ):
+        for call in (lambda it: SMALL.verify(it, "x"), SMALL.check_needs_rehash, rigzumal.parts):
             self.refused(rigzumal.InvalidRecordError, word, call, text)
 
     def test_a_number_out_of_its_range_is_named(self):
         """With the range, also by a copy of the exception; nothing else of the text is shown."""
         text = "$argon2id$v=19$m=7,t=1,p=1$c29tZXNhbHQ$AAAAAA"
-        message = "m=7 is under 8 p (8 KiB)"
-        self.refused(rigzumal.InvalidRecordError, "range", rigzumal.parts, text, message=message)
-        self.refused(rigzumal.InvalidRecordError, "range", SMALL.verify, text, "x", message=message)
+        given, message = (rigzumal.InvalidRecordError, "range"), "m=7 is under 8 p (8 KiB)"
+        self.refused(*given, rigzumal.parts, text, message=message)
+        self.refused(*given, SMALL.verify, text, "x", message=message)
 
     def test_numbers_of_a_hasher(self):
         """Each is refused as the hasher is made, by its name, its range and its fault."""
@@ -94,21 +84,16 @@ class Refusals(unittest.TestCase):
                     self.assertEqual(getattr(kind(**{**given, name: number}), name), number)
                 for number in (least - 1, most + 1, -1):
                     message = f"{name} must be {least} to {most}, not {number}"
-                    changed = {**given, name: number}
-                    self.refused(
-                        rigzumal.InvalidNumbersError, word, kind, **changed, message=message
-                    )
+                    named, bad = {**given, name: number}, rigzumal.InvalidNumbersError
+                    self.refused(bad, word, kind, **named, message=message)
 
     def test_what_a_hasher_takes_the_library_takes(self):
         """At the ends of each range that a test has the memory and the time for."""
+        argon2, scrypt = ((1, 2040, 255), (9, 8, 1, 4, 8)), ((1, 1, 1, 4, 1), (15, 1, 1, 64, 48))
         for hasher in (
-            PasswordHasher(1, 8, 1),
-            PasswordHasher(1, 2040, 255),
-            PasswordHasher(9, 8, 1, 4, 8),
+            *(PasswordHasher(*it) for it in ((1, 8, 1), *argon2)),
             PasswordHasher(1, 8, 1, 64, 48, threads=2**32 - 1),
-            ScryptHasher(1, 1, 1, 4, 1),
-            ScryptHasher(15, 1, 1, 64, 48),
-            ScryptHasher(1, 255, 255),
+            *(ScryptHasher(*it) for it in (*scrypt, (1, 255, 255))),
         ):
             with self.subTest(hasher=hasher):
                 self.assertTrue(hasher.verify(hasher.hash("x"), "x"))
@@ -132,12 +117,9 @@ class Refusals(unittest.TestCase):
 
     def test_numbers(self):
         bad, call = rigzumal.InvalidNumbersError, rigzumal.argon2
-        for change, word in (
-            ({"time_cost": 0}, "passes"),
-            ({"version": 18}, "noversion"),
-            ({"hash_len": 3}, "tagsize"),
-        ):
-            self.refused(bad, word, call, "x", b"somesalt", **{**LEAST_COSTS, **change})
+        for name, it, word in (("time_cost", 0, "passes"), ("version", 18, "noversion")):
+            self.refused(bad, word, call, "x", b"somesalt", **{**LEAST_COSTS, name: it})
+        self.refused(bad, "tagsize", call, "x", b"somesalt", **LEAST_COSTS, hash_len=3)
         self.refused(bad, "scryptcost", rigzumal.scrypt, "x", b"", log2_n=0, r=8, p=1)
         self.assertRaises(OverflowError, rigzumal.scrypt, "x", b"", log2_n=2**32 + 4, r=8, p=1)
         with self.assertRaises(OverflowError):
@@ -148,8 +130,7 @@ class Refusals(unittest.TestCase):
             return rigzumal.argon2("x", salt, **{**LEAST_COSTS, **changes})
 
         for wrong in (5, None, ["x"]):
-            with self.subTest(wrong=wrong):
-                self.assertRaises(TypeError, SMALL.hash, wrong)
+            self.assertRaises(TypeError, SMALL.hash, wrong)
         for wrong in (16, "somesalt", [1] * 16, (b"somesalt",)):
             for call in (
                 lambda it: SMALL.hash("x", salt=it),
@@ -184,9 +165,9 @@ class Refusals(unittest.TestCase):
             "from rigzumal import PasswordHasher, argon2_cffi\n"
             "resource.setrlimit(resource.RLIMIT_AS, (2**29, 2**29))\n"
             "record = '$argon2id$v=19$m=1048576,t=1,p=1$c29tZXNhbHQ$' + 'A' * 43\n"
+            "cffi = argon2_cffi.PasswordHasher\n"
             "for call in (lambda: PasswordHasher(1, 2**20, 1).hash('x'),\n"
-            "             lambda: argon2_cffi.PasswordHasher(1, 2**20, 1).hash('x'),\n"
-            "             lambda: argon2_cffi.PasswordHasher().verify(record, 'x')):\n"
+            "             lambda: cffi(1, 2**20, 1).hash('x'), lambda: cffi().verify(record, 'x')):\n"
             "    try:\n        call()\n"
             "    except Exception as refused:\n"
             "        print(type(refused).__name__, refused.number, refused)\n"

@@ -50,11 +50,8 @@ class Shell(unittest.TestCase):
         ("pbkdf2_sha256$260000$abc", "pbkdf2_sha256"),
         ("argon2$argon2id$v=19", "argon2"),
         ("$argon2id$v=18$m=8,t=1,p=1$c29tZXNhbHQ$abcd", None),
-        ("$my hunter2$", None),
-        ("$hunter2!$", None),
-        ("$hunter2" + "x" * 20 + "$", None),
-        ("hunter2$", None),
-        ("hunter2", None),
+        *((it, None) for it in ("$my hunter2$", "$hunter2!$", "$hunter2" + "x" * 20 + "$")),
+        *((it, None) for it in ("hunter2$", "hunter2")),
     )
     def test_what_is_no_record_of_ours(self, text, name):
         """The scheme's name is given where one stands; nothing else of the text is shown."""
@@ -83,8 +80,7 @@ class Shell(unittest.TestCase):
         ("--memory 100 --passes 1 --lanes 5", "$argon2id$v=19$m=100,t=1,p=5$"),
         (" ", "$argon2id$v=19$m=65536,t=3,p=4$"),
         ("--scrypt", "$scrypt$ln=17,r=8,p=1$"),
-        ("--scrypt --log2-n 4", "$scrypt$ln=4,r=8,p=1$"),
-        ("--scrypt --log2-n 11", "$scrypt$ln=11,r=8,p=1$"),
+        *((f"--scrypt --log2-n {it}", f"$scrypt$ln={it},r=8,p=1$") for it in (4, 11)),
     )
     def test_costs(self, given, costs):
         made = hashed(given)
@@ -180,6 +176,5 @@ class Shell(unittest.TestCase):
     def test_the_version_is_the_headers(self):
         self.assertEqual(rigzumal.__version__, rigzumal.version())
         header = pathlib.Path(__file__).parents[3] / "c/include/rigzumal.h"
-        self.assertIn(
-            f'#define RIGZUMAL_LIBRARY_VERSION "{rigzumal.version()}"', header.read_text()
-        )
+        line = f'#define RIGZUMAL_LIBRARY_VERSION "{rigzumal.version()}"'
+        self.assertIn(line, header.read_text())

@@ -21,10 +21,8 @@ class Defaults(unittest.TestCase):
 
     def test_of_hashers(self):
         argon2 = PasswordHasher()
-        for hasher, costs in (
-            (argon2, "$argon2id$v=19$m=65536,t=3,p=4"),
-            (ScryptHasher(), "$scrypt$ln=17,r=8,p=1"),
-        ):
+        scrypt = ScryptHasher(), "$scrypt$ln=17,r=8,p=1"
+        for hasher, costs in ((argon2, "$argon2id$v=19$m=65536,t=3,p=4"), scrypt):
             with self.subTest(hasher=hasher, costs=costs):
                 record = hasher.hash("x")
                 self.assertEqual((hasher.costs, record.rsplit("$", 2)[0]), (costs, costs))
@@ -44,9 +42,8 @@ class Defaults(unittest.TestCase):
 
     def test_modules_that_take_long_are_not_imported(self):
         """Beside ctypes and enum all are small: twice argon2-cffi's time at most."""
-        script = (
-            f"import sys; sys.path[:0] = [{str(PYTHON)!r}]; import rigzumal; print(*sys.modules)"
-        )
+        front = f"import sys; sys.path[:0] = [{str(PYTHON)!r}]"
+        script = f"{front}; import rigzumal; print(*sys.modules)"
         found = set(python("-I", "-S", "-c", script).split())
         self.assertIn("rigzumal._hashers", found)
         slow = {"argparse", "ast", "dataclasses", "getpass", "inspect", "pathlib", "re", "typing"}
@@ -68,21 +65,12 @@ class Values(unittest.TestCase):
         self.assertEqual(SMALL, PasswordHasher(2, 256, 1))
         self.assertEqual(hash(SMALL), hash(PasswordHasher(2, 256, 1)))
         self.assertEqual(rigzumal.parts(ARGON2), rigzumal.parts(ARGON2))
-        changes = (
-            {"time_cost": 3},
-            {"memory_cost": 257},
-            {"parallelism": 2},
-            {"hash_len": 31},
-            {"salt_len": 15},
-            {"type": Type.I},
-            {"secret": b"pepper"},
-            {"secrets": [b"pepper"]},
-            {"secrets": [b"pepper", b""]},
-            {"secrets": [b"pepper", b"salt"]},
-            {"secrets": [b"salt", b"pepper"]},
-            {"threads": 2},
-        )
-        values = {SMALL, *(SMALL.replace(**it) for it in changes), ScryptHasher(), "another"}
+        numbers = {"time_cost": 3, "memory_cost": 257, "parallelism": 2, "hash_len": 31}
+        others = {"salt_len": 15, "type": Type.I, "threads": 2, "secret": b"pepper"}
+        secrets = [b"pepper"], [b"pepper", b""], [b"pepper", b"salt"], [b"salt", b"pepper"]
+        changes = [*numbers.items(), *others.items(), *(("secrets", it) for it in secrets)]
+        values = {SMALL, ScryptHasher(), "another"}
+        values |= {SMALL.replace(**{name: it}) for name, it in changes}
         self.assertEqual(len(values), len(changes) + 3)
 
     def test_a_change_leaves_the_others(self):
@@ -139,9 +127,8 @@ class Rotation(unittest.TestCase):
         self.assertIs(self.NEW.verify(made, "x"), True)
         self.assertIsNone(self.BOTH.verify_and_rehash(made, "x"))
         for hasher in (self.NEW, self.OLD):
-            with self.subTest(hasher=hasher):
-                with self.assertRaises(rigzumal.VerifyMismatchError):
-                    self.BOTH.verify_and_rehash(hasher.hash("y"), "x")
+            with self.subTest(hasher=hasher), self.assertRaises(rigzumal.VerifyMismatchError):
+                self.BOTH.verify_and_rehash(hasher.hash("y"), "x")
 
     def test_those_without_a_pepper_are_rehashed(self):
         both = SMALL.replace(secrets=[b"new", b""])
@@ -182,13 +169,8 @@ class Rotation(unittest.TestCase):
     def test_bad_secrets(self):
         """An empty one is what an unset variable gives, and would be no pepper at all."""
         for bad in (
-            {"secret": b""},
-            {"secret": bytearray()},
-            {"secrets": []},
-            {"secrets": ()},
-            {"secrets": iter(())},
-            {"secrets": [b""]},
-            {"secrets": [b"", b"old"]},
+            *({"secret": it} for it in (b"", bytearray())),
+            *({"secrets": it} for it in ([], (), iter(()), [b""], [b"", b"old"])),
             {"secret": b"", "secrets": [b"x"]},
         ):
             with self.subTest(bad=bad):
