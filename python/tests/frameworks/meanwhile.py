@@ -67,6 +67,12 @@ def signed_up(model, password="old", **given):
     return model._base_manager.get(pk=made.pk)
 
 
+def connected(case, signal, handler, sender):
+    """Has a handler hear of a model's saves until the end of a test."""
+    signal.connect(handler, sender=sender)
+    case.addCleanup(signal.disconnect, handler, sender=sender)
+
+
 def awaited(call, *given, **named):
     """The answer of a call, as an asynchronous view awaits it."""
 
@@ -181,9 +187,7 @@ def save(user):
 
 LOGINS = {
     "authenticate": log_in(authenticate),
-    "aauthenticate": log_in(
-        lambda *given, **named: awaited(BACKEND.aauthenticate, *given, **named)
-    ),
+    "aauthenticate": log_in(functools.partial(awaited, BACKEND.aauthenticate)),
 }
 CHECKS = {
     "check": lambda user: passwords.check_password(user, OLD),

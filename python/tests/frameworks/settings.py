@@ -17,19 +17,13 @@ def _database(name):
 
 DATABASES = {"default": _database("one"), "other": _database("two")}
 INSTALLED_APPS = [
-    "rigzumal.django",  # before auth: its changepassword is ours
-    "rigzumal.django.apps.AdminConfig",
-    "django.contrib.auth",
-    "django.contrib.contenttypes",
-    "django.contrib.sessions",
-    "django.contrib.messages",
-    "users_app",
+    # Before auth: its changepassword is ours.
+    *("rigzumal.django", "rigzumal.django.apps.AdminConfig", "users_app"),
+    *(f"django.contrib.{it}" for it in ("auth", "contenttypes", "sessions", "messages")),
 ]
 PASSWORD_HASHERS = [
-    "rigzumal.django.hashers.Argon2PasswordHasher",
-    "rigzumal.django.hashers.ScryptPasswordHasher",
-    "django.contrib.auth.hashers.PBKDF2PasswordHasher",
-    "django.contrib.auth.hashers.MD5PasswordHasher",
+    *(f"rigzumal.django.hashers.{it}PasswordHasher" for it in ("Argon2", "Scrypt")),
+    *(f"django.contrib.auth.hashers.{it}PasswordHasher" for it in ("PBKDF2", "MD5")),
 ]
 AUTHENTICATION_BACKENDS = ["rigzumal.django.backends.CompareAndSetBackend"]
 MIDDLEWARE = [
@@ -37,19 +31,10 @@ MIDDLEWARE = [
     "django.contrib.auth.middleware.AuthenticationMiddleware",
     "django.contrib.messages.middleware.MessageMiddleware",
 ]
-_PROCESSORS = ("template.context_processors.request", "contrib.auth.context_processors.auth")
-TEMPLATES = [
-    {
-        "BACKEND": "django.template.backends.django.DjangoTemplates",
-        "APP_DIRS": True,
-        "OPTIONS": {
-            "context_processors": [
-                *(f"django.{name}" for name in _PROCESSORS),
-                "django.contrib.messages.context_processors.messages",
-            ],
-        },
-    }
-]
+_ENGINE = {"BACKEND": "django.template.backends.django.DjangoTemplates", "APP_DIRS": True}
+_PROCESSORS = ("template.{}.request", "contrib.auth.{}.auth", "contrib.messages.{}.messages")
+_ADDED = [f"django.{it.format('context_processors')}" for it in _PROCESSORS]
+TEMPLATES = [{**_ENGINE, "OPTIONS": {"context_processors": _ADDED}}]
 ROOT_URLCONF = "urls"
 SECRET_KEY = "of the tests"
 DEFAULT_AUTO_FIELD = "django.db.models.AutoField"

@@ -1,5 +1,6 @@
 """rigzumal.django: operations and rollbacks, reports of errors, costs, databases."""
 
+import itertools
 import sys
 from unittest import mock
 
@@ -91,23 +92,21 @@ class Reports(Cheap, TransactionTestCase):
     def test_too_little_memory(self):
         ann, given = self.ann, {f"new_password{it}": NEW for it in (1, 2)}
         change = {"old_password": OLD, **given}
-        valid = [
-            forms.PasswordChangeForm(ann, change),
-            forms.SetPasswordForm(ann, given),
-            forms.AdminPasswordChangeForm(ann, {"password1": NEW, "password2": NEW}),
-        ]
+        valid = [forms.PasswordChangeForm(ann, change), forms.SetPasswordForm(ann, given)]
+        valid += [forms.AdminPasswordChangeForm(ann, {"password1": NEW, "password2": NEW})]
         self.assertTrue(all(it.is_valid() for it in valid))
         hasher, record = Argon2PasswordHasher(), ann.password
+        changing = forms.PasswordChangeForm(ann, change)
         with mock.patch.object(rigzumal, "argon2", side_effect=rigzumal.OutOfMemoryError(8)):
             self.each(MemoryError)
-            for act in (
-                *(it.save for it in valid),
-                lambda: BACKEND.authenticate(None, "nobody", OLD),
-                lambda: forms.PasswordChangeForm(ann, change).is_valid(),
-                lambda: hasher.encode(OLD, "somesaltsomesalt"),
-                lambda: hasher.verify(OLD, record),
+            for act, *words in (
+                *((it.save,) for it in valid),
+                (BACKEND.authenticate, None, "nobody", OLD),
+                (changing.is_valid,),
+                (hasher.encode, OLD, "somesaltsomesalt"),
+                (hasher.verify, OLD, record),
             ):
-                self.check(act, MemoryError)
+                self.check(lambda: act(*words), MemoryError)
 
     def test_a_broken_connection_at_the_update(self):
         def broken(execute, sql, *given):
@@ -204,21 +203,14 @@ class Costs(Ann, TestCase):
 class Sessions(Ann, TestCase):
     def test_those_of_djangos_backend(self):
         """They go on while it is listed behind ours, and end when it isn't."""
-        (ours,), theirs = (
-            settings.AUTHENTICATION_BACKENDS,
-            f"{ModelBackend.__module__}.ModelBackend",
-        )
-        for begun, listed, is_known in (
-            (theirs, [ours, theirs], True),
-            (theirs, [theirs, ours], True),
-            (theirs, [ours], False),
-            (ours, [theirs, ours], True),
-            (ours, [theirs], False),
-        ):
+        (ours,) = settings.AUTHENTICATION_BACKENDS
+        theirs = f"{ModelBackend.__module__}.ModelBackend"
+        lists = [ours, theirs], [theirs, ours], [ours], [theirs]
+        for begun, listed in itertools.product((ours, theirs), lists):
             with self.subTest(begun=begun, listed=listed):
                 self.client.force_login(self.ann, backend=begun)
                 with override_settings(AUTHENTICATION_BACKENDS=listed):
-                    self.assertIs(get_user(self.client).is_authenticated, is_known)
+                    self.assertIs(get_user(self.client).is_authenticated, begun in listed)
 
 
 class Databases(Cheap, TestCase):

@@ -30,19 +30,15 @@ except ImportError:
 
 THEIRS, OURS = "django.contrib.auth.backends.", "rigzumal.django.backends.CompareAndSetBackend"
 # Backends, and what is said of them: of a stock User, and if it compares.
+NO_CLASS = f"{__name__}.urlpatterns"
+UPGRADING = [THEIRS + "ModelBackend", THEIRS + "AllowAllUsersModelBackend"]
 BACKENDS = [
-    ([OURS], [], []),
-    ([THEIRS + "ModelBackend"], ["W001", "W002"], ["W014"]),
-    ([OURS, THEIRS + "ModelBackend"], ["W002"], []),
-    ([OURS, f"{__name__}.EmailBackend"], ["W002"], []),
-    ([OURS, THEIRS + "AllowAllUsersModelBackend"], ["W002"], []),
-    ([OURS, THEIRS + "RemoteUserBackend"], [], []),
+    *((it, [], []) for it in ([OURS], [OURS, THEIRS + "RemoteUserBackend"])),
     ([THEIRS + "RemoteUserBackend"], ["W001"], []),
-    ([OURS, "nowhere.Backend"], ["E012"], ["E012"]),
-    ([OURS, "."], ["E012"], ["E012"]),
-    ([OURS, f"{__name__}.urlpatterns"], ["E012"], ["E012"]),
-    ([], ["E012", "W001"], ["E012"]),
-    (OURS, ["E012", "W001"], ["E012"]),  # a tuple of one without its comma
+    ([THEIRS + "ModelBackend"], ["W001", "W002"], ["W014"]),
+    *(([OURS, it], ["W002"], []) for it in (*UPGRADING, f"{__name__}.EmailBackend")),
+    *(([OURS, it], ["E012"], ["E012"]) for it in ("nowhere.Backend", ".", NO_CLASS)),
+    *((it, ["E012", "W001"], ["E012"]) for it in ([], OURS)),  # a tuple of one without its comma
 ]
 OUR_ARGON2, OUR_SCRYPT = (
     f"rigzumal.django.hashers.{it}PasswordHasher" for it in ("Argon2", "Scrypt")
@@ -50,19 +46,13 @@ OUR_ARGON2, OUR_SCRYPT = (
 ARGON2, PBKDF2 = (f"django.contrib.auth.hashers.{it}PasswordHasher" for it in ("Argon2", "PBKDF2"))
 # Hashers: of two of one name Django asks the later, so its own would judge our records.
 HASHERS = [
-    ([PBKDF2], ["W004"]),
-    ([OUR_SCRYPT], []),
-    (["meanwhile.Argon2"], []),
-    ([OUR_ARGON2, PBKDF2], []),
-    ([OUR_ARGON2, ARGON2], ["E013"]),
-    ([ARGON2, OUR_ARGON2], ["W004"]),
+    *((it, []) for it in ([OUR_SCRYPT], ["meanwhile.Argon2"], [OUR_ARGON2, PBKDF2])),
     ([OUR_ARGON2, ARGON2, "meanwhile.Argon2"], []),
+    *((it, ["W004"]) for it in ([PBKDF2], [ARGON2, OUR_ARGON2])),
+    *(([it, ARGON2], ["E013"]) for it in (OUR_ARGON2, "meanwhile.Argon2")),
     ([OUR_SCRYPT, f"{__name__}.ScryptLike"], ["E013"]),
-    (["meanwhile.Argon2", ARGON2], ["E013"]),
-    ([OUR_ARGON2, "nowhere.Hasher"], ["E015"]),
-    ([OUR_ARGON2, f"{__name__}.urlpatterns"], ["E015"]),
-    ([], ["E015"]),
-    (OUR_ARGON2, ["E015"]),
+    *(([OUR_ARGON2, it], ["E015"]) for it in ("nowhere.Hasher", NO_CLASS)),
+    *((it, ["E015"]) for it in ([], OUR_ARGON2)),
 ]
 # Names of settings that nobody reads, and the check whose hint names them.
 MISSPELT = [
@@ -71,15 +61,15 @@ MISSPELT = [
     ("RIGZUMAL_USER_COMPARE", "W007", {}),
 ]
 # Levels of isolation in the options of a database, and whether they are of snapshots.
+ISOLATION = "-c default_transaction_isolation"
 POSTGRES = [
     ({}, False),
     ({"isolation_level": "repeatable read"}, True),
     ({"isolation_level": "READ COMMITTED"}, False),
     *(({"isolation_level": it}, it in (2, 3)) for it in (1, 2, 3, None)),  # psycopg2's
-    ({"options": "-c default_transaction_isolation=serializable"}, True),
-    ({"options": "-c default_transaction_isolation=repeatable\\ read"}, True),
+    *(({"options": f"{ISOLATION}={it}"}, True) for it in ("serializable", "repeatable\\ read")),
     ({"options": "-c lock_timeout=5 --default-transaction-isolation=SERIALIZABLE"}, True),
-    ({"options": "-c default_transaction_isolation=read\\ committed"}, False),
+    ({"options": f"{ISOLATION}=read\\ committed"}, False),
     ({"options": "-c search_path=serializable"}, False),
 ]
 if psycopg:  # whose numbers aren't psycopg2's

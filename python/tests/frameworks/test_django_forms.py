@@ -21,7 +21,7 @@ from django.test import TestCase, TransactionTestCase, override_settings
 from django.urls import path
 from django.utils.encoding import force_bytes
 from django.utils.http import urlsafe_base64_encode
-from meanwhile import Ann, Cheap, Router, cheap, comparing, is_right, meanwhile, stands
+from meanwhile import Ann, Cheap, Router, cheap, comparing, connected, is_right, meanwhile, stands
 
 import rigzumal
 from rigzumal.django import forms, passwords, urls, users
@@ -226,7 +226,7 @@ class Admin(Ann, TestCase):
     def edit(self, **how):
         """Posts the form of a user's other fields."""
         form = {"username": "ann", "email": "a@new.org", "is_active": "on"}
-        form.update({"date_joined_0": "2026-01-01", "date_joined_1": "00:00:00"})
+        form |= {"date_joined_0": "2026-01-01", "date_joined_1": "00:00:00"}
         return self.client.post(f"{self.page}change/", form, **how)
 
     def test_an_edit_of_another_field_leaves_the_password(self):
@@ -234,8 +234,7 @@ class Admin(Ann, TestCase):
             user = User.objects.get(pk=instance.pk)
             self.assertTrue(passwords.change_password(user, "old", "new"))
 
-        pre_save.connect(change, sender=User)
-        self.addCleanup(pre_save.disconnect, change, sender=User)
+        connected(self, pre_save, change, User)
         self.assertEqual(self.edit().status_code, 302)
         self.assertTrue(self.right("new"))
         self.assertEqual(User.objects.get(pk=self.ann.pk).email, "a@new.org")

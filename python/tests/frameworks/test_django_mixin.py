@@ -12,34 +12,29 @@ from django.db import transaction
 from django.db.models.signals import post_save, pre_save
 from django.test import TestCase, TransactionTestCase, override_settings
 from django.utils.functional import SimpleLazyObject
-from meanwhile import Cheap, Router, cheap, comparing, is_right, reset_elsewhere, signed_up
-from meanwhile import stands, undone
+from meanwhile import Cheap, Router, cheap, comparing, connected, is_right, reset_elsewhere
+from meanwhile import signed_up, stands, undone
 from users_app.models import Person, Pupil
 
 from rigzumal.django import passwords
 from rigzumal.django.passwords import RecordChanged
 
 
-def save(user, new):
+def save(user, new, **how):
     user.set_password(new)
-    return user.save
+    return lambda: user.save(**how)
 
 
 def save_one_field(user, new):
-    user.set_password(new)
-    return lambda: user.save(update_fields=["password"])
+    return save(user, new, update_fields=["password"])
 
 
-def set_(user, new):
-    return lambda: passwords.set_password(user, new)
+def set_(user, *news):
+    return lambda: [passwords.set_password(user, new) for new in news]
 
 
 def set_twice(user, new):
-    def act():
-        passwords.set_password(user, "another")
-        passwords.set_password(user, new)
-
-    return act
+    return set_(user, "another", new)
 
 
 def change(user, new):
@@ -107,8 +102,10 @@ class Compared(Written):
 
     writes = [*Written.writes, save, save_one_field]
 
-    def lose(self, user, **how):
-        """A save that is lost: nothing is written."""
+    def lose(self, user, new=None, **how):
+        """A save, perhaps of a new password, that is lost: nothing is written."""
+        if new:
+            user.set_password(new)
         before = stands(user)
         self.assertRaises(RecordChanged, user.save, **how)
         self.assertEqual(stands(user), before)
@@ -152,9 +149,8 @@ class Compared(Written):
     def test_a_user_is_compared_with_what_was_read_or_written(self):
         """In an open transaction, since a TestCase is one, as in life."""
         unusable = "set_unusable_password"
-        for way, (change, *new) in itertools.product(
-            self.ways(), ((unusable,), ("set_password", "mine"))
-        ):
+        changes = (unusable,), ("set_password", "mine")
+        for way, (change, *new) in itertools.product(self.ways(), changes):
             self.assertTrue(way().check_password("old"))
             user = way()
             reset_elsewhere(user, "reset")
@@ -175,13 +171,11 @@ class Compared(Written):
 
     def test_a_copy_knows_what_it_was_copied_with(self):
         other = copy.copy(self.ann)
-        self.ann.set_password("new")
-        self.ann.save()
+        save(self.ann, "new")()
         other.email = "a@new.org"
         other.save()
         self.assertTrue(self.right("new"))
-        other.set_password("other")
-        self.lose(other)
+        self.lose(other, "other")
 
     def test_set_and_save(self):
         self.ann.set_password("new")
@@ -205,8 +199,7 @@ class Compared(Written):
         self.ann.save(update_fields=["email"])  # what else is to be saved, can be
         self.assertEqual(self.again().email, "a@new.org")
         self.ann.refresh_from_db()
-        self.ann.set_password("new")
-        self.ann.save()
+        save(self.ann, "new")()
         self.assertTrue(self.right("new"))
 
     def test_a_save_after_a_bulk_update_of_the_same_record(self):
@@ -218,8 +211,7 @@ class Compared(Written):
         self.assertTrue(self.right("new"))
         self.assertEqual(self.again().email, "a@new.org")
         self.reset("reset")
-        self.ann.set_password("newer")
-        self.lose(self.ann)
+        self.lose(self.ann, "newer")
 
     def test_a_transaction_goes_on_after_a_lost_save(self):
         """As a view under ATOMIC_REQUESTS does, which shows its form again."""
@@ -231,10 +223,6 @@ class Compared(Written):
             self.model.objects.update(last_name="after")
         self.assertEqual(self.again().get_full_name(), "before after")
 
-    def connect(self, signal, handler):
-        signal.connect(handler, sender=self.model)
-        self.addCleanup(signal.disconnect, handler, sender=self.model)
-
     def test_a_new_user_is_remembered_before_signals(self):
         """A handler of post_save that saves again writes no password."""
 
@@ -244,22 +232,21 @@ class Compared(Written):
                 instance.first_name = "x"
                 instance.save()
 
-        self.connect(post_save, profile)
+        connected(self, post_save, profile, self.model)
         self.assertTrue(is_right(self.model.objects.create_user("ben", password="a"), "reset"))
 
     def test_a_handler_that_sets_the_password(self):
         def expire(sender, instance, **_):
             instance.set_unusable_password()
 
-        self.connect(pre_save, expire)
+        connected(self, pre_save, expire, self.model)
         self.ann.save()
         self.assertFalse(self.again().has_usable_password())
 
     def test_who_was_not_saved_is_judged_as_she_is(self):
         ben = self.model(username="ben")
         ben.set_password("secret")
-        self.assertTrue(ben.check_password("secret"))
-        self.assertFalse(ben.check_password("guess"))
+        self.assertEqual([ben.check_password(it) for it in ("secret", "guess")], [True, False])
 
 
 class OfPerson(Compared, TestCase):
@@ -294,19 +281,16 @@ class Committed(Compared, TransactionTestCase):
 
         with transaction.atomic():
             transaction.on_commit(stamp)
-            self.ann.set_password("new")
-            self.ann.save()
+            save(self.ann, "new")()
         self.assertEqual(self.again().first_name, "committed")
         self.assertTrue(self.right("new"))
 
     def test_after_the_commit_the_record_before_is_another(self):
         before = stands(self.ann)
         with transaction.atomic():
-            self.ann.set_password("new")
-            self.ann.save()
+            save(self.ann, "new")()
         Person.objects.update(password=before)  # a backup is put back
-        self.ann.set_password("mine")
-        self.lose(self.ann)
+        self.lose(self.ann, "mine")
 
     def test_a_sign_up_that_was_rolled_back(self):
         ben = Person(username="ben")
@@ -355,8 +339,7 @@ class Committed(Compared, TransactionTestCase):
         """After a lost save, nor after the user was read anew."""
         self.reset("reset")
         with mock.patch("django.contrib.auth.password_validation.password_changed") as told:
-            self.ann.set_password("new")
-            self.lose(self.ann)
+            self.lose(self.ann, "new")
             self.assertIsNone(self.ann._password)
             self.ann.save(update_fields=["email"])
             self.ann.set_password("newer")
@@ -369,8 +352,7 @@ class Committed(Compared, TransactionTestCase):
         with override_settings(DATABASE_ROUTERS=[Router("other", "default")]):
             ann = Person.objects.get()
             self.assertEqual(ann._state.db, "other")
-            ann.set_password("new")
-            ann.save()
+            save(ann, "new")()
             ann = self.there.get()  # as it was
             for fields in (None, ["email"]):
                 ann.email = "a@new.org"

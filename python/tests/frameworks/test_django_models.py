@@ -1,6 +1,7 @@
 """A model with the mixin beside Django's own: it is the same in all but races, and a model's own
 methods are called."""
 
+import itertools
 from unittest import mock
 
 import project  # noqa: F401: Django, set up
@@ -12,7 +13,8 @@ from django.db.migrations.state import ModelState, ProjectState
 from django.db.migrations.writer import MigrationWriter
 from django.db.models.signals import post_save, pre_save
 from django.test import TestCase, TransactionTestCase, override_settings
-from meanwhile import Cheap, is_right, reset_elsewhere, signed_up
+from meanwhile import Cheap, connected, is_right, reset_elsewhere, signed_up
+from meanwhile import ACTS
 from users_app.models import Locked, Person, Plain, Unmixed, Unreached
 
 from rigzumal.django import passwords, users
@@ -44,8 +46,7 @@ class AsDjangos(Cheap, TransactionTestCase):
             sent.append(update_fields)
 
         for signal in (pre_save, post_save):
-            signal.connect(note, sender=model)
-            self.addCleanup(signal.disconnect, note, sender=model)
+            connected(self, signal, note, model)
         ann.save()
         ann.set_password("new")
         ann.save()
@@ -167,15 +168,11 @@ class OwnMethods(Cheap, TestCase):
     def test_a_locked_user_is_not_let_in(self):
         Locked.objects.update(locked=True)
         self.assertIsNone(authenticate(username="ann", password="old"))
-        for operation in (
-            lambda ann: passwords.check_password(ann, "old"),
-            lambda ann: passwords.verify_password(ann, "old"),
-            lambda ann: passwords.change_password(ann, "old", "new"),
-        ):
-            self.assertFalse(operation(self.again()))
-            Locked.objects.update(locked=False)
-            self.assertTrue(operation(self.again()))
-            Locked.objects.update(locked=True)
+        for name, *new in (("check",), ("verify",), ("change", "new")):
+            operation = getattr(passwords, f"{name}_password")
+            for is_locked in (True, False):
+                Locked.objects.update(locked=is_locked)
+                self.assertIs(operation(self.again(), "old", *new), not is_locked)
 
     def test_it_is_called_once(self):
         self.assertEqual(authenticate(username="ann", password="old").checks, 1)
@@ -204,20 +201,13 @@ class OwnMethods(Cheap, TestCase):
         self.assertTrue(self.right("reset"))
 
     def test_what_would_be_passed_over_is_refused(self):
-        for act, model in (
-            (passwords.check_password, User),
-            (passwords.set_password, User),
-            (passwords.set_password, Locked),
-        ):
+        setting = passwords.set_password
+        for act, model in ((passwords.check_password, User), (setting, User), (setting, Locked)):
             self.assertRaises(ValueError, act, model(username="ben"), "new")
-        for model in (Unmixed, Unreached):
+        acts = ("check", "verify", "change", "set")
+        for model, act in itertools.product((Unmixed, Unreached), acts):
             user = model(pk=1, username="ann", password=self.ann.password)
-            for operation in (
-                lambda: passwords.check_password(user, "old"),
-                lambda: passwords.verify_password(user, "old"),
-                lambda: passwords.change_password(user, "old", "new"),
-                lambda: passwords.set_password(user, "new"),
-            ):
-                self.assertRaisesMessage(Exception, "Methods.check_password", operation)
+            with self.assertRaisesMessage(Exception, "Methods.check_password"):
+                ACTS[act](user)
         with users.comparing(Unmixed):
             self.assertEqual(users.unreached_methods(Unmixed), ["Methods.check_password"])

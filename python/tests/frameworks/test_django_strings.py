@@ -108,9 +108,10 @@ class Strings(unittest.TestCase):
             return Wrapped()
 
         for hasher, number in ((wrapped(Argon2), "time_cost"), (wrapped(Scrypt), "work_factor")):
+            # Of the data migration, and of a new user.
             for record in (
-                hasher.encode_md5(digest, "seasalt"),  # of the data migration
-                hasher.encode("secret", "seasalt"),  # of a new user
+                hasher.encode_md5(digest, "seasalt"),
+                hasher.encode("secret", "seasalt"),
             ):
                 self.assertTrue(record.startswith(f"{hasher.algorithm}$"))
                 self.assertIs(hasher.verify("secret", record), True)
@@ -168,13 +169,9 @@ class Strings(unittest.TestCase):
 
     @each(Argon2(), Scrypt())
     def test_bad_arguments_and_no_password_in_an_exception(self, hasher):
-        for password, salt, kind in (
-            ("topsecret", "", ValueError),
-            ("topsecret", "a$b", ValueError),
-            ("topsecret\udc80", "somesalt", ValueError),
-            (None, "somesalt", TypeError),
-        ):
-            with self.assertRaises(kind) as caught:
+        salts = (("topsecret", it) for it in ("", "a$b"))
+        for password, salt in (*salts, ("topsecret\udc80", "somesalt"), (None, "somesalt")):
+            with self.assertRaises(ValueError if password else TypeError) as caught:
                 hasher.encode(password, salt)
             self.assertNotIn("topsecret", repr(caught.exception))
         record = hasher.encode("secret", "somesaltsomesalt")
@@ -187,24 +184,13 @@ class Strings(unittest.TestCase):
         record = argon2.encode("secret", salt)
         rows = [(argon2, it, False) for it in (record, argon2.encode("secret", salt + "x"))]
         rows += [(argon2, argon2.encode("secret", it), True) for it in (salt[:-1], "somesalt")]
-        for old, new in (
-            ("argon2id", "argon2i"),
-            ("v=19$", ""),
-            *(("m=64", it) for it in ("m=72", "m=56")),
-            ("t=1", "t=2"),
-            ("p=1", "p=2"),
-        ):
+        costs = ("m=64", "m=72"), ("m=64", "m=56"), ("t=1", "t=2"), ("p=1", "p=2")
+        for old, new in (("argon2id", "argon2i"), ("v=19$", ""), *costs):
             rows.append((argon2, record.replace(old, new), True))
-        for size, length, is_old in (
-            (32, 16, False),
-            (32, 64, False),
-            (32, 15, True),
-            (8, 8, False),
-            (8, 7, True),
-        ):
+        for size, length in ((32, 16), (32, 64), (32, 15), (8, 8), (8, 7)):
             hasher, shorter = Argon2(), Argon2()
             hasher.hash_len, shorter.hash_len = size, length
-            rows.append((hasher, shorter.encode("secret", salt), is_old))
+            rows.append((hasher, shorter.encode("secret", salt), length in (15, 7)))
         scrypt.work_factor, scrypt.block_size, scrypt.parallelism = 4, 2, 2
         for numbers in itertools.product((2, 4, 8), (1, 2, 3), (1, 2, 3)):
             record = scrypt.encode("secret", "seasalt", *numbers)
@@ -219,10 +205,9 @@ class Strings(unittest.TestCase):
         self.assertEqual(ours.hash_len, 32)
         for name in ("time_cost", "memory_cost", "parallelism"):
             self.assertEqual(getattr(hashers.Argon2PasswordHasher, name), getattr(ours, name))
-        self.assertEqual(
-            (ScryptPasswordHasher.work_factor, ScryptPasswordHasher.block_size), (2**14, 8)
-        )
-        for hasher in (ours(), ScryptPasswordHasher()):
+        scrypt = ScryptPasswordHasher()
+        self.assertEqual((scrypt.work_factor, scrypt.block_size), (2**14, 8))
+        for hasher in (ours(), scrypt):
             record = hasher.encode("secret", hasher.salt())
             self.assertLessEqual(len(record), checks.WIDTH)
             self.assertFalse(hasher.must_update(record))
@@ -242,10 +227,8 @@ class Strings(unittest.TestCase):
         compare = mock.patch("hmac.compare_digest", side_effect=hmac.compare_digest)
         for hasher in (Argon2(), Scrypt()):
             record = hasher.encode("secret", "seasalt")
-            tag, other = (
-                base64.b64decode(it.rpartition("$")[2] + "==")
-                for it in (record, hasher.encode("other", "seasalt"))
-            )
+            records = record, hasher.encode("other", "seasalt")
+            tag, other = (base64.b64decode(it.rpartition("$")[2] + "==") for it in records)
             with compare as compared:
                 self.assertIs(hasher.verify("secret", record), True)
                 self.assertIs(hasher.verify("other", record), False)

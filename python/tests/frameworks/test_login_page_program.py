@@ -122,10 +122,8 @@ class Program(Served):
             ann, statuses = Remote(port), []
             self.assertEqual(ann.sign_up("ann"), 303)
             form = {"csrf": ann.csrf("/change"), "old": OLD, "new": NEW, "again": NEW}
-            thread = threading.Thread(
-                target=lambda: statuses.append(ann.ask("POST", "/change", form))
-            )
-            kept = sqlite3.connect(self.database)
+            post = lambda: statuses.append(ann.ask("POST", "/change", form))
+            thread, kept = threading.Thread(target=post), sqlite3.connect(self.database)
             thread.start()
             what = store._hash(f"session {ann.cookie.partition('=')[2]}")
             while not kept.execute("SELECT * FROM try WHERE what = ?", [what]).fetchall():

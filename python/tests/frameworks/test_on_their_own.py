@@ -13,7 +13,7 @@ sys.path.insert(0, str(here.HERE.parent / "accounts"))
 
 import servers
 
-from tests.helpers import need_module, run
+from tests.helpers import each, need_module, run
 
 
 @functools.cache
@@ -50,37 +50,27 @@ class Runs(unittest.TestCase):
         url = f"postgresql://store@127.0.0.1:{postgres()}/one"
         self.discover("test_login_page*.py", DATABASE=url)
 
-    def histories(self, *words, **env):
+    def database(self, vendor):
+        """What names a database of this vendor, or of none."""
+        need_module("django")
+        if vendor != "postgresql":
+            return {}
+        need_module("psycopg2")
+        return {"FRAMEWORKS_POSTGRES": postgres()}
+
+    @each(("legal rounds on sqlite",), ("legal rounds on postgresql",), ("refused", "--broken"))
+    def test_histories(self, row):
+        """1,000 random interleavings are legal each; without a comparison one of them isn't."""
+        said, *words = row
+        env = self.database(said.rpartition(" ")[2])
         for mixin in ((), ("--mixin",)):
-            yield self.run_python("django_histories.py", *words, *mixin, **env)
+            found = self.run_python("django_histories.py", *words, *mixin, **env)
+            self.assertIn(said, found)
 
-    def test_histories(self):
-        """1,000 random interleavings in threads have one legal order each."""
-        need_module("django")
-        for said in self.histories():
-            self.assertIn("legal rounds on sqlite", said)
-
-    def test_histories_on_postgres(self):
-        need_module("django", "psycopg2")
-        for said in self.histories(FRAMEWORKS_POSTGRES=postgres()):
-            self.assertIn("legal rounds on postgresql", said)
-
-    def test_histories_without_comparison_are_refused(self):
-        need_module("django")
-        for said in self.histories("--broken"):
-            self.assertIn("refused", said)
-
-    def djangos_own(self, **env):
+    @each("sqlite", "postgresql")
+    def test_djangos_own(self, vendor):
         """Django's tests of auth, over this backend and these hashers."""
-        need_module("django")
         source = os.environ.get("DJANGO_SOURCE")
         if source is None:
             self.skipTest("DJANGO_SOURCE names no folder of Django's source")
-        self.run_python("django_own.py", source, **env)
-
-    def test_djangos_own(self):
-        self.djangos_own()
-
-    def test_djangos_own_on_postgres(self):
-        need_module("psycopg2")
-        self.djangos_own(FRAMEWORKS_POSTGRES=postgres())
+        self.run_python("django_own.py", source, **self.database(vendor))

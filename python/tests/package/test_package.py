@@ -24,16 +24,10 @@ FILES = sorted(
 )
 INSTALLED = "lib/python3/dist-packages"
 OTHERS = {
-    "bin/rigzumal",
-    "share/man/man1/rigzumal.1",
-    "share/bash-completion/completions/rigzumal",
-    "share/zsh/site-functions/_rigzumal",
-    "share/fish/vendor_completions.d/rigzumal.fish",
+    *("bin/rigzumal", "share/man/man1/rigzumal.1", "share/bash-completion/completions/rigzumal"),
+    *("share/zsh/site-functions/_rigzumal", "share/fish/vendor_completions.d/rigzumal.fish"),
 }
-SCRIPTS = {
-    "postinst": "py3compile -p python3-rigzumal",
-    "prerm": "py3clean -p python3-rigzumal",
-}
+SCRIPTS = {"postinst": "py3compile", "prerm": "py3clean"}
 HASHES = (
     "import rigzumal; h = rigzumal.PasswordHasher(1, 64, 1)"
     "; print(h.verify(h.hash('x'), 'x'), rigzumal.__file__)"
@@ -90,9 +84,8 @@ class Package(unittest.TestCase):
         make("install", f"DESTDIR={room}", "PREFIX=/opt/rigzumal")
         for folder in (prefix, room / "opt/rigzumal"):
             with self.subTest(folder=folder):
-                self.assertEqual(
-                    files_below(folder), {f"{INSTALLED}/{it}" for it in FILES} | OTHERS
-                )
+                wanted = {f"{INSTALLED}/{it}" for it in FILES} | OTHERS
+                self.assertEqual(files_below(folder), wanted)
         env = {**OVER_LIBRARY, "PYTHONPATH": str(prefix / INSTALLED)}
         check_hashing(sys.executable, env, prefix)
         names = "import rigzumal.argon2_cffi as it; print(it)"
@@ -105,10 +98,8 @@ class Package(unittest.TestCase):
         room = ROOM / "uninstalled"
         words = (f"DESTDIR={room}", "PREFIX=/opt/rigzumal")
         packages = room / "opt/rigzumal" / INSTALLED
-        others = {
-            f"opt/rigzumal/{INSTALLED}/rigzumal/of_another.py",
-            f"opt/rigzumal/{INSTALLED}/rigzumal/django/of_another.py",
-        }
+        folders = (f"opt/rigzumal/{INSTALLED}/rigzumal{it}" for it in ("", "/django"))
+        others = {f"{folder}/of_another.py" for folder in folders}
         for with_others in (False, True):
             with self.subTest(with_others=with_others):
                 make("install", *words)
@@ -175,9 +166,10 @@ class Package(unittest.TestCase):
         others = {it.replace("site-functions", "vendor-completions") for it in OTHERS}
         others = {f"usr/{it}".replace("rigzumal.1", "rigzumal.1.gz") for it in others}
         self.assertEqual(held, ours | others)
-        for script, line in SCRIPTS.items():
-            with self.subTest(script=script, line=line):
-                self.assertIn(line, (room / "DEBIAN" / script).read_text())
+        for script, program in SCRIPTS.items():
+            with self.subTest(script=script):
+                text = (room / "DEBIAN" / script).read_text()
+                self.assertIn(f"{program} -p python3-rigzumal", text)
         self.assertIn(f"librigzumal1 (>= {VERSION})", run("dpkg-deb", "-f", deb, "Depends"))
         packages = str(room / "usr/lib/python3/dist-packages")
         check_hashing("/usr/bin/python3", {**OVER_LIBRARY, "PYTHONPATH": packages}, room)
