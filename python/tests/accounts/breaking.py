@@ -79,15 +79,11 @@ def unlooked(accounts):
 class LeavesOpen(PerThread):
     """Leaves a connection open after an exception, for what a thread may still send."""
 
-    @contextmanager
-    def __call__(self):
-        held = self._take()
-        try:
-            yield held.conn
-        except BaseException:
+    def __exit__(self, kind, *error):
+        if kind is not None:
+            self._parents.append(self._local.held)
             self._local.held = None
-            self._parents.append(held)
-            raise
+        super().__exit__(kind, *error)
 
 
 class Left(BaseException):
