@@ -58,6 +58,8 @@ class NewNames(Commands):
                     with self.assertRaisesRegex(ValueError, f"^{fault}$"):
                         act(Request(*given))
                 self.assertRaisesRegex(ValueError, f"^{fault}$", accounts.enrol, name, "one")
+                check = self.dialect.check_new_key
+                self.assertRaisesRegex(ValueError, f"^{fault}$", check, Name(name))
                 self.assertEqual(self.names(), ["eve"])
 
     def test_names_that_are_taken(self):
