@@ -134,6 +134,9 @@ class Client:
 
     def send(self) -> None:
         """Sends a piece of the output, and the next one once the client takes it."""
+        if not self.output:
+            self.loop.remove_writer(self.file)
+            return
         try:
             del self.output[: self.socket.send(self.output[:WRITTEN])]
         except BlockingIOError:
@@ -144,7 +147,6 @@ class Client:
         if self.output:
             self.loop.add_writer(self.file, self.send)
         else:
-            self.loop.remove_writer(self.file)
             self.go_on()
 
     def end(self) -> None:

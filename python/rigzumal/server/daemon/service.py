@@ -138,22 +138,19 @@ class Service:
         task.add_done_callback(self.tasks.discard)
 
     async def process(self, request: Request) -> None:
-        """Has a request answered, unless its client has gone and it changes nothing.
-
-        Guesses at a name wait for one another.
-        """
-        client, kind, answer = request.client, request.kind, b""
+        """Has a request answered, unless its client has gone and it changes nothing."""
+        client, kind, keys, answer = request.client, request.kind, request.keys, b""
         self.tally.waited += time.monotonic() - request.came
         try:
             if kind.changes or not client.is_gone:
                 ask = partial(self.locks.answer, request)
-                keys = request.keys if kind.tries else []
-                answer = await self.tally.limiter.judge(ask, *keys)
+                tries = keys if kind.tries else []
+                answer = await self.tally.limiter.judge(ask, *tries)
         finally:
             request.places.release(client.user)
         is_shown = request.words[0] == b"disable" and b":" in answer  # with its record
         noted = b"disabled" if is_shown else answer
-        self.tally.count(kind, request.keys, noted.decode())
+        self.tally.count(kind, keys, noted.decode())
         if answer == LATER:
             # After the time of a hash: names that the book lacks take that too.
             seconds = random.choice(self.login_seconds or [self.hash_seconds])

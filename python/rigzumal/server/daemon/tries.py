@@ -68,6 +68,7 @@ class Limiter:
         """An answer to a try, which waits while as many run as may fail; or LATER."""
         while not self.rest(*keys):
             if any(map(self.is_full, keys)):
+                self.ended.clear()
                 await self.ended.wait()
                 continue
             self.running.update(keys)
@@ -76,13 +77,13 @@ class Limiter:
             finally:
                 self.running -= Counter(keys)
                 self.ended.set()
-                self.ended = asyncio.Event()
         return LATER
 
     def is_full(self, key: str) -> bool:
         """Whether as many run as may fail, and one at least."""
-        failed, most = self.tries.get(key, Tries()).count, self.most(key)
-        return most > 0 and self.running[key] >= max(1, most - failed)
+        found, most = self.tries.get(key), self.most(key)
+        may_fail = max(1, most - found.count if found else most)
+        return most > 0 and self.running[key] >= may_fail
 
     def fail(self, key: str) -> None:
         now, most = time.monotonic(), self.most(key)
