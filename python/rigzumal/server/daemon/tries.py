@@ -15,7 +15,7 @@ LATER = b"later"  # for this try it is too early
 REMEMBERED = 65536  # names and users
 LONGEST_WAIT, FORGOTTEN = 900.0, 3600.0  # seconds
 PEOPLE = range(1000, 60001)  # uids whose failed tries count: a service logs in many
-MOST_SHOWN = 1000  # names in an answer
+MOST_SHOWN, LONGEST_STATS = 1000, 4096  # names in an answer, letters of one
 # What the answers to a try are counted as.
 TRIED = dict.fromkeys("yes expired replaced upgraded kept removed".split(), "yes")
 TRIED |= {"no": "no", "wrong": "no", "absent": "absent", "noaccount": "noaccount"}
@@ -197,9 +197,11 @@ def metrics(path: str) -> str:
         it.settimeout(10)
         it.connect(path)
         it.sendall(b"1 stats\n")
-        answer = it.makefile(errors="replace").readline()
-    values = dict(re.findall(r"([a-z]+)=([\w.-]+)(?=[ \n])", answer))
-    if not answer.startswith("1 stats ") or values.keys() != set(COUNTED):
+        answer = it.makefile(errors="replace").readline(LONGEST_STATS)
+    head, *words = answer.split(" ")[1:] or [""]
+    pairs = [word.strip().partition("=") for word in words]
+    values = {key: value for key, _, value in pairs if re.fullmatch(r"[\w.-]+", value)}
+    if head != "stats" or values.keys() != set(COUNTED):
         raise Problem(f"{path}: its clients may not ask for stats")
     lines = list[str]()
     for name, (counts, said) in METRICS.items():
