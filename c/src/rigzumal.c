@@ -1,5 +1,4 @@
 /* The calls of rigzumal.h, over what the crate cred_c exports. */
-#define _GNU_SOURCE
 #include "rigzumal.h"
 
 #include "builds.h"

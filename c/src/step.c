@@ -1,6 +1,5 @@
 /* A step with a secret or with threads: what the proved step does without, by the calls that check
  * a record and make one. */
-#define _GNU_SOURCE
 #include "builds.h"
 #include "inputs.h"
 #include "secrets.h"

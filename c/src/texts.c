@@ -1,5 +1,4 @@
 /* The calls that read a text and hash nothing. */
-#define _GNU_SOURCE
 #include "builds.h"
 #include "secrets.h"
 #include "setting.h"

@@ -8,18 +8,20 @@ import unittest
 from harness import HERE, IS_NATIVE, ORIGINAL, OURS, OUT, ROOM
 from harness import need, need_host, need_module, need_original, python, run, run_sanitized
 
+# Fewer under qemu-user, which gives no memory of threads back.
+TURNS = () if IS_NATIVE else ("10",)
+
 
 class Libargon2(unittest.TestCase):
     def test_against_libargon2(self):
         """The original's answers over random calls, good and bad."""
         need_original()
-        turns = () if IS_NATIVE else ("10",)  # qemu-user gives no memory of threads back
-        python(HERE / "against_libargon2.py", OUT / "libargon2.so.1", ORIGINAL, "1", *turns)
+        python(HERE / "against_libargon2.py", OUT / "libargon2.so.1", ORIGINAL, "1", *TURNS)
 
     def test_against_libargon2_sanitized(self):
         """The same with our C under the sanitizers and all lanes in threads, over other calls."""
         need_original()
-        run_sanitized("against_libargon2.py", ROOM / "sanitized.so", ORIGINAL, "2")
+        run_sanitized("against_libargon2.py", ROOM / "sanitized.so", ORIGINAL, "2", *TURNS)
 
     def test_passlib_argon2(self):
         """passlib's own tests for Argon2 run as with the original."""

@@ -5,7 +5,7 @@ import os
 import shutil
 import unittest
 
-from harness import COMPILER, HERE, IN_THREADS, IS_NATIVE, JOBS, LIBARGON2, OUT, RACES, ROOM
+from harness import COMPILER, HERE, IS_NATIVE, JOBS, LIBARGON2, OUT, RACES, ROOM
 from harness import SANITIZED, SOURCES, VALGRIND, WARNINGS, WITHOUT_BUILDS, built, need, need_glibc
 from harness import need_host, need_root, python, run, run_sanitized, toolchain
 
