@@ -157,7 +157,7 @@ class Clients(Case):
             service.stop() if path == login else None
             for call in self.calls(path):
                 self.is_unavailable(call, "known", "ada")
-        asked = importlib.import_module("rigzumal.server").Question
+        asked = importlib.import_module("rigzumal.server._client").Question
         self.assertNotRegex(repr(asked("verify", ("ada",), ("secret",))), "c2Vj|secret")
 
     def test_what_a_form_passes_on(self) -> None:

@@ -11,7 +11,7 @@ import os
 from collections.abc import Coroutine
 from typing import Any, Optional, Union
 
-from rigzumal.server import (
+from rigzumal.server._client import (
     LOGIN_SOCKET,
     LONGEST_ANSWER,
     Calls,

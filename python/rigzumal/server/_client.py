@@ -1,0 +1,318 @@
+"""Lines to the server, its answers, and the client for threads."""
+
+from __future__ import annotations
+
+import base64
+import enum
+import os
+import socket
+import time
+from dataclasses import dataclass
+from typing import TYPE_CHECKING, Final, Generic, Optional, TypeVar, Union
+
+from rigzumal._library import Secret, bytes_of
+
+LOGIN_SOCKET: Final = "/run/rigzumal/users/login.sock"
+"""The default socket, of a book called users."""
+
+# In bytes; the longest name is an e-mail address.
+LONGEST_PASSWORD, LONGEST_NAME, LONGEST_ANSWER = 256, 254, 65536
+
+Replied = TypeVar("Replied")
+Listed = TypeVar("Listed")
+
+
+class Reply(enum.Enum):
+    """The book's answer to an operation.
+
+    It is never true or false by itself, since NO would be true too: compare it, as in
+    `reply is Reply.YES`.
+    """
+
+    YES = "yes"
+    NO = "no"
+    ABSENT = "absent"
+    NO_ACCOUNT = "noaccount"
+    OK = "ok"
+    ENROLLED = "enrolled"
+    EXISTS = "exists"
+    REPLACED = "replaced"
+    WRONG = "wrong"
+    UPGRADED = "upgraded"
+    KEPT = "kept"
+    REMOVED = "removed"
+    DISABLED = "disabled"
+    DELETED = "deleted"
+    RENAMED = "renamed"
+    EXPIRED = "expired"
+    SHORT = "short"
+    LOCKED = "locked"
+    UNLOCKED = "unlocked"
+    NONE = "none"
+
+    # Hidden from mypy, whose `truthy-bool` then names each place where it is missing.
+    if not TYPE_CHECKING:
+
+        def __bool__(self) -> bool:
+            raise TypeError(
+                "an answer is neither true nor false: compare it with Reply.YES"
+            )
+
+
+class ServerError(Exception):
+    """The base of the clients' own exceptions."""
+
+
+class Unavailable(ServerError):
+    """No answer came in time: a requested change may be made or not."""
+
+
+class Later(ServerError):
+    """Too many tries at this name, or of this user, failed: this one wasn't hashed."""
+
+
+class Denied(ServerError):
+    """The socket's clients may not ask for this operation."""
+
+
+class Refused(ServerError):
+    """The line was refused, by a number and a word of docs/ERRORS.md, and changed nothing.
+
+    Attributes:
+        number: such as 3.
+        word: such as "name".
+    """
+
+    def __init__(self, number: int, word: str) -> None:
+        super().__init__(f"{number} {word}")
+        self.number, self.word = number, word
+
+
+@dataclass(frozen=True, repr=False)
+class Question:
+    """An operation, its names and passwords.
+
+    Attributes:
+        no_name: the reply if no book can have the name; without it `Refused` is raised.
+        wrong: the same of the first password; without it a ValueError.
+    """
+
+    operation: str
+    names: tuple[str, ...]
+    passwords: tuple[Secret, ...] = ()
+    no_name: Optional[Reply] = None
+    wrong: Optional[Reply] = None
+
+    def known_reply(self) -> Optional[Reply]:
+        """The reply, if it is known without asking."""
+        if self.no_name is not None and not all(map(may_be_name, self.names)):
+            return self.no_name
+        if self.wrong is not None and not may_be_password(self.passwords[0]):
+            return self.wrong
+        return None
+
+    def line(self, tag: bytes) -> bytes:
+        """The line that asks for it.
+
+        Raises:
+            TypeError: a password is neither bytes nor text.
+            ValueError: a password has over 256 bytes, or is text that has no UTF-8.
+            Refused: no book can have a name (3 name).
+        """
+        if not all(map(may_be_name, self.names)):
+            raise Refused(3, "name")
+        fields = [tag, *(it.encode() for it in (self.operation, *self.names))]
+        for password in map(bytes_of, self.passwords):
+            if len(password) > LONGEST_PASSWORD:
+                raise ValueError(f"a password has up to {LONGEST_PASSWORD} bytes")
+            fields.append(base64.b64encode(password).rstrip(b"=") or b"-")
+        return b" ".join(fields) + b"\n"
+
+    def reply(self, tag: bytes, line: bytes) -> Reply:
+        """The reply in the line that came.
+
+        Raises:
+            ServerError: as in `answer_of`; Unavailable also for a text that is no reply.
+        """
+        try:
+            return Reply(answer_of(tag, line))
+        except ValueError:
+            raise Unavailable("the answer is no reply") from None
+        except Refused as refused:
+            if refused.number != 3 or self.no_name is None:
+                raise
+            return self.no_name
+
+
+def may_be_name(name: str) -> bool:
+    """Whether a name is one field of a line, and no longer than an address."""
+    try:
+        sent = name.encode()
+    except UnicodeEncodeError:
+        return False
+    return 0 < len(sent) <= LONGEST_NAME and min(sent) > 0x20 and 0x7F not in sent
+
+
+def may_be_password(password: Secret) -> bool:
+    """Whether a record can have this password."""
+    try:
+        return len(bytes_of(password)) <= LONGEST_PASSWORD
+    except ValueError:
+        return False
+
+
+def answer_of(tag: bytes, line: bytes) -> str:
+    """The answer in a line with this tag.
+
+    Raises:
+        ServerError: one of those above; Unavailable also for a line that is no answer.
+    """
+    found, _, said = line.partition(b" ")
+    if found != tag or not line.endswith(b"\n") or not said[:-1].isascii():
+        raise Unavailable("the server's line is no answer")
+    text = said[:-1].decode()
+    if text == "unavailable":
+        raise Unavailable("the book has ended")
+    if text == "later":
+        raise Later("too many tries failed")
+    if text == "denied":
+        raise Denied("the socket doesn't allow this operation")
+    kind, _, rest = text.partition(" ")
+    number, _, word = rest.partition(" ")
+    if kind == "bad" and number.isdigit():
+        raise Refused(int(number), word)
+    return text
+
+
+class Calls(Generic[Replied, Listed]):
+    """The calls of both clients, of which each has its own way to ask."""
+
+    def _reply(self, asked: Question) -> Replied:
+        raise NotImplementedError
+
+    def _listed(self, asked: Question) -> Listed:
+        raise NotImplementedError
+
+    def verify(self, name: str, password: Secret) -> Replied:
+        """YES or NO; ABSENT if the account has no record; NO_ACCOUNT.
+
+        EXPIRED is a right password that must be changed, by `change`, before a login. A
+        name or a password that no book can have, such as a name with a space, is NO.
+        """
+        no = Reply.NO
+        return self._reply(Question("verify", (name,), (password,), no, no))
+
+    def change(self, name: str, password: Secret, new_password: Secret) -> Replied:
+        """REPLACED, or WRONG for the old password; ABSENT; NO_ACCOUNT.
+
+        SHORT is a new password of fewer characters than the server demands; so it is of
+        `enrol` and `reset`.
+
+        Raises:
+            ValueError: the new password has over 256 bytes, or is text with no UTF-8.
+        """
+        both, replies = (password, new_password), (Reply.NO_ACCOUNT, Reply.WRONG)
+        return self._reply(Question("change", (name,), both, *replies))
+
+    def known(self, name: str) -> Replied:
+        """YES if the account has a record; ABSENT, EXPIRED, NO_ACCOUNT.
+
+        ABSENT is also a locked account, and EXPIRED one whose password must be changed.
+        """
+        return self._reply(Question("known", (name,), no_name=Reply.NO_ACCOUNT))
+
+    def account(self, name: str) -> Replied:
+        """OK: adds the name, with no record. `Refused` (1 exists) if it exists."""
+        return self._reply(Question("account", (name,)))
+
+    def enrol(self, name: str, password: Secret) -> Replied:
+        """ENROLLED, or EXISTS if the account has a record; NO_ACCOUNT."""
+        return self._reply(Question("enrol", (name,), (password,)))
+
+    def reset(self, name: str, new_password: Secret) -> Replied:
+        """REPLACED, or ENROLLED if the account had no record; NO_ACCOUNT."""
+        return self._reply(Question("reset", (name,), (new_password,)))
+
+    def disable(self, name: str) -> Replied:
+        """DISABLED: the record is gone and the name stays; ABSENT; NO_ACCOUNT."""
+        return self._reply(Question("disable", (name,)))
+
+    def delete(self, name: str) -> Replied:
+        """DELETED: name and record are gone; NO_ACCOUNT."""
+        return self._reply(Question("delete", (name,)))
+
+    def rename(self, name: str, new_name: str) -> Replied:
+        """RENAMED, or EXISTS if the new name exists; NO_ACCOUNT."""
+        return self._reply(Question("rename", (name, new_name)))
+
+    def lock(self, name: str) -> Replied:
+        """LOCKED: each password is wrong until `unlock`; NO_ACCOUNT."""
+        return self._reply(Question("lock", (name,)))
+
+    def unlock(self, name: str) -> Replied:
+        """UNLOCKED: the record counts again; NONE if the name wasn't locked."""
+        return self._reply(Question("unlock", (name,)))
+
+    def expire(self, name: str) -> Replied:
+        """EXPIRED: the password must be changed before the next login; NO_ACCOUNT."""
+        return self._reply(Question("expire", (name,)))
+
+    def names(self, first: str = "-", count: int = 100) -> Listed:
+        """Up to `count` names (1 to 1000), in order, from `first` on."""
+        return self._listed(Question("list", (first, str(count))))
+
+
+class Client(Calls[Reply, list[str]]):
+    """Asks a book through a socket of credkeep-server.
+
+    Each call makes its own connection. So many threads may use a client at once, also
+    after a fork, and it needs no close.
+
+    Args:
+        path: the socket.
+        timeout: seconds of a whole call.
+
+    Each call may raise `ServerError`, and an administrator's calls ValueError for a
+    password of over 256 bytes.
+    """
+
+    def __init__(
+        self, path: Union[str, "os.PathLike[str]"] = LOGIN_SOCKET, timeout: float = 10.0
+    ) -> None:
+        self._path, self._timeout = os.fspath(path), timeout
+
+    def _reply(self, asked: Question) -> Reply:
+        known = asked.known_reply()
+        return asked.reply(b"1", self._line(asked)) if known is None else known
+
+    def _listed(self, asked: Question) -> list[str]:
+        return answer_of(b"1", self._line(asked)).split()[1:]
+
+    def _line(self, asked: Question) -> bytes:
+        """The line that came, or its beginning."""
+        until = time.monotonic() + self._timeout
+        sent, line = asked.line(b"1"), b""
+        try:
+            with socket.socket(socket.AF_UNIX) as connection:
+                connection.settimeout(self._timeout)
+                self._connect(connection, until)
+                connection.sendall(sent)
+                while b"\n" not in line and len(line) < LONGEST_ANSWER:
+                    connection.settimeout(max(until - time.monotonic(), 0.001))
+                    more = connection.recv(4096)
+                    if not more:
+                        break
+                    line += more
+        except OSError as fault:
+            raise Unavailable(f"{self._path}: {fault.strerror or fault}") from None
+        return line
+
+    def _connect(self, connection: socket.socket, until: float) -> None:
+        """Connects, and waits while too many other clients wait for the server."""
+        while True:
+            try:
+                return connection.connect(self._path)
+            except BlockingIOError:
+                if time.monotonic() >= until:
+                    raise
+                time.sleep(0.005)
