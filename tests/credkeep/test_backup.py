@@ -84,7 +84,11 @@ class BackupTest(CopyTest):
         text.write_text("hello\n")
         for path in (book.path, link):
             with self.subTest(path=path):
-                self.assertFails(book("backup", str(path)), 5, "the copy would replace the book itself; name another file")
+                self.assertFails(
+                    book("backup", str(path)),
+                    5,
+                    "the copy would replace the book itself; name another file",
+                )
         for path in (text, self.room, self.room / "none/copy.db"):
             with self.subTest(path=path):
                 self.assertFails(book("backup", str(path)), 5)

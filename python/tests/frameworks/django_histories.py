@@ -18,6 +18,7 @@ import sys
 import threading
 import time
 from concurrent.futures import ThreadPoolExecutor
+from typing import NamedTuple
 
 os.environ.setdefault("DJANGO_SETTINGS_MODULE", "settings")
 import django
@@ -43,12 +44,28 @@ NUMBERS = itertools.count()
 judged = threading.local()
 
 
-def noted(judge):
+class Judged(NamedTuple):
+    """An answer, with the records before it and after it."""
+
+    right: bool
+    before: str
+    after: str
+
+
+def noted(at_what_stands):
     """The same, whose last answer in a thread is kept."""
 
-    def note(*given):
-        judged.last = judge(*given)
-        return judged.last
+    def note(user, judge):
+        tried = []
+
+        def kept(copy):
+            answer = judge(copy)
+            tried.append((copy, answer[1]))
+            return answer
+
+        right = at_what_stands(user, kept)
+        judged.last = Judged(right, *tried[-1])
+        return right
 
     return note
 
@@ -160,8 +177,7 @@ def main():
     words.add_argument("--mixin", action="store_true")
     given = words.parse_args()
     call_command("migrate", run_syncdb=True, verbosity=0)
-    records.judge_login = noted(records.judge_login)
-    records.judge_change = noted(records.judge_change)
+    records._at_what_stands = noted(records._at_what_stands)
     Argon2PasswordHasher._made = slowed(Argon2PasswordHasher._made)
     if given.broken:
         leave_comparison_out()
