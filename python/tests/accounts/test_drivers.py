@@ -125,6 +125,7 @@ class Engines:
 class AwaitedEngines(Engines):
     def test_asyncio(self):
         module(self.asynchronous_driver)
+        module("greenlet")  # which SQLAlchemy's asyncio needs
         from sqlalchemy.ext.asyncio import create_async_engine
 
         async def act():
