@@ -9,10 +9,10 @@ A wrong body is crates/CRATE/wrong-bodies/NAME.edit. A line `fn: PATH` names the
 Tried are those that the first table of docs/PLANTED.md names, and all of each crate that isn't as tools/wrong_bodies.sums has it: its files,
 its wrong bodies, and what can be cited of the crates below. With --all or a CRATE: all, or all of that crate. The sums file gets the line of
 each crate whose wrong bodies were all tried and refused. COMMAND, `rt ci`, runs beside: a crate's turn comes once COMMAND has proved the
-crate. Without one the libraries below are those that `rt lib` builds, and the checks begin with what is kept in the crate's out/.
+crate. Without one the libraries below are those that `rt lib` builds.
 
-First the functions are proved as they stand. Then each wrong body is refused at a goal: the search doesn't prove it, or its written answer is
-no proof any more. It says less if an answer only names what the edit took away, or if a caller alone is refused, with nothing else planted.
+First the functions are proved as they stand, beginning with what `rt check` kept in the crate's out/, or an earlier run in .git/wrong-bodies.
+Then each wrong body is refused at a goal: the search doesn't prove it, or its written answer is no proof any more. It says less if an answer only names what the edit took away, or if a caller alone is refused, with nothing else planted.
 The status is 1 if one isn't refused, or can't be judged.
 """
 
@@ -104,15 +104,15 @@ def link(one, other):
 class Trial:
     """Which wrong bodies are tried, each crate's once its libraries are built, and what came of them."""
 
-    def __init__(self, asked, libraries):
-        self.asked, self.libraries = asked, libraries
+    def __init__(self, asked, libraries, kept):
+        self.asked, self.libraries, self.kept = asked, libraries, kept
         self.named = re.findall(r"`(\w+/[\w-]+)`", source(TOP / "docs/PLANTED.md").partition("\n| ")[2].partition("\n\n")[0])
         self.sums = dict(it.split() for it in source(SUMS).splitlines())
         free = int(re.search(r"MemAvailable:\s+(\d+)", pathlib.Path("/proc/meminfo").read_text())[1]) << 10
         self.places = threading.Semaphore(max(1, min(len(os.sched_getaffinity(0)), free // BYTES_OF_A_CHECK)))
         self.pool = concurrent.futures.ThreadPoolExecutor(len(listed()))
         self.proved, self.crates, self.refused, self.failed, self.left = set(), {}, [], [], collections.Counter()
-        self.has_kept, self.alone = False, threading.Lock()
+        self.alone = threading.Lock()
 
     def add_library(self, name):
         built = CRATES / name / "out/rlib" / f"{name}.rlib"
@@ -159,13 +159,13 @@ class Trial:
             for it in [it for it in edits if it.planted(bench.texts) is None]:
                 self.settle(it, None, "error: its old text isn't in its file once, or the new one is the same")
                 edits.remove(it)
-            if self.has_kept and (kept := CRATES / name / "out/incremental").is_dir():
-                link(kept, f"{seed}/kept")
-            else:
-                os.mkdir(f"{seed}/kept")
+            begun = [it for it in (CRATES / name / "out/incremental", self.kept / name) if it.is_dir()]
+            link(begun[0], f"{seed}/kept") if begun else os.mkdir(f"{seed}/kept")
             status, output = bench.check(bench.texts, f"{seed}/kept", sorted({it.function for it in edits if bench.has(it.function)}))
             if status:
                 raise RuntimeError(f"its functions aren't proved as they stand: {output[-2000:]}")
+            shutil.rmtree(self.kept / name, ignore_errors=True)
+            link(f"{seed}/kept", self.kept / name)
             list(pool.map(lambda it: self.try_group(bench, f"{seed}/kept", *it), groups(edits, bench.texts)))
         if is_whole and not any(it.startswith(f"{name}/") for it in self.failed):
             with self.alone:
@@ -184,8 +184,7 @@ class Trial:
         return process.returncode
 
     def over_built(self):
-        """Tries the crates that are asked for over `rt lib`'s libraries, beginning with what `rt check` or `rt lib` kept of each."""
-        self.has_kept = True
+        """Tries the crates that are asked for over `rt lib`'s libraries."""
         for name in self.asked.crates or listed():
             for low in all_below(name):
                 subprocess.run([RT, "lib"], cwd=CRATES / low, check=True, stdout=subprocess.DEVNULL)
@@ -220,7 +219,9 @@ def main():
     # where libraries can be linked, and `rt ci` doesn't look: a worktree's .git is a file
     git = TOP / ".git"
     with tempfile.TemporaryDirectory(prefix="wrong-bodies-", dir=git if git.is_dir() else None) as room:
-        trial = Trial(asked, pathlib.Path(room))
+        kept = (git if git.is_dir() else pathlib.Path(room)) / "wrong-bodies"
+        kept.mkdir(exist_ok=True)
+        trial = Trial(asked, pathlib.Path(room), kept)
         tell_each(EVERY, trial.tell)
         return trial.end(trial.beside(command) if command else trial.over_built())
 

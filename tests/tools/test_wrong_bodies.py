@@ -16,10 +16,14 @@ rm -rf out && mkdir -p "out/rlib/$name.rlib/lang" && cp -r src "out/rlib/$name.r
 echo "rt: $name proved"
 """
 # A function is refused if its body says wrong, or LIMIT and the limit isn't 8; it waits if it calls
-# one that is refused.
+# one that is refused. What a check keeps is how many went before it.
 RATTLE = """#!/usr/bin/env python3
-import os, re, sys
-open(os.environ["ASKED"], "a").write(" ".join(sys.argv) + chr(10))
+import os, pathlib, re, sys
+kept = pathlib.Path(sys.argv[sys.argv.index("--incremental") + 1]) / "checks"
+before = int(kept.read_text()) if kept.exists() else 0
+kept.unlink(missing_ok=True)
+kept.write_text(str(before + 1))
+open(os.environ["ASKED"], "a").write(f"{before} " + " ".join(sys.argv) + chr(10))
 text = open("src/lib.rt").read()
 bodies = dict(re.findall(r"fn (\\w+)\\(\\) \\{ (.*) \\}", text))
 bad = lambda it: "wrong" in bodies[it] or "LIMIT" in bodies[it] and "LIMIT: u8 = 8" not in text
@@ -67,7 +71,8 @@ class WrongBodies(Case):
         env = {**os.environ, **{name: str(it) for name, it in room.items()}}
         done = ended([sys.executable, self.top / "tools/wrong_bodies.py", *words], env=env)
         lines = sorted(it for it in done.written.splitlines() if it.startswith("high"))
-        return done.status, lines, len(asked.read_text().splitlines()) if asked.exists() else 0
+        self.checks = asked.read_text().splitlines() if asked.exists() else []
+        return done.status, lines, len(self.checks)
 
     def refused(self, *names):
         functions = {"one-otherwise": "one", "limit": "three"}
@@ -123,6 +128,17 @@ class WrongBodies(Case):
         name = text[4:].split()[0]
         why = f"high/two: refused, in {name}: not there, but fn high::three, which says less"
         self.assertEqual((status, lines[-1]), (0, why))
+
+    def test_what_is_kept(self):
+        """The first check of a crate begins with what an earlier run kept, if its functions were proved;
+        no wrong body's check is kept."""
+        for before in (0, 1, 2):
+            self.tried("high")
+            self.assertEqual([it.split()[0] for it in self.checks[:2]], [str(before), str(before + 1)])
+        self.write({"crates/high/src/lib.rt": SOURCE.replace("{ 2 }", "{ wrong 2 }")})
+        for _ in range(2):
+            self.tried("high")
+            self.assertEqual([it.split()[0] for it in self.checks], ["3"])
 
     def test_functions_that_are_not_proved(self):
         """Nothing is said of a wrong body of a function that isn't proved as it stands."""
