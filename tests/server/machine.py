@@ -11,20 +11,8 @@ import unittest
 from collections.abc import Callable
 from typing import Any, TypeVar
 
-from served import (
-    CHEAP,
-    FAST_BOOK,
-    HERE,
-    PYTHON,
-    TOP,
-    Case,
-    Given,
-    Service,
-    chosen_book,
-    need,
-    need_root,
-    same,
-)
+from served import CHEAP, FAST_BOOK, HERE, PYTHON, TOP, Case, Given, Service, chosen_book, need
+from served import need_root, same
 
 PAGE = TOP / "docs/SERVERS.md"
 SECURITY = pathlib.Path("/usr/lib/x86_64-linux-gnu/security")
@@ -105,9 +93,7 @@ def begun(*options: str) -> Service:
 def started(room: pathlib.Path, *options: str) -> Service:
     """A machine with a server, whose book has two users."""
     prepared(room)
-    server = begun(*options)
-    server.enrol(ada="secret", bob="other word")
-    return server
+    return begun(*options).enrol(ada="secret", bob="other word")
 
 
 def is_open(port: int) -> bool:

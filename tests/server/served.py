@@ -259,10 +259,11 @@ class Service:
         counts.pop("book")
         return {name: float(value) for name, value in counts.items()}
 
-    def enrol(self, **passwords: str) -> None:
+    def enrol(self, **passwords: str) -> "Service":
         for name, password in passwords.items():
             typed = field_of(password.encode())
             self.talk(f"admin account {name} -> ok\nadmin enrol {name} {typed} -> enrolled")
+        return self
 
     def set_clock(self, seconds: float) -> None:
         """The time by which failed tries wait, of a server that is clocked."""
@@ -273,6 +274,10 @@ class Service:
         """Ends it in order."""
         self.process.terminate()
         same(self.process.wait(timeout=40), 0, self.log())
+
+    def ended(self) -> tuple[int, str]:
+        """The status with which it ends by itself, and its log."""
+        return self.process.wait(timeout=40), self.log()
 
     def end(self) -> None:
         """Ends it, and its clients, whatever they are at."""

@@ -6,11 +6,10 @@ A script stands in for credkeep: it notes the words and the input that it is giv
 import re
 import shlex
 import signal
-import subprocess
 from collections.abc import Sequence
 
 from served import TOP, Case
-from tests.helpers import Peer, Shown, at_a_terminal, ended
+from tests.helpers import Ended, Peer, Shown, at_a_terminal, ended
 
 ASK = TOP / "bin/credkeep-ask"
 SIGNALS = (signal.SIGHUP, signal.SIGINT, signal.SIGQUIT, signal.SIGTERM)
@@ -57,15 +56,9 @@ class CredkeepAsk(Case):
     def asked(self, words: str, typed: Typed, account: Account = RECORD) -> Shown:
         return at_a_terminal([str(ASK), *words.split("|")], typed, self.environment(account))
 
-    def without_a_terminal(self, words: str, given: bytes) -> tuple[int, bytes, bytes]:
-        done = subprocess.run(
-            [ASK, *words.split("|")],
-            env=self.environment(RECORD),
-            input=given,
-            capture_output=True,
-            start_new_session=True,
-        )
-        return done.returncode, done.stdout, done.stderr
+    def without_a_terminal(self, words: str, given: str) -> Ended:
+        command, environment = [str(ASK), *words.split("|")], self.environment(RECORD)
+        return ended(command, given, env=environment, start_new_session=True)
 
     def noted(self, name: str) -> str:
         """What came of the words, or of the input, since it was last asked."""
@@ -143,27 +136,16 @@ class CredkeepAsk(Case):
             *("a.db|list", "a.db|check|--help", "a.db|-h|add|ada", "a.db|show|ada"),
             *("a.db|check", "a.db|add", "a.db", ""),
         ):
-            status, _, faults = self.without_a_terminal(words, b"as it is")
+            status, _, faults = self.without_a_terminal(words, "as it is")
             self.assertEqual(self.noted("words"), f"{words}|\n")
             shows = "show" in words
-            self.assertEqual((status, faults), (0 if shows else 7, b""), words)
+            self.assertEqual((status, faults), (0 if shows else 7, ""), words)
             self.assertEqual(self.noted("given"), "" if shows else "as it is", words)
 
     def test_any_bytes(self) -> None:
         """A password is what was typed, whatever the shell makes of such letters elsewhere."""
-        lines = [
-            " a b ",
-            "a\\n\\",
-            "-n",
-            "-e",
-            "%s%n",
-            "*",
-            "$HOME `id` $(id)",
-            "",
-            "'\"",
-            "pass\u00e9",
-        ]
-        for line in lines:
+        odd = [" a b ", "a\\n\\", "-n", "-e", "%s%n", "*", "$HOME `id` $(id)", "", "'\"", "passé"]
+        for line in odd:
             shown = self.asked("a.db|change|ada", [f"{line}\n".encode()] * 3)
             self.assertEqual(shown.status, 7, repr(line))
             self.assertEqual(self.noted("given"), f"{line}\n" * 2)
@@ -184,8 +166,8 @@ class CredkeepAsk(Case):
 
     def test_no_terminal(self) -> None:
         """Without a terminal there is nobody to ask: what stands at its input is no password."""
-        said = self.without_a_terminal("users.db|check|ada", b"old\n")
-        self.assertEqual(said, (2, b"", b"credkeep-ask: there is no terminal to ask at\n"))
+        said = self.without_a_terminal("users.db|check|ada", "old\n")
+        self.assertEqual(said, (2, "", "credkeep-ask: there is no terminal to ask at\n"))
         self.assertEqual((self.noted("words"), self.noted("given")), (f"{SHOW}\n", ""))
 
 
@@ -275,8 +257,7 @@ class AskServer(Case):
 
     def test_record(self) -> None:
         """A record that is shown can be put back, also as a line of a book's export."""
-        service = self.serving()
-        service.enrol(ada="secret")
+        service = self.serving().enrol(ada="secret")
         admin = str(service.path("admin"))
         record, _ = self.asked([admin, "show", "--record", "ada"])
         self.assertEqual(record, service.client("admin").ask("show ada"))

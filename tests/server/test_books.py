@@ -11,19 +11,8 @@ import subprocess
 import time
 from typing import Any
 
-from served import (
-    CHEAP,
-    FAST_BOOK,
-    SECRET,
-    Case,
-    Client,
-    Service,
-    field_of,
-    need,
-    ran,
-    real_book,
-    until,
-)
+from served import CHEAP, FAST_BOOK, SECRET, Case, Client, Service, field_of, need, ran, real_book
+from served import until
 
 DEARER = "$argon2id$v=19$m=128,t=2,p=1"
 RECORD = "$argon2id$v=19$m=8,t=1,p=1$c29tZXNhbHQ$AAAAAAAAAAAAAAAAAAAAAA"
@@ -201,9 +190,7 @@ class OverCredkeep(Case):
     def test_upgrades(self) -> None:
         """--upgrade: a right verify of other costs is upgraded after its answer, and nothing else."""
         folder = self.room()
-        first = self.over(folder=folder)
-        first.enrol(ada="secret", bob="secret", cid="secret")
-        first.stop()
+        self.over(folder=folder).enrol(ada="secret", bob="secret", cid="secret").stop()
         audit = folder / "audit"
         service = self.over("--upgrade", DEARER, "--audit", str(audit), folder=folder)
         login, admin = service.both()
@@ -275,8 +262,7 @@ class OverCredkeep(Case):
 
     def test_unknown_names(self) -> None:
         """A name that isn't there, and one without a record, cost the processor what a wrong password costs."""
-        service = self.over("--tries", "0", costs=SLOW)
-        service.enrol(ada="secret")
+        service = self.over("--tries", "0", costs=SLOW).enrol(ada="secret")
         service.client("admin").talk("account bob -> ok")
 
         def cost(row: str) -> float:
@@ -305,11 +291,11 @@ class OverCredkeep(Case):
             ("--memory 16383K --setting $scrypt$ln=14,r=8,p=2", f"{more} 16384 KiB"),
         ):
             given: dict[str, Any] = {"program": real_book(), "waits": False}
-            service = self.serving(*words.split(), **given)
-            self.assertNotEqual(service.process.wait(timeout=30), 0, service.log())
+            status, log = self.serving(*words.split(), **given).ended()
+            self.assertNotEqual(status, 0, log)
             for text in (f"credkeep: {said}", "end: status "):
-                self.assertIn(text, service.log())
-            self.assertNotRegex(service.log(), "start:|Traceback")
+                self.assertIn(text, log)
+            self.assertNotRegex(log, "start:|Traceback")
 
     def test_busy_file(self) -> None:
         """While another process has the file, the server waits for it; then it says why it can't start."""

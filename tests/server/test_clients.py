@@ -126,8 +126,7 @@ class Clients(Case):
 
     def test_refusals(self) -> None:
         """What is denied, refused, too early or not there, by name; and what isn't even sent."""
-        service = self.serving("--tries", "1")
-        service.enrol(ada="secret")
+        service = self.serving("--tries", "1").enrol(ada="secret")
         names = ["", "a b", "a\nb", "a\x7f", "a\tb", " ", "\r", "\ud800", "x" * 255, "x" * 2000]
         rows: list[tuple[Any, ...]] = [
             ("Denied", "login", "enrol", "ada", "secret"),
@@ -169,8 +168,7 @@ class Clients(Case):
             rows += [(R.NO_ACCOUNT, "change", name, "secret", "fresh")]
         for password in ("x" * 257, "x" * 100_000, "\ud800", b"\0" * 257):
             rows += [(R.NO, "verify", "ada", password), (R.WRONG, "change", "ada", password, "x")]
-        service = self.serving()
-        service.enrol(ada="secret")
+        service = self.serving().enrol(ada="secret")
         for call in self.calls(service.path()):
             for ought, *asked in rows:
                 self.assertIs(call(*asked), ought, f"{asked}")

@@ -13,18 +13,8 @@ import subprocess
 import threading
 from typing import Any
 
-from served import (
-    CHEAP,
-    SECRET,
-    WRONG,
-    Case,
-    Service,
-    chosen_book,
-    field_of,
-    need,
-    need_module,
-    until,
-)
+from served import CHEAP, SECRET, WRONG, Case, Service, chosen_book, field_of, need, need_module
+from served import until
 from tests.helpers import run
 
 SALT = bytes(range(8))
@@ -155,11 +145,8 @@ class Foreign(Case):
         for name in ("ada", "bob", "cid", "dan", "eve"):
             self.add(name, "-s")
         folder = self.room()
-        first = self.serving(folder=folder)
-        first.enrol(dan="mine", eve="mine")
-        first.stop()
-        service = self.over(folder=folder)
-        service.talk(
+        self.serving(folder=folder).enrol(dan="mine", eve="mine").stop()
+        self.over(folder=folder).talk(
             """
             admin disable ada -> disabled
             login known ada -> absent
@@ -184,9 +171,7 @@ class Foreign(Case):
         for name in names:
             self.add(name, "-s")
         folder = self.room()
-        first = self.serving(folder=folder)
-        first.enrol(**dict.fromkeys(names, "mine"))
-        first.stop()
+        self.serving(folder=folder).enrol(**dict.fromkeys(names, "mine")).stop()
         service = self.over(folder=folder)
         self.file.rename(self.folder / "away")
         service.talk("admin disable ada -> disabled\nadmin remove bob bWluZQ -> removed")
@@ -350,9 +335,8 @@ class Foreign(Case):
         self.add("ada", "-s")
         self.moved.symlink_to(self.folder / "elsewhere")
         for said in (os.strerror(errno.ELOOP), *["it isn't a regular file"] * 2):
-            late = self.over(waits=False)
-            self.assertEqual(late.process.wait(timeout=20), 1)
-            self.assertEqual(late.log(), f"credkeep-server: {self.moved}: {said}\n")
+            log = f"credkeep-server: {self.moved}: {said}\n"
+            self.assertEqual(self.over(waits=False).ended(), (1, log))
             if self.moved.is_symlink():
                 self.moved.unlink()
                 os.mkfifo(self.moved)
@@ -363,9 +347,8 @@ class Foreign(Case):
         self.moved.rmdir()
         self.file.unlink()
         os.mkfifo(self.file)
-        late = self.over(waits=False)
-        self.assertEqual(late.process.wait(timeout=20), 1)
-        self.assertEqual(late.log(), f"credkeep-server: {self.file}: it isn't a regular file\n")
+        log = f"credkeep-server: {self.file}: it isn't a regular file\n"
+        self.assertEqual(self.over(waits=False).ended(), (1, log))
 
     def test_a_file_that_goes(self) -> None:
         """Without it the book decides alone; it has to be there at the start."""
@@ -377,6 +360,5 @@ class Foreign(Case):
         (self.folder / "away").rename(self.file)
         service.talk("login known bob -> yes")
         self.file.unlink()
-        late = self.serving("--foreign", str(self.file), waits=False)
-        self.assertEqual(late.process.wait(timeout=20), 1)
-        self.assertEqual(late.log(), f"credkeep-server: {self.file}: No such file or directory\n")
+        log = f"credkeep-server: {self.file}: No such file or directory\n"
+        self.assertEqual(self.over(waits=False).ended(), (1, log))

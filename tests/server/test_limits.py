@@ -12,8 +12,7 @@ from served import FRESH, SECRET, WRONG, Case, Client, as_user, need_root, until
 class Limits(Case):
     def test_half_lines(self) -> None:
         """A line without its end is never asked, whatever its client does next; others go on."""
-        service = self.serving()
-        service.enrol(ada="secret")
+        service = self.serving().enrol(ada="secret")
         asked = len(service.asked())
         halves = [service.client() for _ in range(20)]
         for client in halves:
@@ -29,8 +28,7 @@ class Limits(Case):
 
     def test_pieces_and_many_in_one(self) -> None:
         """Bytes may come one by one, and many lines at once; a client that ends sending gets its answers."""
-        service = self.serving("--tries", "0", faults="late")
-        service.enrol(ada="secret")
+        service = self.serving("--tries", "0", faults="late").enrol(ada="secret")
         client = service.client()
         for letter in f"a verify ada {SECRET}\n":
             client.send(letter)

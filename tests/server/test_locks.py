@@ -53,9 +53,7 @@ login verify ada {secret} -> yes
 
 class Locks(Case):
     def over(self, *options: str, **fields: object) -> Service:
-        service = self.serving("--tries", "0", *options, **fields)
-        service.enrol(ada="secret", bob="other")
-        return service
+        return self.serving("--tries", "0", *options, **fields).enrol(ada="secret", bob="other")
 
     def test_locked(self) -> None:
         """Each try at a locked name is answered as a wrong one, and its record stays."""
@@ -69,8 +67,7 @@ class Locks(Case):
 
     def test_as_many_hashes(self) -> None:
         """A right password at a locked name costs a hash, as a wrong one does, and counts as a failed try."""
-        service = self.serving("--tries", "3", clocked=True, faults="slow=0.2")
-        service.enrol(ada="secret")
+        service = self.serving("--tries", "3", clocked=True, faults="slow=0.2").enrol(ada="secret")
         service.talk("admin lock ada -> locked")
         login, seconds = service.client(), list[float]()
         for line in (f"verify ada {SECRET}", f"change ada {SECRET} {WRONG}", f"verify ada {WRONG}"):

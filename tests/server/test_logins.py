@@ -13,19 +13,8 @@ import threading
 from collections.abc import Iterator
 from typing import Any
 
-from machine import (
-    RUN,
-    begun,
-    in_namespaces,
-    install,
-    is_open,
-    keeps_out,
-    lets_in,
-    on_page,
-    pamtester,
-    shell,
-    started,
-)
+from machine import RUN, begun, in_namespaces, install, is_open, keeps_out, lets_in, on_page
+from machine import pamtester, shell, started
 from served import PYTHON, Case, Client, need, until
 from tests.helpers import at_a_terminal
 

@@ -84,10 +84,8 @@ class Mistakes(Case):
             (room / f"{module}.py").write_text("raise ImportError")
             given = {"environment": {"PYTHONPATH": str(room)}, "waits": False, "folder": room}
             (room / "old").touch()
-            service = self.serving(option, f"{room}/old", **given)
-            self.assertEqual(service.process.wait(timeout=40), 1)
             said = f"credkeep-server: {option} needs python3-{module}\n"
-            self.assertEqual(service.log(), said)
+            self.assertEqual(self.serving(option, f"{room}/old", **given).ended(), (1, said))
 
     def test_spaces_in_a_path(self) -> None:
         """FILE may have spaces, and anything else."""
@@ -134,8 +132,8 @@ class Mistakes(Case):
             ("--idle 5 --tries 4 --uid-tries 3 --mail-names --fold-local-part", 30, own, ""),
         ):
             given = {"program": book, "folder": room, "environment": {"NOTED": str(noted)}}
-            service = self.serving(*options.split(), waits=False, **given)
-            self.assertEqual(service.process.wait(timeout=40), 3, service.log())
+            status, log = self.serving(*options.split(), waits=False, **given).ended()
+            self.assertEqual(status, 3, log)
             ought = f"--wait {wait} {room}/users.db serve --tagged --at-once {at_once} {handed}"
             self.assertEqual(noted.read_text().splitlines(), ought.split(), options)
             noted.unlink()

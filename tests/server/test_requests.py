@@ -41,8 +41,7 @@ stat -c '%n %a %g' /run/rigzumal/*/*.sock; kill %1 %2; wait"""
 class Asking(Case):
     def test_operations_by_socket(self) -> None:
         """The login socket takes three operations, the admin's all; what is denied isn't asked."""
-        service = self.serving()
-        service.enrol(ada="secret")
+        service = self.serving().enrol(ada="secret")
         login, admin = service.both()
         login.talk("verify zoe {secret} -> noaccount")
         line = f"verify zoe {SECRET}"
@@ -59,8 +58,7 @@ class Asking(Case):
         room = self.room()
         more = f"--socket check {room}/check 0640 - verify".split()
         more += f"--socket adding {room}/adding 0600 - account,enrol".split()
-        service = self.serving(*more)
-        service.enrol(ada="secret")
+        service = self.serving(*more).enrol(ada="secret")
         with Client(room / "check") as check, Client(room / "adding") as adding:
             check.talk("verify ada {secret} -> yes\nknown ada -> denied")
             adding.talk("account bob -> ok\nverify ada {secret} -> denied")
@@ -118,15 +116,14 @@ class Asking(Case):
         service.stop()
         path.unlink()
         path.write_text("precious")
-        second = self.serving(*words, waits=False)
-        self.assertEqual(second.process.wait(timeout=20), 1)
-        self.assertIn(f"credkeep-server: {path}: Address already in use\n", second.log())
+        status, log = self.serving(*words, waits=False).ended()
+        self.assertEqual(status, 1)
+        self.assertIn(f"credkeep-server: {path}: Address already in use\n", log)
         self.assertEqual(path.read_text(), "precious")
 
     def test_tags(self) -> None:
         """Tags are a client's own; one that isn't a tag is answered under *; one used twice twice."""
-        service = self.serving(faults="late")
-        service.enrol(ada="secret")
+        service = self.serving(faults="late").enrol(ada="secret")
         one, two = service.client(), service.client()
         one.send(f"a verify ada {SECRET}\n" * 2)
         two.send(f"a verify ada {WRONG}\n" * 2)
@@ -146,16 +143,13 @@ class Asking(Case):
     def test_answers_that_are_none(self) -> None:
         """A book's answer that isn't printable text is handed on as unavailable."""
         for answer in ("y\u00e9s", "yes\x07", "\x1b[1myes"):
-            service = self.serving(faults=f"answers={answer}")
-            service.enrol(ada="secret")
+            service = self.serving(faults=f"answers={answer}").enrol(ada="secret")
             service.client().talk("verify ada {secret} -> unavailable")
 
     def test_least_length(self) -> None:
         """A new password of too few characters of UTF-8 is refused by name, and the old one stays; logins are as before."""
         folder = self.room()
-        first = self.serving(folder=folder)
-        first.enrol(ada="pw")
-        first.stop()
+        self.serving(folder=folder).enrol(ada="pw").stop()
         service = self.serving("--least-length", "4", folder=folder)
         service.talk("admin account bob -> ok\nlogin verify ada cHc -> yes")
         for password, is_short in (

@@ -32,8 +32,7 @@ def free_port() -> int:
 class Seen(Case):
     def test_stats(self) -> None:
         """Each kind of answer is counted, at the admin socket alone."""
-        service = self.serving("--tries", "2", clocked=True)
-        service.enrol(ada="secret")
+        service = self.serving("--tries", "2", clocked=True).enrol(ada="secret")
         login, admin = service.both()
         before = service.stats()
         login.talk(
@@ -71,8 +70,7 @@ class Seen(Case):
     def test_metrics(self) -> None:
         """--metrics prints the counts as Prometheus reads them, with the book's name at each."""
         room = self.room()
-        service = self.serving(file=room / 'my "users.db')
-        service.enrol(ada="secret")
+        service = self.serving(file=room / 'my "users.db').enrol(ada="secret")
         service.client().talk("verify ada {wrong} -> no")
         status, text, faults = ran("--metrics", str(service.path("admin")))
         self.assertEqual((status, faults), (0, ""))
@@ -129,8 +127,7 @@ class Seen(Case):
 
     def test_waits(self) -> None:
         """Who has to wait is listed and logged, and can be forgiven; a wait's begin and end are a line each."""
-        service = self.serving("--tries", "2", clocked=True)
-        service.enrol(ada="secret", bob="secret")
+        service = self.serving("--tries", "2", clocked=True).enrol(ada="secret", bob="secret")
         for name in ("ada", "bob"):
             service.talk(f"admin verify {name} {{wrong}} -> no\n" * 2)
         service.talk(
@@ -157,8 +154,7 @@ class Seen(Case):
 
     def test_last(self) -> None:
         """When a name's password was right last."""
-        service = self.serving()
-        service.enrol(ada="secret")
+        service = self.serving().enrol(ada="secret")
         service.talk("login verify ada {wrong} -> no\nadmin last ada -> none\nadmin last z -> none")
         before = datetime.datetime.utcnow().replace(microsecond=0)
         service.client().talk("verify ada {secret} -> yes")
@@ -221,9 +217,7 @@ class Logs(Case):
     def test_upgrades_are_behind(self) -> None:
         """An upgrade that takes its time keeps nobody waiting: its own client, or another."""
         folder = self.room()
-        first = self.serving(folder=folder)
-        first.enrol(ada="secret", bob="secret")
-        first.stop()
+        self.serving(folder=folder).enrol(ada="secret", bob="secret").stop()
         service = self.serving("--upgrade", "$fast$c=2", faults="mute=upgrade", folder=folder)
 
         def upgraded() -> list[str]:
@@ -337,7 +331,7 @@ class Audited(Case):
         said = f"credkeep-server: {path}: it isn't a regular file\n"
         for reader in (None, os.open(path, os.O_RDONLY | os.O_NONBLOCK)):
             late = self.serving("--audit", str(path), waits=False)
-            self.assertEqual((late.process.wait(timeout=20), late.log()), (1, said), reader)
+            self.assertEqual(late.ended(), (1, said), reader)
 
     def test_written_before_it_is_answered(self) -> None:
         """When a change is answered its line is in the file; a file that was renamed is begun anew."""

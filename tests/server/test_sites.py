@@ -216,8 +216,7 @@ class Mail(Case):
     @in_namespaces
     def test_dovecot_mail_names(self, room: pathlib.Path) -> None:
         """An imap login as user@example.org, by --mail-names; and as one domain's user by %Ln."""
-        server = started(room, "--mail-names")
-        server.enrol(**{"ada@example.org": "mail word"})
+        server = started(room, "--mail-names").enrol(**{"ada@example.org": "mail word"})
         run_dovecot(("args = dovecot", "args = mail"), ("", "auth_username_format = %u\n"))
         self.imap_logins(
             ("ada@example.org", "mail word", True),

@@ -98,8 +98,9 @@ class Endings(Case):
             self.assertLessEqual(set(said), {b"noaccount", b"unavailable"})
             self.assertGreaterEqual(said.count(b"unavailable"), 16 if faults == "endless" else 4)
             self.assertTrue(idle.is_ended(), "it goes on")
-            self.assertEqual(service.process.wait(timeout=40), ought, faults)
-            self.assertIn(f"end: status {ought}", service.log())
+            status, log = service.ended()
+            self.assertEqual(status, ought, faults)
+            self.assertIn(f"end: status {ought}", log)
 
     def test_clients_that_come_too_late(self) -> None:
         """Once it is ending, who comes is told and closed: none is waited for, however its line falls."""
@@ -158,16 +159,18 @@ class Endings(Case):
         with socket.socket(socket.AF_UNIX, socket.SOCK_DGRAM) as it:
             until(lambda: it.connect_ex(f"{room}/a") == 0, "a socket")
             it.send(b"a known ada\n")
-        self.assertEqual(service.process.wait(timeout=40), 1)
-        self.assertIn("the socket login that systemd handed over is no stream", service.log())
+        status, log = service.ended()
+        self.assertEqual(status, 1)
+        self.assertIn("the socket login that systemd handed over is no stream", log)
 
     def test_no_book(self) -> None:
         """A program that ends at once: no client is let in, and the status says so."""
         room = self.room()
         (room / "users.db").touch()
-        service = self.serving(program=pathlib.Path("/bin/false"), waits=False, folder=room)
-        self.assertEqual(service.process.wait(timeout=20), 1)
-        self.assertNotRegex(service.log(), "start:|Traceback")
+        program = pathlib.Path("/bin/false")
+        status, log = self.serving(program=program, waits=False, folder=room).ended()
+        self.assertEqual(status, 1)
+        self.assertNotRegex(log, "start:|Traceback")
 
 
 class Systemd(Case):

@@ -14,8 +14,7 @@ from daemon.log import log
 class Tries(Case):
     def test_later(self) -> None:
         """After so many failed tries each doubles the wait; the right password is let in after it."""
-        service = self.serving("--tries", "2", clocked=True)
-        service.enrol(ada="secret", bob="secret")
+        service = self.serving("--tries", "2", clocked=True).enrol(ada="secret", bob="secret")
         client = service.client()
         for now, password, ought in (
             *((0, WRONG, "no"), (0, WRONG, "no"), (0.9, WRONG, "later"), (0.9, SECRET, "later")),
@@ -30,8 +29,7 @@ class Tries(Case):
 
     def test_later_for_each_operation(self) -> None:
         """Each operation that takes the old password counts, but at a name that the book lacks; a reset ends the wait."""
-        service = self.serving("--tries", "5", clocked=True)
-        service.enrol(ada="secret")
+        service = self.serving("--tries", "5", clocked=True).enrol(ada="secret")
         service.client().talk("verify eve {secret} -> noaccount\n" * 30)  # whom others may know
         service.talk(
             """
@@ -53,8 +51,7 @@ class Tries(Case):
 
     def test_what_counts(self) -> None:
         """Each answer that a try failed counts, and after each that one was right, or is made so, none does."""
-        service = self.serving("--tries", "2", clocked=True)
-        service.enrol(ada="secret")
+        service = self.serving("--tries", "2", clocked=True).enrol(ada="secret")
         admin = service.client("admin")
         for row in (
             "verify ada {secret} -> yes",
@@ -74,8 +71,7 @@ class Tries(Case):
     def test_guesses_at_once(self) -> None:
         """Of guesses that are sent together as many are judged as may fail, and one after each wait."""
         for operation in "verify", "change", "login":
-            service = self.serving("--at-once", "20", clocked=True)
-            service.enrol(ada="secret")
+            service = self.serving("--at-once", "20", clocked=True).enrol(ada="secret")
             for _ in range(100):  # changes are quick, so many are at the book at once
                 service.client().talk("verify zoe {secret} -> noaccount")
             clients = [service.client("admin") for _ in range(4)]
@@ -116,8 +112,7 @@ class Tries(Case):
 
     def test_too_early_takes_a_hash(self) -> None:
         """A try that is too early is answered after the time of a hash, as one at an unknown name is."""
-        service = self.serving("--tries", "2", faults="slow=0.3", clocked=True)
-        service.enrol(ada="secret")
+        service = self.serving("--tries", "2", faults="slow=0.3", clocked=True).enrol(ada="secret")
         client, seconds = service.client(), {}
         for name, ought in (*[("ada", "no")] * 2, ("zoe", "noaccount"), ("ada", "later")):
             begun = time.monotonic()

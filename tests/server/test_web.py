@@ -110,8 +110,7 @@ class Web(Case):
 
     def test_too_many_tries(self) -> None:
         """429 says when the next try may be, and right passwords of others go on."""
-        service = self.serving_web("--tries", "4", clocked=True)
-        service.enrol(ada="secret", bob="secret")
+        service = self.serving_web("--tries", "4", clocked=True).enrol(ada="secret", bob="secret")
         client = Connection(service.path("http"))
         self.addCleanup(client.close)
         for now, password, ought, after in (
@@ -130,8 +129,7 @@ class Web(Case):
 
     def test_requests(self) -> None:
         """What is no request, or too much of one, is refused, and its connection closed."""
-        service = self.serving_web()
-        service.enrol(ada="secret")
+        service = self.serving_web().enrol(ada="secret")
         login = b"Host: a\r\nAuthorization: " + basic(b"ada", b"secret") + b"\r\n"
         for text, statuses in (
             (b"GET / HTTP/1.1\r\n" + login + b"\r\n", "200"),
@@ -212,8 +210,7 @@ class Web(Case):
         with socket.socket() as it:
             it.bind(("127.0.0.1", 0))
             port = it.getsockname()[1]
-        service = self.serving("--http", f"127.0.0.1:{port}", folder=room)
-        service.enrol(ada="secret")
+        service = self.serving("--http", f"127.0.0.1:{port}", folder=room).enrol(ada="secret")
         client = http.client.HTTPConnection("127.0.0.1", port, timeout=30)
         client.request("GET", "/", headers={"Authorization": basic(b"ada", b"secret")})  # type: ignore
         self.assertEqual(client.getresponse().status, 200)
