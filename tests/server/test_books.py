@@ -3,6 +3,7 @@
 They need the built credkeep, or one named by CREDKEEP.
 """
 
+import contextlib
 import os
 import pathlib
 import random
@@ -247,13 +248,11 @@ class OverCredkeep(Case):
             if turn % 4 > 1:  # lines with a tag, an operation and then anything
                 data = b"".join(b"t verify " + it[:900] + b"\n" for it in data.split(b"\n"))
             with Client(service.path("admin" if turn % 2 else "login")) as client:
-                try:
+                with contextlib.suppress(OSError):
                     client.send(data)
                     client.socket.shutdown(socket.SHUT_WR)
                     while client.line():
                         pass
-                except OSError:
-                    pass
             self.assertEqual(good.ask(f"verify ada {SECRET}"), "yes")
         self.assertEqual(service.book_pid(), pid)
         service.stop()

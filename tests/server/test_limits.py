@@ -187,11 +187,9 @@ class Limits(Case):
         slow = [service.client("admin") for _ in range(4)]
         for client in slow:
             client.socket.setblocking(False)
-            try:
+            with contextlib.suppress(BlockingIOError):
                 for _ in range(3000):
                     client.socket.send(b"a list - 100\n" * 100)
-            except BlockingIOError:
-                pass
         service.client().talk("known ada -> noaccount\n" * 20)
 
         def is_still() -> bool:
@@ -206,13 +204,10 @@ class Limits(Case):
         self.assertLess(int(resident), 100_000)
         time.sleep(2.5)
         for client in slow:
-            client.socket.setblocking(True)
             client.socket.settimeout(5)
-            try:
+            with contextlib.suppress(ConnectionError):
                 while client.socket.recv(1 << 20):
                     pass
-            except ConnectionError:
-                pass
             client.close()
         service.client().talk("known ada -> noaccount")
         begun_to_end = time.monotonic()

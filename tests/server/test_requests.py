@@ -35,7 +35,7 @@ echo rigzumal:x:64999: >> {room}/group && mount --bind {room}/group /etc/group
 mkdir {room}/a.b
 {first} 2> {room}/log1 & {second} 2> {room}/log2 &
 for log in log1 log2; do until grep -q start: {room}/$log; do sleep 0.05; done; done
-stat -c '%n %a %g' /run/rigzumal/*/*.sock; kill %1 %2; wait"""
+stat -c '%n %a %g' /run/rigzumal/*/*.sock /run/rigzumal/tmp*; kill %1 %2; wait"""
 
 
 class Asking(Case):
@@ -78,7 +78,8 @@ class Asking(Case):
         self.assertEqual(done.returncode, 0, done.stderr)
         other = f"/run/rigzumal/{'-'.join(room.parts[1:])}-a.b-users"
         ought = "{0}/admin.sock 600 0\n{0}/login.sock 660 64999\n"
-        self.assertEqual(done.stdout, ought.format(other) + ought.format("/run/rigzumal/users"))
+        both = ought.format(other) + ought.format("/run/rigzumal/users")
+        self.assertEqual(done.stdout, f"{both}{other} 755 0\n", "its folder, which all may enter")
 
     def test_modes(self) -> None:
         """A socket is never reachable for others: neither before its mode is set nor after."""
@@ -105,7 +106,7 @@ class Asking(Case):
             self.assertEqual(as_user(4711, gid, room / door, "known ada"), said)
 
     def test_paths_that_are_taken(self) -> None:
-        """A dead socket is replaced; a file ends the start, and stays."""
+        """A dead socket is replaced; a file, or a socket that is listened at, ends the start, and stays."""
         path = self.room() / "s"
         words = f"--socket a {path} 0600 - all".split()
         with socket.socket(socket.AF_UNIX) as dead:
@@ -114,6 +115,13 @@ class Asking(Case):
         with Client(path) as client:
             client.talk("known ada -> noaccount")
         service.stop()
+        path.unlink()
+        with socket.socket(socket.AF_UNIX) as other:
+            other.bind(str(path))
+            other.listen()
+            status, log = self.serving(*words, waits=False).ended()
+        said = f"credkeep-server: another server listens at {path}\n"
+        self.assertEqual((status, said in log, path.is_socket()), (1, True, True), log)
         path.unlink()
         path.write_text("precious")
         status, log = self.serving(*words, waits=False).ended()

@@ -155,7 +155,9 @@ class Shares(Case):
 class Step:
     """A connection that notes its steps, and has so many."""
 
-    def __init__(self, test: "Steps", places: Places[Any], user: str, name: str, count: int) -> None:
+    def __init__(
+        self, test: "Steps", places: Places[Any], user: str, name: str, count: int
+    ) -> None:
         self.test, self.places, self.user, self.name = test, places, user, name
         self.count, self.loop = count, asyncio.get_running_loop()
 
@@ -191,11 +193,6 @@ class Steps(Case):
 
         asyncio.run(run())
         return found
-
-    def test_turns(self) -> None:
-        """Users take turns, then the connections of each."""
-        given = (("one", "a", 3), ("one", "b", 2), ("one", "c", 1), ("two", "x", 3))
-        self.assertEqual("".join(self.passes(1, *given)), "abxcxaxba")
 
     def test_passes(self) -> None:
         """A pass of the loop has so many steps, and one of whoever comes beside a flood."""

@@ -153,15 +153,19 @@ class Endings(Case):
     def test_listening_fails(self) -> None:
         """What can't be listened at ends it with a cause, and the book in order."""
         need("systemd-socket-activate")
-        room = self.room()
-        words = f"systemd-socket-activate --datagram --fdname=login:admin -l {room}/a -l {room}/b"
-        service = self.serving(before=tuple(words.split()), folder=room, waits=False)
-        with socket.socket(socket.AF_UNIX, socket.SOCK_DGRAM) as it:
-            until(lambda: it.connect_ex(f"{room}/a") == 0, "a socket")
-            it.send(b"a known ada\n")
-        status, log = service.ended()
-        self.assertEqual(status, 1)
-        self.assertIn("the socket login that systemd handed over is no stream", log)
+        for option, name, said in (
+            ("--datagram", "admin", "the socket login that systemd handed over is no stream"),
+            ("", "other", "systemd handed over no socket with the name admin"),
+        ):
+            room, kind = self.room(), socket.SOCK_DGRAM if option else socket.SOCK_STREAM
+            words = f"systemd-socket-activate {option} --fdname=login:{name} -l {room}/a"
+            before = (*words.split(), "-l", f"{room}/b")
+            service = self.serving(before=before, folder=room, waits=False)
+            with socket.socket(socket.AF_UNIX, kind) as it:
+                until(lambda: it.connect_ex(f"{room}/a") == 0, "a socket")
+                it.send(b"a known ada\n")
+            status, log = service.ended()
+            self.assertEqual((status, said in log), (1, True), log)
 
     def test_no_book(self) -> None:
         """A program that ends at once: no client is let in, and the status says so."""
