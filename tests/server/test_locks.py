@@ -126,6 +126,12 @@ class Locks(Case):
             """
         )
 
+    def test_a_rename_that_fails(self) -> None:
+        """The old name keeps its marks, and the new one has none."""
+        service = self.over(faults="refuses=rename")
+        service.talk("admin lock ada -> locked\nadmin rename ada cid -> bad 4 memory")
+        service.talk("admin locks -> locks ada:locked\nlogin verify ada {secret} -> no")
+
     def test_of_an_old_file(self) -> None:
         """A user whom an old htpasswd file has can be locked too."""
         folder = self.room()
