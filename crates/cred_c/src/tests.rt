@@ -1,16 +1,19 @@
-//! The standards' vectors and the texts of other programs, through the exports.
+//! That the exports which take memory find it, by the standards' vectors and the texts of other
+//! programs. c/tests has each fault, and what parts make that are worked in their order.
 //!
 //! Of tags and keys that are long the first bytes are looked at: a clause has the others.
 
-mod lanes;
-mod steps;
-
-use crate::parts::{Parts, cred_record_fault, cred_record_parts, cred_setting_fault};
+use crate::lanes::cred_argon2_end;
+use crate::operation::StepInputs;
+use crate::parts::{cred_record_fault, cred_setting_fault};
 use crate::raw::{ScryptNumbers, cred_argon2, cred_scrypt};
+use crate::reading::{RecordReading, SettingReading};
+use crate::record_lanes::{cred_check_end, cred_check_read, cred_hash_end};
 use crate::records::{cred_check, cred_hash};
-use crate::tag_numbers::Argon2Numbers;
+use crate::step::cred_step;
+use crate::tag_numbers::{Argon2Numbers, TagNumbers};
 use crate::texts::cred_write;
-use cred_argon::Inputs;
+use cred_argon::{Block, Inputs};
 use std::alloc::Global;
 
 /// What the reference program of Argon2 makes of `password` and `somesalt`.
@@ -19,19 +22,14 @@ const SETTING: &[u8] = b"$argon2id$v=19$m=256,t=2,p=1$c29tZXNhbHQ";
 const RECORD: &[u8] =
     b"$argon2id$v=19$m=256,t=2,p=1$c29tZXNhbHQ$nf65EOgLrQMR/uIPnA4rEsF5h7TKyQwu9U1bMCHGi/4";
 
-/// The record at the front of a buffer of two bytes more.
-const RECORD_IN_BUFFER: &[u8] =
-    b"$argon2id$v=19$m=256,t=2,p=1$c29tZXNhbHQ$nf65EOgLrQMR/uIPnA4rEsF5h7TKyQwu9U1bMCHGi/4..";
+/// The same of argon2i.
+const RENEWED_SETTING: &[u8] = b"$argon2i$v=19$m=256,t=2,p=1$c29tZXNhbHQ";
 
-/// A record of scrypt from passlib's pages.
-const SCRYPT_RECORD: &[u8] = b"$scrypt$ln=16,r=8,p=1$aM15713r3Xsvxbi31lqr1Q$\
-    nFNh2CVHVjNldFVKDHDlm4CbdRSCdEBsjjJxD+iCs5E";
+const RENEWED: &[u8] =
+    b"$argon2i$v=19$m=256,t=2,p=1$c29tZXNhbHQ$iekCn0Y3spW+sCcFanM2xBT63UP2sghkUoHLIUpWRS8";
 
-/// The record's tag.
-const TAG: [u8; 32] = [
-    0x9d, 0xfe, 0xb9, 0x10, 0xe8, 0x0b, 0xad, 0x03, 0x11, 0xfe, 0xe2, 0x0f, 0x9c, 0x0e, 0x2b, 0x12,
-    0xc1, 0x79, 0x87, 0xb4, 0xca, 0xc9, 0x0c, 0x2e, 0xf5, 0x4d, 0x5b, 0x30, 0x21, 0xc6, 0x8b, 0xfe,
-];
+/// The costs of `RECORD` with another salt.
+const OTHER_SALT: &[u8] = b"$argon2id$v=19$m=256,t=2,p=1$b3RoZXJzYWx0";
 
 /// The first bytes of the tags of RFC 9106, sections 5.1 to 5.3.
 const STANDARD: [[u8; 8]; 3] = [
@@ -40,12 +38,8 @@ const STANDARD: [[u8; 8]; 3] = [
     [0x0d, 0x64, 0x0d, 0xf5, 0x8d, 0x78, 0x76, 0x6c],
 ];
 
-/// The first bytes of the tag of 100, and of the keys: of RFC 7914, section 12.
-const LONG_TAG: [u8; 8] = [0x39, 0x4b, 0x65, 0x61, 0x37, 0x9e, 0xb8, 0xfe];
-
-const EMPTY_KEY: [u8; 8] = [0x77, 0xd6, 0x57, 0x62, 0x38, 0x65, 0x7b, 0x20];
-
-const LONG_KEY: [u8; 8] = [0xfd, 0xba, 0xbe, 0x1c, 0x9d, 0x34, 0x72, 0x00];
+/// The first bytes of the second key of RFC 7914, section 12.
+const KEY: [u8; 8] = [0xfd, 0xba, 0xbe, 0x1c, 0x9d, 0x34, 0x72, 0x00];
 
 /// RFC 9106, section 5.
 const INPUTS: Inputs<'static> = Inputs {
@@ -55,121 +49,131 @@ const INPUTS: Inputs<'static> = Inputs {
     assoc: &[4; 12],
 };
 
-/// What Argon2 answers at these inputs.
-fn standard(alloc: Global, kind: u32, version: u32, out: &mut [u8]) -> u8 {
-    let numbers = Argon2Numbers {
+/// Those of `RECORD`.
+const RECORD_INPUTS: Inputs<'static> = Inputs {
+    pw: b"password",
+    salt: b"somesalt",
+    secret: b"",
+    assoc: b"",
+};
+
+fn numbers(kind: u32, memory: u32, passes: u32, lanes: u32) -> Argon2Numbers {
+    Argon2Numbers {
         kind,
-        version,
-        memory: 32,
-        passes: 3,
-        lanes: 4,
-    };
-    cred_argon2(alloc, &numbers, &INPUTS, out)
+        version: 19,
+        memory,
+        passes,
+        lanes,
+    }
 }
 
 #[test]
 fn argon2_tags(rt: HostRuntime) {
     for kind in 0..3u32 {
-        let mut tag = [0; 32];
-        assert_eq!(rt; standard(rt.alloc(), kind, 19, &mut tag), 0);
-        assert_eq!(rt;
-            tag[..8] == STANDARD[kind as usize][..],
-            true,
-            "kind {kind}"
-        );
+        let (numbers, mut tag) = (numbers(kind, 32, 3, 4), [0; 32]);
+        let answer = cred_argon2(rt.alloc(), &numbers, &INPUTS, &mut tag);
+        let is_standard = tag[..8] == STANDARD[kind as usize][..];
+        assert_eq!(rt; (answer, is_standard), (0, true), "kind {kind}");
     }
-    let mut tag = [0; 100];
-    assert_eq!(rt; standard(rt.alloc(), 1, 16, &mut tag), 0);
-    assert_eq!(rt; tag[..8] == LONG_TAG[..], true);
 }
 
 #[test]
 fn scrypt_keys(rt: HostRuntime) {
-    let mut key = [0; 64];
-    let small = ScryptNumbers { ln: 4, r: 1, p: 1 };
-    assert_eq!(rt; cred_scrypt(rt.alloc(), &small, b"", b"", &mut key), 0);
-    assert_eq!(rt; key[..8] == EMPTY_KEY[..], true);
-    let mut key = [0; 100];
-    let large = ScryptNumbers {
-        ln: 10,
-        r: 8,
-        p: 16,
-    };
-    assert_eq!(rt;
-        cred_scrypt(rt.alloc(), &large, b"password", b"NaCl", &mut key),
-        0
-    );
-    assert_eq!(rt; key[..8] == LONG_KEY[..], true);
+    let (ln, r, p, mut key) = (10, 8, 16, [0; 100]);
+    let numbers = ScryptNumbers { ln, r, p };
+    let answer = cred_scrypt(rt.alloc(), &numbers, b"password", b"NaCl", &mut key);
+    assert_eq!(rt; (answer, key[..8] == KEY[..]), (0, true));
 }
 
 #[test]
 fn records_checked(rt: HostRuntime) {
-    assert_eq!(rt; cred_check(rt.alloc(), RECORD, b"password"), 0);
-    assert_eq!(rt; cred_check(rt.alloc(), RECORD, b"Password"), 10);
-    assert_eq!(rt; cred_check(rt.alloc(), SETTING, b"password"), 1);
-    assert_eq!(rt;
-        [cred_record_fault(RECORD), cred_setting_fault(SETTING)],
-        [0, 0]
-    );
-    assert_eq!(rt;
-        [cred_record_fault(b"$"), cred_setting_fault(RECORD)],
-        [2, 1]
-    );
+    let answers = [
+        cred_check(rt.alloc(), RECORD, b"password"),
+        cred_check(rt.alloc(), RECORD, b"Password"),
+        cred_check(rt.alloc(), SETTING, b"password"),
+        cred_record_fault(RECORD),
+        cred_setting_fault(SETTING),
+    ];
+    assert_eq!(rt; answers, [0, 10, 1, 0, 0]);
 }
 
+/// A text that is made at once, and one of a tag.
 #[test]
 fn records_made(rt: HostRuntime) {
     let (mut out, mut len) = ([b'.'; 86], 7);
-    assert_eq!(rt;
-        cred_hash(rt.alloc(), SETTING, 32, b"password", &mut out, &mut len),
-        0
-    );
-    assert_eq!(rt; (len, &out[..] == RECORD_IN_BUFFER), (84, true));
-    let mut out = [b'.'; 83];
-    assert_eq!(rt;
-        cred_hash(rt.alloc(), SETTING, 32, b"password", &mut out, &mut len),
-        11
-    );
-    assert_eq!(rt; (len, out[0]), (0, b'.'));
+    let answer = cred_hash(rt.alloc(), SETTING, 32, b"password", &mut out, &mut len);
+    assert_eq!(rt; (answer, len, out.starts_with(RECORD)), (0, 84, true));
+    let (numbers, mut tag, mut out) = (numbers(2, 256, 2, 1), [0; 32], [b'.'; 84]);
+    let made = cred_argon2(rt.alloc(), &numbers, &RECORD_INPUTS, &mut tag);
+    let answer = cred_write(rt.alloc(), &numbers, b"somesalt", &tag, &mut out, &mut len);
+    assert_eq!(rt; (made, answer, &out[..] == RECORD), (0, 0, true));
 }
 
+/// A reading of no text.
+const UNREAD: RecordReading = RecordReading {
+    setting: SettingReading {
+        numbers: TagNumbers {
+            kind: 0,
+            version: 0,
+            memory: 0,
+            passes: 0,
+            lanes: 0,
+            tag_len: 0,
+        },
+        salt_len: 0,
+        salt: [0; 48],
+    },
+    tag: [0; 64],
+};
+
+/// What stands at the end, over a slice that nobody worked, and so of another tag.
 #[test]
-fn records_written(rt: HostRuntime) {
-    let (mut out, mut len) = ([b'.'; 84], 0);
-    let numbers = Argon2Numbers {
-        kind: 2,
-        version: 19,
-        memory: 256,
-        passes: 2,
-        lanes: 1,
-    };
-    let answer = cred_write(rt.alloc(), &numbers, b"somesalt", &TAG, &mut out, &mut len);
-    assert_eq!(rt; (answer, len), (0, 84));
-    assert_eq!(rt; &out[..] == RECORD, true);
+fn parts_ended(rt: HostRuntime) {
+    let (mut read, mut tag, mut out, mut len) = (UNREAD, [0; 32], [b'.'; 86], 7);
+    let last = [Block([7; 128]); 64];
+    let is_read = cred_check_read(RECORD, &mut read);
+    let setting = &read.setting;
+    let answers = [
+        is_read,
+        cred_check_end(rt.alloc(), &read, &last),
+        cred_argon2_end(rt.alloc(), &setting.numbers, &last, &mut tag),
+        cred_hash_end(rt.alloc(), setting, &last, &mut out, &mut len),
+    ];
+    assert_eq!(rt; answers, [0, 10, 0, 0]);
+    assert_eq!(rt; (len, out.starts_with(SETTING)), (84, true));
 }
 
+/// What a step answers and its reply, and whether it wrote this text.
+fn step(alloc: Global, asked: &StepInputs<'_>, text: &[u8]) -> (u8, u32, bool) {
+    let (mut out, mut len, mut reply) = ([b'.'; 96], 9, 77);
+    let answer = cred_step(alloc, asked, &mut reply, &mut out, &mut len);
+    let is_written = len == text.len() && out.starts_with(text);
+    (answer, reply, is_written)
+}
+
+/// An operation by its number at a copy, with the password and the setting, and then the reply and
+/// the text: each operation that makes a change, and each that makes none.
 #[test]
-fn parts_of_records(rt: HostRuntime) {
-    let mut parts = Parts {
-        scheme: 9,
-        version: 9,
-        memory: 9,
-        passes: 9,
-        lanes: 9,
-        salt_len: 9,
-        tag_len: 9,
-    };
-    assert_eq!(rt; cred_record_parts(RECORD, &mut parts), 0);
-    assert_eq!(rt;
-        parts,
-        Parts {
-            scheme: 2,
-            version: 19,
-            memory: 256,
-            passes: 2,
-            lanes: 1,
-            salt_len: 8,
-            tag_len: 32,
-        }
-    );
+fn steps_taken(rt: HostRuntime) {
+    let (right, wrong) = (b"password".as_slice(), b"Password".as_slice());
+    for (operation, copy, pw, setting, reply, text) in [
+        (1, b"".as_slice(), right, SETTING, 1, RECORD),
+        (1, RECORD, right, SETTING, 2, b"".as_slice()),
+        (2, RECORD, right, b"", 3, b""),
+        (2, RECORD, wrong, b"", 4, b""),
+        (2, b"", right, b"", 5, b""),
+        (3, RECORD, right, RENEWED_SETTING, 6, RENEWED),
+        (4, RECORD, right, RENEWED_SETTING, 8, RENEWED),
+        (4, RECORD, right, OTHER_SALT, 9, b""),
+        (5, RECORD, right, b"", 10, b""),
+    ] {
+        let asked = StepInputs {
+            operation,
+            copy,
+            pw,
+            new_pw: right,
+            setting,
+        };
+        assert_eq!(rt; step(rt.alloc(), &asked, text), (0, reply, true));
+    }
 }
