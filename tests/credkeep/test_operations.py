@@ -41,6 +41,7 @@ BOUNDED = [
     (f"load bob {WITHIN}${TAG}", "ok", "ok"),
     (f"load bob {ABOVE}${TAG}", COSTLY, "ok"),
     (f"load bob {TWICE}${TAG}", COSTLY, "ok"),
+    (f"load bob $scrypt$ln=1,r=255,p=2${SALT}${TAG}", COSTLY, "ok"),
     (f"load zed {ABOVE}${TAG}", COSTLY, "bad 5 noaccount"),
     (f"load bob {FLAT}${TAG}", "ok", "ok"),
     (f"enrol bob one {ABOVE}", COSTLY, "exists"),
@@ -60,6 +61,7 @@ BOUNDED_WORK = [
     (f"load bob {MORE}${TAG}", COSTLY, "ok"),
     (f"load bob {MIXED}${TAG}", "ok", "ok"),
     (f"load bob {REPEATED}${TAG}", COSTLY, "ok"),
+    (f"load bob $argon2id$v=19$m=8,t=4294967295,p=1${SALT}${TAG}", COSTLY, COSTLY),
     (f"upgrade ann one {THRICE}", "upgraded", "upgraded"),
 ]
 # The words of a bound, the table, and whether the bound is too high to matter.

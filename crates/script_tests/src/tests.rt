@@ -2,8 +2,6 @@
 //! of a failure, and what running out of memory leaves.
 
 mod committers;
-mod costs;
-mod dialogue;
 mod keep;
 mod memory;
 mod operations;
@@ -74,4 +72,18 @@ fn run_on<K: Keeper + Drop, R: Threads + Wait + Sync>(
     let mut writer = Watched::new(Vec::new(alloc));
     let end = run_script(rt, alloc, workers, &mut keeper, &mut reader, &mut writer);
     (end, writer.into_inner())
+}
+
+/// The same with room for 4096 bytes of answers; none if there is no memory for it.
+fn run_in_room<K: Keeper, R: Threads + Wait + Sync>(
+    rt: &R,
+    alloc: Global,
+    workers: u8,
+    keeper: &mut K,
+    script: &[u8],
+) -> Option<Ran> {
+    let room = Vec::with_capacity(alloc, 4096).ok()?;
+    let (mut reader, mut writer) = (Watched::new(script), Watched::new(room));
+    let end = run_script(rt, alloc, workers, keeper, &mut reader, &mut writer);
+    Some((end, writer.into_inner()))
 }

@@ -2,10 +2,9 @@
 ghost use Rattle.std.specs.Prelude.{◌≡◌, true};
 ghost use Rattle.cred_desk.specs.Naming.{IsNamed, StartsAt};
 
-use super::Ran;
+use super::{Ran, run_in_room};
 use cred_book::Book;
-use cred_cli::{Watched, run_script};
-use cred_desk::{Committer, DeskError, Naming, Opened};
+use cred_desk::{Committer, Naming, Opened};
 use std::alloc::Global;
 use std::marker::Brand;
 use std::sync::Wait;
@@ -19,31 +18,24 @@ fn run_published<J: Naming, R: Threads + Wait + Sync>(
     opened: Opened,
     book: &Book,
     script: &[u8],
-) -> Result<Ran, DeskError>
+) -> Option<Ran>
     requires name { IsNamed J.Naming opened }
     requires opening { StartsAt J.Naming book.now 0 }
     requires loads { J.loads ≡ true }
 {
-    let Ok(room) = Vec::with_capacity(alloc, 4096) else {
-        return Err(DeskError::Memory);
-    };
-    let (mut committer, _sessions) = Committer::<J>::new(rt, alloc, opened, book, 0)?;
-    let mut reader = Watched::new(script);
-    let mut writer = Watched::new(room);
-    let end = run_script(rt, alloc, workers, &mut committer, &mut reader, &mut writer);
+    let (mut committer, _sessions) = Committer::<J>::new(rt, alloc, opened, book, 0).ok()?;
+    let ran = run_in_room(rt, alloc, workers, &mut committer, script);
     committer.end(rt);
-    Ok((end, writer.into_inner()))
+    ran
 }
 
-/// What it came to on a committer of an empty book.
+/// What it came to on a committer of an empty book; none if there is no memory.
 pub(super) fn run_on_committer<R: Threads + Wait + Sync>(
     rt: &R,
     alloc: Global,
     workers: u8,
     script: &[u8],
-) -> Result<Ran, DeskError> {
-    let Ok(book) = Book::new(alloc) else {
-        return Err(DeskError::Memory);
-    };
+) -> Option<Ran> {
+    let book = Book::new(alloc).ok()?;
     run_published::<Brand, R>(rt, alloc, workers, Opened::new(0), &book, script)
 }

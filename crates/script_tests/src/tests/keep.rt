@@ -11,7 +11,12 @@ use sqlite::{Error, ErrorCode};
 use std::alloc::Global;
 use std::process::Abort;
 
-/// Holds what is said of a failure against one line of the program's.
+/// Holds what was said against one line of the program's.
+fn hold_line<R: Abort>(rt: &R, alloc: Global, said: &[u8], text: &str) {
+    let line = format!(in alloc; "credkeep: {text}\n").expect(rt, "memory");
+    hold_bytes(rt, said, &line);
+}
+
 fn hold_failure<R: Abort>(
     rt: &R,
     alloc: Global,
@@ -21,10 +26,10 @@ fn hold_failure<R: Abort>(
 ) {
     let mut said: Vec<u8> = Vec::new(alloc);
     explain(&mut said, failure, lost);
-    let line = format!(in alloc; "credkeep: {text}\n").expect(rt, "memory");
-    hold_bytes(rt, &said, &line);
+    hold_line(rt, alloc, &said, text);
 }
 
+/// Of commands, scripts and imports.
 #[test]
 fn texts_of_commands(rt: HostRuntime) {
     for (fault, text) in [
@@ -42,10 +47,6 @@ fn texts_of_commands(rt: HostRuntime) {
     ] {
         hold_failure(&rt, rt.alloc(), &Failure::Command(fault), None, text);
     }
-}
-
-#[test]
-fn texts_of_scripts(rt: HostRuntime) {
     for (fault, text) in [
         (ScriptFault::Read, "the reader failed"),
         (ScriptFault::Write, "the writer failed, or took no byte"),
@@ -54,10 +55,6 @@ fn texts_of_scripts(rt: HostRuntime) {
     ] {
         hold_failure(&rt, rt.alloc(), &Failure::Script(fault), None, text);
     }
-}
-
-#[test]
-fn texts_of_imports(rt: HostRuntime) {
     for (fault, text) in [
         (ImportFault::Read, "reading failed"),
         (ImportFault::Memory, "out of memory"),
@@ -94,13 +91,6 @@ fn texts_of_lines(rt: HostRuntime) {
         credkeep: line 4000: its record is locked: --disable-locked drops it (17 locked)\n\
         credkeep: line 50000: its record asks for more than --most-memory or --most-work (18 costly)";
     hold_failure(&rt, rt.alloc(), &failure, None, text);
-}
-
-fn hold_opening<R: Abort>(rt: &R, alloc: Global, fault: &OpenFault, text: &str) {
-    let mut said: Vec<u8> = Vec::new(alloc);
-    refuse(&mut said, fault);
-    let line = format!(in alloc; "credkeep: {text}\n").expect(rt, "memory");
-    hold_bytes(rt, &said, &line);
 }
 
 #[test]
@@ -140,7 +130,9 @@ fn texts_of_openings(rt: HostRuntime) {
             "the file can't be opened and written",
         ),
     ] {
-        hold_opening(&rt, rt.alloc(), &fault, text);
+        let mut said: Vec<u8> = Vec::new(rt.alloc());
+        refuse(&mut said, &fault);
+        hold_line(&rt, rt.alloc(), &said, text);
     }
 }
 

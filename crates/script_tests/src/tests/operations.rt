@@ -1,5 +1,13 @@
-//! Operations on an account, begun and committed, and their answers.
-use super::dialogue::judge_all;
+//! Operations on an account, begun and committed, and their answers, on each keeper. `book_tests`
+//! and tests/operations.py have more of one operation alone.
+use super::committers::run_on_committer;
+use super::{Ran, filled_in, run_on};
+use cred_book::{Book, Register};
+use cred_cli::{End, ScriptFault};
+use std::alloc::Global;
+use std::process::Abort;
+use std::sync::Wait;
+use std::thread::Threads;
 
 /// With settings that are cheap.
 const OPERATIONS: &str = "\
@@ -7,13 +15,6 @@ const OPERATIONS: &str = "\
 begin 1 enrol a {PA} {SA} => begun
 commit 1 => enrolled
 show a => {A}
-
-# verify
-load a {A} => ok
-begin 1 verify a {PA} => begun
-commit 1 => yes
-begin 1 verify a - => begun
-commit 1 => no
 
 # verify meets upgrade
 load a {A} => ok
@@ -28,12 +29,6 @@ begin 2 enrol a {PA} {SB} => begun
 commit 1 => enrolled
 commit 2 => changed
 show a => {A}
-
-# enrol twice
-begin 1 enrol a {PA} {SA} => begun
-commit 1 => enrolled
-begin 1 enrol a - {SB} => begun
-commit 1 => exists
 
 # other account moves
 account b => ok
@@ -66,11 +61,6 @@ load a {B} => ok
 load a {A} => ok
 commit 1 => yes
 
-# short tag
-load a {SA}$nf65EOgLrQM => ok
-begin 1 verify a {PA} => begun
-commit 1 => no
-
 # the first byte of a tag counts, and the last
 load a {SA}$of65EOgLrQMR/uIPnA4rEsF5h7TKyQwu9U1bMCHGi/4 => ok
 begin 1 verify a {PA} => begun
@@ -79,43 +69,17 @@ load a {SA}$nf65EOgLrQMR/uIPnA4rEsF5h7TKyQwu9U1bMCHGi/8 => ok
 begin 1 verify a {PA} => begun
 commit 1 => no
 
-# upgrade kept wrong
-load a {A} => ok
-begin 1 upgrade a {PA} {SB} => begun
-commit 1 => upgraded
-show a => {B}
-begin 1 upgrade a {PA} {SB} => begun
-commit 1 => kept
-begin 1 upgrade a YmFk {SB} => begun
-commit 1 => wrong
-
 # upgrade to another kind with the same numbers
 load a {A} => ok
 begin 1 upgrade a {PA} $argon2i$v=19$m=256,t=2,p=1$c29tZXNhbHQ => begun
 commit 1 => upgraded
 show a => {I}
 
-# change absent
-begin 1 change a {PA} - {SA} => begun
-commit 1 => absent
-
-# old version verify
-load a {OLD} => ok
-begin 1 verify a {PA} => begun
-commit 1 => yes
-begin 1 verify a - => begun
-commit 1 => no
-
 # old version upgrade
 load a {OLD} => ok
 begin 1 upgrade a {PA} $argon2i$v=19$m=256,t=2,p=1$c29tZXNhbHQ => begun
 commit 1 => upgraded
 show a => {I}
-
-# no: the tag of A is none of version 0x10
-load a $argon2id$v=16$m=256,t=2,p=1$c29tZXNhbHQ$nf65EOgLrQMR/uIPnA4rEsF5h7TKyQwu9U1bMCHGi/4 => ok
-begin 1 verify a {PA} => begun
-commit 1 => no
 
 # remove meets verify
 load a {A} => ok
@@ -124,14 +88,6 @@ begin 2 remove a {PA} => begun
 commit 2 => removed
 commit 1 => changed
 show a => none
-
-# remove absent wrong
-begin 1 remove a {PA} => begun
-commit 1 => absent
-load a {A} => ok
-begin 1 remove a YmFk => begun
-commit 1 => wrong
-show a => {A}
 
 # removed and back
 load a {A} => ok
@@ -164,11 +120,6 @@ commit 64 => yes
 
 /// The same, with the setting of scrypt's vector, and with 64 MiB.
 const COSTLY: &str = "\
-# verify scrypt
-load a {SCRYPT} => ok
-begin 1 verify a {PA} => begun
-commit 1 => yes
-
 # enrol scrypt
 begin 1 enrol a {PA} $scrypt$ln=10,r=8,p=16$TmFDbA => begun
 commit 1 => enrolled
@@ -186,6 +137,82 @@ begin 1 change a {PA} ZGlmZmVyZW50cGFzc3dvcmQ $argon2id$v=19$m=65536,t=2,p=1$c29
 commit 1 => replaced
 show a => $argon2id$v=19$m=65536,t=2,p=1$c29tZXNhbHQ$C4TWUs9rDEvq7w3+J4umqA32aWKB1+DSiRuBfYxFj94
 ";
+
+/// How a script ended, and what was written.
+type Seen<'a> = (Result<End, ScriptFault>, &'a [u8]);
+
+fn hold_seen<R: Abort>(rt: &R, name: &str, workers: u8, seen: Seen, want: Seen) {
+    assert_eq!(rt; seen, want, "{name}, {workers} workers");
+}
+
+/// Adds these texts as lines.
+fn add_lines<R: Abort>(rt: &R, text: &mut String, lines: &[&str]) {
+    for line in lines {
+        text.push_str(line).expect(rt, "memory");
+        text.push('\n').expect(rt, "memory");
+    }
+}
+
+/// A script, and what is to be answered to it.
+#[derive(Drop)]
+struct Dialogue<'a> {
+    name: &'a str,
+    script: String,
+    answers: String,
+}
+
+impl<'a> Dialogue<'a> {
+    /// The name of the script stands in the first line of the text, and then come its lines after
+    /// `account a`, each with its answer behind ` => `.
+    fn read<R: Abort>(rt: &R, alloc: Global, text: &'a str) -> Dialogue<'a> {
+        let (name, lines) = text.split_once('\n').expect(rt, "a name");
+        let (mut script, mut answers) = (String::new(alloc), String::new(alloc));
+        add_lines(rt, &mut script, &["account a"]);
+        add_lines(rt, &mut answers, &["ok"]);
+        for line in lines.lines() {
+            if let Some((asked, answer)) = line.split_once(" => ") {
+                add_lines(rt, &mut script, &[asked]);
+                add_lines(rt, &mut answers, &[answer]);
+            }
+        }
+        Dialogue {
+            name,
+            script,
+            answers,
+        }
+    }
+
+    /// Holds it against what a run came to.
+    fn hold_ran<R: Abort>(&self, rt: &R, workers: u8, ran: &Ran) {
+        let lines = self.answers.lines().count() as u64;
+        let want = (Ok(End { lines }), self.answers.as_bytes());
+        hold_seen(rt, self.name, workers, (ran.0, ran.1.as_slice()), want);
+    }
+
+    /// Holds it against runs on an empty book, an empty register and a committer, with one worker
+    /// and with four.
+    fn judge<R: Threads + Wait + Sync + Abort>(&self, rt: &R, alloc: Global) {
+        let script = self.script.as_bytes();
+        for workers in [1, 4] {
+            let book = Book::new(alloc).expect(rt, "memory");
+            self.hold_ran(rt, workers, &run_on(rt, alloc, workers, book, script));
+            let register = Register::new(alloc);
+            self.hold_ran(rt, workers, &run_on(rt, alloc, workers, register, script));
+            let ran = run_on_committer(rt, alloc, workers, script);
+            self.hold_ran(rt, workers, &ran.expect(rt, "a committer"));
+        }
+    }
+}
+
+/// Holds each script of the text against its runs.
+pub(super) fn judge_all<R: Threads + Wait + Sync + Abort>(rt: &R, alloc: Global, text: &str) {
+    let text = filled_in(rt, alloc, text);
+    for script in text.split("# ") {
+        if !script.is_empty() {
+            Dialogue::read(rt, alloc, script).judge(rt, alloc);
+        }
+    }
+}
 
 #[test]
 fn operations(rt: HostRuntime) {

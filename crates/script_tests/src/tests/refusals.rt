@@ -1,5 +1,5 @@
 //! Lines that are refused, and which of two causes is answered.
-use super::dialogue::{Dialogue, judge_all};
+use super::operations::judge_all;
 use std::alloc::Global;
 use std::process::Abort;
 
@@ -94,83 +94,61 @@ fn refusals(rt: HostRuntime) {
     judge_all(&rt, rt.alloc(), REFUSALS);
 }
 
-static NO_KEYS: [&str; 13] = [
-    "",
-    "0",
-    "65",
-    "00",
-    "01",
-    "064",
-    "+1",
-    "-1",
-    "1x",
-    "x",
-    "256",
-    "257",
-    "100000000000000000001",
-];
-
-fn begin_and_commit_no_key<R: Abort>(rt: &R, dialogue: &mut Dialogue, key: &str) {
-    dialogue.line(rt, &["begin ", key, " verify a -"], "bad 12 key");
-    dialogue.line(rt, &["commit ", key], "bad 12 key");
+/// Adds the lines with the word in place of `{}`.
+fn add<R: Abort>(rt: &R, alloc: Global, text: &mut String, lines: &str, word: &str) {
+    let lines = lines.replace(alloc, "{}", word).expect(rt, "memory");
+    text.push_str(&lines).expect(rt, "memory");
 }
 
-fn begin_key<R: Abort>(rt: &R, alloc: Global, dialogue: &mut Dialogue, key: u8) {
-    let key = key.to_string(alloc).expect(rt, "memory");
-    dialogue.line(rt, &["begin ", key.as_str(), " verify a -"], "begun");
+/// Adds them for each number of a key.
+fn add_keys<R: Abort>(rt: &R, alloc: Global, text: &mut String, lines: &str) {
+    for key in 1..65u8 {
+        let key = key.to_string(alloc).expect(rt, "memory");
+        add(rt, alloc, text, lines, &key);
+    }
 }
 
-fn commit_key_twice<R: Abort>(rt: &R, alloc: Global, dialogue: &mut Dialogue, key: u8) {
-    let key = key.to_string(alloc).expect(rt, "memory");
-    dialogue.line(rt, &["commit ", key.as_str()], "absent");
-    dialogue.line(rt, &["commit ", key.as_str()], "bad 15 idle");
-}
+const NO_KEYS: &str = " 0 65 00 01 064 +1 -1 1x x 256 257 100000000000000000001";
 
 #[test]
 fn keys_are_1_to_64(rt: HostRuntime) {
-    let alloc = rt.alloc();
-    let mut dialogue = Dialogue::with_account(&rt, alloc, "keys_are_1_to_64");
-    for key in &NO_KEYS {
-        begin_and_commit_no_key(&rt, &mut dialogue, key);
+    let (alloc, mut text) = (rt.alloc(), String::new(rt.alloc()));
+    add(&rt, alloc, &mut text, "# {}\n", "keys_are_1_to_64");
+    let lines = "begin {} verify a - => bad 12 key\ncommit {} => bad 12 key\n";
+    for key in NO_KEYS.split(' ') {
+        add(&rt, alloc, &mut text, lines, key);
     }
-    for key in 1..65 {
-        begin_key(&rt, alloc, &mut dialogue, key);
-    }
-    for key in 1..65 {
-        commit_key_twice(&rt, alloc, &mut dialogue, key);
-    }
-    dialogue.judge(&rt, alloc);
+    add_keys(&rt, alloc, &mut text, "begin {} verify a - => begun\n");
+    let lines = "commit {} => absent\ncommit {} => bad 15 idle\n";
+    add_keys(&rt, alloc, &mut text, lines);
+    judge_all(&rt, alloc, &text);
 }
 
-static NO_PASSWORDS: [&str; 6] = ["", "!", "--", "cGFzc3dvcmQ=", "cGFzc3dvcmR", "A"];
+const NO_PASSWORDS: &str = " ! -- cGFzc3dvcmQ= cGFzc3dvcmR A";
 
 #[test]
 fn passwords_have_a_form(rt: HostRuntime) {
-    let alloc = rt.alloc();
+    let (alloc, mut text) = (rt.alloc(), String::new(rt.alloc()));
     let longest = "A".repeat(alloc, 342).expect(&rt, "memory");
-    let mut dialogue = Dialogue::with_account(&rt, alloc, "passwords_have_a_form");
-    for pw in &NO_PASSWORDS {
-        dialogue.line(&rt, &["begin 1 verify a ", pw], "bad 13 password");
+    add(&rt, alloc, &mut text, "# {}\n", "passwords_have_a_form");
+    let refused = "begin 1 verify a {} => bad 13 password\n";
+    for pw in NO_PASSWORDS.split(' ') {
+        add(&rt, alloc, &mut text, refused, pw);
     }
-    dialogue.line(
-        &rt,
-        &["begin 1 verify a ", &longest, "A"],
-        "bad 13 password",
-    );
-    dialogue.line(&rt, &["begin 1 verify a ", &longest], "begun");
-    dialogue.judge(&rt, alloc);
+    let lines = "begin 1 verify a {}A => bad 13 password\nbegin 1 verify a {} => begun\n";
+    add(&rt, alloc, &mut text, lines, &longest);
+    judge_all(&rt, alloc, &text);
 }
 
 #[test]
 fn lines_have_1024_bytes(rt: HostRuntime) {
-    let alloc = rt.alloc();
+    let (alloc, mut text) = (rt.alloc(), String::new(rt.alloc()));
     let longer = "x".repeat(alloc, 5000).expect(&rt, "memory");
     let long = longer.get(..1024).expect(&rt, "fewer letters");
-    let mut dialogue = Dialogue::with_account(&rt, alloc, "lines_have_1024_bytes");
-    dialogue.line(&rt, &[long, "x"], "bad 16 long");
-    dialogue.line(&rt, &[long], "bad 11 line");
-    dialogue.line(&rt, &[], "bad 11 line");
-    dialogue.line(&rt, &[&longer], "bad 16 long");
-    dialogue.line(&rt, &["show a"], "none");
-    dialogue.judge(&rt, alloc);
+    add(&rt, alloc, &mut text, "# {}\n", "lines_have_1024_bytes");
+    let lines = "{}x => bad 16 long\n{} => bad 11 line\n => bad 11 line\n";
+    add(&rt, alloc, &mut text, lines, long);
+    let lines = "{} => bad 16 long\nshow a => none\n";
+    add(&rt, alloc, &mut text, lines, &longer);
+    judge_all(&rt, alloc, &text);
 }
