@@ -1,4 +1,4 @@
-//! What no clause says: values from outside, that parts are worked side by side, printed texts,
+//! What no clause says: values from outside, that parts are worked side by side, faults of texts,
 //! and what running out of memory leaves.
 //!
 //! A test mostly plays a table: one function tells of a row whether it is as it should be, and the
@@ -13,11 +13,7 @@ mod scratch;
 mod scrypt;
 mod strings;
 
-use cred_blake::BlakeError;
 use cred_phc::{Record, parse_record};
-use cred_scrypt::ScryptError;
-use std::alloc::Global;
-use std::fmt::Display;
 use std::process::Abort;
 
 /// The longest input of the tables.
@@ -64,42 +60,4 @@ fn is_made<E: Drop>(made: Result<Vec<u8>, E>, digits: &str) -> bool {
 
 fn stored(rt: &impl Abort, text: &str) -> Record {
     parse_record(text.as_bytes()).expect(rt, "a record")
-}
-
-/// Whether the value is shown as this text.
-fn is_shown<T: Display>(alloc: Global, value: &T, text: &str) -> bool {
-    match format!(in alloc; "{value}") {
-        Ok(shown) => shown.as_str() == text,
-        Err(_) => false,
-    }
-}
-
-#[test]
-fn messages_of_blake(rt: HostRuntime) {
-    for (error, want) in [
-        (
-            BlakeError::OutLen,
-            "the length of the digest is out of range",
-        ),
-        (BlakeError::KeyLen, "the key is longer than 64 bytes"),
-        (BlakeError::Memory, "out of memory"),
-    ] {
-        assert!(rt; is_shown(rt.alloc(), &error, want), "{want}");
-    }
-}
-
-#[test]
-fn messages_of_scrypt(rt: HostRuntime) {
-    for (error, want) in [
-        (
-            ScryptError::Cost,
-            "the cost is out of range, or too high for the block size or for a table of 2 GiB",
-        ),
-        (ScryptError::BlockSize, "the block size is 0"),
-        (ScryptError::Blocks, "the parallelization is 0"),
-        (ScryptError::Len, "the key is not 4 to 64 bytes long"),
-        (ScryptError::Memory, "out of memory"),
-    ] {
-        assert!(rt; is_shown(rt.alloc(), &error, want), "{want}");
-    }
 }
