@@ -7,8 +7,6 @@ mod floor;
 mod kept;
 mod lasting;
 mod log;
-mod numbers;
-mod refused;
 mod scene;
 mod soak;
 mod threads;
@@ -39,6 +37,10 @@ const CHEAP_SETTINGS: [&str; 2] = [
     "$argon2id$v=19$m=9,t=1,p=1$c29tZXNhbHQ",
 ];
 
+/// The record of `password` under the first of them, by the reference program of Argon2.
+const CHEAP: &str =
+    "$argon2id$v=19$m=8,t=1,p=1$c29tZXNhbHQ$8Tf44YakA6Z5zNBgblq13Nr+Q8FkCFWsjG4z6b1j7rM";
+
 fn name<R: Abort>(rt: &R, text: &str) -> Name {
     Name::new(text.as_bytes()).expect(rt, "a name")
 }
@@ -51,14 +53,14 @@ fn setting<R: Abort>(rt: &R, text: &str) -> Setting {
     parse_setting(text.as_bytes()).expect(rt, "a setting")
 }
 
-fn password<R: Abort>(rt: &R) -> Password {
-    Password::new(b"password").expect(rt, "a password")
+fn password<R: Abort>(rt: &R, text: &str) -> Password {
+    Password::new(text.as_bytes()).expect(rt, "a password")
 }
 
 fn enrol<R: Abort>(rt: &R, account: &str, new: &str) -> Request {
     Request::Enrol {
         name: name(rt, account),
-        pw: password(rt),
+        pw: password(rt, "password"),
         setting: setting(rt, new),
     }
 }
@@ -66,7 +68,7 @@ fn enrol<R: Abort>(rt: &R, account: &str, new: &str) -> Request {
 fn verify<R: Abort>(rt: &R, account: &str) -> Request {
     Request::Verify {
         name: name(rt, account),
-        pw: password(rt),
+        pw: password(rt, "password"),
     }
 }
 
@@ -74,8 +76,8 @@ fn verify<R: Abort>(rt: &R, account: &str) -> Request {
 fn change<R: Abort>(rt: &R, account: &str, new: &str) -> Request {
     Request::Change {
         name: name(rt, account),
-        pw: password(rt),
-        new_pw: Password::new(b"drowssap").expect(rt, "a password"),
+        pw: password(rt, "password"),
+        new_pw: password(rt, "drowssap"),
         setting: setting(rt, new),
     }
 }
@@ -83,7 +85,7 @@ fn change<R: Abort>(rt: &R, account: &str, new: &str) -> Request {
 fn upgrade<R: Abort>(rt: &R, account: &str, new: &str) -> Request {
     Request::Upgrade {
         name: name(rt, account),
-        pw: password(rt),
+        pw: password(rt, "password"),
         setting: setting(rt, new),
     }
 }
@@ -91,7 +93,7 @@ fn upgrade<R: Abort>(rt: &R, account: &str, new: &str) -> Request {
 fn remove<R: Abort>(rt: &R, account: &str) -> Request {
     Request::Remove {
         name: name(rt, account),
-        pw: password(rt),
+        pw: password(rt, "password"),
     }
 }
 

@@ -51,10 +51,7 @@ fn commit_and_read<J: Naming, R: Threads + Wait + Abort + Sync>(
     let unknown = commit(rt, alloc, committer, session, &mut foreign);
     begin(session, &mut open, upgrade(rt, "a", B_SETTING));
     let upgraded = commit(rt, alloc, committer, session, &mut open);
-    let closed = match worked(rt, alloc, &mut early) {
-        Some(work) => close(session, work),
-        None => Answer::Failed,
-    };
+    let closed = close(session, worked(rt, alloc, &mut early));
     begin(session, &mut open, remove(rt, "a"));
     let copied = read(&open);
     let removed = commit(rt, alloc, committer, session, &mut open);

@@ -3,9 +3,7 @@
 use super::replay;
 use super::writer::Log;
 use cred_book::Book;
-use cred_desk::{
-    Closed, Entry, Finished, Handed, Kept, KeptDesk, Naming, Remains, Session, Unclosed,
-};
+use cred_desk::{Entry, Finished, Handed, Kept, KeptDesk, Naming, Remains, Session, Unclosed};
 use std::alloc::Global;
 use std::sync::Wait;
 
@@ -91,36 +89,45 @@ pub(super) fn end<J: Naming, R: Wait>(
     ending: Ending,
 ) -> Option<Left> {
     let tallies = counted(journal.alloc, &sessions);
-    let mut handed = handed;
+    let (mut handed, mut sessions, mut journal) = (handed, sessions, journal);
     match ending {
-        Ending::Close => closed(journal, close(rt, desk, handed, sessions)?),
-        Ending::Finish { lost } => {
-            let mut sessions = sessions;
-            sessions.truncate(sessions.len().saturating_sub(lost));
-            let Finished {
-                remains: Remains {
-                    book,
-                    journal: rest,
-                },
-                missing,
+        Ending::Close => {
+            let Kept {
+                closed,
+                additions,
                 writer,
-            } = desk.finish(rt, handed, sessions);
-            remaining(journal, Some(book), rest, tallies?, missing, writer)
+            } = close(rt, desk, handed, sessions)?;
+            let (book, rest) = (closed.book, closed.journal);
+            let remains = Remains {
+                book,
+                journal: rest,
+            };
+            remaining(
+                journal,
+                (closed.counts, additions),
+                finished(remains, writer),
+            )
+        }
+        Ending::Finish { lost } => {
+            sessions.truncate(sessions.len().saturating_sub(lost));
+            let finished = desk.finish(rt, handed, sessions);
+            remaining(journal, tallies?, finished)
         }
         Ending::GiveUp => {
-            let (
-                Remains {
-                    book,
-                    journal: rest,
-                },
-                log,
-            ) = desk.give_up(rt, handed, &sessions);
-            remaining(journal, Some(book), rest, tallies?, 0, log)
+            let (remains, log) = desk.give_up(rt, handed, &sessions);
+            remaining(journal, tallies?, finished(remains, log))
         }
         Ending::End => {
             let rest = desk.checkpoint(rt, &mut handed);
             let log = desk.end(rt, handed);
-            remaining(journal, None, rest, tallies?, 0, log)
+            journal.add(rest)?;
+            let book = journal.book.copy().ok()?;
+            let rest = Vec::new(journal.alloc);
+            let remains = Remains {
+                book,
+                journal: rest,
+            };
+            remaining(journal, tallies?, finished(remains, log))
         }
     }
 }
@@ -133,56 +140,38 @@ fn close<J: Naming, R: Wait>(
 ) -> Option<Kept<Log>> {
     match desk.close(rt, handed, sessions) {
         Ok(kept) => Some(kept),
-        Err(
-            Unclosed {
+        Err(unclosed) => {
+            let Unclosed {
                 desk,
                 handed,
                 sessions: _,
                 error: _,
-            },
-        ) => {
+            } = unclosed;
             let _log = desk.end(rt, handed);
             None
         }
     }
 }
 
-fn closed(journal: Journal, kept: Kept<Log>) -> Option<Left> {
-    let Kept {
-        closed,
-        additions,
+/// What a desk leaves that missed nothing.
+fn finished(remains: Remains, writer: Log) -> Finished<Log> {
+    Finished {
+        remains,
+        missing: 0,
         writer,
-    } = kept;
-    let Closed {
-        book,
-        journal: rest,
-        counts,
-    } = closed;
-    remaining(journal, Some(book), rest, (counts, additions), 0, writer)
+    }
 }
 
-/// The book is that of the journal, if there is no other.
-fn remaining(
-    journal: Journal,
-    book: Option<Book>,
-    rest: Vec<Entry>,
-    tallies: Tallies,
-    missing: u64,
-    log: Log,
-) -> Option<Left> {
-    let (counts, additions) = tallies;
+fn remaining(journal: Journal, tallies: Tallies, finished: Finished<Log>) -> Option<Left> {
     let mut journal = journal;
-    journal.add(rest)?;
-    let book = match book {
-        Some(book) => book,
-        None => journal.book.copy().ok()?,
-    };
+    let remains = finished.remains;
+    journal.add(remains.journal)?;
     Some(Left {
-        book,
+        book: remains.book,
         journal,
-        counts,
-        additions,
-        missing,
-        log,
+        counts: tallies.0,
+        additions: tallies.1,
+        missing: finished.missing,
+        log: finished.writer,
     })
 }

@@ -16,7 +16,7 @@ pub(super) enum Step {
     Admit(Name),
     Load(Name, Record),
     Delete(Name),
-    /// Begins a request, works its ticket and settles it.
+    /// Begins a request, works its ticket and settles it, or closes it if it is a verify.
     Operate(Request),
     /// Begins a request, and holds the ticket.
     Begin(Request),
@@ -44,6 +44,8 @@ pub(super) enum Answer {
     Refused(DeskError),
     /// There was no ticket, or no memory for what is not the desk's.
     Failed,
+    /// Of a line that may be answered anything but `Failed`.
+    Any,
 }
 
 /// An answer, and what the session was told with it.
@@ -98,13 +100,16 @@ pub(super) fn work_of<J: Naming, R: Threads + Sync>(
 }
 
 /// Closes the work of a verify.
-pub(super) fn close<J: Naming>(session: &mut Session<J>, work: Worked) -> Answer {
-    match work.into_verify() {
-        Ok(work) => match session.close_verify(work) {
-            Ok(reply) => Answer::Replied(reply),
-            Err((_, error)) => Answer::Refused(error),
-        },
-        Err(_) => Answer::Failed,
+pub(super) fn close<J: Naming>(session: &mut Session<J>, work: Option<Worked>) -> Answer {
+    let Some(work) = work else {
+        return Answer::Failed;
+    };
+    let Ok(work) = work.into_verify() else {
+        return Answer::Failed;
+    };
+    match session.close_verify(work) {
+        Ok(reply) => Answer::Replied(reply),
+        Err((_, error)) => Answer::Refused(error),
     }
 }
 
@@ -140,31 +145,42 @@ impl<'a, J: Naming, R: Threads + Wait + Sync> Floor<'a, J, R> {
             Step::Load(name, record) => added(self.desk.load(self.rt, session, name, record)),
             Step::Delete(name) => added(self.desk.delete(self.rt, session, name)),
             Step::Begin(request) => Ok((begin(session, open, request), None)),
-            Step::Operate(request) => match work_of(self.rt, self.alloc, session, request) {
-                Some(work) => self.finish(session, work, Step::Settle),
-                None => Ok((Answer::Failed, None)),
-            },
+            Step::Operate(request) => self.operate(session, open, request),
             Step::Read => Ok((read(open), None)),
-            Step::Settle | Step::Close => match worked(self.rt, self.alloc, open) {
-                Some(work) => self.finish(session, work, step),
-                None => Ok((Answer::Failed, None)),
-            },
+            Step::Settle => self.settle(session, open),
+            Step::Close => Ok((self.close(session, open), None)),
             Step::Learn | Step::Hear(_) => Ok((Answer::Failed, None)),
         }
     }
 
-    /// What is done with the work of a ticket.
-    fn finish(&self, session: &mut Session<J>, work: Worked, step: Step) -> Taken<J> {
-        match step {
-            Step::Settle => match self.desk.settle(self.rt, session, work) {
-                Ok((reply, told)) => Ok((Answer::Replied(reply), Some(told))),
-                Err(unsettled) => {
-                    let (_work, error) = unsettled.into_parts();
-                    Err(error)
-                }
-            },
-            Step::Close => Ok((close(session, work), None)),
-            _ => Ok((Answer::Done, None)),
+    fn operate(
+        &self,
+        session: &mut Session<J>,
+        open: &mut Option<Ticket>,
+        request: Request,
+    ) -> Taken<J> {
+        let is_verify = matches!(&request, Request::Verify { .. });
+        let begun = begin(session, open, request);
+        if begun != Answer::Done {
+            return Ok((begun, None));
+        }
+        if is_verify {
+            return Ok((self.close(session, open), None));
+        }
+        self.settle(session, open)
+    }
+
+    fn close(&self, session: &mut Session<J>, open: &mut Option<Ticket>) -> Answer {
+        close(session, worked(self.rt, self.alloc, open))
+    }
+
+    fn settle(&self, session: &mut Session<J>, open: &mut Option<Ticket>) -> Taken<J> {
+        let Some(work) = worked(self.rt, self.alloc, open) else {
+            return Ok((Answer::Failed, None));
+        };
+        match self.desk.settle(self.rt, session, work) {
+            Ok((reply, told)) => Ok((Answer::Replied(reply), Some(told))),
+            Err(unsettled) => Err(unsettled.error),
         }
     }
 
@@ -176,8 +192,5 @@ impl<'a, J: Naming, R: Threads + Wait + Sync> Floor<'a, J, R> {
 }
 
 fn added<J: Naming>(told: Result<Told<J>, KeepError<Refused>>) -> Taken<J> {
-    match told {
-        Ok(told) => Ok((Answer::Done, Some(told))),
-        Err(error) => Err(error),
-    }
+    Ok((Answer::Done, Some(told?)))
 }

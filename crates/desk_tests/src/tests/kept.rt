@@ -1,13 +1,14 @@
 //! A kept desk with one session, at which people sign up, records are loaded and names are taken
-//! away beside all other kinds of change; a log that is full, and a book that is.
+//! away beside all other kinds of change; a log that is full, a book that is, and memory.
 
 use super::floor::{Answer, Step};
 use super::scene::{
-    DONE, EXISTS, FULL, LOG_FULL, NO_ACCOUNT, Scene, judge, left_of, left_of_act, operates, replied,
+    DONE, EXISTS, FULL, LOG_FULL, NO_ACCOUNT, Scene, judge, left_of, left_of_act, operates,
+    replied, show,
 };
 use super::{
-    NONE_STANDS, book_of, change, deletion, enrol, entry, judge_replayed, name, remove, stored,
-    upgrade, verify,
+    NONE_STANDS, ONE_STANDS, book_of, change, deletion, enrol, entry, judge_replayed, name, remove,
+    stored, upgrade, verify,
 };
 use cred_book::{Book, Reply};
 use std::alloc::Global;
@@ -41,8 +42,10 @@ fn nothing_is_kept_in_a_full_log(rt: HostRuntime) {
         (0, Step::Close, replied(Reply::Yes)),
     ];
     let acts = [lines.as_slice()];
-    let mut scene = Scene::new(1, &acts);
-    scene.room = 2;
+    let scene = Scene {
+        room: 2,
+        ..Scene::new(1, &acts)
+    };
     let left = left_of(&rt, rt.alloc(), &book, &scene);
     let journal = [entry(&rt, "c", None), entry(&rt, "c", Some(A))];
     judge(&rt, &left, &journal, &[1], &[1]);
@@ -124,4 +127,49 @@ fn full_book_of_long_names(rt: HostRuntime) {
     ];
     judge(&rt, &left, &journal, &[1, 0], &[4, 0]);
     judge_replayed(&rt, &left);
+}
+
+/// Names come and go at a kept desk, and a record is upgraded to and fro, each call a second time
+/// if it was refused. So a refused one did nothing. It holds whichever request for memory is
+/// refused: tools/refuse_memory.py refuses each in turn.
+#[test]
+fn refused_desk(rt: HostRuntime) {
+    let Some(book) = book_of(&rt, rt.alloc(), ONE_STANDS) else {
+        return;
+    };
+    let (c, d) = (name(&rt, "c"), name(&rt, "d"));
+    let lines = [
+        (0, Step::Admit(c), DONE),
+        (0, Step::Admit(d), DONE),
+        (0, Step::Load(c, stored(&rt, A)), DONE),
+        (0, Step::Delete(d), DONE),
+        (0, Step::Delete(c), DONE),
+        operates(0, upgrade(&rt, "a", B_SETTING), Reply::Upgraded),
+        operates(0, upgrade(&rt, "a", A_SETTING), Reply::Upgraded),
+        operates(0, upgrade(&rt, "a", B_SETTING), Reply::Upgraded),
+    ];
+    let journal = [
+        entry(&rt, "c", None),
+        entry(&rt, "d", None),
+        entry(&rt, "c", Some(A)),
+        deletion(&rt, "d"),
+        deletion(&rt, "c"),
+        entry(&rt, "a", Some(B)),
+        entry(&rt, "a", Some(A)),
+        entry(&rt, "a", Some(B)),
+    ];
+    let acts = [lines.as_slice()];
+    let scene = Scene {
+        tries: 2,
+        ..Scene::new(1, &acts)
+    };
+    let Some((left, slip)) = show(&rt, rt.alloc(), &book, &scene) else {
+        return;
+    };
+    if slip.is_none() {
+        judge(&rt, &left, &journal, &[3], &[5]);
+    } else {
+        // There was no memory for what one session hands on to others.
+        assert_eq!(rt; slip, Some((0, Ok(Answer::Failed))));
+    }
 }

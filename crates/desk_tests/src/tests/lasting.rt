@@ -2,7 +2,7 @@
 
 use super::ending::Ending;
 use super::floor::{Answer, Step};
-use super::scene::{DONE, Line, Scene, judge, judge_record, left_of, operates, replied};
+use super::scene::{DONE, Line, Scene, judge, judge_record, left_of, operates, replied, show};
 use super::{
     CHEAP_SETTINGS, NONE_STANDS, ONE_STANDS, book_of, entry, judge_replayed, name, stored, upgrade,
     verify,
@@ -11,6 +11,17 @@ use cred_book::Reply;
 use std::alloc::{AllocError, Global};
 use std::process::Abort;
 use test_samples::{A, B};
+
+/// How many sessions a desk may have: from 1 to 128.
+#[test]
+fn numbers_of_sessions(rt: HostRuntime) {
+    let book = book_of(&rt, rt.alloc(), NONE_STANDS).expect(&rt, "a book");
+    for sessions in [0, 1, 128, 129, 255] {
+        let left = show(&rt, rt.alloc(), &book, &Scene::new(sessions, &[]));
+        let may_be = (1..=128).contains(&sessions);
+        assert_eq!(rt; left.is_some(), may_be, "{sessions}");
+    }
+}
 
 /// The last session made two of four entries, the one before it one, and is told of those before.
 #[test]

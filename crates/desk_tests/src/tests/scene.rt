@@ -25,7 +25,13 @@ pub(super) type Line = (usize, Step, Outcome);
 /// The place of a line that was answered otherwise, and how.
 pub(super) type Slip = (usize, Outcome);
 
+/// What isn't the desk's found no memory.
+const NO_MEMORY: Option<Slip> = Some((0, Ok(Answer::Failed)));
+
 pub(super) const DONE: Outcome = Ok(Answer::Done);
+
+/// Whatever is answered, but `Failed`.
+pub(super) const ANY: Outcome = Ok(Answer::Any);
 
 pub(super) const EXISTS: Outcome = Err(KeepError::Book(BookError::Exists));
 
@@ -50,6 +56,8 @@ pub(super) struct Scene<'a> {
     pub(super) sessions: u8,
     /// How many entries its log has room for.
     pub(super) room: usize,
+    /// Of how many entries its log refuses one, or none if this is 0.
+    pub(super) one_in: usize,
     /// How often a step is taken at most: again, if it is refused.
     pub(super) tries: usize,
     /// What the front half of the sessions does, in a thread of its own. Places count from the
@@ -57,6 +65,8 @@ pub(super) struct Scene<'a> {
     pub(super) front: &'a [Line],
     /// What the back half does meanwhile.
     pub(super) back: &'a [Line],
+    /// How often a third thread hands out the journal meanwhile.
+    pub(super) pieces: u64,
     /// What they do afterwards. After each act but the last the journal is handed out.
     pub(super) acts: &'a [&'a [Line]],
     pub(super) ending: Ending,
@@ -68,9 +78,11 @@ impl<'a> Scene<'a> {
         Scene {
             sessions,
             room: usize::MAX,
+            one_in: 0,
             tries: 1,
             front: &[],
             back: &[],
+            pieces: 0,
             acts,
             ending: Ending::Close,
         }
@@ -79,53 +91,7 @@ impl<'a> Scene<'a> {
 
 type News<J> = (Sender<Told<J>>, Receiver<Told<J>>);
 
-fn learn<J: Naming, R: Wait>(rt: &R, news: &News<J>, session: &mut Session<J>) -> Outcome {
-    match news.1.recv(rt) {
-        Ok(told) => {
-            session.learn(&told);
-            DONE
-        }
-        Err(_) => Ok(Answer::Failed),
-    }
-}
-
-/// A step, whose session hands on what it is told.
-fn take<J: Naming, R: Threads + Wait + Sync>(
-    floor: &Floor<J, R>,
-    news: &News<J>,
-    session: &mut Session<J>,
-    open: &mut Option<Ticket>,
-    step: Step,
-) -> Outcome {
-    if let Step::Learn = step {
-        return learn(floor.rt, news, session);
-    }
-    let (answer, told) = floor.take(session, open, step)?;
-    if let Some(told) = told {
-        // Refused if the other half has ended, and nobody is left to learn it.
-        let _handed = news.0.send(floor.rt, told);
-    }
-    Ok(answer)
-}
-
-/// The desk tells one session what another one knows.
-fn hear<J: Naming, R: Threads + Wait + Sync>(
-    floor: &Floor<J, R>,
-    sessions: &mut [Session<J>],
-    place: usize,
-    from: usize,
-) -> Answer {
-    let known = match sessions.get(from) {
-        Some(other) => other.told(),
-        None => return Answer::Failed,
-    };
-    match sessions.get_mut(place) {
-        Some(session) => floor.tell(session, &known),
-        None => Answer::Failed,
-    }
-}
-
-/// Plays a line, and says how it was answered.
+/// Plays a line, whose session hands on what it is told, and says how it was answered.
 fn play_one<J: Naming, R: Threads + Wait + Sync>(
     floor: &Floor<J, R>,
     news: &News<J>,
@@ -134,13 +100,37 @@ fn play_one<J: Naming, R: Threads + Wait + Sync>(
     line: &Line,
 ) -> Outcome {
     let (place, step, _) = *line;
-    if let Step::Hear(from) = step {
-        return Ok(hear(floor, sessions, place, from));
+    let known = match step {
+        Step::Learn => news.1.recv(floor.rt).ok(),
+        Step::Hear(from) => match sessions.get(from) {
+            Some(other) => Some(other.told()),
+            None => None,
+        },
+        _ => None,
+    };
+    let Some(session) = sessions.get_mut(place) else {
+        return Ok(Answer::Failed);
+    };
+    match (step, known) {
+        (Step::Learn, Some(told)) => {
+            session.learn(&told);
+            DONE
+        }
+        (Step::Hear(_), Some(known)) => Ok(floor.tell(session, &known)),
+        _ => {
+            let (answer, told) = floor.take(session, open, step)?;
+            if let Some(told) = told {
+                // Refused if the other half has ended, and nobody is left to learn it.
+                let _handed = news.0.send(floor.rt, told);
+            }
+            Ok(answer)
+        }
     }
-    match sessions.get_mut(place) {
-        Some(session) => take(floor, news, session, open, step),
-        None => Ok(Answer::Failed),
-    }
+}
+
+/// Whether a line is answered as it is to be.
+fn is_as(outcome: &Outcome, want: &Outcome) -> bool {
+    outcome == want || *want == ANY && *outcome != Ok(Answer::Failed)
 }
 
 /// Plays the lines, up to one that is answered otherwise.
@@ -158,11 +148,11 @@ fn play<J: Naming, R: Threads + Wait + Sync>(
         };
         let mut outcome = play_one(floor, news, sessions, open, line);
         for _ in 1..tries {
-            if outcome != line.2 {
+            if !is_as(&outcome, &line.2) {
                 outcome = play_one(floor, news, sessions, open, line);
             }
         }
-        if outcome != line.2 {
+        if !is_as(&outcome, &line.2) {
             return Some((at, outcome));
         }
     }
@@ -177,7 +167,7 @@ fn play_in_two<J: Naming + Send + Sync, R: Threads + Wait + Sync>(
 ) -> Option<Slip> {
     let (rt, alloc, desk) = (floor.rt, floor.alloc, floor.desk);
     let (Ok(from_front), Ok(from_back)) = (unbounded(alloc), unbounded(alloc)) else {
-        return Some((0, Ok(Answer::Failed)));
+        return NO_MEMORY;
     };
     let (front_news, back_news) = ((from_front.0, from_back.1), (from_back.0, from_front.1));
     let half = sessions.len() / 2;
@@ -199,6 +189,40 @@ fn play_in_two<J: Naming + Send + Sync, R: Threads + Wait + Sync>(
     one.or(other)
 }
 
+/// Hands out the journal in so many pieces, unless there is no memory.
+fn hand_out<J: Naming, R: Wait>(
+    rt: &R,
+    desk: &KeptDesk<J, Log>,
+    handed: &mut Handed<J>,
+    journal: &mut Journal,
+    pieces: u64,
+) -> Option<Slip> {
+    for _piece in 0..pieces {
+        if journal.add(desk.checkpoint(rt, handed)).is_none() {
+            return NO_MEMORY;
+        }
+    }
+    None
+}
+
+/// Plays what the halves do, and hands out the journal meanwhile.
+fn play_meanwhile<J: Naming + Send + Sync, R: Threads + Wait + Sync>(
+    floor: &Floor<J, R>,
+    handed: &mut Handed<J>,
+    journal: &mut Journal,
+    sessions: &mut [Session<J>],
+    scene: &Scene,
+) -> Option<Slip> {
+    let (rt, alloc, desk, pieces) = (floor.rt, floor.alloc, floor.desk, scene.pieces);
+    let floor = Floor { rt, alloc, desk };
+    let (slip, refused) = join(
+        rt,
+        move || play_in_two(&floor, sessions, scene),
+        move || hand_out(rt, desk, handed, journal, pieces),
+    );
+    slip.or(refused)
+}
+
 /// Plays the acts, and hands out the journal between them.
 fn play_acts<J: Naming, R: Threads + Wait + Sync>(
     floor: &Floor<J, R>,
@@ -208,35 +232,19 @@ fn play_acts<J: Naming, R: Threads + Wait + Sync>(
     scene: &Scene,
 ) -> Option<Slip> {
     let Ok(news) = unbounded(floor.alloc) else {
-        return Some((0, Ok(Answer::Failed)));
+        return NO_MEMORY;
     };
     for (act, lines) in scene.acts.iter().enumerate() {
-        if act > 0
-            && journal
-                .add(floor.desk.checkpoint(floor.rt, handed))
-                .is_none()
-        {
-            return Some((0, Ok(Answer::Failed)));
-        }
-        let slip = play(floor, &news, sessions, lines, scene.tries);
+        let pieces = u64::from(act > 0);
+        let slip = match hand_out(floor.rt, floor.desk, handed, journal, pieces) {
+            None => play(floor, &news, sessions, lines, scene.tries),
+            refused => refused,
+        };
         if slip.is_some() {
             return slip;
         }
     }
     None
-}
-
-fn play_all<J: Naming + Send + Sync, R: Threads + Wait + Sync>(
-    floor: Floor<J, R>,
-    handed: &mut Handed<J>,
-    journal: &mut Journal,
-    sessions: &mut [Session<J>],
-    scene: &Scene,
-) -> Option<Slip> {
-    match play_in_two(&floor, sessions, scene) {
-        None => play_acts(&floor, handed, journal, sessions, scene),
-        slip => slip,
-    }
 }
 
 /// The scene at a desk on this book; none if there is no memory, or the desk fails.
@@ -253,16 +261,18 @@ fn played<J: Naming + Send + Sync, R: Threads + Wait + Sync>(
     requires loads { J.loads ≡ true }
 {
     let mut journal = Journal::new(alloc, book)?;
-    let log = Log::new(alloc, scene.room, 0);
+    let log = Log::new(alloc, scene.room, scene.one_in);
     let made = KeptDesk::<J, Log>::new(rt, alloc, opened, book, sessions, log);
-    let (desk, handed, mut seats) = made.ok()?;
-    let mut handed = handed;
-    let desk_floor = Floor {
+    let (desk, mut handed, mut seats) = made.ok()?;
+    let floor = Floor {
         rt,
         alloc,
         desk: &desk,
     };
-    let slip = play_all(desk_floor, &mut handed, &mut journal, &mut seats, scene);
+    let slip = match play_meanwhile(&floor, &mut handed, &mut journal, &mut seats, scene) {
+        None => play_acts(&floor, &mut handed, &mut journal, &mut seats, scene),
+        slip => slip,
+    };
     let left = end(rt, desk, handed, seats, journal, scene.ending)?;
     Some((left, slip))
 }

@@ -1,36 +1,30 @@
-//! A soak: sessions in threads do operations of every kind at one desk after another, each on the
-//! book that the one before left. Once a desk is ended, in one way or another, its journal, its
-//! book and all counts are compared with what its sessions were told.
+//! A soak: sessions in two threads do operations of every kind at one desk after another, each on
+//! the book that the one before left, while a third thread hands out the journal. Once a desk is
+//! ended, in one way or another, its journal leads to its book, and is what its log keeps and what
+//! its sessions counted.
 
-ghost use Rattle.std.specs.Prelude.{◌≡◌, true};
-ghost use Rattle.cred_desk.specs.Naming.{IsNamed, StartsAt};
-
-mod pool;
-mod seat;
-
-use super::ending::{Ending, Journal, Left, end};
-use super::floor::Floor;
-use super::writer::Log;
-use super::{is_same, replay};
-use cred_book::Book;
-use cred_desk::{Handed, KeptDesk, Naming, Opened, Session};
-use pool::Pool;
-use seat::{Seat, Tally, hand_in, seats};
-use std::alloc::Global;
-use std::marker::Brand;
+use super::ending::{Ending, Left};
+use super::floor::Step;
+use super::scene::{ANY, Line, Scene, left_of};
+use super::{CHEAP, CHEAP_SETTINGS, judge_replayed, name, password, setting, stored};
+use cred_book::{Book, Request};
+use std::alloc::{AllocError, Global};
+use std::process::Abort;
 use std::sync::Wait;
-use std::thread::{Threads, for_each_mut, join};
+use std::thread::Threads;
 
-/// How many sessions each desk has, each in a thread of its own.
-const SESSIONS: u8 = 4;
+/// How many lines are played at each desk, by each of its two threads.
+const LINES: usize = 500;
 
-/// How many operations are done at each desk.
-const TURNS: u64 = 1_000;
+const PASSWORDS: [&str; 2] = ["password", "drowssap"];
+
+/// How many names there are: so few that sessions meet at them.
+const NAMES: usize = 16;
 
 /// In how many pieces its journal is handed out meanwhile.
 const PIECES: u64 = 32;
 
-/// Of how many entries the writer refuses one.
+/// Of how many entries the log refuses one.
 const ONE_IN: usize = 5;
 
 /// How the desks end, in turn.
@@ -41,166 +35,88 @@ const ENDINGS: [Ending; 4] = [
     Ending::End,
 ];
 
-/// What a desk is served with.
-#[derive(Clone, Copy)]
-struct Round<'a> {
-    pool: &'a Pool,
-    /// Where the draws of its sessions start.
-    seed: u64,
-    ending: Ending,
+/// The next of the numbers that look drawn and are the same in each run: a congruence of Knuth's.
+fn draw(state: &mut u64) -> usize {
+    *state = state
+        .wrapping_mul(6_364_136_223_846_793_005)
+        .wrapping_add(1_442_695_040_888_963_407);
+    (*state >> 33) as usize
 }
 
-/// What isn't as the sessions of a desk were told, or that a desk or memory failed.
-fn soak<R: Threads + Wait + Sync>(rt: &R, alloc: Global) -> Result<(), &'static str> {
-    let pool = Pool::new(rt, alloc).ok_or("no pool")?;
-    let mut book = Book::new(alloc).map_err(|_| "no memory")?;
-    for (seed, ending) in ENDINGS.iter().enumerate() {
-        let round = Round {
-            pool: &pool,
-            seed: seed as u64,
-            ending: *ending,
-        };
-        let served = serve::<Brand, R>(rt, alloc, Opened::new(SESSIONS), &book, &round);
-        let (left, tallies) = served.ok_or("a desk failed")?;
-        judge(&left, &tallies, *ending)?;
-        let Left { book: after, .. } = left;
-        book = after;
+/// An operation of any kind, a name that comes or goes, a record that is loaded, or the desk's word
+/// to a session.
+fn step<R: Abort>(rt: &R, alloc: Global, state: &mut u64) -> Result<Step, AllocError> {
+    let text = format!(in alloc; "name{}", draw(state) % NAMES)?;
+    let name = name(rt, text.as_str());
+    let pw = password(rt, PASSWORDS[draw(state) % 2]);
+    let new_pw = password(rt, PASSWORDS[draw(state) % 2]);
+    let setting = setting(rt, CHEAP_SETTINGS[draw(state) % 2]);
+    Ok(match draw(state) % 9 {
+        0 => Step::Operate(Request::Verify { name, pw }),
+        1 => Step::Operate(Request::Enrol { name, pw, setting }),
+        2 => Step::Operate(Request::Change {
+            name,
+            pw,
+            new_pw,
+            setting,
+        }),
+        3 => Step::Operate(Request::Upgrade { name, pw, setting }),
+        4 => Step::Operate(Request::Remove { name, pw }),
+        5 => Step::Admit(name),
+        6 => Step::Load(name, stored(rt, CHEAP)),
+        7 => Step::Delete(name),
+        _ => Step::Hear(draw(state) % 2),
+    })
+}
+
+/// Lines of two sessions, in turn.
+fn drawn<R: Abort>(rt: &R, alloc: Global, state: &mut u64) -> Result<Vec<Line>, AllocError> {
+    let mut lines = Vec::with_capacity(alloc, LINES)?;
+    for line in 0..LINES {
+        lines.push((line % 2, step(rt, alloc, state)?, ANY))?;
     }
-    Ok(())
+    Ok(lines)
 }
 
-/// What is left of a desk, and what each of its sessions counted. None if the desk or memory
-/// failed.
-fn serve<J: Naming + Send + Sync, R: Threads + Wait + Sync>(
+/// What is left of a desk on this book.
+fn played<R: Threads + Wait + Abort + Sync>(
     rt: &R,
     alloc: Global,
-    opened: Opened,
     book: &Book,
-    round: &Round,
-) -> Option<(Left, Vec<Tally>)>
-    requires name { IsNamed J.Naming opened }
-    requires opening { StartsAt J.Naming book.now SESSIONS }
-    requires loads { J.loads ≡ true }
-{
-    let mut journal = Journal::new(alloc, book)?;
-    let log = Log::new(alloc, usize::MAX, ONE_IN);
-    let made = KeptDesk::<J, Log>::new(rt, alloc, opened, book, SESSIONS, log);
-    let (desk, handed, sessions) = made.ok()?;
-    let mut handed = handed;
-    let floor = Floor {
-        rt,
-        alloc,
-        desk: &desk,
+    state: &mut u64,
+    ending: Ending,
+) -> Left {
+    let front = drawn(rt, alloc, state).expect(rt, "memory");
+    let back = drawn(rt, alloc, state).expect(rt, "memory");
+    let scene = Scene {
+        one_in: ONE_IN,
+        front: &front,
+        back: &back,
+        pieces: PIECES,
+        ending,
+        ..Scene::new(4, &[])
     };
-    match operate_all(floor, &mut handed, &mut journal, sessions, round) {
-        Some((sessions, tallies)) => {
-            let left = end(rt, desk, handed, sessions, journal, round.ending)?;
-            Some((left, tallies))
-        }
-        None => {
-            let _log = desk.end(rt, handed);
-            None
-        }
-    }
+    left_of(rt, alloc, book, &scene)
 }
 
-/// Lets each session do its turns in a thread of its own, while one more hands out the journal.
-fn operate_all<J: Naming + Send + Sync, R: Threads + Wait + Sync>(
-    floor: Floor<J, R>,
-    handed: &mut Handed<J>,
-    journal: &mut Journal,
-    sessions: Vec<Session<J>>,
-    round: &Round,
-) -> Option<(Vec<Session<J>>, Vec<Tally>)> {
-    let (rt, alloc, desk, pool) = (floor.rt, floor.alloc, floor.desk, round.pool);
-    let seats = seats(alloc, sessions, round.seed)?;
-    let (seats, is_handed_out) = join(
-        rt,
-        move || {
-            let mut seats = seats;
-            serve_all(&floor, pool, &mut seats);
-            seats
-        },
-        move || hand_out(rt, desk, handed, journal).is_some(),
-    );
-    if !is_handed_out {
-        return None;
+fn judge<R: Abort>(rt: &R, left: &Left) {
+    judge_replayed(rt, left);
+    assert!(rt; left.log.entries == left.journal.entries);
+    let mut made = 0u64;
+    for (count, additions) in left.counts.iter().zip(left.additions.iter()) {
+        made = made.saturating_add(*count).saturating_add(*additions);
     }
-    hand_in(alloc, seats)
-}
-
-fn serve_all<J: Naming + Send + Sync, R: Threads + Wait + Sync>(
-    floor: &Floor<J, R>,
-    pool: &Pool,
-    seats: &mut [Seat<J>],
-) {
-    for_each_mut(
-        floor.rt,
-        seats,
-        usize::from(SESSIONS),
-        &|_place, seat: &mut Seat<J>| seat.serve(floor, pool),
-    );
-}
-
-/// Hands out the journal in pieces.
-fn hand_out<J: Naming, R: Wait>(
-    rt: &R,
-    desk: &KeptDesk<J, Log>,
-    handed: &mut Handed<J>,
-    journal: &mut Journal,
-) -> Option<()> {
-    for _piece in 0..PIECES {
-        journal.add(desk.checkpoint(rt, handed))?;
-    }
-    Some(())
-}
-
-/// Compares the journal, the book, the counts and the writer.
-///
-/// Errors: what isn't as the sessions were told.
-fn judge(left: &Left, tallies: &[Tally], ending: Ending) -> Result<(), &'static str> {
-    let mut total = Tally::default();
-    for tally in tallies {
-        total = total.plus(tally);
-    }
-    if total.done != TURNS {
-        return Err("a session failed");
-    }
-    if !is_same(&left.book, &left.journal.book) {
-        return Err("the journal leads to another book");
-    }
-    if left.log.entries != left.journal.entries {
-        return Err("the writer keeps other entries");
-    }
-    if left.log.refused as u64 != total.unkept {
-        return Err("sessions were told of another number of refusals");
-    }
-    let made = total.changes.saturating_add(total.additions);
-    if made != left.journal.entries.len() as u64 {
-        return Err("the sessions made another number of entries");
-    }
-    let lost = match (ending, tallies.last()) {
-        (Ending::Finish { .. }, Some(tally)) => tally.changes.saturating_add(tally.additions),
-        _ => 0,
-    };
-    if left.missing != lost {
-        return Err("the desk missed other entries than a lost session made");
-    }
-    judge_counts(left, tallies)
-}
-
-/// Each session counted what it was told, and the desk, if it was closed, what each session was.
-fn judge_counts(left: &Left, tallies: &[Tally]) -> Result<(), &'static str> {
-    let counts = left.counts.iter().zip(left.additions.iter());
-    for (tally, (count, additions)) in tallies.iter().zip(counts) {
-        if tally.changes != *count || tally.additions != *additions {
-            return Err("a session was told of other entries than are counted");
-        }
-    }
-    Ok(())
+    let entries = left.journal.entries.len() as u64;
+    assert!(rt; made == entries && made > 100, "{made} of {entries}");
 }
 
 #[test]
 fn every_journal_leads_to_its_book(rt: HostRuntime) {
-    assert_eq!(rt; soak(&rt, rt.alloc()), Ok(()));
+    let mut book = Book::new(rt.alloc()).expect(&rt, "memory");
+    let mut state = 0;
+    for ending in ENDINGS {
+        let left = played(&rt, rt.alloc(), &book, &mut state, ending);
+        judge(&rt, &left);
+        book = left.book;
+    }
 }

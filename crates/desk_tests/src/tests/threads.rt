@@ -1,35 +1,14 @@
 //! Two sessions of one desk, in a thread and in threads of their own: what one settles, the other
 //! meets.
-use super::ending::Left;
 use super::floor::{Answer, Step};
-use super::scene::{DONE, Line, Outcome, Scene, judge, judge_record, left_of, operates, replied};
-use super::{Accounts, BOTH_STAND, ONE_STANDS, book_of, entry, stored, upgrade, verify};
+use super::scene::{
+    DONE, Outcome, Scene, judge, judge_record, left_of, left_of_act, operates, replied,
+};
+use super::{BOTH_STAND, ONE_STANDS, book_of, entry, stored, upgrade, verify};
 use cred_book::Reply;
 use cred_desk::DeskError;
-use std::alloc::Global;
 use std::process::Abort;
-use std::sync::Wait;
-use std::thread::Threads;
 use test_samples::{B, B_SETTING};
-
-/// What is left when one session does the first lines, another one the others meanwhile, and both
-/// the last ones.
-fn played<R: Threads + Wait + Abort + Sync>(
-    rt: &R,
-    alloc: Global,
-    accounts: Accounts<'static>,
-    lines: [&[Line]; 3],
-) -> Left {
-    let book = book_of(rt, alloc, accounts).expect(rt, "a book");
-    let [front, back, after] = lines;
-    let acts = [after];
-    let scene = Scene {
-        front,
-        back,
-        ..Scene::new(2, &acts)
-    };
-    left_of(rt, alloc, &book, &scene)
-}
 
 fn copied<R: Abort>(rt: &R, text: &str) -> Outcome {
     Ok(Answer::Copied(Some(stored(rt, text))))
@@ -45,7 +24,13 @@ fn told_and_read(rt: HostRuntime) {
         (0, Step::Read, copied(&rt, B)),
         (0, Step::Close, replied(Reply::Yes)),
     ];
-    let left = played(&rt, rt.alloc(), ONE_STANDS, [&one, &other, &[]]);
+    let book = book_of(&rt, rt.alloc(), ONE_STANDS).expect(&rt, "a book");
+    let scene = Scene {
+        front: &one,
+        back: &other,
+        ..Scene::new(2, &[])
+    };
+    let left = left_of(&rt, rt.alloc(), &book, &scene);
     judge(&rt, &left, &[entry(&rt, "a", Some(B))], &[1, 0], &[0, 0]);
     judge_record(&rt, &left, "a", Some(B));
 }
@@ -65,7 +50,14 @@ fn seen_after_settle(rt: HostRuntime) {
         (1, Step::Begin(verify(&rt, "b")), DONE),
         (1, Step::Read, copied(&rt, B)),
     ];
-    let left = played(&rt, rt.alloc(), BOTH_STAND, [&one, &other, &after]);
+    let book = book_of(&rt, rt.alloc(), BOTH_STAND).expect(&rt, "a book");
+    let acts = [after.as_slice()];
+    let scene = Scene {
+        front: &one,
+        back: &other,
+        ..Scene::new(2, &acts)
+    };
+    let left = left_of(&rt, rt.alloc(), &book, &scene);
     assert_eq!(rt; left.counts.as_slice(), [1, 1].as_slice());
     assert_eq!(rt; left.log.entries.len(), 2);
 }
@@ -85,6 +77,7 @@ fn own_settle_is_read(rt: HostRuntime) {
         (1, Step::Learn, DONE),
         (1, Step::Close, replied(Reply::Changed { now })),
     ];
-    let left = played(&rt, rt.alloc(), ONE_STANDS, [&[], &[], &lines]);
+    let book = book_of(&rt, rt.alloc(), ONE_STANDS).expect(&rt, "a book");
+    let left = left_of_act(&rt, rt.alloc(), &book, 2, &lines);
     judge(&rt, &left, &[entry(&rt, "a", Some(B))], &[1, 0], &[0, 0]);
 }

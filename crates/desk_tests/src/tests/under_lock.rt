@@ -15,7 +15,7 @@ use std::marker::Brand;
 use std::process::Abort;
 use std::sync::Wait;
 use std::thread::{Threads, join};
-use std::time::{CpuClock, Duration};
+use std::time::CpuClock;
 use test_samples::{A, A_SETTING, B_SETTING};
 
 /// A record under which a hash takes days, and its setting.
@@ -57,18 +57,19 @@ fn settle_upgrade<J: Naming, W: EntryWriter<Error = Refused>, R: Threads + Wait 
     desk: &KeptDesk<J, W>,
     session: &mut Session<J>,
 ) -> Answer {
-    match work_of(rt, alloc, session, upgrade(rt, "a", B_SETTING)) {
-        Some(work) => settle(rt, desk, session, work),
-        None => Answer::Failed,
-    }
+    let work = work_of(rt, alloc, session, upgrade(rt, "a", B_SETTING));
+    settle(rt, desk, session, work)
 }
 
 fn settle<J: Naming, W: EntryWriter<Error = Refused>, R: Wait>(
     rt: &R,
     desk: &KeptDesk<J, W>,
     session: &mut Session<J>,
-    work: Worked,
+    work: Option<Worked>,
 ) -> Answer {
+    let Some(work) = work else {
+        return Answer::Failed;
+    };
     match desk.settle(rt, session, work) {
         Ok((reply, _told)) => Answer::Replied(reply),
         Err(_) => Answer::Failed,
@@ -90,10 +91,7 @@ fn read_meanwhile<J: Naming, R: Threads + Wait + Abort + Sync>(
     let mut open = None;
     begin(session, &mut open, verify(rt, "a"));
     let copied = read(&open);
-    let closed = match worked(rt, alloc, &mut open) {
-        Some(work) => close(session, work),
-        None => Answer::Failed,
-    };
+    let closed = close(session, worked(rt, alloc, &mut open));
     // Refused if the holder has failed, and nobody waits.
     let _told = go_on.send(rt, ());
     [copied, closed]
@@ -185,53 +183,40 @@ fn nothing_is_hashed_at_a_desk(rt: HostRuntime) {
     assert_eq!(rt; left.log.entries.len(), 1);
 }
 
-/// In nanoseconds.
-fn time_since<R: CpuClock>(rt: &R, start: Duration) -> Option<u128> {
-    let now = rt.thread_cpu_time().ok()?;
-    Some(now.as_nanos().saturating_sub(start.as_nanos()))
+/// The processor time of this thread, in nanoseconds.
+fn now<R: CpuClock + Abort>(rt: &R) -> u128 {
+    rt.thread_cpu_time().expect(rt, "a clock").as_nanos()
 }
 
-/// How long a verify's begin and close, and the settle of an upgrade to this setting, take.
+/// How long a verify's begin and close, and the settle of an upgrade to this setting, take: for
+/// ever, if it isn't settled.
 fn time_once<J: Naming, R: Threads + Wait + CpuClock + Abort + Sync>(
     rt: &R,
     alloc: Global,
     desk: &KeptDesk<J, Log>,
     session: &mut Session<J>,
     setting: &str,
-) -> Option<u128> {
+) -> u128 {
     let (verify, upgrade) = (verify(rt, "a"), upgrade(rt, "a", setting));
     let mut open = None;
-    let start = rt.thread_cpu_time().ok()?;
+    let start = now(rt);
     begin(session, &mut open, verify);
-    let begun = time_since(rt, start)?;
-    let verified = worked(rt, alloc, &mut open)?;
-    let start = rt.thread_cpu_time().ok()?;
+    let begun = now(rt).saturating_sub(start);
+    let verified = worked(rt, alloc, &mut open);
+    let start = now(rt);
     close(session, verified);
-    let closed = time_since(rt, start)?;
-    let upgraded = work_of(rt, alloc, session, upgrade)?;
-    let start = rt.thread_cpu_time().ok()?;
+    let closed = now(rt).saturating_sub(start);
+    let upgraded = work_of(rt, alloc, session, upgrade);
+    let start = now(rt);
     let settled = settle(rt, desk, session, upgraded);
-    let took = time_since(rt, start)?
-        .saturating_add(begun)
-        .saturating_add(closed);
-    (settled == Answer::Replied(Reply::Upgraded)).then_some(took)
+    let took = now(rt).saturating_sub(start);
+    if settled != Answer::Replied(Reply::Upgraded) {
+        return u128::MAX;
+    }
+    took.saturating_add(begun).saturating_add(closed)
 }
 
 /// The least time of many.
-fn time_all<J: Naming, R: Threads + Wait + CpuClock + Abort + Sync>(
-    rt: &R,
-    alloc: Global,
-    desk: &KeptDesk<J, Log>,
-    session: &mut Session<J>,
-) -> Option<u128> {
-    let mut quickest = u128::MAX;
-    for number in 0..TIMED {
-        let setting = [B_SETTING, A_SETTING][number as usize % 2];
-        quickest = quickest.min(time_once(rt, alloc, desk, session, setting)?);
-    }
-    Some(quickest)
-}
-
 fn timed<J: Naming, R: Threads + Wait + CpuClock + Abort + Sync>(
     rt: &R,
     alloc: Global,
@@ -244,12 +229,15 @@ fn timed<J: Naming, R: Threads + Wait + CpuClock + Abort + Sync>(
     let log = Log::new(alloc, usize::MAX, 0);
     let made = KeptDesk::<J, Log>::new(rt, alloc, opened, book, 1, log);
     let (desk, handed, mut sessions) = made.ok()?;
-    let quickest = match sessions.first_mut() {
-        Some(session) => time_all(rt, alloc, &desk, session),
-        None => None,
-    };
+    let mut quickest = u128::MAX;
+    for number in 0..TIMED {
+        let setting = [B_SETTING, A_SETTING][number as usize % 2];
+        for session in &mut sessions {
+            quickest = quickest.min(time_once(rt, alloc, &desk, session, setting));
+        }
+    }
     let _remains = desk.give_up(rt, handed, &sessions);
-    quickest
+    Some(quickest)
 }
 
 #[test]
