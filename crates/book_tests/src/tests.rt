@@ -9,7 +9,6 @@ mod accounts;
 mod gates;
 mod names;
 mod operations;
-mod refused;
 mod registers;
 mod scratch;
 mod secrets;

@@ -67,27 +67,18 @@ fn hold<R: Threads + Sync + Abort>(rt: &R, alloc: Global, table: &[Row]) {
 
 #[test]
 fn enrols_and_verifies(rt: HostRuntime) {
+    let pw = PASSWORD;
     let table = [
-        (
-            None,
-            enrol(&rt, PASSWORD, A_SETTING),
-            Reply::Enrolled,
-            Some(A),
-        ),
+        (None, enrol(&rt, pw, A_SETTING), Reply::Enrolled, Some(A)),
         (Some(A), enrol(&rt, "", B_SETTING), Reply::Exists, Some(A)),
-        (None, verify(&rt, PASSWORD), Reply::Absent, None),
-        (Some(A), verify(&rt, PASSWORD), Reply::Yes, Some(A)),
+        (None, verify(&rt, pw), Reply::Absent, None),
+        (Some(A), verify(&rt, pw), Reply::Yes, Some(A)),
         (Some(A), verify(&rt, ""), Reply::No, Some(A)),
-        (
-            Some(SCRYPT),
-            verify(&rt, PASSWORD),
-            Reply::Yes,
-            Some(SCRYPT),
-        ),
-        (Some(OLD), verify(&rt, PASSWORD), Reply::Yes, Some(OLD)),
+        (Some(SCRYPT), verify(&rt, pw), Reply::Yes, Some(SCRYPT)),
+        (Some(OLD), verify(&rt, pw), Reply::Yes, Some(OLD)),
         (Some(OLD), verify(&rt, ""), Reply::No, Some(OLD)),
-        (Some(SHORT), verify(&rt, PASSWORD), Reply::No, Some(SHORT)),
-        (Some(AS_OLD), verify(&rt, PASSWORD), Reply::No, Some(AS_OLD)),
+        (Some(SHORT), verify(&rt, pw), Reply::No, Some(SHORT)),
+        (Some(AS_OLD), verify(&rt, pw), Reply::No, Some(AS_OLD)),
     ];
     hold(&rt, rt.alloc(), &table);
 }
