@@ -170,9 +170,17 @@ class Import:
         self, lines: Iterable[str], key_of: Callable[[str], Key]
     ) -> Iterator[Line]:
         """The names and records of an import, all read before any is added."""
+        is_text = self.dialect.key_type is str
         for number, line in enumerate(lines, 1):
+            line = line.rstrip("\r\n")
+            name, _, record = line.rpartition(" ")
+            # Most names have no blank, and nothing else that is refused in one.
+            is_plain = is_text and name.isprintable() and " " not in name
+            if is_plain and name and record.isascii() and _library.is_record(record):
+                yield name, record
+                continue
             try:
-                yield self._record(line.rstrip("\r\n"), key_of)
+                yield self._record(line, key_of)
             except Refusal as refusal:
                 raise Refusal(f"line {number}: {refusal}") from None
 
@@ -222,12 +230,12 @@ class Import:
         """Puts some lines by a few statements; StoreFault if other records stand then."""
         keys = [] if self.are_new else [key for key, _ in share]
         stands = self._standing(session, keys)
-        new: dict[Key, str] = {}
-        for key, record in share:
-            if stands.get(key) is None:
-                new.setdefault(key, record)
+        lines = [it for it in share if stands.get(it[0]) is None] if stands else share
+        new = dict(lines)
+        if len(new) < len(lines):
+            new = dict(reversed(lines))  # of lines with one name the first counts
         added = [it for it in new.items() if it[0] not in stands]
-        enrolled = [it for it in new.items() if it[0] in stands]
+        enrolled = [it for it in new.items() if it[0] in stands] if stands else []
         if added:
             sql = self.dialect.add(len(added))
             result = run(session.execute(sql, *itertools.chain(*added)))
@@ -240,6 +248,8 @@ class Import:
         # A trigger, a collation or another program may have come between.
         if self._standing(session, [*new]) != new:
             raise StoreFault(ANOTHER_RECORD)
+        if len(new) == len(share):
+            return ["added"] * len(share)
         words = []
         for key, record in share:
             if key in new:
@@ -256,7 +266,8 @@ class Import:
         table, k, r = self.dialect.table, self.dialect.key, self.dialect.record
         marks = ", ".join([self.dialect.mark] * len(keys))
         sql = f"SELECT {k}, {r} FROM {table} WHERE {k} IN ({marks})"
-        return {key: record for key, record in run(session.execute(sql, *keys)).rows}
+        rows: list[Any] = run(session.execute(sql, *keys)).rows
+        return dict(rows)
 
     def _named(self, session: Session, key: Key, record: str) -> str:
         try:

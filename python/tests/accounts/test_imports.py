@@ -34,6 +34,14 @@ class Imports(Commands):
         self.assertEqual(error, named)
         self.assert_answers(("check user7@x", "one", "yes"))
 
+    def test_names_that_come_twice(self):
+        """The first record of each counts, in a table that has none of them too."""
+        lines = (f"ann {RECORD}", f"b\u00e9 {TWO}", f"ann {TWO}", f"b\u00e9 {TWO}", f"cid {TWO}")
+        said, error = self.streams("import", self.file(*lines), status=4)
+        self.assertEqual(said, f"3 added, 1 there already, 1 with {ANOTHER}\n")
+        self.assertEqual(error, f"rigzumal: line 3: ann has {ANOTHER}\n")
+        self.assertEqual(self.rows(), {"ann": RECORD, "b\u00e9": TWO, "cid": TWO})
+
     def test_one_that_fails(self):
         """Its batch is undone, the ones before it stay, and the lines are named."""
         self.enterContext(mock.patch.object(_import, "BATCH", 500))
@@ -72,8 +80,12 @@ class Imports(Commands):
         (f"ann  {RECORD}", "the name begins or ends with a blank"),
         (f"\u00a0ann {RECORD}", "the name begins or ends with a blank"),
         (f"\ufeffann {RECORD}", "the name begins with a byte order mark"),
-        (f"\udcff {RECORD}", "the line is not UTF-8"),
+        (f"ann {RECORD} ", ""),  # the record is behind the last blank: it is none
+        *((it, "the line is not UTF-8") for it in (f"\udcff {RECORD}", f"ann {RECORD}\udcff")),
         (f"be\0n {RECORD}", "the column can't hold this name"),
+        (f"be\rn {RECORD}", 'a line is "NAME RECORD"'),  # a line's end, as of old Macs
+        *((f"ann {RECORD}{it}", "") for it in ("\0", "\u00e9", "\ufeff", "\x7f", "$" * 500)),
+        (RECORD, 'a line is "NAME RECORD"'),
         ("ann $2b$12$R9h/cIPz0gi.URNNX3kh2O", "the record's scheme is 2b, and "),
         ("ann pbkdf2_sha256$260000$abc$def", "the record's scheme is pbkdf2_sha256"),
         ("ann argon2$argon2id$v=19$m=8,t=1$c$d", "the record's scheme is argon2, and "),
