@@ -33,6 +33,8 @@ RECORDS = {
     for (kind, version), tag in TAGS.items()
     if version == 0x13
 }
+COSTS = {"time_cost": 2, "memory_cost": 256, "parallelism": 1}
+OF_ARGON2 = {**COSTS, "memory_cost": 64, "parallelism": 2}
 # printf 'pass\0word' | argon2 somesalt -id -t 1 -k 64 -p 1 -l 32 -e
 WITH_NUL = "$argon2id$v=19$m=64,t=1,p=1$c29tZXNhbHQ$6oIEETo0BJ7q/vyz7jFW6wFb/GyfaZJ1ejETi5d+Muo"
 
@@ -50,8 +52,7 @@ class Kinds(unittest.TestCase):
 
     @each(*TAGS.items())
     def test_a_raw_tag_has_its_kind_and_version(self, given, wanted):
-        costs = {"time_cost": 2, "memory_cost": 256, "parallelism": 1}
-        named = dict(zip(("type", "version"), given), **costs)
+        named = dict(zip(("type", "version"), given), **COSTS)
         self.assertEqual(rigzumal.argon2("password", b"somesalt", **named).hex(), wanted)
 
 
@@ -63,10 +64,9 @@ class Verifying(unittest.TestCase):
         self.assertEqual(found, [True, False, False, False, False])
 
     def test_a_secret_is_rfc_9106s(self):
-        costs = {"time_cost": 2, "memory_cost": 256, "parallelism": 1}
         hasher = SMALL.replace(secret=b"pepper")
         record = hasher.hash("password", salt=b"somesalt")
-        tag = rigzumal.argon2("password", b"somesalt", secret=b"pepper", **costs)
+        tag = rigzumal.argon2("password", b"somesalt", secret=b"pepper", **COSTS)
         self.assertEqual(record.rsplit("$", 1)[1], base64_of(tag))
         other = SMALL.replace(secret=b"Pepper")
         for one, password in itertools.product((hasher, SMALL, other), ("password", "x")):
@@ -82,25 +82,21 @@ class Verifying(unittest.TestCase):
 class Rehash(unittest.TestCase):
     """A record of any other number needs a rehash, lower or higher."""
 
-    def test_of_other_numbers(self):
-        argon2 = {"time_cost": 2, "memory_cost": 64, "parallelism": 2}
-        scrypt = {"log2_n": 4, "block_size": 2, "parallelism": 2}
-        for maker, kind, numbers in (
-            (PasswordHasher, Type, argon2),
-            (argon2_cffi.PasswordHasher, argon2_cffi.Type, argon2),
-            (ScryptHasher, None, scrypt),
-        ):
-            with self.subTest(maker=maker):
-                numbers = {**numbers, "hash_len": 32, "salt_len": 16}
-                kinds = (kind.D, kind.I) if kind else ()
-                hasher = maker(**numbers)
-                record = hasher.hash("x")
-                self.assertFalse(hasher.check_needs_rehash(record))
-                changes = [{name: it + by} for name, it in numbers.items() for by in (-1, 1)]
-                for change in (*changes, *({"type": it} for it in kinds)):
-                    other = maker(**{**numbers, **change})
-                    self.assertTrue(other.check_needs_rehash(record), change)
-                    self.assertTrue(hasher.check_needs_rehash(other.hash("x")), change)
+    @each(
+        (PasswordHasher, Type, OF_ARGON2),
+        (argon2_cffi.PasswordHasher, argon2_cffi.Type, OF_ARGON2),
+        (ScryptHasher, (), {"log2_n": 4, "block_size": 2, "parallelism": 2}),
+    )
+    def test_of_other_numbers(self, maker, kinds, costs):
+        numbers = {**costs, "hash_len": 32, "salt_len": 16}
+        hasher = maker(**numbers)
+        record = hasher.hash("x")
+        self.assertFalse(hasher.check_needs_rehash(record))
+        changes = [{name: it + by} for name, it in numbers.items() for by in (-1, 1)]
+        for change in (*changes, *({"type": it} for it in kinds if it.name != "ID")):
+            other = maker(**{**numbers, **change})
+            self.assertTrue(other.check_needs_rehash(record), change)
+            self.assertTrue(hasher.check_needs_rehash(other.hash("x")), change)
 
     def test_of_another_scheme_and_version(self):
         self.assertTrue(ScryptHasher().check_needs_rehash(ARGON2))
@@ -110,38 +106,32 @@ class Rehash(unittest.TestCase):
 
 class Inputs(unittest.TestCase):
     def test_a_zero_byte_ends_no_password(self):
-        hasher = PasswordHasher(1, 64, 1)
-        for password in ("pass\0word", b"pass\0word"):
+        hasher, wrong = PasswordHasher(1, 64, 1), ("pass", "pass\0", "pass\0worD", "\0", "")
+        for password in ("pass\0word", b"pass\0word", *wrong):
             with self.subTest(password=password):
-                self.assertEqual(hasher.hash(password, salt=b"somesalt"), WITH_NUL)
-                self.assertTrue(hasher.verify(WITH_NUL, password))
-        for wrong in ("pass", "pass\0", "pass\0worD", "\0", ""):
-            with self.subTest(wrong=wrong):
-                self.assertFalse(verdict(hasher, WITH_NUL, wrong))
+                is_right = password not in wrong
+                self.assertEqual(hasher.hash(password, salt=b"somesalt") == WITH_NUL, is_right)
+                self.assertIs(verdict(hasher, WITH_NUL, password), is_right)
         record = ScryptHasher(4).hash("pass\0word", salt=b"some\0salt")
         self.assertEqual(rigzumal.parts(record).salt_size, 9)
         self.assertFalse(verdict(hasher, record, "pass"))
 
-    def test_what_holds_bytes_is_taken_whole(self):
-        words = array.array("I", [1, 2, 3, 0x04050607])
-        longer = memoryview(bytearray(b"a longer one than sixteen"))
-        views = memoryview(words), memoryview(b"_s_i_x_t_e_e_n__")[::2]
-        kinds = (kind(b"sixteen of bytes") for kind in (bytes, bytearray, memoryview))
-        for holds in (*kinds, longer, *views):
-            with self.subTest(holds=holds):
-                data = bytes(holds)
-                wanted = LEAST.hash(data, salt=data)
-                self.assertEqual(LEAST.hash(holds, salt=holds), wanted)
-                self.assertTrue(LEAST.verify(wanted, holds))
-                scrypt = ScryptHasher(1, 1, 1)
-                self.assertEqual(scrypt.hash(holds, salt=holds), scrypt.hash(data, salt=data))
-                one, two = (
-                    rigzumal.argon2(it, it, secret=it, associated=it, **LEAST_COSTS)
-                    for it in (holds, data)
-                )
-                self.assertEqual(one, two)
-                made = LEAST.replace(secret=holds).hash("x", salt=data)
-                self.assertTrue(LEAST.replace(secret=data).verify(made, "x"))
+    @each(
+        *(kind(b"sixteen of bytes") for kind in (bytes, bytearray, memoryview)),
+        memoryview(bytearray(b"a longer one than sixteen")),
+        memoryview(array.array("I", [1, 2, 3, 0x04050607])),
+        memoryview(b"_s_i_x_t_e_e_n__")[::2],
+    )
+    def test_what_holds_bytes_is_taken_whole(self, holds):
+        data, scrypt = bytes(holds), ScryptHasher(1, 1, 1)
+        wanted = LEAST.hash(data, salt=data)
+        self.assertEqual(LEAST.hash(holds, salt=holds), wanted)
+        self.assertTrue(LEAST.verify(wanted, holds))
+        self.assertEqual(scrypt.hash(holds, salt=holds), scrypt.hash(data, salt=data))
+        tag = lambda it: rigzumal.argon2(it, it, secret=it, associated=it, **LEAST_COSTS)
+        self.assertEqual(tag(holds), tag(data))
+        made = LEAST.replace(secret=holds).hash("x", salt=data)
+        self.assertTrue(LEAST.replace(secret=data).verify(made, "x"))
 
     def test_a_hasher_keeps_its_secret_as_it_was_given(self):
         secret = bytearray(b"pepper")
@@ -151,13 +141,12 @@ class Inputs(unittest.TestCase):
         self.assertTrue(hasher.verify(made, "x"))
         self.assertTrue(LEAST.replace(secret=b"pepper").verify(made, "x"))
 
-    def test_text_is_its_utf_8(self):
+    @each("\ud800", "\udc80", "pass\udcffword", "\udfff")
+    def test_text_is_its_utf_8(self, no_text):
         record = LEAST.hash("p\xe4ss\U0001f600")
         self.assertTrue(LEAST.verify(record, "p\xe4ss\U0001f600".encode()))
-        for text in ("\ud800", "\udc80", "pass\udcffword", "\udfff"):
-            with self.subTest(text=text):
-                self.assertRaises(ValueError, LEAST.hash, text)
-                self.assertRaises(ValueError, LEAST.verify, record, text)
+        self.assertRaises(ValueError, LEAST.hash, no_text)
+        self.assertRaises(ValueError, LEAST.verify, record, no_text)
 
     def test_scrypt_is_hashlibs(self):
         """Keys, passwords and salts of every length, and a record."""
@@ -176,34 +165,34 @@ class Inputs(unittest.TestCase):
 
 
 class Parts(unittest.TestCase):
-    def test_each_number_is_in_its_place(self):
-        for record, wanted in (
-            ("$argon2d$v=16$m=2048,t=7,p=5$c29tZXNhbHQ$nf65EA", ("argon2d", 16, 2048, 7, 5, 8, 4)),
-            ("$scrypt$ln=4,r=3,p=2$YmVucyBzYWx0$nf65EA", ("scrypt", 0, 4, 3, 2, 9, 4)),
-        ):
-            with self.subTest(record=record):
-                found = rigzumal.parts(record)
-                self.assertEqual((found, found.costs), (rigzumal.Parts(*wanted), wanted[:5]))
-        for kind, record in RECORDS.items():
-            with self.subTest(kind=kind):
-                self.assertEqual(rigzumal.parts(record).scheme, f"argon2{kind.name.lower()}")
+    @each(
+        ("$argon2d$v=16$m=2048,t=7,p=5$c29tZXNhbHQ$nf65EA", ("argon2d", 16, 2048, 7, 5, 8, 4)),
+        ("$scrypt$ln=4,r=3,p=2$YmVucyBzYWx0$nf65EA", ("scrypt", 0, 4, 3, 2, 9, 4)),
+        *(
+            (it, (f"argon2{kind.name.lower()}", 19, 256, 2, 1, 8, 32))
+            for kind, it in RECORDS.items()
+        ),
+    )
+    def test_each_number_is_in_its_place(self, record, wanted):
+        found = rigzumal.parts(record)
+        self.assertEqual((found, found.costs), (rigzumal.Parts(*wanted), wanted[:5]))
 
 
 class Opaque(unittest.TestCase):
     """RFC 8265's form of a password."""
 
-    def test_examples_of_the_rfc(self):
+    @each(
+        *((it, None) for it in ("correct horse battery staple", "Correct Horse Battery Staple")),
+        *((it, None) for it in ("\u03c0\u00df\u00e5", "Jack of \u2666s", "foo\u1680bar")),
+        ("", "the password is empty"),
+        ("my cat is a \u0009by", "the password has a character that can't be typed"),
+    )
+    def test_examples_of_the_rfc(self, text, said):
         """Its table 2, and the texts that it refuses."""
-        alike = "correct horse battery staple", "Correct Horse Battery Staple"
-        for text in (*alike, "\u03c0\u00df\u00e5", "Jack of \u2666s", "foo\u1680bar"):
-            with self.subTest(text=text):
-                self.assertEqual(opaque_string(text), text.replace("\u1680", " "))
-        for text, said in (
-            ("", "the password is empty"),
-            ("my cat is a \u0009by", "the password has a character that can't be typed"),
-        ):
-            with self.subTest(text=text):
-                self.assertRaisesRegex(ValueError, f"^{said}$", opaque_string, text)
+        if said:
+            self.assertRaisesRegex(ValueError, f"^{said}$", opaque_string, text)
+        else:
+            self.assertEqual(opaque_string(text), text.replace("\u1680", " "))
 
     @each("caf\u00e9", "\u1e9b\u0323", "\uac00", "na\u00efve \u212b")
     def test_each_keyboard_makes_the_same(self, text):
@@ -222,7 +211,7 @@ class Opaque(unittest.TestCase):
     )
     def test_what_nobody_types(self, odd):
         """And no text is in what is raised."""
-        with self.subTest(odd=ascii(odd)), self.assertRaises(ValueError) as raised:
+        with self.assertRaises(ValueError) as raised:
             opaque_string(f"hunter{odd}2")
         self.assertNotIn("hunter", str(raised.exception))
 

@@ -19,16 +19,17 @@ COSTS = {"time_cost": 1, "memory_cost": 64, "parallelism": 4}
 class Defaults(unittest.TestCase):
     """What a user has who names nothing."""
 
-    def test_of_hashers(self):
+    @each(
+        (PasswordHasher(), "$argon2id$v=19$m=65536,t=3,p=4"),
+        (ScryptHasher(), "$scrypt$ln=17,r=8,p=1"),
+    )
+    def test_of_hashers(self, hasher, costs):
+        record = hasher.hash("x")
+        self.assertEqual((hasher.costs, record.rsplit("$", 2)[0]), (costs, costs))
+        parts = rigzumal.parts(record)
+        self.assertEqual((parts.salt_size, parts.tag_size), (16, 32))
+        self.assertFalse(hasher.check_needs_rehash(record))
         argon2 = PasswordHasher()
-        scrypt = ScryptHasher(), "$scrypt$ln=17,r=8,p=1"
-        for hasher, costs in ((argon2, "$argon2id$v=19$m=65536,t=3,p=4"), scrypt):
-            with self.subTest(hasher=hasher, costs=costs):
-                record = hasher.hash("x")
-                self.assertEqual((hasher.costs, record.rsplit("$", 2)[0]), (costs, costs))
-                parts = rigzumal.parts(record)
-                self.assertEqual((parts.salt_size, parts.tag_size), (16, 32))
-                self.assertFalse(hasher.check_needs_rehash(record))
         self.assertEqual((argon2.threads, argon2.secret, argon2.secrets), (1, None, ()))
         self.assertEqual((argon2.type, int(argon2.type)), (Type.ID, 2))
 
@@ -53,13 +54,14 @@ class Defaults(unittest.TestCase):
 class Values(unittest.TestCase):
     """Hashers and parts are values."""
 
-    def test_they_do_not_change(self):
-        for value, name in ((SMALL, "time_cost"), (ScryptHasher(), "log2_n")):
-            for name in (name, "hash_len", "another"):
-                with self.subTest(value=value, name=name):
-                    self.assertRaises(AttributeError, setattr, value, name, 1)
-                    self.assertRaises(AttributeError, delattr, value, name)
-        self.assertRaises(AttributeError, setattr, rigzumal.parts(ARGON2), "memory", 1)
+    @each(
+        *((SMALL, it) for it in ("time_cost", "hash_len", "another")),
+        *((ScryptHasher(), it) for it in ("log2_n", "hash_len", "another")),
+        (rigzumal.parts(ARGON2), "memory"),
+    )
+    def test_they_do_not_change(self, value, name):
+        self.assertRaises(AttributeError, setattr, value, name, 1)
+        self.assertRaises(AttributeError, delattr, value, name)
 
     def test_equal_ones_are_equal_in_each_number(self):
         self.assertEqual(SMALL, PasswordHasher(2, 256, 1))
@@ -79,12 +81,11 @@ class Values(unittest.TestCase):
         self.assertEqual(hasher.replace(time_cost=2).time_cost, 2)
         self.assertRaises(rigzumal.InvalidNumbersError, hasher.replace, time_cost=0)
 
-    def test_they_are_shown_without_a_secret(self):
+    @each({}, {"secret": b"pepper"}, {"secrets": [b"pepper", b"older"]})
+    def test_they_are_shown_without_a_secret(self, changes):
         shown = "PasswordHasher(time_cost=1, memory_cost=8, parallelism=1, hash_len=32, salt_len=16"
         shown += ", type=<Type.ID: 2>, threads=1)"
-        for changes in ({}, {"secret": b"pepper"}, {"secrets": [b"pepper", b"older"]}):
-            with self.subTest(changes=changes):
-                self.assertEqual(repr(LEAST.replace(**changes)), shown)
+        self.assertEqual(repr(LEAST.replace(**changes)), shown)
         shown = "ScryptHasher(log2_n=4, block_size=8, parallelism=1, hash_len=32, salt_len=16)"
         self.assertEqual(repr(ScryptHasher(4)), shown)
 
@@ -94,7 +95,7 @@ class Values(unittest.TestCase):
             self.assertEqual(made, value)
 
 
-CHECK = "rigzumal_check_from"
+CHECK, SCRYPT = "rigzumal_check_from", ScryptHasher(log2_n=4)
 
 
 class Rotation(unittest.TestCase):
@@ -102,61 +103,47 @@ class Rotation(unittest.TestCase):
 
     OLD, NEW = (SMALL.replace(secret=it) for it in (b"old", b"new"))
     BOTH = SMALL.replace(secrets=[b"new", bytearray(b"old")])
+    NEW_OR_NONE = SMALL.replace(secrets=[b"new", b""])
 
-    def test_records_of_each_are_verified(self):
-        """A new one is of the first."""
-        record = self.BOTH.hash("x")
-        for hasher, made, wanted in (
-            (self.BOTH, record, True),
-            (self.NEW, record, True),
-            (self.OLD, record, False),
-            (self.BOTH, self.NEW.hash("x"), True),
-            (self.BOTH, self.OLD.hash("x"), True),
-            (self.BOTH, self.NEW.hash("y"), False),
-            (self.BOTH, self.OLD.hash("y"), False),
-            (self.BOTH, SMALL.hash("x"), False),
-            (SMALL.replace(secrets=[b"new", b""]), SMALL.hash("x"), True),
-            (SMALL.replace(secrets=[b"new", b""]), SMALL.hash("y"), False),
-        ):
-            with self.subTest(hasher=hasher, made=made):
-                self.assertIs(verdict(hasher, made, "x"), wanted, (hasher.secrets, made))
+    # Who made a record, who reads it, and whether it is right and is made anew.
+    @each(
+        (BOTH, BOTH, True, False),
+        (BOTH, NEW, True, False),  # a new one is of the first
+        (BOTH, OLD, False, False),
+        (NEW, BOTH, True, False),
+        (OLD, BOTH, True, True),
+        (SMALL, BOTH, False, False),
+        (SMALL, NEW_OR_NONE, True, True),
+        (SCRYPT, NEW_OR_NONE, True, True),
+        *((it, it, True, False) for it in (SMALL, NEW, SCRYPT)),
+        *((it.replace(salt_len=17), it, True, True) for it in (SMALL, NEW, SCRYPT)),
+    )
+    def test_records_of_each(self, maker, hasher, is_right, is_old):
+        """Verified, and made anew by the first secret and at the hasher's costs."""
+        record = maker.hash("x")
+        self.assertIs(verdict(hasher, record, "x"), is_right)
+        self.assertIs(verdict(hasher, maker.hash("y"), "x"), False)
+        for text in (maker.hash("y"), *([] if is_right else [record])):
+            with self.assertRaises(rigzumal.VerifyMismatchError):
+                hasher.verify_and_rehash(text, "x")
+        made = hasher.verify_and_rehash(record, "x") if is_right else None
+        self.assertEqual(made is not None, is_old)
+        if is_old:
+            first = hasher if hasher in (SMALL, SCRYPT) else self.NEW
+            self.assertIs(first.verify(made, "x"), True)
+            self.assertFalse(hasher.check_needs_rehash(made))
+            self.assertIsNone(hasher.verify_and_rehash(made, "x"))
 
-    def test_those_of_older_ones_are_rehashed(self):
-        self.assertIsNone(self.BOTH.verify_and_rehash(self.NEW.hash("x"), "x"))
-        made = self.BOTH.verify_and_rehash(self.OLD.hash("x"), "x")
-        self.assertIs(self.NEW.verify(made, "x"), True)
-        self.assertIsNone(self.BOTH.verify_and_rehash(made, "x"))
-        for hasher in (self.NEW, self.OLD):
-            with self.subTest(hasher=hasher), self.assertRaises(rigzumal.VerifyMismatchError):
-                self.BOTH.verify_and_rehash(hasher.hash("y"), "x")
+    def test_what_none_of_them_reads(self):
+        for record in (SCRYPT.hash("x"), "x"):
+            for call in (self.BOTH.verify, self.BOTH.verify_and_rehash):
+                self.assertRaises(rigzumal.InvalidRecordError, call, record, "x")
 
-    def test_those_without_a_pepper_are_rehashed(self):
-        both = SMALL.replace(secrets=[b"new", b""])
-        for old in (SMALL, ScryptHasher(log2_n=4)):
-            with self.subTest(old=old):
-                made = both.verify_and_rehash(old.hash("x"), "x")
-                self.assertIs(self.NEW.verify(made, "x"), True)
-                self.assertFalse(verdict(both, old.hash("x"), "y"))
-        with self.assertRaises(rigzumal.InvalidRecordError):
-            self.BOTH.verify(ScryptHasher(log2_n=4).hash("x"), "x")
-
-    def test_those_of_other_costs_are_rehashed(self):
-        for hasher in (SMALL, self.NEW, ScryptHasher(log2_n=4)):
-            with self.subTest(hasher=hasher):
-                self.assertIsNone(hasher.verify_and_rehash(hasher.hash("x"), "x"))
-                old = hasher.replace(salt_len=17).hash("x")
-                made = hasher.verify_and_rehash(old, "x")
-                self.assertFalse(hasher.check_needs_rehash(made))
-                self.assertIs(hasher.verify(made, "x"), True)
-        self.assertRaises(rigzumal.InvalidRecordError, SMALL.verify_and_rehash, "x", "x")
-
-    def test_a_hash_for_each_that_is_tried(self):
-        of_new, of_old, bad = self.NEW.hash("x"), self.OLD.hash("x"), ARGON2[:-1]
-        for record, tried in ((of_new, 1), (of_old, 2), (ARGON2, 2), (bad, 1)):
-            with self.subTest(tried=tried):
-                with Calls() as calls, contextlib.suppress(rigzumal.RigzumalError):
-                    self.BOTH.verify(record, "x")
-                self.assertEqual([it[0] for it in calls.made].count(CHECK), tried)
+    @each((NEW.hash("x"), 1), (OLD.hash("x"), 2), (ARGON2, 2), (ARGON2[:-1], 1))
+    def test_a_hash_for_each_that_is_tried(self, record, tried):
+        with Calls() as calls, contextlib.suppress(rigzumal.RigzumalError):
+            self.BOTH.verify(record, "x")
+        self.assertEqual([it[0] for it in calls.made].count(CHECK), tried)
 
     def test_the_first_is_the_secret(self):
         """So that who refuses hashers with a secret refuses these."""
@@ -166,37 +153,34 @@ class Rotation(unittest.TestCase):
         self.assertEqual(self.BOTH.replace(time_cost=1).secrets, (b"new", b"old"))
         self.assertEqual(self.BOTH.replace(secrets=None).secret, None)
 
-    def test_bad_secrets(self):
+    @each(
+        *({"secret": it} for it in (b"", bytearray())),
+        *({"secrets": it} for it in ([], (), iter(()), [b""], [b"", b"old"])),
+        {"secret": b"", "secrets": [b"x"]},
+    )
+    def test_bad_secrets(self, bad):
         """An empty one is what an unset variable gives, and would be no pepper at all."""
-        for bad in (
-            *({"secret": it} for it in (b"", bytearray())),
-            *({"secrets": it} for it in ([], (), iter(()), [b""], [b"", b"old"])),
-            {"secret": b"", "secrets": [b"x"]},
-        ):
-            with self.subTest(bad=bad):
-                self.assertRaisesRegex(ValueError, "secret", PasswordHasher, **bad)
-                self.assertRaisesRegex(ValueError, "secret", SMALL.replace, **bad)
+        self.assertRaisesRegex(ValueError, "secret", PasswordHasher, **bad)
+        self.assertRaisesRegex(ValueError, "secret", SMALL.replace, **bad)
         self.assertRaises(ValueError, self.BOTH.replace, secret=b"other")
         for wrong in ([None], ["x"], 5):
             self.assertRaises(TypeError, PasswordHasher, secrets=wrong)
 
 
 class Threads(unittest.TestCase):
-    def test_those_that_are_asked_for(self):
+    @each({}, {"threads": 1}, {"threads": 3}, {"threads": 200})
+    def test_those_that_are_asked_for(self, given):
         """One if none are."""
         names = ("record", "check") * 2 + ("argon2",)
-        for given in ({}, {"threads": 1}, {"threads": 3}, {"threads": 200}):
-            with self.subTest(given=given):
-                with Calls() as calls:
-                    for secret in (None, b"pepper"):
-                        hasher = PasswordHasher(**COSTS, secret=secret, **given)
-                        hasher.verify(hasher.hash("x"), "x")
-                    rigzumal.argon2("x", b"somesalt", **COSTS, **given)
-                wanted = [(f"rigzumal_{name}_from", given.get("threads", 1)) for name in names]
-                made = [(name, words[-1].threads) for name, *words in calls.made]
-                self.assertEqual(made, wanted)
-                with_secret = [words[-1].secret for _, *words in calls.made[:4]]
-                self.assertEqual(with_secret, [None, None, b"pepper", b"pepper"])
+        with Calls() as calls:
+            for secret in (None, b"pepper"):
+                hasher = PasswordHasher(**COSTS, secret=secret, **given)
+                hasher.verify(hasher.hash("x"), "x")
+            rigzumal.argon2("x", b"somesalt", **COSTS, **given)
+        wanted = [(f"rigzumal_{name}_from", given.get("threads", 1)) for name in names]
+        self.assertEqual([(name, words[-1].threads) for name, *words in calls.made], wanted)
+        with_secret = [words[-1].secret for _, *words in calls.made[:4]]
+        self.assertEqual(with_secret, [None, None, b"pepper", b"pepper"])
 
     def test_those_of_argon2_cffi_are_its_parallelism(self):
         hasher = argon2_cffi.PasswordHasher(1, 64, 4)
