@@ -69,22 +69,18 @@ class Names(unittest.TestCase):
 
 
 class Kept(unittest.TestCase):
-    def test_memory_is_given_back(self):
+    @each((65536, 2**26), (8, 0), (1024, 2**24))
+    def test_memory_is_given_back(self, memory, kept):
         rigzumal.trim()
-        for memory, kept in ((65536, 2**26), (8, 0), (1024, 2**24)):
-            with self.subTest(memory=memory, kept=kept):
-                PasswordHasher(1, memory, 1).hash("x")
-                self.assertEqual((rigzumal.trim(), rigzumal.trim()), (kept, 0))
+        PasswordHasher(1, memory, 1).hash("x")
+        self.assertEqual((rigzumal.trim(), rigzumal.trim()), (kept, 0))
 
-    def test_the_bound(self):
+    @each(("", 2**26), (str(2**25), 2**25))
+    def test_the_bound(self, bound, wanted):
         script = "import rigzumal; print(rigzumal.keep(0), rigzumal.keep(2**21), rigzumal.keep(0))"
-        for bound, wanted in (("", 2**26), (str(2**25), 2**25)):
-            with self.subTest(bound=bound):
-                output = python("-c", script, RIGZUMAL_KEEP=bound)
-                self.assertEqual(output, f"{wanted} 0 {2**21}\n")
+        self.assertEqual(python("-c", script, RIGZUMAL_KEEP=bound), f"{wanted} 0 {2**21}\n")
         for wrong, kind in ((-1, OverflowError), (2**63, OverflowError), ("0", TypeError)):
-            with self.subTest(wrong=wrong, kind=kind):
-                self.assertRaises(kind, rigzumal.keep, wrong)
+            self.assertRaises(kind, rigzumal.keep, wrong)
 
 
 class OfOthers(unittest.TestCase):

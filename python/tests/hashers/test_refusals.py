@@ -1,6 +1,7 @@
 """Tests of what is refused, and of the exceptions that say so."""
 
 import copy
+import itertools
 import pickle
 import unittest
 
@@ -11,30 +12,28 @@ from rigzumal import PasswordHasher, ScryptHasher, _library
 from tests.helpers import each
 
 
-class Exceptions(unittest.TestCase):
-    def test_each_number_has_its_exception(self):
-        """Which is the same when it is copied or comes from another process."""
-        for kind, numbers in {
-            rigzumal.VerifyMismatchError: [10],
-            rigzumal.OutOfMemoryError: [8],
-            rigzumal.NoRandomError: [26],
-            rigzumal.InvalidRecordError: [1, 2, 3, 4, 5, 6, 7, 9],
-            rigzumal.InvalidNumbersError: [*range(11, 26), 27, 255],
-        }.items():
-            for number in numbers:
-                with self.assertRaises(rigzumal.RigzumalError) as raised:
-                    _library.raise_fault(number)
-                made = raised.exception
-                self.assertEqual((type(made), made.number), (kind, number))
-                again = pickle.loads(pickle.dumps(made))
-                for other in (again, copy.copy(made), copy.deepcopy(made)):
-                    with self.subTest(other=other):
-                        copied = (type(other), other.number, other.word, str(other))
-                        self.assertEqual(copied, (kind, number, made.word, str(made)))
-        self.assertIsNone(_library.raise_fault(0))
+ARGON2_COSTS = {"time_cost": 1, "memory_cost": 16, "parallelism": 2}
+SCRYPT_COSTS = {"log2_n": 4, "block_size": 8, "parallelism": 1}
 
 
 class Refusals(unittest.TestCase):
+    @each(
+        *((it, rigzumal.InvalidRecordError) for it in (1, 2, 3, 4, 5, 6, 7, 9)),
+        *((it, rigzumal.InvalidNumbersError) for it in (*range(11, 26), 27, 255)),
+        (10, rigzumal.VerifyMismatchError),
+        (8, rigzumal.OutOfMemoryError),
+        (26, rigzumal.NoRandomError),
+    )
+    def test_each_number_has_its_exception(self, number, kind):
+        """Which is the same when it is copied or comes from another process."""
+        with self.assertRaises(rigzumal.RigzumalError) as raised:
+            _library.raise_fault(number)
+        made = raised.exception
+        for other in (made, copy.copy(made), copy.deepcopy(made), pickle.loads(pickle.dumps(made))):
+            copied = (type(other), other.number, other.word, str(other))
+            self.assertEqual(copied, (kind, number, made.word, str(made)))
+        self.assertIsNone(_library.raise_fault(0))
+
     def refused(self, kind, word, call, *given, message=None, **named):
         """By an exception that is the same when it is copied."""
         with self.assertRaises(kind) as raised:
@@ -59,50 +58,45 @@ class Refusals(unittest.TestCase):
         self.refused(*given, rigzumal.parts, text, message=message)
         self.refused(*given, SMALL.verify, text, "x", message=message)
 
-    def test_numbers_of_a_hasher(self):
+    @each(
+        (PasswordHasher, ARGON2_COSTS, "time_cost", 1, 2**32 - 1, "passes"),
+        (PasswordHasher, ARGON2_COSTS, "memory_cost", 16, 2097152, "cost"),
+        (PasswordHasher, {"memory_cost": 2097152}, "parallelism", 1, 255, "lanes"),
+        (PasswordHasher, ARGON2_COSTS, "hash_len", 4, 64, "tag"),
+        (PasswordHasher, ARGON2_COSTS, "salt_len", 8, 48, "salt"),
+        (PasswordHasher, ARGON2_COSTS, "threads", 1, 2**32 - 1, "range"),
+        (ScryptHasher, SCRYPT_COSTS, "log2_n", 1, 21, "scryptcost"),
+        (ScryptHasher, {"block_size": 1}, "log2_n", 1, 15, "scryptcost"),
+        (ScryptHasher, {"block_size": 2}, "log2_n", 1, 23, "scryptcost"),
+        (ScryptHasher, {"block_size": 255}, "log2_n", 1, 16, "scryptcost"),
+        (ScryptHasher, {"log2_n": 4}, "block_size", 1, 255, "blocksize"),
+        (ScryptHasher, SCRYPT_COSTS, "parallelism", 1, 255, "blocks"),
+        (ScryptHasher, SCRYPT_COSTS, "hash_len", 4, 64, "tag"),
+        (ScryptHasher, SCRYPT_COSTS, "salt_len", 1, 48, "salt"),
+    )
+    def test_numbers_of_a_hasher(self, kind, given, name, least, most, word):
         """Each is refused as the hasher is made, by its name, its range and its fault."""
-        argon2 = {"time_cost": 1, "memory_cost": 16, "parallelism": 2}
-        scrypt = {"log2_n": 4, "block_size": 8, "parallelism": 1}
-        for kind, given, name, least, most, word in (
-            (PasswordHasher, argon2, "time_cost", 1, 2**32 - 1, "passes"),
-            (PasswordHasher, argon2, "memory_cost", 16, 2097152, "cost"),
-            (PasswordHasher, {"memory_cost": 2097152}, "parallelism", 1, 255, "lanes"),
-            (PasswordHasher, argon2, "hash_len", 4, 64, "tag"),
-            (PasswordHasher, argon2, "salt_len", 8, 48, "salt"),
-            (PasswordHasher, argon2, "threads", 1, 2**32 - 1, "range"),
-            (ScryptHasher, scrypt, "log2_n", 1, 21, "scryptcost"),
-            (ScryptHasher, {"block_size": 1}, "log2_n", 1, 15, "scryptcost"),
-            (ScryptHasher, {"block_size": 2}, "log2_n", 1, 23, "scryptcost"),
-            (ScryptHasher, {"block_size": 255}, "log2_n", 1, 16, "scryptcost"),
-            (ScryptHasher, {"log2_n": 4}, "block_size", 1, 255, "blocksize"),
-            (ScryptHasher, scrypt, "parallelism", 1, 255, "blocks"),
-            (ScryptHasher, scrypt, "hash_len", 4, 64, "tag"),
-            (ScryptHasher, scrypt, "salt_len", 1, 48, "salt"),
-        ):
-            with self.subTest(kind=kind, given=given):
-                for number in (least, most):
-                    self.assertEqual(getattr(kind(**{**given, name: number}), name), number)
-                for number in (least - 1, most + 1, -1):
-                    message = f"{name} must be {least} to {most}, not {number}"
-                    named, bad = {**given, name: number}, rigzumal.InvalidNumbersError
-                    self.refused(bad, word, kind, **named, message=message)
+        for number in (least, most):
+            self.assertEqual(getattr(kind(**{**given, name: number}), name), number)
+        for number in (least - 1, most + 1, -1):
+            message = f"{name} must be {least} to {most}, not {number}"
+            named, bad = {**given, name: number}, rigzumal.InvalidNumbersError
+            self.refused(bad, word, kind, **named, message=message)
 
-    def test_what_a_hasher_takes_the_library_takes(self):
+    @each(
+        *(PasswordHasher(*it) for it in ((1, 8, 1), (1, 2040, 255), (9, 8, 1, 4, 8))),
+        PasswordHasher(1, 8, 1, 64, 48, threads=2**32 - 1),
+        *(ScryptHasher(*it) for it in ((1, 1, 1, 4, 1), (15, 1, 1, 64, 48), (1, 255, 255))),
+    )
+    def test_what_a_hasher_takes_the_library_takes(self, hasher):
         """At the ends of each range that a test has the memory and the time for."""
-        argon2, scrypt = ((1, 2040, 255), (9, 8, 1, 4, 8)), ((1, 1, 1, 4, 1), (15, 1, 1, 64, 48))
-        for hasher in (
-            *(PasswordHasher(*it) for it in ((1, 8, 1), *argon2)),
-            PasswordHasher(1, 8, 1, 64, 48, threads=2**32 - 1),
-            *(ScryptHasher(*it) for it in (*scrypt, (1, 255, 255))),
-        ):
-            with self.subTest(hasher=hasher):
-                self.assertTrue(hasher.verify(hasher.hash("x"), "x"))
-        for hasher in (ScryptHasher(23, 2), ScryptHasher(21, 8), ScryptHasher(16, 255, 255)):
-            with self.subTest(hasher=hasher):
-                record = f"{hasher.costs}$c29tZXNhbHQ$c29tZXRhZw"
-                self.assertEqual(rigzumal.parts(record).memory, hasher.log2_n)
-        record = f"{PasswordHasher(2**32 - 1, 2097152, 255).costs}$c29tZXNhbHQ$c29tZXRhZw"
-        self.assertEqual(rigzumal.parts(record).passes, 2**32 - 1)
+        self.assertTrue(hasher.verify(hasher.hash("x"), "x"))
+
+    def test_the_highest_numbers_are_read(self):
+        dear = PasswordHasher(2**32 - 1, 2097152, 255)
+        for hasher in (dear, ScryptHasher(23, 2), ScryptHasher(21, 8), ScryptHasher(16, 255, 255)):
+            parts = rigzumal.parts(f"{hasher.costs}$c29tZXNhbHQ$c29tZXRhZw")
+            self.assertEqual(parts.costs[1:], hasher._scheme()[1:])
 
     @each(
         (SMALL, (0, 7, 49), "8 to 48"),
@@ -142,17 +136,13 @@ class Refusals(unittest.TestCase):
             ):
                 with self.subTest(wrong=wrong, call=call):
                     self.assertRaises(TypeError, call, wrong)
-        scrypt = ("log2_n", "block_size", "parallelism")
-        for kind, names in ((PasswordHasher, (*LEAST_COSTS, "threads")), (ScryptHasher, scrypt)):
-            for name in (*names, "hash_len", "salt_len"):
-                for wrong in ("3", 3.0, None, True):
-                    with self.subTest(kind=kind, names=names):
-                        self.assertRaises(TypeError, kind, **{name: wrong})
-        for wrong in ("2", 2.7, 2.0, True, None):
-            with self.subTest(wrong=wrong):
-                self.assertRaises(TypeError, PasswordHasher, type=wrong)
-                for name in ("time_cost", "type"):
-                    self.assertRaises(TypeError, tag, **{name: wrong})
+        sizes, argon2 = ("hash_len", "salt_len"), (*LEAST_COSTS, "threads", "type")
+        for kind, names in ((PasswordHasher, argon2), (ScryptHasher, SCRYPT_COSTS)):
+            for name, wrong in itertools.product((*names, *sizes), ("2", 2.7, 2.0, None, True)):
+                with self.subTest(kind=kind, name=name, wrong=wrong):
+                    self.assertRaises(TypeError, kind, **{name: wrong})
+                    if name in ("time_cost", "type"):
+                        self.assertRaises(TypeError, tag, **{name: wrong})
         self.assertRaises(ValueError, PasswordHasher, type=7)
         with self.assertRaises(ValueError) as raised:
             SMALL.hash("pass\ud800word")

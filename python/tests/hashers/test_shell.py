@@ -3,7 +3,6 @@
 import os
 import pathlib
 import shlex
-import subprocess
 import sys
 import tempfile
 import unittest
@@ -12,22 +11,20 @@ from records import LEAST, SMALL
 
 import rigzumal
 from rigzumal._commands import hint, memory as memory_of
-from tests.helpers import at_a_terminal, each
+from tests.helpers import at_a_terminal, each, ended
 
 
+COMMAND = [sys.executable, "-m", "rigzumal"]
 LEAST_WORDS = "--memory 8 --passes 1 --lanes 1"
 NO_MILLISECONDS = ("9.9", "0", "-5", "60001", "nan", "inf", "x", "1e9")
 
 
-def run(words, given=b""):
+def run(words, given=""):
     """The status of a command, and what it wrote on either stream."""
-    words = words.split() if isinstance(words, str) else words
-    command = [sys.executable, "-m", "rigzumal", *words]
-    done = subprocess.run(command, input=given, capture_output=True)
-    return done.returncode, done.stdout.decode(), done.stderr.decode()
+    return ended([*COMMAND, *(words.split() if isinstance(words, str) else words)], given)
 
 
-def hashed(words="", given=b"secret"):
+def hashed(words="", given="secret"):
     status, record, fault = run(f"hash {words or LEAST_WORDS}", given)
     if status:
         raise AssertionError(fault)
@@ -36,11 +33,11 @@ def hashed(words="", given=b"secret"):
 
 class Shell(unittest.TestCase):
     def test_both_commands(self):
-        record = hashed(given=b"secret\n")
-        self.assertEqual(run(["verify", record], b"secret\n"), (0, "yes\n", ""))
-        self.assertEqual(run(["verify", record], b"Secret\n"), (4, "no\n", ""))
-        self.assertEqual(run(["verify", record], b"secret")[:2], (4, "no\n"))
-        status, out, fault = run(["verify", record + "$"], b"secret")
+        record = hashed(given="secret\n")
+        self.assertEqual(run(["verify", record], "secret\n"), (0, "yes\n", ""))
+        self.assertEqual(run(["verify", record], "Secret\n"), (4, "no\n", ""))
+        self.assertEqual(run(["verify", record], "secret")[:2], (4, "no\n"))
+        status, out, fault = run(["verify", record + "$"], "secret")
         self.assertEqual((status, out), (1, ""))
         self.assertIn("1 shape", fault)
 
@@ -55,23 +52,23 @@ class Shell(unittest.TestCase):
     )
     def test_what_is_no_record_of_ours(self, text, name):
         """The scheme's name is given where one stands; nothing else of the text is shown."""
-        status, out, fault = run(["verify", text], b"secret")
+        status, out, fault = run(["verify", text], "secret")
         self.assertEqual((status, out), (1, ""))
         self.assertNotIn("hunter2", fault)
         self.assertEqual("record's scheme" in fault, name is not None, fault)
         self.assertIn(f"(the record's scheme is {name})" if name else "rigzumal: ", fault)
 
-    def test_a_newline_that_was_meant_to_end_the_password(self):
-        for right, given, advice in (
-            (b"one\n", b"one", "with a newline"),
-            (b"one", b"one\n", "without the newline"),
-            (b"one", b"one\r", "without the carriage return"),
-            (b"one", b"one\r\n", "without the carriage return"),
-            (b"one", b"two\n", "None"),
-        ):
-            with self.subTest(right=right, given=given):
-                self.assertIn(advice, str(hint(given, right.__eq__)))
-        status, out, fault = run(["verify", LEAST.hash("hunter2")], b"hunter2\n")
+    @each(
+        (b"one\n", b"one", "with a newline"),
+        (b"one", b"one\n", "without the newline"),
+        *((b"one", it, "without the carriage return") for it in (b"one\r", b"one\r\n")),
+        (b"one", b"two\n", "None"),
+    )
+    def test_a_newline_that_was_meant_to_end_the_password(self, right, given, advice):
+        self.assertIn(advice, str(hint(given, right.__eq__)))
+
+    def test_a_hint_shows_no_password(self):
+        status, out, fault = run(["verify", LEAST.hash("hunter2")], "hunter2\n")
         self.assertEqual((status, out, fault.count("\n")), (4, "no\n", 1))
         self.assertNotIn("hunter2", fault)
 
@@ -86,18 +83,17 @@ class Shell(unittest.TestCase):
         made = hashed(given)
         self.assertTrue(made.startswith(costs), made)
 
-    def test_an_empty_password_is_asked_for(self):
+    @each("", "\n", "\r\n", "\n\n")
+    def test_an_empty_password_is_asked_for(self, given):
         refusal = "rigzumal: the password is empty; --empty allows it\n"
-        for given in (b"", b"\n", b"\r\n", b"\n\n"):
-            with self.subTest(given=given):
-                self.assertEqual(run(f"hash {LEAST_WORDS}", given), (6, "", refusal))
-                record = hashed(f"--empty {LEAST_WORDS}", given)
-                self.assertTrue(SMALL.verify(record, given))
-                self.assertEqual(run(["verify", record], given)[:2], (0, "yes\n"))
+        self.assertEqual(run(f"hash {LEAST_WORDS}", given), (6, "", refusal))
+        record = hashed(f"--empty {LEAST_WORDS}", given)
+        self.assertTrue(SMALL.verify(record, given))
+        self.assertEqual(run(["verify", record], given)[:2], (0, "yes\n"))
 
     def at_a_terminal(self, words, *lines):
         """The status of the command, and what stood on its terminal."""
-        shown = at_a_terminal([sys.executable, "-m", "rigzumal", *words], lines)
+        shown = at_a_terminal([*COMMAND, *words], lines)
         return shown.status, shown.text.decode()
 
     def test_at_a_terminal_the_password_is_unseen(self):
@@ -125,22 +121,18 @@ class Shell(unittest.TestCase):
                     with self.subTest(words=words, key=key):
                         status, shown = self.at_a_terminal(words, key)
                         self.assertEqual((status, "Traceback" in shown), (wanted, False), shown)
-        command = f"{shlex.quote(sys.executable)} -m rigzumal hash <&-"
-        done = subprocess.run(["sh", "-c", command], stderr=subprocess.PIPE)
-        self.assertEqual((done.returncode, done.stderr.count(b"\n")), (2, 1), done.stderr)
-        making = ["-m", "rigzumal", "hash", "--memory", "8", "--lanes", "1"]
+        status, _, fault = ended(["sh", "-c", f"{shlex.join(COMMAND)} hash <&-"])
+        self.assertEqual((status, fault.count("\n")), (2, 1), fault)
+        making = [*COMMAND[1:], "hash", *LEAST_WORDS.split()]
         with open("/dev/full", "wb") as full:
-            words = [sys.executable, *making]
-            done = subprocess.run(words, input=b"x", stdout=full, stderr=subprocess.PIPE)
-        self.assertEqual(done.stderr, b"rigzumal: No space left on device\n")
-        self.assertEqual(done.returncode, 2)
+            done = ended([sys.executable, *making], "x", stdout=full)
+        self.assertEqual(done, (2, "", "rigzumal: No space left on device\n"))
         for words in (making, ["-u", *making]):  # a reader has gone, as of a pipe to `head`
             reading, writing = os.pipe()
             os.close(reading)
             with self.subTest(words=words), open(writing, "wb") as gone:
-                given = {"input": b"x", "stdout": gone, "stderr": subprocess.PIPE}
-                done = subprocess.run([sys.executable, *words], **given)
-                self.assertEqual((done.returncode, done.stderr), (2, b""))
+                done = ended([sys.executable, *words], "x", stdout=gone)
+                self.assertEqual(done, (2, "", ""))
 
     @each(
         ("hash hunter2", "a password is never an argument"),
@@ -158,7 +150,7 @@ class Shell(unittest.TestCase):
     )
     def test_refused_words(self, words, text):
         """Each is named, unless it may be a password; none ends in a traceback."""
-        status, out, fault = run(words, b"secret")
+        status, out, fault = run(words, "secret")
         self.assertEqual((status, out), (1, ""))
         self.assertIn(text, fault)
         self.assertNotRegex(fault, "Traceback|hunter2")
@@ -169,9 +161,10 @@ class Shell(unittest.TestCase):
         self.assertRegex(costs, r"^\$argon2id\$v=19\$m=\d+,t=\d+,p=1\n$")
         costs = run("calibrate --target-ms 10 --memory 19M --lanes 1")[1]
         self.assertEqual(costs, "$argon2id$v=19$m=19456,t=2,p=1\n")
-        for text, memory in (("2G", 2097152), ("16", 16), ("16K", 16), ("16k", 16), ("1M", 1024)):
-            with self.subTest(memory=memory):
-                self.assertEqual(memory_of(text), memory)
+
+    @each(("2G", 2097152), ("16", 16), ("16K", 16), ("16k", 16), ("1M", 1024))
+    def test_sizes(self, text, memory):
+        self.assertEqual(memory_of(text), memory)
 
     def test_the_version_is_the_headers(self):
         self.assertEqual(rigzumal.__version__, rigzumal.version())
