@@ -148,20 +148,15 @@ class LostAnswers:
 
     def test_what_was_done_is_put_over_itself(self):
         """What stands may not be on the disk."""
-        accounts, puts = self.losing(before=False), []
-        put = accounts._dialect.put
-
-        def noted(session, after, key, copy):
-            puts.append(after == copy)
-            return put(session, after, key, copy)
-
-        accounts._dialect.put = noted
+        accounts = self.losing(before=False)
+        put = accounts._dialect.put = mock.Mock(wraps=accounts._dialect.put)
         with self.assertLogs("rigzumal.accounts", "WARNING") as logs:
             self.assertIs(accounts.change("ann", "one", "two"), Reply.REPLACED)
         (line,) = logs.output
         self.assertIn("COMMIT had no answer: " + type(self.broken).__name__, line)
         self.assertNotRegex(line, r"\bann\b|argon2|two")
-        self.assertIs(puts[-1], True)
+        _, after, _, copy = put.call_args.args
+        self.assertEqual(after, copy)
 
     @each(True, False)
     def test_a_fault_after_a_lost_answer_says_nothing_of_it(self, before):
@@ -249,7 +244,7 @@ class OnServers:
 
     def test_connections_of_a_pool_that_all_died(self):
         """Each is taken and given up, with no pause that grows."""
-        idle, pauses = [self.connect() for _ in range(40)], []
+        idle = [self.connect() for _ in range(40)]
         self.end_sessions()
 
         @contextlib.contextmanager
@@ -261,14 +256,11 @@ class OnServers:
                 conn.close()
                 raise
 
-        async def pause(runtime, seconds):
-            pauses.append(seconds)
-
         accounts = Accounts(pool, self.dialect, self.low)
-        with mock.patch.object(type(accounts._runtime), "pause", pause):
+        with mock.patch.object(type(accounts._runtime), "pause") as pause:
             self.assertIs(accounts.change("ann", "one", "two"), Reply.REPLACED)
-        self.assertEqual(len(pauses), 40)
-        self.assertLess(sum(pauses), 0.5)
+        self.assertEqual(pause.call_count, 40)
+        self.assertLess(sum(it.args[0] for it in pause.call_args_list), 0.5)
 
     @each(*itertools.product(("put_at_once", "commit"), (AttributeError, TypeError, NameError)))
     def test_a_fault_of_a_program_comes_through(self, name, error):

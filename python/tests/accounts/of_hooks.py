@@ -135,8 +135,7 @@ class RowsOfOnesOwn:
 
             record = self.begin()
             with self.subTest(said=said, text=text):
-                with self.assertRaisesRegex(TypeError, said):
-                    called(accounts, text, also=also)
+                self.assertRaisesRegex(TypeError, said, called, accounts, text, also=also)
                 self.assertEqual((len(self.calls), self.stands()), (1, record))
         self.assert_replies("verify ann one yes", accounts)
 
@@ -145,8 +144,7 @@ class RowsOfOnesOwn:
         accounts = self.accounts()
 
         def nests(conn, reply):
-            with self.assertRaisesRegex(TypeError, "use its argument"):
-                accounts.verify("ann", "one")
+            self.assertRaisesRegex(TypeError, "use its argument", accounts.verify, "ann", "one")
             self.also(conn, reply)
 
         self.assert_replies("change ann one two replaced", accounts, also=nests)

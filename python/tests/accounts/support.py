@@ -192,31 +192,20 @@ class Base(unittest.TestCase):
     @contextlib.contextmanager
     def hashes(self, count):
         """So many turns of hashing are within: steps, and checks of a dummy."""
-        made, step, is_right = [], _judgement.step, _judgement.is_right
-
-        def counted_step(kind, copy, *given):
-            made.extend([kind.value] if copy is not None or kind is Kind.ENROL else [])
-            return step(kind, copy, *given)
-
-        def counted_check(*given):
-            made.append("dummy")
-            return is_right(*given)
-
-        with mock.patch.multiple(_judgement, step=counted_step, is_right=counted_check):
+        step, dummy = (mock.Mock(wraps=it) for it in (_judgement.step, _judgement.is_right))
+        with mock.patch.multiple(_judgement, step=step, is_right=dummy):
             yield
-        self.assertEqual(len(made), count, made)
+        steps = (it.args[:2] for it in step.mock_calls)
+        made = [kind.value for kind, copy in steps if copy is not None or kind is Kind.ENROL]
+        self.assertEqual(len(made) + dummy.call_count, count, made)
 
     @contextlib.contextmanager
     def statements(self, words):
         """What is sent within are statements with these first words."""
-        found, execute = [], Session.execute
-
-        async def noted(session, sql, *values):
-            found.append(sql.split()[0])
-            return await execute(session, sql, *values)
-
-        with mock.patch.object(Session, "execute", noted):
+        given = {"autospec": True, "side_effect": Session.execute}
+        with mock.patch.object(Session, "execute", **given) as execute:
             yield
+        found = (it.args[1].split()[0] for it in execute.call_args_list)
         self.assertEqual(" ".join(found), words)
 
     def said(self, accounts):
@@ -314,18 +303,9 @@ def in_threads(act, count):
         return [*pool.map(act, range(count))]
 
 
-class Scripted:
-    """A session that answers what it is told, one statement after another."""
-
-    def __init__(self, *answers):
-        self.answers, self.statements = list(answers), []
-
-    async def execute(self, sql, *values):
-        self.statements.append((sql, values))
-        answer = self.answers.pop(0)
-        if isinstance(answer, Exception):
-            raise answer
-        return answer
+def scripted(*answers):
+    """A session that answers what it is told, one statement after another, and notes them."""
+    return mock.Mock(execute=mock.AsyncMock(side_effect=answers))
 
 
 class Awaiting:

@@ -41,10 +41,7 @@ class Answers(Commands):
             *(("add eve", it, 6) for it in ("", "\n", LONG)),
             ("reset ann", LONG, 6),
             ("change ann", f"one\n{LONG}", 6),
-            ("add eve\udcff", "one", 1),
             (f"--numbers add {2**63}", "one", 1),
-            *((f"{it} eve\udcff", "", "no account") for it in ("delete", "disable")),
-            ("rename eve\udcff bob", "", "no account"),
             (f"--numbers delete {2**63}", "", "no account"),
             *(("check ann", it, "no") for it in ("two", "one ")),
             ("check ann", "one\n", "yes"),
@@ -62,7 +59,6 @@ class Answers(Commands):
             (f"import {one}", "", "1 added, 0 there already"),
             ("rename ann bob", "", "exists"),
             ("rename eve ben", "", "no account"),
-            ("rename ann eve\udcff", "", 1),
             ("rename ann amy", "", "renamed"),
             ("check amy", "two", "yes"),
             ("disable amy", "", "disabled"),
@@ -77,7 +73,6 @@ class Answers(Commands):
         self.assertIn("bob", error)
         self.assert_answers(
             (f"import {bad}", "", 6),
-            ("import none", "", 2),
             ("list", "", f"ann {costs}\nbob {costs}"),
             *((it, "", 1) for it in ("list hunter2", "lists", "--database  examine")),
             *((it, "one", 1) for it in ("--lanes 0 add eve", "add eve --log2-n 10")),
@@ -202,7 +197,6 @@ class Passwords(Commands):
             (f"check ann {secret}.new {secret}.old", "one", "yes"),
             ("check ann", "one", "no"),
             (f"check ann {secret}.none", "one", 1),
-            ("check ann --secret nowhere", "one", 2),
         )
 
     def test_without_standard_input(self):

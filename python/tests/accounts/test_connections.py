@@ -38,12 +38,10 @@ class Runtime:
 
 
 class Patience(unittest.TestCase):
-    def setUp(self):
-        self.enterContext(mock.patch.object(_connections.random, "uniform", lambda *span: 1.0))
-
     def connections(self, *answers, patience=10.0, replica=None):
         runtime, time = Runtime(*answers), _connections.time
         self.enterContext(mock.patch.object(time, "monotonic", lambda: runtime.now))
+        self.enterContext(mock.patch.object(_connections.random, "uniform", lambda *span: 1.0))
         table = Table(Sqlite("users", "name", "record"), False, lambda worked: None)
         return runtime, Connections(runtime, "primary", replica, table, patience)
 
@@ -75,6 +73,12 @@ class Patience(unittest.TestCase):
                 run(connections.patiently(None, patience))
             self.assertEqual(len(runtime.used), count)
             self.assertIs(raised.exception.__cause__, error)
+
+    def test_pauses_differ(self):
+        """So that many who wait don't come at a time."""
+        pauses = {Waits(1.0, 0.0).next() for _ in range(20)}
+        self.assertGreater(len(pauses), 1)
+        self.assertTrue(all(0.001 <= it <= 0.003 for it in pauses))
 
     def test_the_clock_begins_with_the_first_use(self):
         """A statement that hung has used up what there was."""
@@ -118,19 +122,11 @@ class Patience(unittest.TestCase):
         self.assertEqual((runtime.used, runtime.pauses), (["primary"], []))
 
 
-class Spread(unittest.TestCase):
-    def test_pauses_differ(self):
-        """So that many who wait don't come at a time."""
-        pauses = {Waits(1.0, 0.0).next() for _ in range(20)}
-        self.assertGreater(len(pauses), 1)
-        self.assertTrue(all(0.001 <= it <= 0.003 for it in pauses))
-
-
 class Refused(Exception):
     """A driver's error."""
 
 
-class MySQL(unittest.TestCase):
+class Urls(unittest.TestCase):
     def setUp(self):
         self.tried, self.dead = [], set()
         errors = types.SimpleNamespace(Error=Refused)
@@ -153,15 +149,15 @@ class MySQL(unittest.TestCase):
             self.assertTrue(0 < given[name] <= 60, name)
 
     def test_what_stands_nowhere(self):
-        for environment, url, user, password in (
-            ({"MYSQL_PWD": "from outside"}, "mariadb://ada@db/d", "ada", "from outside"),
-            ({"MYSQL_PWD": "from outside"}, "mysql://ada:own@db/d", "ada", "own"),
-            ({"MYSQL_PWD": "a%41b"}, "mysql://db/d", "", "a%41b"),  # no part of a URL
-            ({}, "mysql://db/d", "", ""),
+        for outside, url, user, password in (
+            ("from outside", "mariadb://ada@db/d", "ada", "from outside"),
+            ("from outside", "mysql://ada:own@db/d", "ada", "own"),
+            ("a%41b", "mysql://db/d", "", "a%41b"),  # no part of a URL
+            (None, "mysql://db/d", "", ""),
         ):
-            with mock.patch.dict(os.environ):
-                os.environ.pop("MYSQL_PWD", None)
-                os.environ.update(environment)
+            with mock.patch.dict(os.environ, {"MYSQL_PWD": outside or ""}):
+                if outside is None:
+                    del os.environ["MYSQL_PWD"]
                 given = Database(url).connect()
             self.assertEqual((given["user"], given["password"]), (user, password))
         self.assertEqual(self.tried, [("db", 3306)] * 4)
@@ -211,8 +207,6 @@ class MySQL(unittest.TestCase):
         for kind in ("mysql", "postgresql"):
             self.assertNotIn("hunter2", repr(Database(f"{kind}://ada:hunter2@db/d")))
 
-
-class PostgreSQL(unittest.TestCase):
     def test_the_url_is_libpqs(self):
         driver, plain = mock.Mock(), {"autocommit": True, "prepare_threshold": None}
         with mock.patch.dict(sys.modules, {"psycopg": driver}):
@@ -221,8 +215,6 @@ class PostgreSQL(unittest.TestCase):
                 Database(url).connect()
                 driver.connect.assert_called_with(url, **plain, **more)
 
-
-class SQLite(unittest.TestCase):
     def test_files_and_what_is_set(self):
         with tempfile.TemporaryDirectory() as folder:
             path = os.path.join(folder, "users.db")

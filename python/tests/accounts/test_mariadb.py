@@ -6,7 +6,7 @@ from unittest import mock
 import engines
 import support
 import torture
-from support import LOW, Base, Scripted, commanded, run
+from support import LOW, Base, commanded, run, scripted
 from rigzumal.accounts import AsyncAccounts, MariaDB, Reply, StoreFault, cli
 from rigzumal.accounts._session import Result
 from rigzumal.accounts.dialects import mariadb
@@ -61,7 +61,7 @@ class OnMariaDB(engines.OnMariaDB, Base):
         """max_statement_time may be over as the COMMIT is done: what stands tells."""
         over = self.again.__class__(1969, "max_statement_time exceeded")
         for stands, expected in (("new", None), ("old", OSError), ("other", ConnectionError)):
-            session = Scripted(over, Result([], 0), Result([(stands,)], 1))
+            session = scripted(over, Result([], 0), Result([(stands,)], 1))
             put = self.dialect.put_at_once(session, "new", "ann", "old")
             if expected is None:
                 self.assertEqual(run(put), 1)
@@ -69,7 +69,7 @@ class OnMariaDB(engines.OnMariaDB, Base):
                 with self.assertRaises(expected) as raised:
                     run(put)
                 self.assertEqual(self.dialect.gave_up(raised.exception), stands == "old")
-            self.assertEqual(session.statements[1][0], "ROLLBACK")
+            self.assertEqual(session.execute.call_args_list[1], mock.call("ROLLBACK"))
 
     def test_found_rows(self):
         from pymysql.constants import CLIENT
@@ -167,16 +167,16 @@ class OnMariaDB(engines.OnMariaDB, Base):
         """What stands between them is never committed."""
         refused = (1, 0, StoreFault), (1, 2, StoreFault)
         for first, second, wanted in ((0, None, 0), (2, None, 2), (1, 1, 1), *refused):
-            session = Scripted(Result([], first), Result([], second))
+            session = scripted(Result([], first), Result([], second))
             put = self.dialect.put(session, "r", "ann", "r")
             if wanted is StoreFault:
                 self.assertRaises(StoreFault, run, put)
             else:
                 self.assertEqual(run(put).affected, wanted)
-            self.assertEqual(session.statements[0][1], (None, "ann", "r"))
-            self.assertEqual(len(session.statements), 1 if second is None else 2)
-        session = Scripted(Result([], 1), Result([], 1))
+            self.assertEqual(session.execute.call_args_list[0].args[1:], (None, "ann", "r"))
+            self.assertEqual(session.execute.call_count, 1 if second is None else 2)
+        session = scripted(Result([], 1), Result([], 1))
         run(self.dialect.put(session, None, "ann", None))
-        (_, (other, _, copy)), (_, values) = session.statements
+        (_, other, _, copy), (_, *values) = (it.args for it in session.execute.call_args_list)
         self.assertEqual((other[:9], copy), ("$argon2id", None))
-        self.assertEqual(values, (None, "ann", other))
+        self.assertEqual(values, [None, "ann", other])

@@ -5,7 +5,7 @@ import inspect
 import unicodedata
 
 from commands import RECORD, Commands
-from support import HIGH, Base, is_right
+from support import HIGH, Base, each, is_right
 from rigzumal import opaque_string
 from rigzumal.accounts import Accounts, AsyncAccounts, Reply
 from rigzumal.accounts.types import Kind, Request
@@ -62,46 +62,43 @@ class NewNames(Commands):
                 self.assertRaisesRegex(ValueError, f"^{fault}$", check, Name(name))
                 self.assertEqual(self.names(), ["eve"])
 
-    def test_names_that_are_taken(self):
-        for name in GOOD:
-            with self.subTest(name=name):
-                for words, said in (
-                    (("add", name), "enrolled"),
-                    (("rename", name, "eve"), "renamed"),
-                    (("rename", "eve", name), "renamed"),
-                    (("delete", name), "deleted"),
-                    (self.import_of(name), "1 added, 0 there already"),
-                ):
-                    found = self.command(*words, given="one").splitlines()
-                    self.assertEqual(found[:1] if words[0] == "import" else found, [said])
-                self.execute("UPDATE users SET record = NULL")
-                self.assertIs(self.accounts().enrol(name, "one"), Reply.ENROLLED)
-                self.execute("DELETE FROM users")
+    @each(*GOOD)
+    def test_names_that_are_taken(self, name):
+        for words, said in (
+            (("add", name), "enrolled"),
+            *((("rename", *it), "renamed") for it in ((name, "eve"), ("eve", name))),
+            (("delete", name), "deleted"),
+            (self.import_of(name), "1 added, 0 there already"),
+        ):
+            found = self.command(*words, given="one").splitlines()
+            self.assertEqual(found[:1] if words[0] == "import" else found, [said])
+        self.execute("UPDATE users SET record = NULL")
+        self.assertIs(self.accounts().enrol(name, "one"), Reply.ENROLLED)
+        self.execute("DELETE FROM users")
 
-    def test_accounts_that_have_one_by_now(self):
+    @each(*(name for name, _ in NAMES))
+    def test_accounts_that_have_one_by_now(self, name):
         """They log in, are reset, get another name, and are deleted."""
         accounts = self.accounts()
-        for name, _ in NAMES:
-            with self.subTest(name=name):
-                self.execute("INSERT INTO users (name) VALUES (%s)", name)
-                self.assertIs(accounts.reset(name, "one"), Reply.ENROLLED)
-                self.assertIs(accounts.login(name, "one"), Reply.YES)
-                self.assertIs(accounts.change(name, "one", "two"), Reply.REPLACED)
-                self.assertEqual(self.command("check", name, given="two"), "yes\n")
-                self.assertEqual(self.command("rename", name, "ada"), "renamed\n")
-                self.execute("UPDATE users SET name = %s", name)
-                self.assertEqual(self.command("delete", name), "deleted\n")
+        self.execute("INSERT INTO users (name) VALUES (%s)", name)
+        self.assertIs(accounts.reset(name, "one"), Reply.ENROLLED)
+        self.assertIs(accounts.login(name, "one"), Reply.YES)
+        self.assertIs(accounts.change(name, "one", "two"), Reply.REPLACED)
+        self.assertEqual(self.command("check", name, given="two"), "yes\n")
+        self.assertEqual(self.command("rename", name, "ada"), "renamed\n")
+        self.execute("UPDATE users SET name = %s", name)
+        self.assertEqual(self.command("delete", name), "deleted\n")
 
-    def test_names_that_no_column_holds(self):
+    @each("a\0b", "a\udcff")
+    def test_names_that_no_column_holds(self, name):
         """No account has one, so none gets it, and none is deleted."""
-        for name in ("a\0b", "a\udcff"):
-            for words in (("add", name), ("rename", "ada", name)):
-                said = self.command(*words, given="one", status=1)
-                self.assertEqual(said, "rigzumal: the column can't hold this name\n")
-            for words in (("delete", name), ("rename", name, "ada"), ("disable", name)):
-                self.assertEqual(self.command(*words, status=4), "no account\n")
-            self.assertIs(self.accounts().enrol(name, "one"), Reply.NO_ACCOUNT)
-            self.assertFalse(self.dialect.can_stand(Name(name)))
+        for words in (("add", name), ("rename", "ada", name)):
+            said = self.command(*words, given="one", status=1)
+            self.assertEqual(said, "rigzumal: the column can't hold this name\n")
+        for words in (("delete", name), ("rename", name, "ada"), ("disable", name)):
+            self.assertEqual(self.command(*words, status=4), "no account\n")
+        self.assertIs(self.accounts().enrol(name, "one"), Reply.NO_ACCOUNT)
+        self.assertFalse(self.dialect.can_stand(Name(name)))
 
     def test_numbers(self):
         self.table("TEXT", "INTEGER")
@@ -140,22 +137,21 @@ class Rules(Base):
         self.give("one")
         return accounts
 
-    def test_a_new_one_is_long_enough(self):
+    @each(
+        *(({"least_length": 8}, it, "12345678") for it in ("", "1234567", b"1234567")),
+        ({"least_length": 8}, "\u00e4\u00f6\u00fc4567", "\U0001f600" * 8),
+        ({}, "", "1"),
+        ({"least_length": 0}, None, ""),
+    )
+    def test_a_new_one_is_long_enough(self, rule, refused, taken):
         """In characters, whatever their bytes; a present one may be shorter."""
-        accounts, before = self.set_up(least_length=8), self.stands()
-        for refused in ("", "1234567", "\u00e4\u00f6\u00fc4567", b"1234567"):
-            for setter in self.setters(accounts):
-                self.assertRaisesRegex(ValueError, "at least 8 characters", setter, refused)
+        accounts, before = self.set_up(**rule), self.stands()
+        said = "at least 8 characters" if rule else "at least 1 character$"
+        for setter in () if refused is None else self.setters(accounts):
+            self.assertRaisesRegex(ValueError, said, setter, refused)
         self.assertEqual((self.stands(), self.stands("ben")), (before, None))
-        for kind in (accounts.verify, accounts.login, accounts.upgrade):
-            self.assertIn(kind("ann", "one"), (Reply.YES, Reply.KEPT))
-        self.assertIs(accounts.change("ann", "one", "12345678"), Reply.REPLACED)
-        self.assertIs(accounts.reset("ann", "\U0001f600" * 8), Reply.REPLACED)
-
-    def test_an_empty_one_is_refused(self):
-        for setter in self.setters(self.set_up()):
-            self.assertRaisesRegex(ValueError, "at least 1 character$", setter, "")
-        self.assertIs(self.set_up(least_length=0).reset("ann", ""), Reply.REPLACED)
+        self.assert_replies("verify ann one yes; login ann one yes; upgrade ann one kept", accounts)
+        self.assertIs(accounts.change("ann", "one", taken), Reply.REPLACED)
 
     def test_no_row_is_read_for_a_refused_one(self):
         accounts = self.over(self.no_connection, least_length=2, prepare=opaque_string)
@@ -202,12 +198,8 @@ class Rules(Base):
             self.assertRaisesRegex(TypeError, "`prepare` answers", accounts.verify, "ann", "one")
             self.assertRaisesRegex(TypeError, "`prepare` answers", accounts.reset, "ann", "one")
         self.assertRaises(TypeError, self.accounts, prepare="NFC")
-        for wrong, error in (
-            ("8", TypeError),
-            (True, TypeError),
-            (-1, ValueError),
-            (257, ValueError),
-        ):
+        for wrong in ("8", True, -1, 257):
+            error = ValueError if type(wrong) is int else TypeError
             self.assertRaises(error, self.accounts, least_length=wrong)
 
     def test_both_kinds_of_accounts_take_the_same(self):

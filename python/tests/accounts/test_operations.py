@@ -10,8 +10,8 @@ import threading
 from unittest import mock
 
 import engines
-from support import FOREIGN_KEY_FAILED, HIGH, LOW, Awaiting, Base, Scripted, after_hash, called
-from support import each
+from support import FOREIGN_KEY_FAILED, HIGH, LOW, Awaiting, Base, after_hash, called, each
+from support import scripted
 from rigzumal import OutOfMemoryError
 from rigzumal.accounts import Accounts, AsyncAccounts, MariaDB, Reply, Sqlite, StoreFault
 from rigzumal.accounts import Unavailable, _connections, parts, types
@@ -74,7 +74,7 @@ class Operations(Base):
     def test_what_an_update_found(self, copy, count, stands, reply):
         """A record that is gone as its row is read; a driver without counts; a key of two rows."""
         ticket = Ticket(Request(Kind.RESET, "ann", "", "x"), copy)
-        session = Scripted(*[Result([], count), Result([(stands,)], 1)] * 2)
+        session = scripted(*[Result([], count), Result([(stands,)], 1)] * 2)
         job = self.accounts()._table.compare(session, Worked(ticket, Reply.REPLACED, "new"))
         if reply is StoreFault:
             self.assertRaises(StoreFault, run, job)
@@ -284,8 +284,7 @@ class Tasks(engines.OnSqliteTasks, Base):
         future = lambda *given: asyncio.ensure_future(awaited(*given))
         for also in (plain, awaited, future):
             self.assert_replies("change ann one one replaced; login ann one yes", also=also)
-        with self.assertRaises(KeyError):
-            accounts.change("ann", "one", "two", also=fails)
+        self.assertRaises(KeyError, accounts.change, "ann", "one", "two", also=fails)
         self.assertTrue(self.is_right("one"))
         rows = [row for (row,) in self.conn.execute("SELECT reply FROM sessions")]
         self.assertEqual(rows, ["replaced", "yes"] * 3)

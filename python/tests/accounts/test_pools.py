@@ -306,25 +306,18 @@ class Openings(Base):
         self.assertTrue(self.is_right("one"))
 
 
-class Shut(Base):
+class OnePerThread(Base):
     def test_a_pool_that_is_closed(self):
         """By its error's name: what psycopg_pool raises is a lost connection's kind."""
         closed = type("PoolClosed", (sqlite3.OperationalError,), {})
-        opened = []
-
-        def connect():
-            opened.append(1)
-            raise closed("the pool 'pool-1' is already closed")
-
+        connect = mock.Mock(side_effect=closed("the pool 'pool-1' is already closed"))
         accounts = self.accounts(connect=connect, patience=60.0)
         for name, count in (("verify", 1), ("login", 2)):
-            opened.clear()
+            connect.reset_mock()
             with self.assertRaisesRegex(Unavailable, "the pool is closed: .* already closed"):
                 getattr(accounts, name)("ann", "one")
-            self.assertEqual(len(opened), count)
+            self.assertEqual(connect.call_count, count)
 
-
-class OnePerThread(Base):
     def forked(self, act):
         """The status of a child that does this."""
         pid = os.fork()

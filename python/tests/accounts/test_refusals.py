@@ -147,11 +147,8 @@ class Arguments(Base):
 
     def test_rows_and_records_of_other_types(self):
         self.put(LOW.hash("one").encode())
-        odd = lambda cursor, row: object()
-        for factory, said in (
-            (None, "the record is not text, but bytes"),
-            (odd, "a row is object"),
-        ):
+        odd = {lambda cursor, row: object(): "a row is object", None: "is not text, but bytes"}
+        for factory, said in odd.items():
             conn = self.another()
             conn.row_factory = factory
             with self.hashes(0), self.assertRaisesRegex(StoreFault, said):

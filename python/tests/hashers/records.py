@@ -5,6 +5,7 @@ the package is found by it and by the processes that it starts."""
 import os
 import pathlib
 import sys
+from unittest import mock
 
 HERE = pathlib.Path(__file__).resolve().parent
 sys.path[:0] = str(HERE.parents[1]), str(HERE.parents[2])
@@ -35,22 +36,7 @@ def verdict(hasher, record, password):
         return False
 
 
-class Calls:
-    """The library, with the name and the arguments of each call noted."""
-
-    def __init__(self):
-        self.library, self.made = rigzumal._library._library, []
-
-    def __enter__(self):
-        rigzumal._library._library = self
-        return self
-
-    def __exit__(self, *_):
-        rigzumal._library._library = self.library
-
-    def __getattr__(self, name):
-        def call(*given):
-            self.made.append((name, *given))
-            return getattr(self.library, name)(*given)
-
-        return call
+def noted_library():
+    """The library, which notes each call as a mock does, for a `with`."""
+    noted = mock.Mock(wraps=rigzumal._library._library)
+    return mock.patch.object(rigzumal._library, "_library", noted)

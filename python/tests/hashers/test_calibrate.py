@@ -135,17 +135,12 @@ class Timing(unittest.TestCase):
 class Shell(unittest.TestCase):
     def asked(self, *words):
         """What the shell's command asks for, what it writes, and what it says."""
-        calls, out, err = [], io.StringIO(), io.StringIO()
-
-        def noted(*given):
-            calls.append(given)
-            return iter(tried(linear(1 / 1024), *given))
-
-        argv = ["rigzumal", "calibrate", *words]
-        with mock.patch.object(__main__, "trials", noted), mock.patch.object(sys, "argv", argv):
+        out, err, argv = io.StringIO(), io.StringIO(), ["rigzumal", "calibrate", *words]
+        asked = mock.Mock(side_effect=lambda *given: iter(tried(linear(1 / 1024), *given)))
+        with mock.patch.object(__main__, "trials", asked), mock.patch.object(sys, "argv", argv):
             with contextlib.redirect_stdout(out), contextlib.redirect_stderr(err):
                 self.assertEqual(__main__.main(), 0)
-        return calls, out.getvalue(), err.getvalue()
+        return [it.args for it in asked.mock_calls], out.getvalue(), err.getvalue()
 
     @each(
         ("", (250, 65536, 4, 1, False), "m=65536,t=3,p=4", None),

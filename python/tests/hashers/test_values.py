@@ -7,7 +7,7 @@ import ctypes
 import pickle
 import unittest
 
-from records import ARGON2, LEAST, LEAST_COSTS, SMALL, Calls, python, verdict
+from records import ARGON2, LEAST, LEAST_COSTS, SMALL, noted_library, python, verdict
 
 import rigzumal
 from rigzumal import PasswordHasher, ScryptHasher, Type, argon2_cffi
@@ -95,7 +95,7 @@ class Values(unittest.TestCase):
             self.assertEqual(made, value)
 
 
-CHECK, SCRYPT = "rigzumal_check_from", ScryptHasher(log2_n=4)
+SCRYPT = ScryptHasher(log2_n=4)
 
 
 class Rotation(unittest.TestCase):
@@ -124,8 +124,7 @@ class Rotation(unittest.TestCase):
         self.assertIs(verdict(hasher, record, "x"), is_right)
         self.assertIs(verdict(hasher, maker.hash("y"), "x"), False)
         for text in (maker.hash("y"), *([] if is_right else [record])):
-            with self.assertRaises(rigzumal.VerifyMismatchError):
-                hasher.verify_and_rehash(text, "x")
+            self.assertRaises(rigzumal.VerifyMismatchError, hasher.verify_and_rehash, text, "x")
         made = hasher.verify_and_rehash(record, "x") if is_right else None
         self.assertEqual(made is not None, is_old)
         if is_old:
@@ -141,9 +140,9 @@ class Rotation(unittest.TestCase):
 
     @each((NEW.hash("x"), 1), (OLD.hash("x"), 2), (ARGON2, 2), (ARGON2[:-1], 1))
     def test_a_hash_for_each_that_is_tried(self, record, tried):
-        with Calls() as calls, contextlib.suppress(rigzumal.RigzumalError):
+        with noted_library() as library, contextlib.suppress(rigzumal.RigzumalError):
             self.BOTH.verify(record, "x")
-        self.assertEqual([it[0] for it in calls.made].count(CHECK), tried)
+        self.assertEqual(library.rigzumal_check_from.call_count, tried)
 
     def test_the_first_is_the_secret(self):
         """So that who refuses hashers with a secret refuses these."""
@@ -172,21 +171,22 @@ class Threads(unittest.TestCase):
     def test_those_that_are_asked_for(self, given):
         """One if none are."""
         names = ("record", "check") * 2 + ("argon2",)
-        with Calls() as calls:
+        with noted_library() as library:
             for secret in (None, b"pepper"):
                 hasher = PasswordHasher(**COSTS, secret=secret, **given)
                 hasher.verify(hasher.hash("x"), "x")
             rigzumal.argon2("x", b"somesalt", **COSTS, **given)
         wanted = [(f"rigzumal_{name}_from", given.get("threads", 1)) for name in names]
-        self.assertEqual([(name, words[-1].threads) for name, *words in calls.made], wanted)
-        with_secret = [words[-1].secret for _, *words in calls.made[:4]]
+        made = [(name, given[-1]) for name, given, _ in library.mock_calls]
+        self.assertEqual([(name, inputs.threads) for name, inputs in made], wanted)
+        with_secret = [inputs.secret for _, inputs in made[:4]]
         self.assertEqual(with_secret, [None, None, b"pepper", b"pepper"])
 
     def test_those_of_argon2_cffi_are_its_parallelism(self):
         hasher = argon2_cffi.PasswordHasher(1, 64, 4)
-        with Calls() as calls:
+        with noted_library() as library:
             hasher.verify(hasher.hash("x"), "x")
-        made = {name: words[-1].threads for name, *words in calls.made}
+        made = {name: given[-1].threads for name, given, _ in library.mock_calls}
         self.assertEqual(made["rigzumal_argon2_from"], 4)
         self.assertEqual(made["rigzumal_check_from"], 255)  # as many as there are lanes
 
@@ -203,10 +203,10 @@ class Salts(unittest.TestCase):
     def test_the_library_draws_them(self, size):
         for hasher in (LEAST, LEAST.replace(secret=b"x"), ScryptHasher(1, 1, 1)):
             hasher = hasher.replace(salt_len=size)
-            with Calls() as calls:
+            with noted_library() as library:
                 made = {hasher.hash("x") for _ in range(2)}
             self.assertEqual(len(made), 2)
-            for *_, inputs in calls.made:
+            for _, (*_, inputs), _ in library.mock_calls:
                 self.assertEqual((inputs.salt, inputs.salt_size), (None, size))
 
     @each(8, 16, 48, 64)
