@@ -20,7 +20,7 @@ os.environ["PYTHONPATH"] = f"{PACKAGE}:{os.environ.get('PYTHONPATH', '')}".rstri
 
 import servers
 from rigzumal import PasswordHasher, VerifyMismatchError
-from rigzumal.accounts import Accounts, PerThread, Sqlite, _judgement
+from rigzumal.accounts import Accounts, PerThread, Sqlite, _judgement, cli
 from rigzumal.accounts._session import Session, run  # noqa: F401: of each test
 from rigzumal.accounts.types import Kind, Request
 from tests.helpers import each  # noqa: F401: of each test
@@ -34,6 +34,11 @@ LOW = PasswordHasher(time_cost=1, memory_cost=64, parallelism=1)
 HIGH = PasswordHasher(time_cost=1, memory_cost=128, parallelism=1)
 # Made by the reference program, of the older version.
 OLDER = "$argon2i$m=256,t=2,p=1$c29tZXNhbHQ$/U3YPXYsSb3q9XxHvc0MLxur+GP960kN9j7emXX8zwY"
+COSTS = "--memory 64 --passes 1 --lanes 1".split()
+FOREIGN = "$2y$05$" + "a" * 53
+RECORD, TWO = LOW.hash("one"), LOW.hash("two")
+# Of a command's answers those with status 4.
+NO = ("exists", "no", "no account", "no record", "wrong")
 logging.getLogger("rigzumal.accounts").addHandler(logging.NullHandler())
 READS = (Kind.VERIFY, Kind.CHANGE, Kind.UPGRADE, Kind.REMOVE)
 SERVERS = {}
@@ -215,6 +220,49 @@ class Base(unittest.TestCase):
         """None is in what is raised, nor in what it was raised from."""
         lines = traceback.format_exception(type(error), error, error.__traceback__)
         self.assertNotIn("$argon2", "".join(lines))
+
+
+class Commands(Base):
+    """The command on a file of SQLite; its table is there, if a class doesn't say otherwise."""
+
+    has_table = True
+
+    def setUp(self):
+        super().setUp()
+        url = {"RIGZUMAL_DATABASE": self.server.url}
+        self.enterContext(mock.patch.dict(os.environ, url))
+        if self.has_table:
+            self.streams("init")
+
+    def streams(self, *words, **more):
+        """What the command writes on each stream."""
+        return streams(cli.main, *COSTS, *words, **more)
+
+    def run_command(self, *words, **more):
+        return "".join(self.streams(*words, **more))
+
+    def assert_answers(self, *rows, **more):
+        """Rows are words, the input (a list is typed), and the answer or an explained status."""
+        for words, given, answer in rows:
+            status = answer if isinstance(answer, int) else 4 * (answer in NO)
+            given = {"typed" if isinstance(given, list) else "given": given}
+            with self.subTest(words=words, **given):
+                said, error = self.streams(*words.split(" "), **given, **more, status=status)
+                self.assertEqual(said, "" if answer in ("", status) else f"{answer}\n")
+                self.assertEqual(bool(error), answer == status and answer != 4, error)
+                self.assertNotIn("hunter", error)
+
+    def file(self, *lines, end="\n"):
+        """The path of a file with these lines."""
+        file = pathlib.Path(f"{self.server.path}.names")
+        file.write_text("".join(f"{it}{end}" for it in lines), errors="surrogateescape")
+        return str(file)
+
+    def insert(self, rows):
+        self.conn.executemany("INSERT INTO accounts VALUES (?, ?)", dict(rows).items())
+
+    def rows(self):
+        return dict(self.conn.execute("SELECT * FROM accounts").fetchall())
 
 
 def is_right(record, password, hasher=LOW):

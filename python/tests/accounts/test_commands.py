@@ -14,8 +14,7 @@ import unittest
 from unittest import mock
 
 import support
-from commands import FOREIGN, RECORD, Commands
-from support import LOW, each
+from support import FOREIGN, LOW, RECORD, Commands, each
 from rigzumal.accounts import cli
 from rigzumal.accounts.database import Database
 

@@ -3,8 +3,7 @@
 import json
 from unittest import mock
 
-from commands import FOREIGN, RECORD, TWO, Commands
-from support import HIGH, each
+from support import FOREIGN, HIGH, RECORD, TWO, Commands, each
 from rigzumal import parts
 from rigzumal.accounts import _import
 

@@ -4,8 +4,7 @@ what is hashed of a password that was typed."""
 import inspect
 import unicodedata
 
-from commands import RECORD, Commands
-from support import HIGH, Base, each, is_right
+from support import HIGH, RECORD, Base, Commands, each, is_right
 from rigzumal import opaque_string
 from rigzumal.accounts import Accounts, AsyncAccounts, Reply
 from rigzumal.accounts.types import Kind, Request

@@ -40,13 +40,9 @@ class AsDjangos(Cheap, TransactionTestCase):
 
     @beside([None] * 4 + [{"password"}] * 2 + [{"email"}] * 2 + [{"email", "password"}] * 2)
     def test_signals(self, model, ann):
-        sent = []
-
-        def note(sender, update_fields, **_):
-            sent.append(update_fields)
-
+        noted = mock.Mock()
         for signal in (pre_save, post_save):
-            connected(self, signal, note, model)
+            connected(self, signal, noted, model)
         ann.save()
         ann.set_password("new")
         ann.save()
@@ -55,6 +51,7 @@ class AsDjangos(Cheap, TransactionTestCase):
         deferred = model.objects.defer("password").get()
         deferred.save()
         columns = {it.name for it in model._meta.concrete_fields} - {"id", "password"}
+        sent = [it.kwargs["update_fields"] for it in noted.mock_calls]
         self.assertEqual(sent[10:], [columns] * 2)
         return sent[:10]
 

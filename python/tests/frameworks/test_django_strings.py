@@ -109,10 +109,8 @@ class Strings(unittest.TestCase):
 
         for hasher, number in ((wrapped(Argon2), "time_cost"), (wrapped(Scrypt), "work_factor")):
             # Of the data migration, and of a new user.
-            for record in (
-                hasher.encode_md5(digest, "seasalt"),
-                hasher.encode("secret", "seasalt"),
-            ):
+            migrated = hasher.encode_md5(digest, "seasalt")
+            for record in (migrated, hasher.encode("secret", "seasalt")):
                 self.assertTrue(record.startswith(f"{hasher.algorithm}$"))
                 self.assertIs(hasher.verify("secret", record), True)
                 self.assertIs(hasher.verify(digest, record), False)
