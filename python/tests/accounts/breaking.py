@@ -15,7 +15,6 @@ from rigzumal.accounts.types import Answer
 
 
 def take_pool(accounts, pool):
-    """Gives accounts another pool."""
     accounts._connections = dataclasses.replace(accounts._connections, primary=pool)
 
 

@@ -238,8 +238,6 @@ class Awaited:
 
 
 class OnSqliteTasks(OnSqlite):
-    """The same for asyncio."""
-
     async def awaiting(self):
         return Awaiting(self.connect())
 
@@ -252,8 +250,6 @@ class OnSqliteTasks(OnSqlite):
 
 
 class OnPostgresTasks(OnPostgres):
-    """The same for asyncio."""
-
     async def awaiting(self):
         return await servers.psycopg.AsyncConnection.connect(self.server.url, autocommit=True)
 

@@ -9,8 +9,6 @@ LIBRARY = "/usr/lib/galera/libgalera_smm.so"
 
 
 class Node(MariaServer):
-    """One node of a cluster."""
-
     cluster = ()
 
     @property

@@ -105,8 +105,6 @@ def killed_servers(run, node, pause=1.5):
 
 
 class Pair:
-    """A primary and its standby."""
-
     made = 0
 
     def __init__(self, is_synchronous=False):

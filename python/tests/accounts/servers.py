@@ -294,8 +294,6 @@ class OfMySql(Server):
 
 
 class MariaServer(OfMySql):
-    """One server of MariaDB."""
-
     user = "mysql"
     # What is read is on the disk then: docs/SCALE.md.
     more_lines = ("log_bin=binlog", "sync_binlog=1", "server_id=1")

@@ -59,7 +59,6 @@ def server(kind):
 
 
 def module(name):
-    """A module, or a skipped test."""
     try:
         return importlib.import_module(name)
     except ImportError:
@@ -101,12 +100,10 @@ class Base(unittest.TestCase):
         return [tuple(row) for row in rows]
 
     def create(self):
-        """The table as it should be."""
         self.execute("DROP TABLE IF EXISTS users")
         self.execute(self.dialect.create())
 
     def table(self, record="VARCHAR(512)", key="VARCHAR(150)"):
-        """Another table."""
         self.execute("DROP TABLE IF EXISTS users")
         self.execute(f"CREATE TABLE users (name {key} PRIMARY KEY, record {record})")
 
@@ -235,7 +232,6 @@ class Commands(Base):
             self.streams("init")
 
     def streams(self, *words, **more):
-        """What the command writes on each stream."""
         return streams(cli.main, *COSTS, *words, **more)
 
     def run_command(self, *words, **more):
@@ -266,7 +262,6 @@ class Commands(Base):
 
 
 def is_right(record, password, hasher=LOW):
-    """Whether a record is one of this password, by itself."""
     try:
         return hasher.verify(record, password)
     except VerifyMismatchError:
@@ -301,7 +296,6 @@ def streams(main, *words, given=b"", typed=(), shows=False, status=0):
 
 
 def commanded(main, *words, **more):
-    """What a command writes on both streams."""
     return "".join(streams(main, *words, **more))
 
 

@@ -13,7 +13,7 @@ import engines
 import servers
 import torture
 from servers import psycopg
-from support import LOW, Base, Session, called, each, run
+from support import LOW, Base, Session, called, each, module, run
 from rigzumal import InvalidRecordError
 from rigzumal.accounts import AsyncAccounts, OutcomeUnknown, Reply, StoreFault, Unavailable
 from rigzumal.accounts.types import Kind, Request
@@ -164,15 +164,12 @@ class OnPostgres(engines.OnPostgres, Base):
     # ---- psycopg
 
     def test_psycopgs_pool_of_asyncio(self):
-        try:
-            from psycopg_pool import AsyncConnectionPool
-        except ImportError:
-            self.skipTest("python3-psycopg-pool is not there")
+        pools = module("psycopg_pool")
         self.give("one")
 
         async def act():
             given = {"kwargs": {"autocommit": True}, "min_size": 2, "max_size": 4}
-            pool = AsyncConnectionPool(self.server.url, open=False, **given)
+            pool = pools.AsyncConnectionPool(self.server.url, open=False, **given)
             await pool.open()
             accounts = AsyncAccounts(pool.connection, self.dialect, LOW)
             replies = [accounts.login("ann", "one") for _ in range(20)]

@@ -24,7 +24,6 @@ class Tortures(Base):
         self.logs = pathlib.Path(f"{self.server.path}.logs")
 
     def command(self, *words, status=0):
-        """What the command prints on both streams."""
         given = ("--database", self.server.url, "--seconds=1", "--accounts=2")
         return commanded(command.main, *given, *words, status=status)
 
@@ -36,7 +35,6 @@ class Tortures(Base):
             return self.torture.run()
 
     def lines(self):
-        """The lines of each process."""
         for path in self.logs.glob("log-*-*"):
             yield [json.loads(it) for it in path.read_text().splitlines()]
 
@@ -54,11 +52,6 @@ class Tortures(Base):
         self.assertIn(", 0 killed", self.command("--processes=2"))
         found = self.conn.execute("SELECT name FROM sqlite_master WHERE type = 'table'")
         self.assertEqual(found.fetchall(), [("users",)])
-
-    def test_a_kill_that_kills_nobody(self):
-        with mock.patch.object(os, "kill"), mock.patch.object(Log, "_dare"):
-            said = self.command("--processes=2", "--kill", status=4)
-        self.assertIn("no process was killed", said)
 
     @each(*_torture.WAYS)
     def test_kills_before_a_commit(self, way):
@@ -168,8 +161,10 @@ class Tortures(Base):
         for words in ("--processes=0", "--seconds=0", "--accounts=-1", "--seconds=x"):
             self.command(words, status=1)
         with mock.patch.object(torture.Torture, "_load", return_value=0):
-            said = self.command("--accounts=1", status=4)
-        self.assertIn("no change was made", said)
+            self.assertIn("no change was made", self.command("--accounts=1", status=4))
+        with mock.patch.object(os, "kill"), mock.patch.object(Log, "_dare"):
+            said = self.command("--processes=2", "--kill", "--table=two", status=4)
+        self.assertIn("no process was killed", said)
 
     def test_one_that_is_refused(self):
         """Status 4, what contradicts what, and the table and the logs stay."""

@@ -10,22 +10,19 @@ import os
 import re
 import subprocess
 import sys
-import unittest
 import urllib.parse
 from unittest import mock
 
 import here
 
-from tests.helpers import Case, common_folder
+from tests.helpers import Case, common_folder, need_module
 
 EXAMPLE = here.TOP / "examples" / "login_page"
 sys.path.insert(0, str(EXAMPLE))
-try:
-    import login_page
-    import store
-except ImportError as what:
-    raise unittest.SkipTest(f"python3-flask, -waitress and -django are wanted: {what}") from None
+need_module("flask", "waitress", "django")
 
+import login_page
+import store
 from rigzumal import PasswordHasher
 
 DATABASE = os.environ.get("DATABASE", str(common_folder() / "data" / "page.db"))

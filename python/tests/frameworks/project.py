@@ -5,16 +5,14 @@ FRAMEWORKS_POSTGRES=PORT takes PostgreSQL in the place of SQLite.
 
 import atexit
 import os
-import unittest
 
 import here  # noqa: F401 (before rigzumal)
+from tests.helpers import need_module
 
 os.environ.setdefault("DJANGO_SETTINGS_MODULE", "settings")
+need_module("django")
 
-try:
-    import django
-except ImportError:
-    raise unittest.SkipTest("python3-django is not there") from None
+import django
 
 django.setup()
 

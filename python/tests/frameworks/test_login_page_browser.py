@@ -4,18 +4,14 @@ PICTURES may name a folder that gets a picture of each page.
 """
 
 import os
-import shutil
-import unittest
 
 from login_clients import NEW, OLD, Remote, Served
+from tests.helpers import need, need_module
 
-try:
-    from selenium import webdriver
-except ImportError:
-    raise unittest.SkipTest("python3-selenium is not there") from None
-if not shutil.which("chromedriver"):
-    raise unittest.SkipTest("chromium-driver is not there")
+need("chromedriver")
+need_module("selenium")
 
+from selenium import webdriver
 from selenium.common.exceptions import WebDriverException
 from selenium.webdriver.chrome.service import Service
 from selenium.webdriver.support.ui import WebDriverWait

@@ -6,19 +6,18 @@ import unittest
 from unittest import mock
 
 import here  # noqa: F401 (before rigzumal)
+from tests.helpers import each, need_module, run
 
 os.environ["PASSLIB_TEST_MODE"] = "full"
 
-try:
-    import passlib.hash
-except ImportError:
-    raise unittest.SkipTest("python3-passlib is not there") from None
+need_module("passlib")
+
+import passlib.hash
 from passlib.exc import MissingBackendError, PasswordSizeError
 from passlib.tests import test_handlers_argon2 as argon2_tests
 from passlib.tests import test_handlers_scrypt as scrypt_tests
 
 import rigzumal.passlib
-from tests.helpers import each, run
 
 ours, our_scrypt = rigzumal.passlib.argon2, rigzumal.passlib.scrypt
 PASSWORDS = ("", "lètmein", b"\xff\xfe", "x" * 1000)
@@ -31,8 +30,6 @@ except MissingBackendError:
 
 
 class Argon2(argon2_tests._base_argon2_test):
-    """passlib's own tests."""
-
     class handler(ours):
         memory_cost = 512
         default_rounds = 2
@@ -54,8 +51,6 @@ class Argon2(argon2_tests._base_argon2_test):
 
 
 class Scrypt(scrypt_tests._scrypt_test):
-    """passlib's own tests."""
-
     handler = our_scrypt
     backend = None
     descriptionPrefix = "scrypt over rigzumal"

@@ -29,7 +29,6 @@ def python(*words, given="", status=0, at=HERE, **env):
 
 
 def verdict(hasher, record, password):
-    """Whether the password is the record's."""
     try:
         return hasher.verify(record, password)
     except rigzumal.VerifyMismatchError:

@@ -14,12 +14,11 @@ from records import OLD
 
 import rigzumal
 from rigzumal import argon2_cffi as ours
-from tests.helpers import each
+from tests.helpers import each, need_module
 
-try:
-    import argon2 as theirs
-except ModuleNotFoundError:
-    raise unittest.SkipTest("Python's module argon2 isn't installed") from None
+need_module("argon2")
+
+import argon2 as theirs
 
 KINDS = ("D", "I", "ID")
 COSTS = {"time_cost": 1, "memory_cost": 64, "parallelism": 2}
@@ -44,7 +43,6 @@ def outcome(call, *given, **named):
 
 class Same(unittest.TestCase):
     def same(self, call, *what):
-        """What a call of either comes to."""
         with self.subTest(what=what):
             self.assertEqual(outcome(call, ours), outcome(call, theirs))
 

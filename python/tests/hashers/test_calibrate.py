@@ -32,8 +32,6 @@ def with_a_slow_start(it):
 
 
 def tried(machine, target, memory, lanes, threads=1, below=True):
-    """The trials on a machine."""
-
     def timed(hasher, turns=5):
         return Measured(hasher, machine(hasher))
 

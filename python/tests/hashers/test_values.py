@@ -52,8 +52,6 @@ class Defaults(unittest.TestCase):
 
 
 class Values(unittest.TestCase):
-    """Hashers and parts are values."""
-
     @each(
         *((SMALL, it) for it in ("time_cost", "hash_len", "another")),
         *((ScryptHasher(), it) for it in ("log2_n", "hash_len", "another")),

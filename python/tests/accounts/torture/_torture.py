@@ -84,7 +84,6 @@ class Torture:
         return logs.read(map(str, self.folder.glob("log-*")))
 
     def drop(self):
-        """Drops the table."""
         conn = Database(self.end_url or self.url).connect()
         conn.cursor().execute(f"DROP TABLE {self.dialect().table}")
         conn.close()

@@ -66,7 +66,6 @@ class Log:
         self.write("answer", id=name, time=time.monotonic_ns(), reply=reply, **said)
 
     def write(self, event, **said):
-        """Writes a line."""
         os.write(self._file, (json.dumps({"event": event, **said}) + "\n").encode())
 
     def _dare(self):
