@@ -8,6 +8,7 @@ import os
 # typing takes longer to import than all else here, so it is left to those who check types.
 TYPE_CHECKING = False
 if TYPE_CHECKING:
+    from collections.abc import Callable
     from typing import Any, Final, Optional, Union
 
     from typing_extensions import TypeAlias
@@ -212,6 +213,9 @@ def _load() -> Any:
 
 _library = _load()
 
+record_fault: Callable[[bytes], int] = _library.rigzumal_record_fault
+"""rigzumal_record_fault by itself, of bytes without a zero byte."""
+
 
 def version() -> str:
     """rigzumal_version."""
@@ -289,12 +293,12 @@ def parts(text: Secret) -> RecordNumbers:
 def is_record(text: Secret) -> bool:
     """Whether a text is a record, and none of another scheme."""
     found = bytes_of(text)
-    return b"\0" not in found and int(_library.rigzumal_record_fault(found)) == OK
+    return b"\0" not in found and record_fault(found) == OK
 
 
 def check_text(text: Secret) -> None:
     """rigzumal_record_fault: raises InvalidRecordError if the text is no record."""
-    raise_fault(_library.rigzumal_record_fault(text_bytes(text)), text)
+    raise_fault(record_fault(text_bytes(text)), text)
 
 
 def in_range(name: str, number: int, least: int, most: int, fault: int) -> int:

@@ -23,7 +23,7 @@ from rigzumal.accounts.types import Key, Kind, Reply, Request, StoreFault, Ticke
 from rigzumal.accounts.types import Worked
 from rigzumal.accounts.pools import Pool
 
-BATCH = 20_000  # lines of an import that are committed together
+BATCH = 50_000  # lines of an import that are committed together
 SHARE = 1000  # of them that one statement adds
 FEW = 200  # that one puts into rows without a record: each key is compared with all
 Line = tuple[Key, str]
@@ -170,15 +170,16 @@ class Import:
         self, lines: Iterable[str], key_of: Callable[[str], Key]
     ) -> Iterator[Line]:
         """The names and records of an import, all read before any is added."""
-        is_text = self.dialect.key_type is str
+        is_text, fault_of = self.dialect.key_type is str, _library.record_fault
         for number, line in enumerate(lines, 1):
             line = line.rstrip("\r\n")
             name, _, record = line.rpartition(" ")
             # Most names have no blank, and nothing else that is refused in one.
-            is_plain = is_text and name.isprintable() and " " not in name
-            if is_plain and name and record.isascii() and _library.is_record(record):
-                yield name, record
-                continue
+            is_plain = is_text and name and name.isprintable() and " " not in name
+            if is_plain and record.isascii() and "\0" not in record:
+                if fault_of(record.encode()) == _library.OK:
+                    yield name, record
+                    continue
             try:
                 yield self._record(line, key_of)
             except Refusal as refusal:
@@ -214,11 +215,16 @@ class Import:
 
         Line by line it is done in the end, or shows at which account it isn't.
         """
-        shares = [batch[it : it + SHARE] for it in range(0, len(batch), SHARE)]
+        # In the order of the names, which is the index's: its pages are read once each.
+        keys: list[Any] = [key for key, _ in batch]
+        order = sorted(range(len(batch)), key=keys.__getitem__)
+        lines = [batch[place] for place in order]
+        shares = [lines[it : it + SHARE] for it in range(0, len(lines), SHARE)]
         while True:
             try:
                 said = (self._put_at_once(session, share) for share in shares)
-                return [*itertools.chain.from_iterable(said)]
+                words = dict(zip(order, itertools.chain.from_iterable(said)))
+                return [words[place] for place in range(len(batch))]
             except Exception:
                 run(self.dialect.undo(session))
                 run(self.dialect.start(session))
