@@ -235,7 +235,7 @@ class Import:
     def _put_at_once(self, session: Session, share: Sequence[Line]) -> list[str]:
         """Puts some lines by a few statements; StoreFault if other records stand then."""
         keys = [] if self.are_new else [key for key, _ in share]
-        stands = self._standing(session, keys)
+        stands = dict(self._standing(session, keys))
         lines = [it for it in share if stands.get(it[0]) is None] if stands else share
         new = dict(lines)
         if len(new) < len(lines):
@@ -252,7 +252,8 @@ class Import:
             sql, keys = self.dialect.enrol(len(few)), [key for key, _ in few]
             run(session.execute(sql, *itertools.chain(*few), *keys))
         # A trigger, a collation or another program may have come between.
-        if self._standing(session, [*new]) != new:
+        found = self._standing(session, [*new])
+        if found != [*new.items()] and dict(found) != new:  # in another order perhaps
             raise StoreFault(ANOTHER_RECORD)
         if len(new) == len(share):
             return ["added"] * len(share)
@@ -265,15 +266,14 @@ class Import:
                 words.append("there" if stands[key] == record else "another")
         return words
 
-    def _standing(self, session: Session, keys: Sequence[Key]) -> dict[Any, Any]:
-        """The rows of these keys: their records, or None."""
+    def _standing(self, session: Session, keys: Sequence[Key]) -> list[Any]:
+        """The rows of these keys, with their records or None."""
         if not keys:
-            return {}
+            return []
         table, k, r = self.dialect.table, self.dialect.key, self.dialect.record
         marks = ", ".join([self.dialect.mark] * len(keys))
         sql = f"SELECT {k}, {r} FROM {table} WHERE {k} IN ({marks})"
-        rows: list[Any] = run(session.execute(sql, *keys)).rows
-        return dict(rows)
+        return run(session.execute(sql, *keys)).rows
 
     def _named(self, session: Session, key: Key, record: str) -> str:
         try:
