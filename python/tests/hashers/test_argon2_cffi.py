@@ -169,16 +169,14 @@ class Hashers(Same):
         with self.assertRaisesRegex(ours.exceptions.HashingError, "Salt is too short"):
             hasher.hash("x", salt=b"")
 
-    def test_what_no_hash_can_be(self):
+    @each(OLD + "\0", "$argon2id$\ud800", "$argon2id$\xe9", "\ud800")
+    def test_what_no_hash_can_be(self, text):
         """A zero byte and text that isn't ASCII are no hash, for each call, and a ValueError."""
-        hasher = ours.PasswordHasher(**COSTS)
-        for text in (hasher.hash("x") + "\0", "$argon2id$\ud800", "$argon2id$\xe9", "\ud800"):
-            verify = lambda it: hasher.verify(it, "x")
-            for call in (hasher.check_needs_rehash, ours.extract_parameters, verify):
-                with self.subTest(call=call):
-                    with self.assertRaises(ours.exceptions.InvalidHash) as raised:
-                        call(text)
-                    self.assertIsInstance(raised.exception, ValueError)
+        hasher, invalid = ours.PasswordHasher(**COSTS), ours.exceptions.InvalidHash
+        self.assertTrue(issubclass(invalid, ValueError))
+        for call in (hasher.check_needs_rehash, ours.extract_parameters):
+            self.assertRaises(invalid, call, text)
+        self.assertRaises(invalid, hasher.verify, text, "password")
 
     @each(
         ("PasswordHasher", ("__init__", "verify", "check_needs_rehash")),
@@ -238,18 +236,17 @@ class Parameters(Same):
 
 
 class Exceptions(unittest.TestCase):
-    def test_they_are_rigzumals_too(self):
-        hasher = ours.PasswordHasher(**COSTS)
-        for call, kind in (
-            (lambda: hasher.verify(hasher.hash("x"), "y"), rigzumal.VerifyMismatchError),
-            (lambda: hasher.verify("x", "y"), rigzumal.InvalidRecordError),
-            (lambda: ours.PasswordHasher(time_cost=0).hash("x"), rigzumal.RigzumalError),
-            (lambda: ours.PasswordHasher(1, 4096, 256).hash("x"), rigzumal.RigzumalError),
-        ):
-            with self.subTest(call=call, kind=kind):
-                with self.assertRaises(kind) as raised:
-                    call()
-                made = raised.exception
-                other = pickle.loads(pickle.dumps(made))
-                self.assertEqual((type(other), other.args), (type(made), made.args))
-                self.assertEqual(other.number, made.number)
+    @each(
+        (rigzumal.VerifyMismatchError, COSTS, "verify", OLD, "y"),
+        (rigzumal.InvalidRecordError, COSTS, "verify", "x", "y"),
+        (rigzumal.RigzumalError, {"time_cost": 0}, "hash", "x"),
+        (rigzumal.RigzumalError, {"memory_cost": 4096, "parallelism": 256}, "hash", "x"),
+    )
+    def test_they_are_rigzumals_too(self, row):
+        kind, costs, name, *given = row
+        with self.assertRaises(kind) as raised:
+            getattr(ours.PasswordHasher(**costs), name)(*given)
+        made = raised.exception
+        other = pickle.loads(pickle.dumps(made))
+        self.assertEqual((type(other), other.args), (type(made), made.args))
+        self.assertEqual(other.number, made.number)

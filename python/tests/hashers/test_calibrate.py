@@ -65,12 +65,13 @@ class Trials(unittest.TestCase):
         fits = [it for it in found if it.milliseconds <= target]
         self.assertEqual(found[-1], max(fits, key=lambda it: it.milliseconds))
 
-    def test_lanes_and_threads_are_those_given(self):
-        for lanes, threads in ((1, 1), (4, 1), (4, 4), (7, 3)):
-            for trial in tried(linear(1 / 512), 100, 65536, lanes, threads):
-                with self.subTest(lanes=lanes, threads=threads):
-                    found = trial.hasher.parallelism, trial.hasher.threads
-                    self.assertEqual(found, (lanes, threads))
+    @each((1, 1), (4, 1), (4, 4), (7, 3))
+    def test_lanes_and_threads_are_those_given(self, lanes, threads):
+        for trial in tried(linear(1 / 512), 100, 65536, lanes, threads):
+            found = trial.hasher.parallelism, trial.hasher.threads
+            self.assertEqual(found, (lanes, threads))
+
+    def test_threads_make_time_for_passes(self):
         one, four = (tried(linear(1 / 512), 250, 65536, 4, n)[-1].hasher for n in (1, 4))
         self.assertEqual((one.time_cost, four.time_cost), (1, 7))
 

@@ -12,7 +12,7 @@ import zipfile
 sys.path.insert(0, str(pathlib.Path(__file__).resolve().parents[3]))
 
 from tests.helpers import LIBRARIES, PYTHON, TOP
-from tests.helpers import common_folder, files_below, need, need_module, run
+from tests.helpers import common_folder, each, files_below, need, need_module, run
 
 ROOM = common_folder()
 VERSION = (TOP / "VERSION").read_text().strip()
@@ -93,22 +93,20 @@ class Package(unittest.TestCase):
         command = (prefix / "bin/rigzumal", "hash", "--memory", "8", "--lanes", "1")
         self.assertIn("$argon2id$", run(*command, given="x", env=env, at=ROOM))
 
-    def test_uninstalled(self):
+    @each((), ("/of_another.py", "/django/of_another.py"))
+    def test_uninstalled(self, others):
         """`make uninstall` takes away what `make install` put there, and nothing of anyone else's."""
         room = ROOM / "uninstalled"
         words = (f"DESTDIR={room}", "PREFIX=/opt/rigzumal")
         packages = room / "opt/rigzumal" / INSTALLED
-        folders = (f"opt/rigzumal/{INSTALLED}/rigzumal{it}" for it in ("", "/django"))
-        others = {f"{folder}/of_another.py" for folder in folders}
-        for with_others in (False, True):
-            with self.subTest(with_others=with_others):
-                make("install", *words)
-                run(sys.executable, "-m", "compileall", "-q", packages)
-                for name in others if with_others else ():
-                    (room / name).write_text("of another")
-                make("uninstall", *words)
-                self.assertEqual(files_below(room), others if with_others else set())
-                self.assertEqual((packages / "rigzumal").exists(), with_others)
+        make("install", *words)
+        run(sys.executable, "-m", "compileall", "-q", packages)
+        for name in others:
+            (packages / f"rigzumal{name}").write_text("of another")
+        make("uninstall", *words)
+        wanted = {f"opt/rigzumal/{INSTALLED}/rigzumal{name}" for name in others}
+        self.assertEqual(files_below(room), wanted)
+        self.assertEqual((packages / "rigzumal").exists(), bool(others))
 
     def test_wheel(self):
         """A virtual environment with the wheel alone imports and hashes, from nothing."""
