@@ -4,13 +4,14 @@ from __future__ import annotations
 
 import enum
 import itertools
+import operator
 import pathlib
 import re
 import sys
 import time
 from collections import Counter
 from collections.abc import Callable, Iterable, Iterator, Sequence
-from dataclasses import dataclass
+from dataclasses import dataclass, field
 from typing import Any, Final, NamedTuple, Optional
 
 from rigzumal import InvalidRecordError, _library
@@ -27,6 +28,7 @@ BATCH = 50_000  # lines of an import that are committed together
 SHARE = 1000  # of them that one statement adds
 FEW = 200  # that one puts into rows without a record: each key is compared with all
 Line = tuple[Key, str]
+_KEY: Final[Callable[[Line], Any]] = operator.itemgetter(0)
 _NO_UTF8: Final = re.compile("[\udc80-\udcff]")
 
 
@@ -137,6 +139,7 @@ class Import:
     pool: Pool
     takes_foreign: bool = False  # records of other schemes, for a hook to judge
     are_new: bool = True  # the names, so far
+    spaced: list[int] = field(default_factory=list)  # lines whose names have a space
 
     def take(self, file: pathlib.Path, key_of: Callable[[str], Key]) -> dict[str, int]:
         """Adds the accounts of lines "NAME RECORD", and counts the outcomes.
@@ -145,11 +148,10 @@ class Import:
         """
         with open(file, encoding="utf-8", errors="surrogateescape") as lines:
             records = list(self._records(lines, key_of))
-        spaced = [place for place, (key, _) in enumerate(records) if " " in str(key)]
-        if spaced:
-            name, count = shown(records[spaced[0]][0]), len(spaced)
+        if self.spaced:
+            name, count = shown(records[self.spaced[0] - 1][0]), len(self.spaced)
             said = f"{name!r} has a space; names with a space: {count}"
-            say(f"line {spaced[0] + 1}: {said}")
+            say(f"line {self.spaced[0]}: {said}")
         begun, words = time.monotonic(), list[str]()
         while len(words) < len(records):
             start, batch = len(words), records[len(words) : len(words) + BATCH]
@@ -184,6 +186,8 @@ class Import:
                 yield self._record(line, key_of)
             except Refusal as refusal:
                 raise Refusal(f"line {number}: {refusal}") from None
+            if " " in name:
+                self.spaced.append(number)
 
     def _record(self, line: str, key_of: Callable[[str], Key]) -> Line:
         name, _, record = line.rpartition(" ")
@@ -216,21 +220,23 @@ class Import:
         Line by line it is done in the end, or shows at which account it isn't.
         """
         # In the order of the names, which is the index's: its pages are read once each.
-        keys: list[Any] = [key for key, _ in batch]
-        order = sorted(range(len(batch)), key=keys.__getitem__)
-        lines = [batch[place] for place in order]
+        lines = sorted(batch, key=_KEY)
         shares = [lines[it : it + SHARE] for it in range(0, len(lines), SHARE)]
         while True:
             try:
                 said = (self._put_at_once(session, share) for share in shares)
-                words = dict(zip(order, itertools.chain.from_iterable(said)))
-                return [words[place] for place in range(len(batch))]
+                words = [*itertools.chain.from_iterable(said)]
+                break
             except Exception:
                 run(self.dialect.undo(session))
                 run(self.dialect.start(session))
             if not self.are_new:
                 return [self._named(session, *line) for line in batch]
             self.are_new = False
+        if len({*words}) > 1:
+            order = sorted(range(len(batch)), key=[*map(_KEY, batch)].__getitem__)
+            words = [word for _, word in sorted(zip(order, words))]
+        return words
 
     def _put_at_once(self, session: Session, share: Sequence[Line]) -> list[str]:
         """Puts some lines by a few statements; StoreFault if other records stand then."""

@@ -6,7 +6,6 @@ so `run` has their answer at once.
 
 from __future__ import annotations
 
-import asyncio
 import contextvars
 import inspect
 import time
@@ -200,10 +199,16 @@ class AsyncRuntime(Runtime):
                 raise
         return _answer(*ends)
 
+    # asyncio takes as long to import as all else here, so a blocking program doesn't.
+
     async def pause(self, seconds: float) -> None:
+        import asyncio
+
         await asyncio.sleep(seconds)
 
     async def call(self, work: Callable[..., T], *args: Any) -> T:
+        import asyncio
+
         # As asyncio.to_thread, which has no executor to choose.
         run_in, loop = contextvars.copy_context().run, asyncio.get_running_loop()
         return await loop.run_in_executor(self._executor, lambda: run_in(work, *args))

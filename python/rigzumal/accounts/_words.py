@@ -48,9 +48,10 @@ def parser(description: str, texts: Mapping[str, str]) -> argparse.ArgumentParse
     commands = words.add_subparsers(
         dest="command", required=True, metavar="COMMAND", parser_class=Words
     )
+    options = [_options()]
     made = {
         name: commands.add_parser(
-            name, help=text, description=f"{text}.", parents=[_options()]
+            name, help=text, description=f"{text}.", parents=options
         )
         for name, text in texts.items()
     }

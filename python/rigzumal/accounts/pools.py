@@ -17,7 +17,6 @@ Your own closes a connection, or rolls it back, after any exception, BaseExcepti
 
 from __future__ import annotations
 
-import asyncio
 import inspect
 import os
 import threading
@@ -25,9 +24,12 @@ import weakref
 from collections.abc import AsyncIterator, Awaitable, Callable, Iterator
 from contextlib import AbstractAsyncContextManager, AbstractContextManager
 from contextlib import asynccontextmanager, contextmanager, suppress
-from typing import Any, Final, Optional
+from typing import TYPE_CHECKING, Any, Final, Optional
 
 from rigzumal.accounts.types import Unavailable
+
+if TYPE_CHECKING:
+    import asyncio
 
 Pool = Callable[[], AbstractContextManager[Any]]
 AsyncPool = Callable[[], AbstractAsyncContextManager[Any]]
@@ -149,12 +151,16 @@ class PerUse:
     @asynccontextmanager
     async def __call__(self) -> AsyncIterator[Any]:
         conn = await self._opened()
+        import asyncio
+
         try:
             yield conn
         finally:
             await asyncio.shield(conn.close())
 
     async def _opened(self) -> Any:
+        import asyncio
+
         loop = asyncio.get_running_loop()
         async with self._turns.setdefault(loop, asyncio.Semaphore(_CONNECTING)):
             opening = asyncio.ensure_future(self._connect())
@@ -167,6 +173,8 @@ class PerUse:
 
 def _close(opening: asyncio.Future[Any]) -> None:
     """Closes a connection that was opened after its task was cancelled."""
+    import asyncio
+
     if not opening.cancelled() and opening.exception() is None:
         asyncio.ensure_future(opening.result().close())
 
