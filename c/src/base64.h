@@ -1,7 +1,6 @@
 /* Base64 (RFC 4648, section 4) without padding, of bytes and letters that may be secret: by
  * arithmetic alone, with no table, and no branch on a letter but whether it is one. */
-#ifndef BASE64_H
-#define BASE64_H
+#pragma once
 
 #include <stddef.h>
 #include <stdint.h>
@@ -14,5 +13,3 @@ void base64_write(uint8_t *text, const uint8_t *from, size_t size);
 
 /* The six bits that a letter stands for, or -1. */
 int base64_value(uint8_t letter);
-
-#endif

@@ -2,8 +2,7 @@
  * each. The contracts stand in the crate. Its structures are rigzumal_argon2 (Argon2Numbers),
  * rigzumal_scrypt (ScryptNumbers), rigzumal_parts (Parts), those of tag_parts.h, and those below.
  */
-#ifndef BUILDS_H
-#define BUILDS_H
+#pragma once
 
 #include "tag_parts.h"
 
@@ -101,5 +100,3 @@ const struct build *processor_build(void);
 
 /* The room for a text without its zero byte. A text is never empty, so none fits into none. */
 #define ROOM(text, size) ((size) == 0 ? NOTHING : (uint8_t *)(text)), (size) == 0 ? 0 : (size)-1
-
-#endif

@@ -1,7 +1,6 @@
 /* Memory for the proved code and for those who clear it themselves, and what is kept between calls.
  */
-#ifndef HEAP_H
-#define HEAP_H
+#pragma once
 
 #include <stdbool.h>
 #include <stddef.h>
@@ -36,5 +35,3 @@ size_t heap_trim(void);
 /* Has at most so many bytes kept from now on, and gives all that is kept back: how many could be
  * kept before. */
 size_t heap_keep(size_t size);
-
-#endif

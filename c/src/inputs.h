@@ -1,6 +1,5 @@
 /* What is looked at of a call's inputs before any of them is read. */
-#ifndef INPUTS_H
-#define INPUTS_H
+#pragma once
 
 #include "rigzumal.h"
 
@@ -31,5 +30,3 @@ static inline int null_fault_of_record(const struct rigzumal_inputs *inputs) {
 static inline int null_password_fault(const void *password, size_t size) {
     return null_fault(&(struct rigzumal_inputs){.password = password, .password_size = size});
 }
-
-#endif

@@ -1,6 +1,5 @@
 /* The lanes of an Argon2 tag worked by several threads. */
-#ifndef LANES_H
-#define LANES_H
+#pragma once
 
 #include "builds.h"
 
@@ -27,5 +26,3 @@ uint32_t lanes_useful_threads(const struct tag_numbers *numbers, uint32_t allowe
  * the others work its lanes. All have ended when the call is over, and memory of the caller's,
  * which was zero, is zero again. */
 uint8_t lanes_work(const struct task *task, uint32_t threads);
-
-#endif

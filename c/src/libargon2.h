@@ -1,7 +1,6 @@
 /* The declarations of argon2.h, whose names and numbers these are, and what the files of the
  * drop-in library share. */
-#ifndef LIBARGON2_H
-#define LIBARGON2_H
+#pragma once
 
 #include <stdbool.h>
 #include <stddef.h>
@@ -82,5 +81,3 @@ const char *read_string(argon2_context *read, const char *text);
 
 /* Writes the string of a context and its tag, or answers false if it doesn't fit. */
 bool write_string(char *text, size_t size, const argon2_context *context, argon2_type type);
-
-#endif

@@ -1,7 +1,6 @@
 /* What each processor has a file of its own for, as x86_64.c, which has processor_build of builds.h
  * too. */
-#ifndef PROCESSOR_H
-#define PROCESSOR_H
+#pragma once
 
 #include <stddef.h>
 
@@ -19,5 +18,3 @@ void processor_clear_registers(void);
 #define UPPER_SIXTEEN(of)                                                                          \
     of(16) of(17) of(18) of(19) of(20) of(21) of(22) of(23) of(24) of(25) of(26) of(27) of(28)     \
         of(29) of(30) of(31)
-
-#endif

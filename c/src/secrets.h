@@ -1,6 +1,5 @@
 /* Secrets compared, and the traces of a call cleared. */
-#ifndef SECRETS_H
-#define SECRETS_H
+#pragma once
 
 #include <stdbool.h>
 #include <stddef.h>
@@ -28,5 +27,3 @@ static inline int ended(int answer, char *text, size_t written) {
 
 /* Whether two secrets of one size are equal, in a time that doesn't depend on where they differ. */
 bool secrets_are_equal(const void *one, const void *other, size_t size);
-
-#endif

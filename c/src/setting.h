@@ -1,6 +1,5 @@
 /* Settings: costs and the salt behind them, as a text and as numbers. */
-#ifndef SETTING_H
-#define SETTING_H
+#pragma once
 
 #include "rigzumal.h"
 
@@ -26,5 +25,3 @@ static inline uint32_t narrow_tag_size(size_t size) {
 
 /* Whether the schemes, the versions and the costs are equal. */
 bool has_same_costs(const struct rigzumal_parts *one, const struct rigzumal_parts *other);
-
-#endif

@@ -13,8 +13,7 @@
  * - end is called once, with the last slice, when all segments are worked.
  * - Only then are the slices cleared; all four are, whatever was answered.
  * - After an answer that isn't 0 there is no further call. */
-#ifndef TAG_PARTS_H
-#define TAG_PARTS_H
+#pragma once
 
 #include "rigzumal.h"
 
@@ -50,5 +49,3 @@ struct record_reading {
     struct setting_reading setting;
     uint8_t tag[RIGZUMAL_TAG_SIZE_MAX];
 };
-
-#endif

@@ -1,6 +1,5 @@
 /* How the system treats a mapping. */
-#ifndef FLAGS_H
-#define FLAGS_H
+#pragma once
 
 #include "check.h"
 
@@ -34,5 +33,3 @@ static inline bool has_flag(const void *address, const char *flag) {
 static inline bool is_hidden(const void *address) {
     return !HAS_ADVICE || (has_flag(address, " dd") && has_flag(address, " wf"));
 }
-
-#endif

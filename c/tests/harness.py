@@ -40,7 +40,7 @@ OTHERS = {"src/build.c", "src/x86_64.c", "src/arm64.c"} - {f"src/{ARCH}.c"}
 SOURCES = [it for it in C_FILES if it not in {*LIBARGON2, *OTHERS}]
 SOURCES += [str(OUT / f"{build}.o") for build in BUILDS]
 # What needs none of the builds.
-WITHOUT_BUILDS = ["src/secrets.c", f"src/{ARCH}.c", f"tests/{ARCH}/no_builds.c"]
+WITHOUT_BUILDS = ["src/secrets.c", f"src/{ARCH}.c", "tests/no_builds.c"]
 VALGRIND = "valgrind -q --error-exitcode=9 --leak-check=full --errors-for-leak-kinds=all".split()
 
 # Has tags of every size worked in threads where a call asks for them.

@@ -1,6 +1,5 @@
 /* Every call that reads a secret, of rigzumal.h and of argon2.h, with its secrets in one place. */
-#ifndef JOBS_H
-#define JOBS_H
+#pragma once
 
 #include "rigzumal.h"
 
@@ -47,5 +46,3 @@ void fill_vault(struct vault *vault);
 
 /* What a job's call answers. */
 int answer_of(const struct job *job, struct vault *vault);
-
-#endif

@@ -1,6 +1,5 @@
 /* A build of stand-ins, and marks that they leave where the work would leave words of blocks. */
-#ifndef STAND_INS_H
-#define STAND_INS_H
+#pragma once
 
 #include "builds.h"
 #include "check.h"
@@ -58,5 +57,3 @@ static __attribute__((noinline)) void leave_marks(void) {
         marks[i] = *mark;
     __asm__ volatile("" ::"r"(marks) : "memory");
 }
-
-#endif

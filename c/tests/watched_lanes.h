@@ -1,7 +1,6 @@
 /* The proved parts and the heap in src/lanes.c's place: stand-ins, which rest at random and look at
  * what they are given, when, how often and on which thread, as src/tag_parts.h has it. */
-#ifndef WATCHED_LANES_H
-#define WATCHED_LANES_H
+#pragma once
 
 #include "lanes.h"
 
@@ -272,5 +271,3 @@ WRAP(int, sched_getaffinity, pid_t process, size_t size, cpu_set_t *set) {
 WRAP(long, sysconf, int name) {
     return name == _SC_NPROCESSORS_ONLN ? online : __real_sysconf(name);
 }
-
-#endif

@@ -1,7 +1,6 @@
 /* What src/heap.c asks of the system and of the C library, which the linker has these functions see
  * first: what is given back is zero. */
-#ifndef WATCHED_MEMORY_H
-#define WATCHED_MEMORY_H
+#pragma once
 
 #include "check.h"
 #include "heap.h"
@@ -97,5 +96,3 @@ static unsigned char *take_block(size_t size) {
     CHECK(tried.ok);
     return tried.start;
 }
-
-#endif

@@ -1,6 +1,5 @@
 /* Windows: eight bytes that may stand nowhere in the process but in a mapping apart. */
-#ifndef WINDOWS_H
-#define WINDOWS_H
+#pragma once
 
 #include "check.h"
 
@@ -71,5 +70,3 @@ static int found_in_process(const char *name, const void *apart) {
     fclose(maps);
     return found;
 }
-
-#endif

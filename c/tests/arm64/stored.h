@@ -1,6 +1,5 @@
 /* The vector registers, stored: as SVE has them, where the processor has it. */
-#ifndef STORED_H
-#define STORED_H
+#pragma once
 
 #include "processor.h"
 
@@ -47,5 +46,3 @@ static inline __attribute__((always_inline)) void store_registers(struct vectors
         __asm__ volatile(EIGHT(STORE) NEXT_EIGHT(STORE) UPPER_SIXTEEN(STORE)::"r"(to->vectors)
                          : "memory");
 }
-
-#endif

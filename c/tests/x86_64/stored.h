@@ -1,6 +1,5 @@
 /* The vector and mask registers, filled and stored: all that this processor has. */
-#ifndef STORED_H
-#define STORED_H
+#pragma once
 
 #include "processor.h"
 
@@ -60,5 +59,3 @@ HERE void fill_registers(struct vectors here, const unsigned char mark[VECTOR_SI
 HERE void store_registers(struct vectors here, struct stored *to) {
     EACH(STORE);
 }
-
-#endif

@@ -1,6 +1,5 @@
 /* The compiler's, but that the test says of each leaf which features there are. */
-#ifndef LACKING_CPUID_H
-#define LACKING_CPUID_H
+#pragma once
 #pragma GCC system_header
 
 #define __get_cpuid real_cpuid
@@ -23,5 +22,3 @@ static inline int __get_cpuid_count(unsigned leaf, unsigned subleaf, unsigned *a
 static inline int __get_cpuid(unsigned leaf, unsigned *a, unsigned *b, unsigned *c, unsigned *d) {
     return __get_cpuid_count(leaf, 0, a, b, c, d);
 }
-
-#endif

@@ -1,9 +1,9 @@
-/* Builds that nobody calls, in place of the proved ones; with -DLEFT_OUT the last is empty. */
+/* Builds that nobody calls, in place of the proved ones; with -DLEFT_OUT the newest is empty. */
 #include "builds.h"
 
 #include <stdlib.h>
 
-extern const struct build build_v1, build_v2, build_v3, build_v4;
+extern const struct build build_generic, build_v1, build_v2, build_v3, build_v4;
 
 static uint8_t check(bytes record, size_t record_size, bytes password, size_t password_size) {
     (void)record, (void)record_size, (void)password, (void)password_size;
@@ -15,6 +15,7 @@ const struct build build_v4;
 #else
 const struct build build_v4 = {.cred_check = check};
 #endif
+const struct build build_generic = {.cred_check = check};
 const struct build build_v1 = {.cred_check = check};
 const struct build build_v2 = {.cred_check = check};
 const struct build build_v3 = {.cred_check = check};
