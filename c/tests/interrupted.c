@@ -125,7 +125,7 @@ static pid_t forked;
 static void fork_in_handler(int number) {
     (void)number;
     if (forked == -1)
-        forked = fork();
+        forked = _Fork(); /* fork waits for malloc's lock, which the call may hold */
 }
 
 /* A child that is forked by a handler in the midst of a call, and goes on with it, answers right or
