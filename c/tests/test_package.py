@@ -93,11 +93,12 @@ class Package(unittest.TestCase):
         run("make", "install", f"PREFIX={prefix}")
         prefix = prefix.rename(ROOM / "moved for CMake")
         room.mkdir()
+        (room / "lib").symlink_to(prefix / "lib")  # as Debian's /lib is one
         shutil.copy(TOP / "tests/threads.c", room)
         shutil.copy(TOP / "tests/check.h", room)
         wanted = " ".join(f'"{it}"' for it in ASKED)
         (room / "CMakeLists.txt").write_text(CMAKE.format(version=VERSION, wanted=wanted))
-        said = run("cmake", "-S", room, "-B", room / "out", f"-DCMAKE_PREFIX_PATH={prefix}")
+        said = run("cmake", "-S", room, "-B", room / "out", f"-DCMAKE_PREFIX_PATH={room}")
         found = re.findall(r"^(\S+) is found: (\d)$", said, re.M)
         self.assertEqual({version: it == "1" for version, it in found}, ASKED)
         run("cmake", "--build", room / "out")
@@ -126,6 +127,8 @@ class Package(unittest.TestCase):
         made("CFLAGS=-O2 -DUNUSED", "LDFLAGS=-Wl,--build-id=0x1234567890abcdef")
         for name in ("librigzumal.so.1", "libargon2.so.1"):
             self.assertIn("1234567890abcdef", run("readelf", "-n", out / name))
+        (out / "v4.a").write_bytes(b"")  # the toolchain allows none
+        made()
         (out / "proved.sum").write_text("of other sources")
         run("make", "RT=false", at=room / "c", status=2)
 

@@ -20,12 +20,26 @@ static void make_tag(unsigned char *tag, int which, uint32_t threads) {
                  RIGZUMAL_OK);
 }
 
+/* A record with a salt that is drawn, and what is read of texts: each thread has its own. */
+static void try_texts(void) {
+    char record[RIGZUMAL_TEXT_SIZE], said[32];
+    struct rigzumal_parts parts;
+    CHECK_NUMBER(rigzumal_record(ARRAY(record), 32, "$argon2id$v=19$m=8,t=1,p=1", NULL, 16,
+                                 LITERAL("password")),
+                 RIGZUMAL_OK);
+    CHECK_NUMBER(rigzumal_check(record, LITERAL("password")), RIGZUMAL_OK);
+    CHECK_NUMBER(rigzumal_parts(&parts, "$scrypt$ln=1,r=1,p=1"), RIGZUMAL_OK);
+    CHECK_NUMBER(rigzumal_explain(ARRAY(said), "$scrypt$ln=0,r=8,p=1"), RIGZUMAL_RANGE);
+    CHECK(strcmp(said, "ln=0 is under 1") == 0);
+}
+
 static void *work(void *first) {
     for (int turn = 0; turn < TURNS; turn++) {
         int which = (*(int *)first + turn) % 3;
         unsigned char tag[32];
         make_tag(tag, which, (uint32_t)turn % 4);
         CHECK(memcmp(tag, wanted[which], sizeof tag) == 0);
+        try_texts();
     }
     return NULL;
 }
