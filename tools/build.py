@@ -187,11 +187,12 @@ def build_program(program, level, progress):
         # rt builds a program as it runs it: here for its help. It links none for another machine, and fails then.
         flag = f"--target={TARGET}" if level == ARM64 else f"--cpu={level}"
         done = subprocess.run([RT, "run", flag, "--", "--help"], cwd=CRATES / program, capture_output=True, text=True)
-        if level == ARM64 and compiled.is_file() and re.search(rf"(?m)^logic=proved .*\btarget={TARGET}\b", done.stdout):
+        said = done.stdout + done.stderr  # rt run says on the latter what was proved
+        if level == ARM64 and compiled.is_file() and re.search(rf"(?m)^logic=proved .*\btarget={TARGET}\b", said):
             built.parent.mkdir(exist_ok=True)
             subprocess.run([*ARM64_LINKER, compiled, ARM64_CALLS, "-o", built], check=True)
         if not built.is_file():
-            raise SystemExit(f"{program}: not proved\n{(done.stdout + done.stderr)[-4000:]}")
+            raise SystemExit(f"{program}: not proved\n{said[-4000:]}")
         seal.write_text(sum_of(program, level))
 
 

@@ -29,7 +29,7 @@ until [ -e "${GO-/}" ]; do sleep 0.1; done
 mkdir -p out/rlib
 touch out/rlib/stamp
 case "$*" in
-"run --target=aarch64-unknown-linux-gnu "*) [ "${OBJECT-object}" = none ] || echo object > out/program.o; echo "$SAID"; exit 1 ;;
+"run --target=aarch64-unknown-linux-gnu "*) [ "${OBJECT-object}" = none ] || echo object > out/program.o; echo "$SAID" >&2; exit 1 ;;
 run*) printf '#!/bin/sh\\necho answered "$@"\\nexit 7\\n' > out/program; chmod +x out/program ;;
 esac
 """
