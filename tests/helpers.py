@@ -1,5 +1,5 @@
 """What all tests share: how a program is run and how it ended, what a test needs of the machine,
-and shims that stand before the C library.
+and the shim that stands before the C library.
 
 RIGZUMAL_TIMES=N makes N times as many kills and random operations as the gate does. ARCH=arm64 runs
 programs of that processor, under qemu-user. It runs on Python 3.9, as the package does.
@@ -341,9 +341,10 @@ def at_a_terminal(
     return Shown(status, shown, echoes)
 
 
-# ---- shims
+# ---- the shim before the C library, tests/shims/calls.c
 
 BUILDING = threading.Lock()
+TOLD = r"(REFUSED|SYNCS|THREADS|PEAK|ASKED) (\d+)\n"
 
 
 def shim_compiler() -> list[str]:
@@ -356,43 +357,38 @@ def shim_compiler() -> list[str]:
     return [str(clang), "-nostdlib", "-fuse-ld=lld"] if clang.exists() else ["cc"]
 
 
-def shim(name: str) -> str:
-    """The library of tests/shims/NAME.c for LD_PRELOAD."""
-    with BUILDING:
-        return built_shim(name)
-
-
-@functools.cache
-def built_shim(name: str) -> str:
-    library = common_folder() / f"{name}.so"
-    source = TOP / "tests" / "shims" / f"{name}.c"
+def shim() -> str:
+    """The shim as a library, which is built once."""
+    library, source = common_folder() / "calls.so", TOP / "tests/shims/calls.c"
     flags = ["-shared", "-fPIC", "-fno-builtin", "-O2", "-w", "-o", str(library), str(source)]
-    subprocess.run([*shim_compiler(), *flags], check=True)
+    with BUILDING:
+        if not library.exists():
+            subprocess.run([*shim_compiler(), *flags], check=True)
     return str(library)
 
 
-def preloaded(name: str) -> dict[str, str]:
-    """The environment of a program with a shim: an emulator hands it on, and has none itself."""
-    variable = "LD_PRELOAD" if IS_NATIVE else "QEMU_SET_ENV"
-    return {**os.environ, variable: ("" if IS_NATIVE else "LD_PRELOAD=") + shim(name)}
+def shimmed(
+    command: list[str], given: str, refused: int, **options: Any
+) -> tuple[Ended, dict[str, int]]:
+    """How a run ended whose request for memory of this number is refused, and what the shim told.
+    An emulator hands the shim on, and has none itself."""
+    preload = {"LD_PRELOAD": shim()} if IS_NATIVE else {"QEMU_SET_ENV": f"LD_PRELOAD={shim()}"}
+    env = {**os.environ, **preload, "REFUSE_NTH": str(refused)}
+    done = ended(command, given, env=env, **options)
+    found = {word: int(count) for word, count in re.findall(TOLD, done.faults)}
+    return done._replace(faults=re.sub(TOLD, "", done.faults)), found
 
 
 def counts(command: list[str], given: str = "") -> tuple[Ended, dict[str, int]]:
-    """How a run ended, with its counts of SYNCS, THREADS and memory (tests/shims/counts.c)."""
-    done = ended(command, given, env=preloaded("counts"))
-    told = r"(?m)^(SYNCS|THREADS|PEAK|ASKED) (\d+)\n"
-    found = {word: int(count) for word, count in re.findall(told, done.faults)}
-    return done._replace(faults=re.sub(told, "", done.faults)), found
+    """How a run ended, with its counts of SYNCS, THREADS and memory."""
+    return shimmed(command, given, 0)
 
 
 def without_request(nth: int, command: list[str], given: str = "", **options: Any) -> Ended | None:
     """How a run ended whose request for memory of this number was refused, or nothing if it made
     fewer requests."""
-    env = {**preloaded("refuse"), "REFUSE_NTH": str(nth)}
-    done = ended(command, given, env=env, **options)
-    if "REFUSED\n" not in done.faults:
-        return None
-    return done._replace(faults=done.faults.replace("REFUSED\n", ""))
+    done, told = shimmed(command, given, nth, **options)
+    return done if "REFUSED" in told else None
 
 
 def instructions(command: list[str], given: str = "") -> tuple[Ended, int]:

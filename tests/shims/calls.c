@@ -1,7 +1,8 @@
-/* Before the C library: counts the syncs of a program, the most threads that it started and hadn't
- * joined yet, and the memory in bytes: the most that was asked for at any time and not yet given
- * back, and all that was ever asked for. It tells them as the program ends. A list of /proc's may
- * name an ended thread. The toolchain has no headers. */
+/* Before the C library: counts the syncs of a program, the most threads that it started and
+ * hadn't joined yet, and the memory in bytes: the most that was asked for at any time and not yet
+ * given back, and all that was ever asked for. It tells them as the program ends. A list of
+ * /proc's may name an ended thread. It refuses the request for memory whose number REFUSE_NTH
+ * has, and says so. The toolchain has no headers. */
 typedef __SIZE_TYPE__ size_t;
 
 #ifdef __aarch64__
@@ -9,16 +10,21 @@ enum { FSYNC = 82, FDATASYNC = 83, EXIT_GROUP = 94 };
 #else
 enum { FSYNC = 74, FDATASYNC = 75, EXIT_GROUP = 231 };
 #endif
+enum { OUT_OF_MEMORY = 12 };
 
+extern char *getenv(const char *name);
+extern int *__errno_location(void);
+extern long atol(const char *text);
+extern long write(int fd, const void *bytes, size_t size);
 extern long syscall(long number, ...);
-extern int dprintf(int fd, const char *form, ...);
+extern int snprintf(char *text, size_t size, const char *form, ...);
 extern void *dlsym(void *handle, const char *name);
 extern size_t malloc_usable_size(void *held);
 
 #define NEXT(name) ((__typeof__(&name))dlsym((void *)-1, #name))
 #define ADD(count, more) __atomic_add_fetch(&count, more, __ATOMIC_SEQ_CST)
 
-static long syncs, threads, most_threads, held, most_held, asked;
+static long syncs, threads, most_threads, held, most_held, asked, requests;
 
 /* Raises the most to what there is now. */
 static void raise_to(long *most, long now) {
@@ -58,6 +64,16 @@ int pthread_join(unsigned long thread, void **value) {
     return fault;
 }
 
+static int is_refused(void) {
+    const char *nth = getenv("REFUSE_NTH");
+
+    if (!nth || ADD(requests, 1) != atol(nth))
+        return 0;
+    (void)!write(2, "REFUSED 1\n", 10);
+    *__errno_location() = OUT_OF_MEMORY;
+    return 1;
+}
+
 /* Counts a block of memory, or none, that a request for so many bytes was answered with. */
 static void *count_block(void *block, size_t size) {
     ADD(asked, (long)size);
@@ -72,12 +88,14 @@ static void uncount_block(void *block) {
 }
 
 void *malloc(size_t size) {
-    return count_block(NEXT(malloc)(size), size);
+    return count_block(is_refused() ? 0 : NEXT(malloc)(size), size);
 }
 
 void *realloc(void *old, size_t size) {
     void *new;
 
+    if (is_refused())
+        return 0;
     uncount_block(old);
     new = NEXT(realloc)(old, size);
     count_block(new ? new : old, size);
@@ -85,11 +103,11 @@ void *realloc(void *old, size_t size) {
 }
 
 void *aligned_alloc(size_t alignment, size_t size) {
-    return count_block(NEXT(aligned_alloc)(alignment, size), size);
+    return count_block(is_refused() ? 0 : NEXT(aligned_alloc)(alignment, size), size);
 }
 
 int posix_memalign(void **at, size_t alignment, size_t size) {
-    int fault = NEXT(posix_memalign)(at, alignment, size);
+    int fault = is_refused() ? OUT_OF_MEMORY : NEXT(posix_memalign)(at, alignment, size);
 
     count_block(fault ? 0 : *at, size);
     return fault;
@@ -102,8 +120,11 @@ void free(void *old) {
 
 /* The program ends by this, and runs no destructors. */
 void _exit(int code) {
-    dprintf(2, "SYNCS %ld\nTHREADS %ld\nPEAK %ld\nASKED %ld\n", syncs, most_threads, most_held,
-            asked);
+    char told[200];
+    int size = snprintf(told, sizeof told, "SYNCS %ld\nTHREADS %ld\nPEAK %ld\nASKED %ld\n", syncs,
+                        most_threads, most_held, asked);
+
+    (void)!write(2, told, (size_t)size);
     for (;;)
         syscall(EXIT_GROUP, code);
 }
