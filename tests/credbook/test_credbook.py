@@ -34,8 +34,6 @@ RUNS = [
     (["run"], SCRIPT, Ended(0, ANSWERS)),
     *((["run", *it.split()], SCRIPT, Ended(0, ANSWERS)) for it in WORKERS),
     (["run"], "", Ended(0)),
-    (["run"], "\n", Ended(0, "bad 11 line\n")),
-    (["run"], "account A\n", Ended(0, "bad 3 name\n")),
     (["run"], "account a\nshow a", Ended(0, "ok\nnone\n")),
     (["hash", SETTING, PASSWORD], "", Ended(0, f"{RECORD}\n")),
     (["hash", SETTING, PASSWORD, "--workers", "4"], "", Ended(0, f"{RECORD}\n")),

@@ -4,9 +4,9 @@ from tests.credkeep.books import RECORD, SALT, TAG, BookTest, fails
 from tests.credkeep.doors import DOORS, Door, Script, Tagged, perform
 from tests.operations import OPERATIONS
 
-# What a line may not be, and the fault that it is answered by.
+# What a tagged line may not be, and the fault that it is answered by. script_tests has those of
+# a script's lines.
 FAULTS = [
-    ("", "11 line"),
     ("frob ann", "11 line"),
     ("show", "11 line"),
     ("show ann ann", "11 line"),
@@ -19,8 +19,6 @@ FAULTS = [
     (f"enrol ann - $argon2id$v=16$m=8,t=1,p=1${SALT}", "3 version"),
     (f"enrol ann - $argon2id$v=19$m=7,t=1,p=1${SALT}", "5 range"),
     ("load ann x", "1 shape"),
-]
-TAGGED_FAULTS = [
     *((f"list - {count}", "5 range") for count in ("0", "1001", "010", "x")),
     ("list Ann 10", "3 name"),
     ("rename cat Ann", "3 name"),
@@ -87,16 +85,9 @@ class OperationsTest(BookTest):
                 self.assertSound(book)
 
     def test_faults(self) -> None:
-        """A line that isn't one has the same fault from a script and a service, and no effect."""
-        lines = [f"begin 1 {it}" if it.split(" ")[0] in Script.begun else it for it, _ in FAULTS]
-        faults = [f"bad {it}" for _, it in FAULTS]
-        for order in ("run", "serve"):
-            with self.subTest(order=order):
-                found = self.book.script([order], lines)
-                self.assertEqual([*zip(lines, found)], [*zip(lines, faults)])
-        rows = [*FAULTS[1:], *TAGGED_FAULTS]
-        found = self.book.answers(*(f"t {line}" for line, _ in rows))
-        self.assertEqual([*zip(rows, found)], [(it, f"t bad {it[1]}") for it in rows])
+        """A line that isn't one is answered by its fault, and has no effect."""
+        found = self.book.answers(*(f"t {line}" for line, _ in FAULTS))
+        self.assertEqual([*zip(FAULTS, found)], [(it, f"t bad {it[1]}") for it in FAULTS])
         self.assertEqual(self.book.names(), [])
 
     def test_bounds(self) -> None:
