@@ -26,6 +26,10 @@ class Command(NamedTuple):
     usage: str
     options: list
 
+    def offered(self):
+        """What prints its options."""
+        return printed((f"--{name}", text) for name, _, text in self.options)
+
 
 def help_of(path, *words):
     done = subprocess.run([path, *words, "--help"], capture_output=True, text=True)
@@ -48,41 +52,38 @@ class Program:
         if not self.top.options:
             sys.exit(f"{path} --help names no option")
 
-    def words_before(self, *values):
-        """The commands after whose word one of these values comes."""
-        return [it.word for it in self.commands if any(f"<{value}>" in it.usage.partition(it.word)[2] for value in values)]
-
-    def fields(self):
-        """What the templates are filled with: lists of words for fish."""
-        valued = sorted({f"--{name}" for command in [self.top, *self.commands] for name, value, _ in command.options if value})
+    def after(self, *values):
+        """The pattern of words after a command whose first value is one of these."""
         # add is for a name that no account has yet
-        lists = {"VALUED": valued, "ACCOUNTS": [it for it in self.words_before("NAME") if it != "add"], "FILES": self.words_before("TO", "FROM")}
-        return {"NAME": self.name, "FUNCTION": "_" + self.name.replace("-", "_")} | {it: " ".join(words or ["-"]) for it, words in lists.items()}
+        below = [it for it in self.commands if it.word != "add"]
+        shown = [(it.word, it.usage.partition(it.word)[2]) for it in below]
+        words = [word for word, rest in shown if any(f"<{it}>" in rest for it in values)]
+        return " | ".join(f"*/2/{word}" for word in words or ["-"])
 
-    def sh(self, template):
-        """For bash and zsh, which share what is done with a line's words."""
-        fields = self.fields()
-        made = {it: " | ".join(f"*/2/{word}" for word in fields[it].split()) for it in ("ACCOUNTS", "FILES")}
-        options = [f"        {it.word or '*'}) {printed(('--' + name, text) for name, _, text in it.options)} ;;" for it in [*self.commands, self.top]]
-        made |= {"VALUED": fields["VALUED"].replace(" ", " | "), "OPTIONS": "\n".join(options), "COUNT": str(1 - self.file_first)}
-        made |= {"COMMANDS": printed((it.word, it.text) for it in self.commands)}
-        made |= {"ALIASES": "credkeep credkeep-ask" if self.name == "credkeep" else self.name}
-        return written(template, fields | made | {"WORDS": written("words", fields | made)})
-
-    def fish(self, template):
-        at, words = int(self.file_first), f"_{self.fields()['FUNCTION']}_words"
-        lines = [(f"-a '({words}_files)'", f"test (count ({words})) -eq 0", "")] if self.file_first else []
-        lines += [(f"-a {it.word}", f"test (count ({words})) -eq {at}", it.text) for it in self.commands]
-        for command in [self.top, *self.commands]:
-            place = f"contains -- {command.word} ({words})" if command.word else f"test (count ({words})) -le {at}"
-            lines += [(f"-l {name}{' -x' if value else ''}", place, text) for name, value, text in command.options]
-        shown = [f"complete -c {self.name} -n {quoted(place)} {what} -d {quoted(short(text))}" for what, place, text in lines]
-        return written(template, {**self.fields(), "WORDS": words, "LINES": "\n".join(shown)})
+    def filled(self, template):
+        """A template with what the program takes."""
+        each = [*self.commands, self.top]
+        valued = {f"--{name}" for command in each for name, value, _ in command.options if value}
+        fields = {
+            "NAME": self.name,
+            "FUNCTION": "_" + self.name.replace("-", "_"),
+            "ALIASES": "credkeep credkeep-ask" if self.name == "credkeep" else self.name,
+            "COUNT": str(1 - self.file_first),
+            "VALUED": " | ".join(sorted(valued)),
+            "OPTIONS": "\n".join(f"        {it.word or '*'}) {it.offered()} ;;" for it in each),
+            "COMMANDS": printed((it.word, it.text) for it in self.commands),
+            "ACCOUNTS": self.after("NAME"),
+            "FILES": self.after("TO", "FROM"),
+        }
+        fields["WORDS"] = words = written("words", fields)
+        for_fish = words.replace("\\", "\\\\").replace("'", "\\'")
+        return written(template, fields | {"QUOTED": f"'{for_fish}'"})
 
 
 def printed(words):
     """What prints these words with their descriptions."""
-    return " ".join(["printf '%s\\n'", *(quoted(f"{word}:{short(text)}") for word, text in words)])
+    shown = [quoted(f"{word}:{short(text)}") for word, text in words]
+    return " ".join(["printf '%s\\n'", *shown]) if shown else ":"
 
 
 def short(text):
@@ -118,9 +119,8 @@ def main():
     programs = {name: Program(name, TOP / path) for name, path in PROGRAMS.items()}
     for path, shell, name in files(folders):
         path.parent.mkdir(parents=True, exist_ok=True)
-        made = programs.get(name)
         wraps = "complete -c credkeep-ask -w credkeep\n"
-        path.write_text(wraps if made is None else made.fish(shell) if shell == "fish" else made.sh(shell))
+        path.write_text(programs[name].filled(shell) if name in programs else wraps)
 
 
 if __name__ == "__main__":
