@@ -3,20 +3,17 @@
 
     bench/keep/run.py [--turns N] [--accounts N [N ..]] [--program PROGRAM]
 
-PROGRAM is the built credkeep, by default crates/credkeep/out/credkeep; htpasswd is that of Debian's apache2-utils, and time is of its
-package time. Names come in random order. The hashes are as cheap as each takes (Argon2id with 8 KiB and one pass, bcrypt with cost 4),
-so that what is timed is the keeping. Each figure is the best of the turns. credkeep syncs twice at each change, Python's sqlite3 once
-here (WAL, synchronous = FULL), and htpasswd never does. The files stand in TMPDIR, and the first line is what its disk takes for a sync
-alone: on another disk the changes take as much more as its syncs do.
+PROGRAM is the built credkeep, by default crates/credkeep/out/credkeep; htpasswd is that of Debian's apache2-utils. Names come in
+random order. The hashes are as cheap as each takes (Argon2id with 8 KiB and one pass, bcrypt with cost 4), so that what is timed is the
+keeping. Each figure is the best of the turns. credkeep syncs twice at each change, Python's sqlite3 once here (WAL, synchronous = FULL),
+and htpasswd never does. The files stand in TMPDIR, whose disk's syncs are in what a change takes.
 """
 
 import argparse
-import os
 import pathlib
 import random
 import shutil
 import sqlite3
-import statistics
 import subprocess
 import sys
 import tempfile
@@ -54,34 +51,12 @@ def run(*words: str | pathlib.Path, given: str = "", status: int = 0) -> float:
     return seconds
 
 
-def run_with_peak(*words: str | pathlib.Path, given: str) -> tuple[float, float]:
-    """The seconds of a program with this input, and the most memory that it held, in MB."""
-    with tempfile.NamedTemporaryFile("r") as told:
-        seconds = run("/usr/bin/time", "-f", "%M", "-o", told.name, *words, given=given)
-        return seconds, int(told.read()) / 1024
-
-
 def each_timed(work: Callable[[str], object], given: list[str]) -> float:
     """The seconds of one of these calls."""
     start = time.perf_counter()
     for word in given:
         work(word)
     return (time.perf_counter() - start) / len(given)
-
-
-def disk_sync(folder: pathlib.Path) -> float:
-    """The median seconds of 4 KiB that are written over old ones and synced, in this folder."""
-    path, seconds = folder / "synced", []
-    with open(path, "wb", buffering=0) as file:
-        file.write(bytes(64 * 4096))
-        os.fsync(file.fileno())
-        for at in range(201):
-            start = time.perf_counter()
-            os.pwrite(file.fileno(), os.urandom(4096), at % 64 * 4096)
-            os.fdatasync(file.fileno())
-            seconds.append(time.perf_counter() - start)
-    path.unlink()
-    return statistics.median(seconds)
 
 
 def fill(path: pathlib.Path, rows: Iterable[tuple[str, str]], *texts: str) -> None:
@@ -142,7 +117,6 @@ def ours(sample: Sample, turns: int) -> dict[str, str]:
     check = best(book, "check", one, given=PASSWORD)
     listed = best(book, "export")
     return {
-        "the disk: 4 KiB and a sync, us": f"{disk_sync(book.parent) * 1e6:.0f}",
         "open, ms": f"{opened * 1e3:.1f}",
         "of it sqlite's, ms": f"{refused * 1e3:.1f}",
         "of it reading rows, us a row": f"{(opened - refused) * 1e6 / sample.count:.2f}",
@@ -151,7 +125,7 @@ def ours(sample: Sample, turns: int) -> dict[str, str]:
         "verify, two lines, us": f"{verify_s * 1e6:.0f}",
         "change with its sync, us": f"{change_s * 1e6:.0f}",
         "new name with its sync, us": f"{new_s * 1e6:.0f}",
-        **imported(sample),
+        "import, lines a second": f"{sample.count / imported(sample):.0f}",
         "export, ms": f"{listed * 1e3:.1f}",
         "one change by a process, ms": f"{change * 1e3:.1f}",
         "one check by a process, ms": f"{check * 1e3:.1f}",
@@ -159,21 +133,15 @@ def ours(sample: Sample, turns: int) -> dict[str, str]:
     }
 
 
-def imported(sample: Sample) -> dict[str, str]:
-    """How many lines a second an import takes in, and what memory it takes; the same of a copy."""
-    fresh, copy = sample.book.with_name("fresh.db"), sample.book.with_name("copy.db")
+def imported(sample: Sample) -> float:
+    """The seconds of an import of all accounts into a new book."""
+    fresh = sample.book.with_name("fresh.db")
     run(sample.program, fresh, "init")
     lines = "".join(f"{name}:{record}\n" for name, record in sample.rows)
-    seconds, peak = run_with_peak(sample.program, fresh, "import", given=lines)
-    copied, copy_peak = run_with_peak(sample.program, fresh, "backup", copy, given="")
-    for path in [*fresh.parent.glob("fresh.db*"), *fresh.parent.glob("copy.db*")]:
+    seconds = run(sample.program, fresh, "import", given=lines)
+    for path in fresh.parent.glob("fresh.db*"):
         path.unlink()
-    return {
-        "import, lines a second": f"{sample.count / seconds:.0f}",
-        "import: peak memory, MB": f"{peak:.0f}",
-        "backup, ms": f"{copied * 1e3:.1f}",
-        "backup: peak memory, MB": f"{copy_peak:.0f}",
-    }
+    return seconds
 
 
 def theirs(sample: Sample, turns: int) -> dict[str, str]:
@@ -219,8 +187,8 @@ def main() -> None:
     parser.add_argument("--accounts", type=int, nargs="+", default=[1000, 10000, 100000])
     parser.add_argument("--program", type=pathlib.Path, default=TOP / "crates/credkeep/out/credkeep")
     words = parser.parse_args()
-    if missing := [it for it in ("htpasswd", "/usr/bin/time") if shutil.which(it) is None]:
-        sys.exit(f"not there: {', '.join(missing)} (Debian's packages apache2-utils and time have them)")
+    if shutil.which("htpasswd") is None:
+        sys.exit("htpasswd is not there (Debian's package apache2-utils has it)")
     columns = []
     for accounts in words.accounts:
         with tempfile.TemporaryDirectory(prefix="keep-") as folder:
