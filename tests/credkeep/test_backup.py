@@ -9,7 +9,7 @@ import time
 
 from tests.credkeep.books import DONE, OTHER, RECORD, Accounts, Book, BookTest, Service
 from tests.credkeep.books import contents, rows
-from tests.helpers import Ended, each, need_root
+from tests.helpers import Ended, need_root
 
 NOBODY = 65534
 
@@ -36,18 +36,6 @@ class CopyTest(BookTest):
 
 
 class BackupTest(CopyTest):
-    @each(0, 1, 2, 300, 5000)
-    def test_sizes(self, count: int) -> None:
-        """The answer says how many accounts there are, and what is in the log."""
-        accounts = {f"u{at:05}": RECORD if at % 3 else "" for at in range(count)}
-        book, copy = self.begun(accounts), self.file("copy.db")
-        before = contents(self.room)
-        self.assertEqual(book("backup", str(copy.path)), counted(count, 0))
-        self.assertWhole(copy, accounts)
-        self.assertTrue(copy.accounts() == accounts)
-        self.assertTrue(contents(self.room) == before | {"copy.db": copy.path.read_bytes()})
-        copy.remove()
-
     def test_service(self) -> None:
         """While a service adds accounts one by one, each copy has the first so many, and all that
         were answered before."""

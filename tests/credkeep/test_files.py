@@ -12,7 +12,7 @@ import time
 from collections.abc import Callable
 
 from tests.credkeep.books import DONE, RECORD, BookTest, Service, contents, fails, rows, says
-from tests.helpers import Ended, each, ended, need_root, program
+from tests.helpers import each, ended, need_root, program
 
 TABLE = "CREATE TABLE account (name TEXT NOT NULL PRIMARY KEY, record TEXT) STRICT;"
 NOBODY = 65534
@@ -245,9 +245,3 @@ class LocksTest(BookTest):
                 self.assertEqual(service.end(), DONE)
                 self.assertEqual(waiting.answer(), "none")
                 self.assertEqual(waiting.end(), DONE)
-
-    def test_log_is_copied(self) -> None:
-        """After an order and after a service that has ended the file alone has all of the book."""
-        self.book.add("ann")
-        self.assertEqual(self.book("serve", given="account bob\n"), Ended(0, "ok\n"))
-        self.assertLogIsEmpty(self.book)

@@ -6,7 +6,7 @@ import json
 from tests.credkeep.books import OTHER, RECORD, SALT, SCRYPT, TAG, Accounts, fails, imported
 from tests.credkeep.books import lined, lines_of
 from tests.credkeep.test_import import ImportTest, named_lines, other_texts
-from tests.helpers import Ended, each
+from tests.helpers import Ended
 
 # Each bad line with its fault. The book has ann, and a line before these names new.
 BAD_LINES = [
@@ -137,23 +137,6 @@ class OptionsTest(ImportTest):
                     self.assertEqual(book.accounts(), dict(sorted({**BEFORE, **changed}.items())))
                     self.assertSound(book)
 
-    def test_many_lines(self) -> None:
-        """More than are taken in or written at once; then every second line is bad."""
-        self.begun({f"a{at}": "" for at in range(4097)})
-        self.assertEqual(len(self.book.names()), 4097)
-        self.assertEqual(self.book("import", given="b:\na0:\n").status, 6)
-        self.assertEqual(len(self.book.names()), 4097)
-        book = self.begun()
-        lines = lined(f"n{at:05}:{RECORD}" if at % 2 else f"n{at:05}" for at in range(1, 20001))
-        wanted = Ended(0, imported(10_000, bad=10_000))
-        done = book("import", "--skip-bad", given=lines)
-        self.assertNames(done, wanted, {at: "11 line" for at in range(2, 20001, 2)})
-        names = [f"n{at:05}" for at in range(1, 20001, 2)]
-        self.assertEqual(book.accounts(), {name: RECORD for name in names})
-        costs = [f"{name}:$argon2id$v=19$m=256,t=2,p=1" for name in names]
-        self.assertEqual(book("list", "--costs").written.splitlines(), costs)
-        self.assertSound(book)
-
     def test_counts(self) -> None:
         """In JSON they are numbers by name; --quiet hides them, and bad lines are named all the
         same. An answer that can't be written is told, and its change is made."""
@@ -172,16 +155,6 @@ class OptionsTest(ImportTest):
             done = self.book("import", given="eve:\n", stdout=full)
         self.assertEqual(done, fails(2, "writing failed"))
         self.assertIn("eve", self.book.names())
-
-    @each(1, 2, 4095, 4096, 4097, 5000, 20000)
-    def test_updates_of_sizes(self, size: int) -> None:
-        """Books of sizes round those at which pages and pieces end: half of the names are there."""
-        book = self.begun({f"n{at:05}": RECORD for at in range(0, size, 2)})
-        lines = {f"n{at:05}": OTHER if at % 3 else "" for at in range(size)}
-        done = book("import", "--update", given=lines_of(lines))
-        self.assertEqual(done, Ended(0, imported(size // 2, size - size // 2)))
-        self.assertTrue(book.accounts() == lines)
-        self.assertSound(book)
 
     def test_costly_lines(self) -> None:
         """How a line is named whose record asks for more than --most-memory allows."""

@@ -5,11 +5,9 @@ import resource
 import time
 from typing import Any
 
-from tests.credkeep.books import CHEAP, DONE, SALT, TAG, BookTest, fails, lined
+from tests.credkeep.books import CHEAP, DONE, SALT, TAG, BookTest, lined
 from tests.helpers import Ended, each, need_native
 
-# More than a script may have.
-TWO_MIB = 2 * 1024 * 1024
 # What a service has where memory is short, in bytes, and a setting that asks for more.
 SHORT_MEMORY = 700_000_000
 COSTLY = f"$argon2id$v=19$m=1000000,t=1,p=1${SALT}"
@@ -54,17 +52,6 @@ NO_MEMORY = [
 
 
 class LinesTest(BookTest):
-    def test_more_than_a_script(self) -> None:
-        """Two MiB of lines are answered, each, and those after them too; as a script they are too
-        many."""
-        line = "show " + "x" * 500
-        lines = [line] * (TWO_MIB // len(line)) + ["account ann", "show ann"]
-        found = self.book.script(["serve"], lines)
-        self.assertTrue(found == ["bad 3 name"] * (len(lines) - 2) + ["ok", "none"], found[-3:])
-        done = self.book("run", given=lined(lines))
-        self.assertEqual(done[::2], fails(6, "the script has over 1048576 bytes")[::2])
-        self.assertEqual(self.book.names(), ["ann"])
-
     def test_cut_inputs(self) -> None:
         """An input that ends at each byte ends a service in order: each whole line is answered
         once; one that is cut is refused, without its tag, which may be cut too, and nothing is

@@ -56,12 +56,6 @@ class LinesTest(BookTest):
             ],
         )
 
-    def test_logins_at_its_costs(self) -> None:
-        """A right login leaves a record of the service's own costs as it is."""
-        lines = ("account ann", "enrol ann -", "show ann", "login ann -", "show ann")
-        *_, before, answer, after = self.book.answers(*(f"a {line}" for line in lines))
-        self.assertEqual((answer, after), ("a yes", before))
-
     def test_disabled_with_its_line(self) -> None:
         """`disable NAME show` answers the line that it takes away, which `import --update` puts
         back."""
