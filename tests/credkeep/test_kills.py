@@ -3,7 +3,7 @@
 import signal
 import time
 
-from tests.credkeep.books import DONE, EDITS, OTHER, RECORD, SETTING, BookTest, Change, killed
+from tests.credkeep.books import EDITS, OTHER, RECORD, SETTING, BookTest, Change, killed
 from tests.credkeep.books import lined, lines_of
 from tests.helpers import TIMES
 
@@ -40,18 +40,6 @@ class OrdersTest(BookTest):
                     self.assertStopped(change, done, self.book.accounts())
                     if turn % 20 == 0:
                         self.assertSound(self.book)
-
-    def test_init(self) -> None:
-        """After a kill there is no file, or a whole book; the next `init` goes on from there."""
-        start = time.monotonic()
-        self.assertEqual(self.file("first.db")("init"), DONE)
-        took = time.monotonic() - start
-        for turn in range(20 * TIMES):
-            book = self.file(f"{turn}.db")
-            killed(book, "init", within=1.5 * took)
-            if not book.path.exists():
-                self.assertEqual(book("init"), DONE)
-            self.assertEqual(book("list"), DONE)
 
 
 class ScriptsTest(BookTest):

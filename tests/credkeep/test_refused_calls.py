@@ -17,6 +17,8 @@ CHANGES = (
 ).split()
 CALLS = CHANGES + "openat newfstatat fstat readlink read pread64 fcntl clock_nanosleep".split()
 WRITES = "pwrite64 write fsync fdatasync ftruncate".split()
+# How a run is refused or killed, and at which calls.
+WAYS = [("error=EIO", CHANGES), ("error=ENOSPC", CHANGES), ("signal=KILL", CALLS)]
 
 MANY = {f"n{at:03}": RECORD for at in range(200)}
 # An older copy, and the book of a killed run's file and log.
@@ -94,8 +96,8 @@ class RefusedCallsTest(BookTest):
             return is_there
 
         judge = lambda done, is_there: self.assertTrue(is_there or done.status)
-        for how in ("error=EIO", "error=ENOSPC"):
-            self.refuse_each(Change({}, ["init"], {}), CHANGES, how, look, judge)
+        for how, calls in WAYS:
+            self.refuse_each(Change({}, ["init"], {}), calls, how, look, judge)
 
     def test_sync_at_an_opening(self) -> None:
         """A sync that fails as a file is opened isn't called a missing permission."""
@@ -122,11 +124,7 @@ class RefusedCallsTest(BookTest):
             return accounts
 
         judge = functools.partial(self.assertStopped, change)
-        for how, calls in (
-            ("error=EIO", CHANGES),
-            ("error=ENOSPC", CHANGES),
-            ("signal=KILL", CALLS),
-        ):
+        for how, calls in WAYS:
             self.refuse_each(change, calls, how, look, judge)
 
     def test_backup(self) -> None:
