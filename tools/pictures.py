@@ -3,16 +3,15 @@
 
     /usr/bin/python3 tools/pictures.py
 
-overtaken.svg, server.svg and kept-change.svg are drawn from the text beside them, crates.svg from crates.txt and around-the-crates.txt by
-graphviz's dot, and bench.svg from the tables of bench/RESULTS.md by matplotlib (Debian's graphviz and python3-matplotlib).
+overtaken.svg, server.svg and kept-change.svg are drawn from the text beside them, and crates.svg from crates.txt and around-the-crates.txt
+by graphviz's dot.
 """
 
 import html
-import io
 import re
 import subprocess
 
-from tree import CRATES, TOP, all_below, below, listed
+from tree import CRATES, TOP, all_below, below, is_test_or_example, listed
 
 PICTURES = TOP / "docs/pictures"
 FONT = 'font-family="Helvetica, Arial, sans-serif" font-size="14"'
@@ -85,8 +84,8 @@ def steps(name):
 
 
 def crates():
-    """Each crate of crates.txt but tests and benches, with the crates that it uses directly."""
-    shown = sorted(it for it in listed() if not re.search(r"_tests$|^test_|^bench_|^example_|^hello_", it))
+    """Each crate of crates.txt but tests and examples, with the crates that it uses directly."""
+    shown = sorted(it for it in listed() if not is_test_or_example(it))
     return {it: sorted(low for low in below(it) if not any(low in all_below(other) for other in below(it))) for it in shown}
 
 
@@ -113,55 +112,11 @@ def crate_layers():
     return re.sub(r"<!--.*?-->\n?", "", drawn, flags=re.S)
 
 
-def table_below(page, head):
-    """The rows of the table whose head begins so."""
-    rows = page.partition(f"\n{head}")[2].splitlines()[2:]
-    for row in rows:
-        if not row.startswith("|"):
-            return
-        yield [it.strip() for it in row.strip().strip("|").split("|")]
-
-
-def bench():
-    """Bars of the library for C beside libargon2, libsodium and OpenSSL, from bench/RESULTS.md."""
-    import matplotlib
-
-    matplotlib.use("svg")
-    matplotlib.rcParams.update({"svg.fonttype": "none", "svg.hashsalt": "rigzumal", "font.size": 11})
-    from matplotlib import pyplot
-
-    page = (TOP / "bench/RESULTS.md").read_text()
-    argon = [it[:4] for it in table_below(page, "| m (KiB), t, p | Ours, ms | libargon2, ms")]
-    scrypt = [it[:4] for it in table_below(page, "| N, r, p | Ours, ms | OpenSSL, ms")]
-    figure, axes = pyplot.subplots(2, 1, figsize=(8.6, 7.2), height_ratios=[len(argon), len(scrypt)])
-    for axis, rows, names, title in (
-        (axes[0], argon, ["ours", "libargon2", "libsodium"], "Argon2id: KiB of memory, passes, lanes (ours has one thread, libargon2 a thread a lane)"),
-        (axes[1], scrypt, ["ours", "OpenSSL", "libsodium"], "scrypt: N, r, p"),
-    ):
-        for i, (name, colour, hatch) in enumerate(zip(names, ("#2f7d4f", "#c2cad6", "#e8c46a"), ("", "//", "\\\\"))):
-            shown = [(j, float(it[1 + i])) for j, it in enumerate(rows) if it[1 + i]]
-            if not shown:  # it isn't measured
-                continue
-            bars = axis.barh([j + 0.27 * (i - 1) for j, _ in shown], [ms for _, ms in shown], 0.25, color=colour, hatch=hatch, label=name, edgecolor=INK)
-            axis.bar_label(bars, fmt="%.0f", padding=3, fontsize=8)
-        axis.set_yticks(range(len(rows)), [it[0] for it in rows])
-        axis.invert_yaxis()
-        axis.set_title(title, loc="left", fontsize=11)
-        axis.legend(loc="lower right", fontsize=9)
-        axis.spines[["top", "right"]].set_visible(False)
-    axes[1].set_xlabel("milliseconds, the best of the turns: shorter is better")
-    figure.tight_layout()
-    out = io.StringIO()
-    figure.savefig(out, format="svg", metadata={"Date": None, "Creator": None})
-    return re.sub(r"[ \t]+$", "", out.getvalue(), flags=re.M)
-
-
 DRAWN = {
     "overtaken.svg": lambda: sequence("overtaken.txt"),
     "kept-change.svg": lambda: steps("kept-change.txt"),
     "server.svg": lambda: sequence("server.txt"),
     "crates.svg": crate_layers,
-    "bench.svg": bench,
 }
 
 
