@@ -1,45 +1,32 @@
 """What hashes leave in the memory of a service, and in its core."""
 
 import base64
-import hashlib
 import os
 import pathlib
 import re
 import shutil
 import signal
-import struct
 import subprocess
+import sys
 import time
 
 from tests.credkeep.books import DONE, SALT, BookTest, Service
 from tests.credkeep.doors import in_base64
-from tests.helpers import memory_of
+from tests.helpers import TOP, memory_of
+
+sys.path.insert(0, str(TOP / "crates/hash_tests/vectors"))
+import compress  # noqa: E402
 
 LOGINS = 100
-
-
-def numbers(*of: int) -> bytes:
-    return struct.pack(f"<{len(of)}I", *of)
-
-
-def long_hash(text: bytes, size: int) -> bytes:
-    """H' of RFC 9106, section 3.3, for over 64 bytes."""
-    value = hashlib.blake2b(numbers(size) + text).digest()
-    found = value[:32]
-    while size - len(found) > 64:
-        value = hashlib.blake2b(value).digest()
-        found += value[:32]
-    return found + hashlib.blake2b(value, digest_size=size - len(found)).digest()
 
 
 def words_of(setting: str, password: bytes) -> list[bytes]:
     """Words of the first block of Argon2id's memory (RFC 9106, section 3.2), which one pass leaves
     as they are."""
     memory, passes, lanes = (int(it) for it in re.findall(r"=(\d+)", setting)[1:])
-    salt = base64.b64decode(f"{SALT}==")
-    first = numbers(lanes, 32, memory, passes, 0x13, 2, len(password)) + password
-    first += numbers(len(salt)) + salt + numbers(0, 0)
-    block = long_hash(hashlib.blake2b(first).digest() + numbers(0, 0), 1024)
+    inputs = (password, base64.b64decode(f"{SALT}=="), b"", b"")
+    first = compress.first_hash(2, memory, passes, lanes, 32, inputs)
+    block = compress.first_block(first, 0, 0)
     return [block[:8], block[512:520]]
 
 

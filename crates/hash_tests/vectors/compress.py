@@ -74,18 +74,26 @@ def address_block(r, i, u, blocks, t, kind, number):
     return compress(zero, compress(zero, [r, i, u, blocks, t, kind, number] + [0] * 121))
 
 
-def argon2(kind, m, t, p, n, pw, salt, secret, assoc, version=0x13):
+def first_hash(kind, m, t, p, n, inputs, version=0x13):
     h = struct.pack("<6I", p, n, m, t, version, kind)
-    for data in (pw, salt, secret, assoc):
+    for data in inputs:
         h += struct.pack("<I", len(data)) + data
-    h = blake(64, h)
+    return blake(64, h)
+
+
+def first_block(h, lane, column):
+    return hash_prime(1024, h + struct.pack("<2I", column, lane))
+
+
+def argon2(kind, m, t, p, n, inputs, version=0x13):
+    h = first_hash(kind, m, t, p, n, inputs, version)
     s = m // (4 * p)
     q = 4 * s
     zero = [0] * 128
     memory = [[None] * q for _ in range(p)]
     for i in range(p):
         for j in range(2):
-            memory[i][j] = list(struct.unpack("<128Q", hash_prime(1024, h + struct.pack("<2I", j, i))))
+            memory[i][j] = list(struct.unpack("<128Q", first_block(h, i, j)))
     for r in range(t):
         for u in range(4):
             for i in range(p):
@@ -126,7 +134,7 @@ TAGS = [
 
 def main():
     for kind, tag in enumerate(TAGS):
-        made = argon2(kind, 32, 3, 4, 32, b"\1" * 32, b"\2" * 16, b"\3" * 8, b"\4" * 12)
+        made = argon2(kind, 32, 3, 4, 32, (b"\1" * 32, b"\2" * 16, b"\3" * 8, b"\4" * 12))
         if made.hex() != tag:
             raise RuntimeError(f"kind {kind} gives {made.hex()}")
     print("mixed", *mixed(1, 2, 3, 4))
