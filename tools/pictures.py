@@ -3,8 +3,8 @@
 
     /usr/bin/python3 tools/pictures.py
 
-overtaken.svg, server.svg and kept-change.svg are drawn from the text beside them, and crates.svg from crates.txt and around-the-crates.txt
-by graphviz's dot.
+overtaken.svg, server.svg and kept-change.svg are drawn from the text beside them, and crates.svg by
+graphviz's dot from crates.txt and around-the-crates.txt.
 """
 
 import html

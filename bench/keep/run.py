@@ -3,10 +3,12 @@
 
     bench/keep/run.py [--turns N] [--accounts N [N ..]] [--program PROGRAM]
 
-PROGRAM is the built credkeep, by default crates/credkeep/out/credkeep; htpasswd is that of Debian's apache2-utils. Names come in
-random order. The hashes are as cheap as each takes (Argon2id with 8 KiB and one pass, bcrypt with cost 4), so that what is timed is the
-keeping. Each figure is the best of the turns. credkeep syncs twice at each change, Python's sqlite3 once here (WAL, synchronous = FULL),
-and htpasswd never does. The files stand in TMPDIR, whose disk's syncs are in what a change takes.
+PROGRAM is the built credkeep, by default crates/credkeep/out/credkeep; htpasswd is that of
+Debian's apache2-utils. Names come in random order. The hashes are as cheap as each takes
+(Argon2id with 8 KiB and one pass, bcrypt with cost 4), so that what is timed is the keeping. Each
+figure is the best of the turns. credkeep syncs twice at each change, Python's sqlite3 once here
+(WAL, synchronous = FULL), and htpasswd never does. The files stand in TMPDIR, whose disk's syncs
+are in what a change takes.
 """
 
 import argparse

@@ -3,8 +3,9 @@
 
     bench/keep/tagged.py [--seconds S] [--sync MS] [PROGRAM]
 
-Changes a second, with the cheapest costs, of 1, 4, 16 and 64 clients who wait for each answer, on a disk whose syncs take MS longer than
-they do (4 if it isn't said), which strace adds. Run it on a machine that does nothing else. bench/server times verifies.
+Changes a second, with the cheapest costs, of 1, 4, 16 and 64 clients who wait for each answer, on
+a disk whose syncs take MS longer than they do (4 if it isn't said), which strace adds. Run it on a
+machine that does nothing else. bench/server times verifies.
 """
 
 import argparse
