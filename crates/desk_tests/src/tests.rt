@@ -8,7 +8,6 @@ mod kept;
 mod lasting;
 mod log;
 mod scene;
-mod soak;
 mod threads;
 mod under_lock;
 mod writer;
@@ -36,10 +35,6 @@ const CHEAP_SETTINGS: [&str; 2] = [
     "$argon2id$v=19$m=8,t=1,p=1$c29tZXNhbHQ",
     "$argon2id$v=19$m=9,t=1,p=1$c29tZXNhbHQ",
 ];
-
-/// The record of `password` under the first of them, by the reference program of Argon2.
-const CHEAP: &str =
-    "$argon2id$v=19$m=8,t=1,p=1$c29tZXNhbHQ$8Tf44YakA6Z5zNBgblq13Nr+Q8FkCFWsjG4z6b1j7rM";
 
 fn name<R: Abort>(rt: &R, text: &str) -> Name {
     Name::new(text.as_bytes()).expect(rt, "a name")

@@ -89,7 +89,7 @@ pub(super) fn end<J: Naming, R: Wait>(
     ending: Ending,
 ) -> Option<Left> {
     let tallies = counted(journal.alloc, &sessions);
-    let (mut handed, mut sessions, mut journal) = (handed, sessions, journal);
+    let (mut handed, mut sessions) = (handed, sessions);
     match ending {
         Ending::Close => {
             let Kept {
@@ -120,9 +120,8 @@ pub(super) fn end<J: Naming, R: Wait>(
         Ending::End => {
             let rest = desk.checkpoint(rt, &mut handed);
             let log = desk.end(rt, handed);
-            journal.add(rest)?;
-            let book = journal.book.copy().ok()?;
-            let rest = Vec::new(journal.alloc);
+            let mut book = journal.book.copy().ok()?;
+            replay(&mut book, &rest);
             let remains = Remains {
                 book,
                 journal: rest,

@@ -44,8 +44,6 @@ pub(super) enum Answer {
     Refused(DeskError),
     /// There was no ticket, or no memory for what is not the desk's.
     Failed,
-    /// Of a line that may be answered anything but `Failed`.
-    Any,
 }
 
 /// An answer, and what the session was told with it.

@@ -1,11 +1,8 @@
 //! A kept desk with one session, at which people sign up, records are loaded and names are taken
-//! away beside all other kinds of change; a log that is full, a book that is, and memory.
+//! away beside all other kinds of change; a book that is full, and memory.
 
 use super::floor::{Answer, Step};
-use super::scene::{
-    DONE, EXISTS, FULL, LOG_FULL, NO_ACCOUNT, Scene, judge, left_of, left_of_act, operates,
-    replied, show,
-};
+use super::scene::{DONE, FULL, NO_ACCOUNT, Scene, judge, left_of_act, operates, replied, show};
 use super::{
     NONE_STANDS, ONE_STANDS, book_of, change, deletion, enrol, entry, judge_replayed, name, remove,
     stored, upgrade, verify,
@@ -21,36 +18,6 @@ const C: &str =
 
 /// How many names a book has room for.
 const MOST_ACCOUNTS: usize = 4096;
-
-/// Each kind of change is refused once the log has no room, and then nothing has happened.
-#[test]
-fn nothing_is_kept_in_a_full_log(rt: HostRuntime) {
-    let book = book_of(&rt, rt.alloc(), NONE_STANDS).expect(&rt, "a book");
-    let (c, d) = (name(&rt, "c"), name(&rt, "d"));
-    let lines = [
-        (0, Step::Load(c, stored(&rt, A)), NO_ACCOUNT),
-        (0, Step::Admit(c), DONE),
-        (0, Step::Admit(c), EXISTS),
-        operates(0, enrol(&rt, "c", A_SETTING), Reply::Enrolled),
-        (0, Step::Admit(d), LOG_FULL),
-        (0, Step::Load(c, stored(&rt, B)), LOG_FULL),
-        (0, Step::Delete(c), LOG_FULL),
-        (0, Step::Delete(d), NO_ACCOUNT),
-        (0, Step::Operate(remove(&rt, "c")), LOG_FULL),
-        (0, Step::Begin(verify(&rt, "c")), DONE),
-        (0, Step::Read, Ok(Answer::Copied(Some(stored(&rt, A))))),
-        (0, Step::Close, replied(Reply::Yes)),
-    ];
-    let acts = [lines.as_slice()];
-    let scene = Scene {
-        room: 2,
-        ..Scene::new(1, &acts)
-    };
-    let left = left_of(&rt, rt.alloc(), &book, &scene);
-    let journal = [entry(&rt, "c", None), entry(&rt, "c", Some(A))];
-    judge(&rt, &left, &journal, &[1], &[1]);
-    judge_replayed(&rt, &left);
-}
 
 /// Every kind of change.
 #[test]

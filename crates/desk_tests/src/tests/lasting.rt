@@ -44,9 +44,16 @@ fn lasting_desk(rt: HostRuntime) {
         entry(&rt, "d", None),
         entry(&rt, "e", None),
     ];
-    for (lost, missing) in [(0, 0), (1, 2), (2, 3), (3, 4)] {
+    for (ending, missing) in [
+        (Ending::Finish { lost: 0 }, 0),
+        (Ending::Finish { lost: 1 }, 2),
+        (Ending::Finish { lost: 2 }, 3),
+        (Ending::Finish { lost: 3 }, 4),
+        (Ending::GiveUp, 0),
+        (Ending::End, 0),
+    ] {
         let scene = Scene {
-            ending: Ending::Finish { lost },
+            ending,
             ..Scene::new(3, &acts)
         };
         let left = left_of(&rt, rt.alloc(), &book, &scene);

@@ -30,16 +30,9 @@ const NO_MEMORY: Option<Slip> = Some((0, Ok(Answer::Failed)));
 
 pub(super) const DONE: Outcome = Ok(Answer::Done);
 
-/// Whatever is answered, but `Failed`.
-pub(super) const ANY: Outcome = Ok(Answer::Any);
-
-pub(super) const EXISTS: Outcome = Err(KeepError::Book(BookError::Exists));
-
 pub(super) const FULL: Outcome = Err(KeepError::Book(BookError::Full));
 
 pub(super) const NO_ACCOUNT: Outcome = Err(KeepError::Book(BookError::NoAccount));
-
-pub(super) const LOG_FULL: Outcome = Err(KeepError::Writer(Refused));
 
 pub(super) fn replied(reply: Reply) -> Outcome {
     Ok(Answer::Replied(reply))
@@ -54,10 +47,6 @@ pub(super) fn operates(session: usize, request: Request, reply: Reply) -> Line {
 #[derive(Clone, Copy)]
 pub(super) struct Scene<'a> {
     pub(super) sessions: u8,
-    /// How many entries its log has room for.
-    pub(super) room: usize,
-    /// Of how many entries its log refuses one, or none if this is 0.
-    pub(super) one_in: usize,
     /// How often a step is taken at most: again, if it is refused.
     pub(super) tries: usize,
     /// What the front half of the sessions does, in a thread of its own. Places count from the
@@ -65,8 +54,6 @@ pub(super) struct Scene<'a> {
     pub(super) front: &'a [Line],
     /// What the back half does meanwhile.
     pub(super) back: &'a [Line],
-    /// How often a third thread hands out the journal meanwhile.
-    pub(super) pieces: u64,
     /// What they do afterwards. After each act but the last the journal is handed out.
     pub(super) acts: &'a [&'a [Line]],
     pub(super) ending: Ending,
@@ -77,12 +64,9 @@ impl<'a> Scene<'a> {
     pub(super) fn new(sessions: u8, acts: &'a [&'a [Line]]) -> Scene<'a> {
         Scene {
             sessions,
-            room: usize::MAX,
-            one_in: 0,
             tries: 1,
             front: &[],
             back: &[],
-            pieces: 0,
             acts,
             ending: Ending::Close,
         }
@@ -128,11 +112,6 @@ fn play_one<J: Naming, R: Threads + Wait + Sync>(
     }
 }
 
-/// Whether a line is answered as it is to be.
-fn is_as(outcome: &Outcome, want: &Outcome) -> bool {
-    outcome == want || *want == ANY && *outcome != Ok(Answer::Failed)
-}
-
 /// Plays the lines, up to one that is answered otherwise.
 fn play<J: Naming, R: Threads + Wait + Sync>(
     floor: &Floor<J, R>,
@@ -148,11 +127,11 @@ fn play<J: Naming, R: Threads + Wait + Sync>(
         };
         let mut outcome = play_one(floor, news, sessions, open, line);
         for _ in 1..tries {
-            if !is_as(&outcome, &line.2) {
+            if outcome != line.2 {
                 outcome = play_one(floor, news, sessions, open, line);
             }
         }
-        if !is_as(&outcome, &line.2) {
+        if outcome != line.2 {
             return Some((at, outcome));
         }
     }
@@ -189,40 +168,6 @@ fn play_in_two<J: Naming + Send + Sync, R: Threads + Wait + Sync>(
     one.or(other)
 }
 
-/// Hands out the journal in so many pieces, unless there is no memory.
-fn hand_out<J: Naming, R: Wait>(
-    rt: &R,
-    desk: &KeptDesk<J, Log>,
-    handed: &mut Handed<J>,
-    journal: &mut Journal,
-    pieces: u64,
-) -> Option<Slip> {
-    for _piece in 0..pieces {
-        if journal.add(desk.checkpoint(rt, handed)).is_none() {
-            return NO_MEMORY;
-        }
-    }
-    None
-}
-
-/// Plays what the halves do, and hands out the journal meanwhile.
-fn play_meanwhile<J: Naming + Send + Sync, R: Threads + Wait + Sync>(
-    floor: &Floor<J, R>,
-    handed: &mut Handed<J>,
-    journal: &mut Journal,
-    sessions: &mut [Session<J>],
-    scene: &Scene,
-) -> Option<Slip> {
-    let (rt, alloc, desk, pieces) = (floor.rt, floor.alloc, floor.desk, scene.pieces);
-    let floor = Floor { rt, alloc, desk };
-    let (slip, refused) = join(
-        rt,
-        move || play_in_two(&floor, sessions, scene),
-        move || hand_out(rt, desk, handed, journal, pieces),
-    );
-    slip.or(refused)
-}
-
 /// Plays the acts, and hands out the journal between them.
 fn play_acts<J: Naming, R: Threads + Wait + Sync>(
     floor: &Floor<J, R>,
@@ -235,11 +180,13 @@ fn play_acts<J: Naming, R: Threads + Wait + Sync>(
         return NO_MEMORY;
     };
     for (act, lines) in scene.acts.iter().enumerate() {
-        let pieces = u64::from(act > 0);
-        let slip = match hand_out(floor.rt, floor.desk, handed, journal, pieces) {
-            None => play(floor, &news, sessions, lines, scene.tries),
-            refused => refused,
-        };
+        if act > 0 {
+            let piece = floor.desk.checkpoint(floor.rt, handed);
+            if journal.add(piece).is_none() {
+                return NO_MEMORY;
+            }
+        }
+        let slip = play(floor, &news, sessions, lines, scene.tries);
         if slip.is_some() {
             return slip;
         }
@@ -261,7 +208,7 @@ fn played<J: Naming + Send + Sync, R: Threads + Wait + Sync>(
     requires loads { J.loads ≡ true }
 {
     let mut journal = Journal::new(alloc, book)?;
-    let log = Log::new(alloc, scene.room, scene.one_in);
+    let log = Log::new(alloc);
     let made = KeptDesk::<J, Log>::new(rt, alloc, opened, book, sessions, log);
     let (desk, mut handed, mut seats) = made.ok()?;
     let floor = Floor {
@@ -269,7 +216,7 @@ fn played<J: Naming + Send + Sync, R: Threads + Wait + Sync>(
         alloc,
         desk: &desk,
     };
-    let slip = match play_meanwhile(&floor, &mut handed, &mut journal, &mut seats, scene) {
+    let slip = match play_in_two(&floor, &mut seats, scene) {
         None => play_acts(&floor, &mut handed, &mut journal, &mut seats, scene),
         slip => slip,
     };

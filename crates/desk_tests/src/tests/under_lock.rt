@@ -226,7 +226,7 @@ fn timed<J: Naming, R: Threads + Wait + CpuClock + Abort + Sync>(
     requires name { IsNamed J.Naming opened }
     requires opening { StartsAt J.Naming book.now 1 }
 {
-    let log = Log::new(alloc, usize::MAX, 0);
+    let log = Log::new(alloc);
     let made = KeptDesk::<J, Log>::new(rt, alloc, opened, book, 1, log);
     let (desk, handed, mut sessions) = made.ok()?;
     let mut quickest = u128::MAX;

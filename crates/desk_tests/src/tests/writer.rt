@@ -3,14 +3,10 @@
 use cred_desk::{Entry, EntryWriter};
 use std::alloc::Global;
 
-/// Keeps entries, and refuses those beyond its room, and now and then another one.
+/// Keeps entries, as long as there is memory.
 #[derive(Drop)]
 pub(super) struct Log {
     pub(super) entries: Vec<Entry>,
-    room: usize,
-    /// One entry in so many is refused, or none if this is 0.
-    one_in: usize,
-    pub(super) refused: usize,
 }
 
 /// The log refused an entry.
@@ -20,22 +16,13 @@ pub(super) struct Refused;
 impl Log {
     ghost use Rattle.std.specs.Prelude.{◌≡◌, []};
 
-    /// A log with room for so many entries.
-    pub(super) fn new(alloc: Global, room: usize, one_in: usize) -> Log
+    /// A log with no entry.
+    pub(super) fn new(alloc: Global) -> Log
         ensures { result.entries.items ≡ [] }
     {
         Log {
             entries: Vec::new(alloc),
-            room,
-            one_in,
-            refused: 0,
         }
-    }
-
-    fn refuses(&self) -> bool {
-        let asked = self.entries.len().wrapping_add(self.refused);
-        let is_due = self.one_in != 0 && asked % self.one_in == self.one_in - 1;
-        is_due || self.entries.len() >= self.room
     }
 }
 
@@ -48,8 +35,7 @@ impl EntryWriter for Log {
 
     fn write(&mut self, new: &Entry) -> Result<(), Refused> {
         let Entry { name, now } = *new;
-        if self.refuses() || self.entries.reserve(1).is_err() {
-            self.refused = self.refused.wrapping_add(1);
+        if self.entries.reserve(1).is_err() {
             return Err(Refused);
         }
         self.entries.push_reserved(Entry { name, now });
