@@ -1,8 +1,9 @@
-//! Of `cred_argon`: tags from outside, and what running out of memory gives.
+//! Of `cred_argon`: the standard's tags, and what running out of memory gives.
+//! c/tests/against_libargon2.py compares thousands with the reference library's.
 
 use super::{byte_len, counted, first, is_hex, is_made};
 use cred_argon::Kind::{D, I, Id};
-use cred_argon::Version::{V10, V13};
+use cred_argon::Version::V13;
 use cred_argon::{ArgonError, Kind, Params, Version, argon2};
 use cred_pool::NoGate;
 use std::alloc::Global;
@@ -28,30 +29,6 @@ static STANDARD: [Row; 3] = [
     (
         Case(Id, V13, [32, 3, 4], [32, 16, 8, 12], (1, 0)),
         "0d640df58d78766c08c037a34a8b53c9d01ef0452d75b65eb52520e96b01e659",
-    ),
-];
-
-/// Tags of the reference library (Debian's libargon2, through `argon2_ctx`): memory that isn't a
-/// multiple of 4p, 2 to 8 lanes, 2 to 4 passes, and tags of 5 to 57 bytes.
-/// c/tests/against_libargon2.py compares thousands.
-static LIBRARY: [Row; 4] = [
-    (
-        Case(D, V13, [120, 3, 8], [129, 14, 0, 100], (120, 7)),
-        "fa157c275bd87d00518b64f8855d815bb8411120ef0937f55659e4748492c16b3a3c872b1a0c8088cb",
-    ),
-    (
-        Case(I, V13, [131, 2, 7], [8, 31, 200, 1], (109, 7)),
-        "ddc2d8b575",
-    ),
-    (
-        Case(D, V10, [170, 4, 6], [0, 18, 300, 0], (46, 7)),
-        "73fa13eb31c6dd3a071af4facdf3d497154f15f0b3c1c8cc7208ced77528b25a\
-            f668bef555947a55199960c82740a0bce26408a66a5d01",
-    ),
-    (
-        Case(Id, V10, [109, 2, 2], [64, 12, 0, 1], (15, 7)),
-        "a88bf038cfeb030468369ca76e309ed234780f3929be95f69f5a593de8b7c56d\
-            4d929c3ceafb3597b5d96d0e96f31beda0b58e50054ad6a644",
     ),
 ];
 
@@ -94,11 +71,6 @@ fn rfc_vectors(rt: HostRuntime) {
         let other = other_row(&rt, rt.alloc(), workers, &STANDARD);
         assert_eq!(rt; other, None, "{workers} workers");
     }
-}
-
-#[test]
-fn library_tags(rt: HostRuntime) {
-    assert_eq!(rt; other_row(&rt, rt.alloc(), 3, &LIBRARY), None);
 }
 
 fn is_standard<R: Threads + Sync>(rt: &R, alloc: Global) -> Result<bool, ArgonError> {

@@ -1,8 +1,6 @@
-//! Texts and what is answered to them, from other programs or worked out by hand: the faults of
-//! damaged texts (`faults`), and here values read and written, and their tags. Most of the texts
-//! are those of `test_samples`. And that a password isn't shown.
-
-mod faults;
+//! Texts of other programs: their values, read and written, and their tags. Most of them are those
+//! of `test_samples`. And that a password isn't shown. tests/credbook has the faults of damaged
+//! texts.
 
 use super::stored;
 use cred_phc::{
@@ -63,19 +61,6 @@ fn is_record_text(alloc: Global, stored: &Record, text: &str) -> Result<bool, Ph
 /// Whether this text is written for the setting.
 fn is_setting_text(alloc: Global, setting: &Setting, text: &str) -> Result<bool, PhcError> {
     Ok(write_setting(alloc, setting)?.as_slice() == text.as_bytes())
-}
-
-#[test]
-fn round_trip(rt: HostRuntime) {
-    for (text, written) in [
-        (A, A),
-        (OLD, OLD_WRITTEN),
-        (OLD_WRITTEN, OLD_WRITTEN),
-        (SCRYPT, SCRYPT),
-    ] {
-        let is_written = is_record_text(rt.alloc(), &stored(&rt, text), written);
-        assert_eq!(rt; is_written, Ok(true), "{text}");
-    }
 }
 
 /// A setting whose salt is written with each letter of base64 once, in the order of RFC 4648,
