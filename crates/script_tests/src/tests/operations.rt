@@ -61,14 +61,6 @@ load a {B} => ok
 load a {A} => ok
 commit 1 => yes
 
-# the first byte of a tag counts, and the last
-load a {SA}$of65EOgLrQMR/uIPnA4rEsF5h7TKyQwu9U1bMCHGi/4 => ok
-begin 1 verify a {PA} => begun
-commit 1 => no
-load a {SA}$nf65EOgLrQMR/uIPnA4rEsF5h7TKyQwu9U1bMCHGi/8 => ok
-begin 1 verify a {PA} => begun
-commit 1 => no
-
 # upgrade to another kind with the same numbers
 load a {A} => ok
 begin 1 upgrade a {PA} $argon2i$v=19$m=256,t=2,p=1$c29tZXNhbHQ => begun
