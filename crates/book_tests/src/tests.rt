@@ -1,13 +1,11 @@
-//! That the calls succeed, that the rules of names are those that were meant, that
-//! whole operations answer as records from outside want it and hash no oftener than they must, what
-//! running out of memory leaves, and that no password is shown.
+//! That the calls succeed, that whole operations answer as records from outside want it and hash no
+//! oftener than they must, what running out of memory leaves, and that no password is shown.
 //!
 //! `work` plays whole operations; the other files have the tests. What a test asserts it is handed
 //! as a plain value, since its proof is far longer where a book is alive beside an assertion.
 
 mod accounts;
 mod gates;
-mod names;
 mod operations;
 mod registers;
 mod scratch;

@@ -44,7 +44,7 @@ pub(super) fn worked<R: Threads + Sync>(
 }
 
 /// Commits the work.
-pub(super) fn committed(book: &mut Book, work: Worked) -> Seen {
+fn committed(book: &mut Book, work: Worked) -> Seen {
     let name = work.request().name();
     let judged = book.judge(&work);
     let reply = book.commit(work);
