@@ -2,7 +2,7 @@
 //! memory gives.
 use super::{byte_len, counted, first, is_hex, is_made};
 use cred_pool::NoGate;
-use cred_scrypt::{ScryptError, ScryptParams, hmac_sha256, pbkdf2, ro_mix, scrypt};
+use cred_scrypt::{ScryptError, ScryptParams, pbkdf2, ro_mix, scrypt};
 use std::alloc::Global;
 use std::thread::Threads;
 
@@ -26,15 +26,6 @@ fn mixes(rt: HostRuntime) {
     let mut block = BLOCKS;
     let answer = ro_mix(rt.alloc(), 1, 4, &mut block);
     assert_eq!(rt; (block, answer), (BLOCKS_WALKED, Ok(())));
-}
-
-/// RFC 4231, test case 6: the key is longer than a block.
-#[test]
-fn hmac_vector(rt: HostRuntime) {
-    let message = b"Test Using Larger Than Block-Size Key - Hash Key First";
-    let digest = hmac_sha256(&[0xaa; 131], message);
-    let wanted = "60e431591ee0b67f0d8a26aacbf5b77f8e0bc6213728c5140546040f0ee37f54";
-    assert!(rt; is_hex(&digest, wanted));
 }
 
 /// The second vector of RFC 7914, section 12.
