@@ -1,4 +1,5 @@
-//! Lines that are refused, and which of two causes is answered.
+//! Lines that are refused, and which of two causes is answered. tests/credbook has each key, and
+//! forms of passwords and records.
 use super::operations::judge_all;
 use std::alloc::Global;
 use std::process::Abort;
@@ -100,46 +101,6 @@ fn refusals(rt: HostRuntime) {
 fn add<R: Abort>(rt: &R, alloc: Global, text: &mut String, lines: &str, word: &str) {
     let lines = lines.replace(alloc, "{}", word).expect(rt, "memory");
     text.push_str(&lines).expect(rt, "memory");
-}
-
-/// Adds them for each number of a key.
-fn add_keys<R: Abort>(rt: &R, alloc: Global, text: &mut String, lines: &str) {
-    for key in 1..65u8 {
-        let key = key.to_string(alloc).expect(rt, "memory");
-        add(rt, alloc, text, lines, &key);
-    }
-}
-
-const NO_KEYS: &str = " 0 65 00 01 064 +1 -1 1x x 256 257 100000000000000000001";
-
-#[test]
-fn keys_are_1_to_64(rt: HostRuntime) {
-    let (alloc, mut text) = (rt.alloc(), String::new(rt.alloc()));
-    add(&rt, alloc, &mut text, "# {}\n", "keys_are_1_to_64");
-    let lines = "begin {} verify a - => bad 12 key\ncommit {} => bad 12 key\n";
-    for key in NO_KEYS.split(' ') {
-        add(&rt, alloc, &mut text, lines, key);
-    }
-    add_keys(&rt, alloc, &mut text, "begin {} verify a - => begun\n");
-    let lines = "commit {} => absent\ncommit {} => bad 15 idle\n";
-    add_keys(&rt, alloc, &mut text, lines);
-    judge_all(&rt, alloc, &text);
-}
-
-const NO_PASSWORDS: &str = " ! -- cGFzc3dvcmQ= cGFzc3dvcmR A";
-
-#[test]
-fn passwords_have_a_form(rt: HostRuntime) {
-    let (alloc, mut text) = (rt.alloc(), String::new(rt.alloc()));
-    let longest = "A".repeat(alloc, 342).expect(&rt, "memory");
-    add(&rt, alloc, &mut text, "# {}\n", "passwords_have_a_form");
-    let refused = "begin 1 verify a {} => bad 13 password\n";
-    for pw in NO_PASSWORDS.split(' ') {
-        add(&rt, alloc, &mut text, refused, pw);
-    }
-    let lines = "begin 1 verify a {}A => bad 13 password\nbegin 1 verify a {} => begun\n";
-    add(&rt, alloc, &mut text, lines, &longest);
-    judge_all(&rt, alloc, &text);
 }
 
 #[test]

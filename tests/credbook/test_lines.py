@@ -1,4 +1,5 @@
-"""Texts of records that are damaged or cut, in lines of a script: the first fault from the left."""
+"""Fields of a script's lines that are refused: records that are damaged or cut, of which the first
+fault from the left is told, keys and passwords."""
 
 import unittest
 from collections.abc import Iterable
@@ -59,23 +60,36 @@ CUTS = [
 ]
 WHOLE = {48, 49, 51, 52, 53, 56, 57, 59, 60, 61, 65, 69, 71, 72, 73, 77, 81, 84}
 
+NO_KEYS = ["", *"0 65 00 01 064 +1 -1 1x x 256 257 100000000000000000001".split()]
+NO_PASSWORDS = ["", "!", "--", "cGFzc3dvcmQ=", "cGFzc3dvcmR", "A", "A" * 343]
 
-class RecordsTest(unittest.TestCase):
+
+class LinesTest(unittest.TestCase):
     def assertAnswered(self, rows: Iterable[tuple[str, str]]) -> None:
-        """An account is given each of these texts as its record, and so it is answered."""
-        rows = [*rows]
-        script = lined(["account a", *(f"load a {text}" for text, _ in rows)])
-        done = credbook("run", given=script)
+        """The lines of a script on an account a have these answers."""
+        rows = [("account a", "ok"), *rows]
+        done = credbook("run", given=lined(line for line, _ in rows))
         self.assertEqual((done.status, done.faults), (0, ""))
-        found = done.written.splitlines()[1:]
-        self.assertEqual([*zip((text for text, _ in rows), found, strict=True)], rows)
+        found = done.written.splitlines()
+        self.assertEqual([*zip((line for line, _ in rows), found, strict=True)], rows)
 
-    def test_damaged_texts(self) -> None:
-        self.assertAnswered(
-            (text.replace(part, other, 1), answer) for text, part, other, answer in DAMAGED
-        )
+    def test_damaged_records(self) -> None:
+        rows = [(text.replace(part, other, 1), answer) for text, part, other, answer in DAMAGED]
+        self.assertAnswered((f"load a {text}", answer) for text, answer in rows)
 
-    def test_cut_texts(self) -> None:
-        fronts = [(RECORD[:size], answer) for sizes, answer in CUTS for size in sizes]
-        cut_tags = ((RECORD[:at], "ok" if at in WHOLE else "bad 7 tag") for at in range(41, 85))
-        self.assertAnswered([*fronts, *cut_tags])
+    def test_cut_records(self) -> None:
+        rows = [(size, answer) for sizes, answer in CUTS for size in sizes]
+        rows += [(size, "ok" if size in WHOLE else "bad 7 tag") for size in range(41, 85)]
+        self.assertAnswered((f"load a {RECORD[:size]}", answer) for size, answer in rows)
+
+    def test_keys_are_1_to_64(self) -> None:
+        for line in ("begin {} verify a -", "commit {}"):
+            self.assertAnswered((line.format(it), "bad 12 key") for it in NO_KEYS)
+        begun = [(f"begin {key} verify a -", "begun") for key in range(1, 65)]
+        absent = [(f"commit {key}", "absent") for key in range(1, 65)]
+        idle = [(f"commit {key}", "bad 15 idle") for key in range(1, 65)]
+        self.assertAnswered([*begun, *absent, *idle])
+
+    def test_passwords_have_a_form(self) -> None:
+        bad = [(f"begin 1 verify a {it}", "bad 13 password") for it in NO_PASSWORDS]
+        self.assertAnswered([*bad, (f"begin 1 verify a {'A' * 342}", "begun")])
