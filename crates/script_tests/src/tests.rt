@@ -10,7 +10,6 @@ mod watched;
 
 use cred_book::{Keeper, Name};
 use cred_cli::{End, ScriptFault, Watched, run_script};
-use cred_phc::{Record, parse_record};
 use std::alloc::Global;
 use std::process::Abort;
 use std::sync::Wait;
@@ -44,10 +43,6 @@ fn filled_in<R: Abort>(rt: &R, alloc: Global, text: &str) -> String {
 
 fn name<R: Abort>(rt: &R, text: &str) -> Name {
     Name::new(text.as_bytes()).expect(rt, "a name")
-}
-
-fn stored<R: Abort>(rt: &R, text: &str) -> Record {
-    parse_record(text.as_bytes()).expect(rt, "a record")
 }
 
 /// Holds what was written against what it is to be.
