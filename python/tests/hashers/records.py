@@ -2,6 +2,7 @@
 are quick, the calls of the library counted, and Python run apart. Each test reads it first, so that
 the package is found by it and by the processes that it starts."""
 
+import base64
 import os
 import pathlib
 import sys
@@ -26,6 +27,11 @@ LEAST = PasswordHasher(**LEAST_COSTS)
 def python(*words, given="", status=0, at=HERE, **env):
     """What this Python writes on both streams, if it ends with the status."""
     return run(sys.executable, *words, given=given, status=status, at=at, env=env)
+
+
+def unpadded(data):
+    """Base64, as it stands in a record."""
+    return base64.b64encode(data).decode().rstrip("=")
 
 
 def verdict(hasher, record, password):

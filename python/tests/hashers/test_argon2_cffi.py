@@ -2,7 +2,6 @@
 the answers and messages are the same. Its own tests: argon2_cffi_own.py."""
 
 import array
-import base64
 import dataclasses
 import inspect
 import itertools
@@ -10,7 +9,7 @@ import pickle
 import random
 import unittest
 
-from records import OLD
+from records import OLD, unpadded
 
 import rigzumal
 from rigzumal import argon2_cffi as ours
@@ -26,8 +25,7 @@ COSTS = {"time_cost": 1, "memory_cost": 64, "parallelism": 2}
 
 def encoded(costs, salt, tag):
     """A hash of this salt and tag, whoever may refuse it."""
-    fields = (base64.b64encode(it).decode().rstrip("=") for it in (salt, tag))
-    return "$".join(("$argon2id$v=19", costs, *fields))
+    return "$".join(("$argon2id$v=19", costs, unpadded(salt), unpadded(tag)))
 
 
 def outcome(call, *given, **named):
@@ -123,18 +121,8 @@ class Hashers(Same):
                         self.assertRaises(mismatches, reader.verify, hashed, "another")
 
     @each(
-        *(
-            "",
-            "$argon2id$",
-            "x" * 20,
-            OLD,
-            OLD[:-1],
-            b"$argon2i$",
-            f" {OLD}",
-            f"{OLD} ",
-            f"{OLD}\n",
-        ),
-        *(OLD.replace("2i", "2x"), OLD.replace("$c29", "$ c29")),
+        *("", "$argon2id$", "x" * 20, b"$argon2i$", OLD, OLD[:-1], f" {OLD}", f"{OLD} "),
+        *(f"{OLD}\n", OLD.replace("2i", "2x"), OLD.replace("$c29", "$ c29")),
     )
     def test_answers_are_theirs(self, given):
         self.same(lambda it: it.PasswordHasher(**COSTS).verify(given, "password"), given)

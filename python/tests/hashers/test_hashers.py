@@ -2,21 +2,16 @@
 hashlib make."""
 
 import array
-import base64
 import hashlib
 import itertools
 import unicodedata
 import unittest
 
-from records import ARGON2, LEAST, LEAST_COSTS, OLD, SMALL, verdict
+from records import ARGON2, LEAST, LEAST_COSTS, OLD, SMALL, unpadded, verdict
 
 import rigzumal
 from rigzumal import PasswordHasher, ScryptHasher, Type, argon2_cffi, opaque_string
 from tests.helpers import each
-
-
-def base64_of(data):
-    return base64.b64encode(data).decode().rstrip("=")
 
 
 # printf password | argon2 somesalt -d -v 10 -t 2 -k 256 -p 1 -l 32 -r, and the like
@@ -29,7 +24,7 @@ TAGS = {
     (Type.ID, 0x13): "9dfeb910e80bad0311fee20f9c0e2b12c17987b4cac90c2ef54d5b3021c68bfe",
 }
 RECORDS = {
-    kind: f"$argon2{kind.name.lower()}$v=19$m=256,t=2,p=1$c29tZXNhbHQ${base64_of(bytes.fromhex(tag))}"
+    kind: f"$argon2{kind.name.lower()}$v=19$m=256,t=2,p=1$c29tZXNhbHQ${unpadded(bytes.fromhex(tag))}"
     for (kind, version), tag in TAGS.items()
     if version == 0x13
 }
@@ -67,7 +62,7 @@ class Verifying(unittest.TestCase):
         hasher = SMALL.replace(secret=b"pepper")
         record = hasher.hash("password", salt=b"somesalt")
         tag = rigzumal.argon2("password", b"somesalt", secret=b"pepper", **COSTS)
-        self.assertEqual(record.rsplit("$", 1)[1], base64_of(tag))
+        self.assertEqual(record.rsplit("$", 1)[1], unpadded(tag))
         other = SMALL.replace(secret=b"Pepper")
         for one, password in itertools.product((hasher, SMALL, other), ("password", "x")):
             with self.subTest(one=one, password=password):
@@ -161,7 +156,7 @@ class Inputs(unittest.TestCase):
                 self.assertEqual(key, wanted)
         record = ScryptHasher(log2_n=4, block_size=2, parallelism=3).hash("password", salt=b"s")
         wanted = hashlib.scrypt(b"password", salt=b"s", n=16, r=2, p=3, dklen=32)
-        self.assertEqual(record, f"$scrypt$ln=4,r=2,p=3$cw${base64_of(wanted)}")
+        self.assertEqual(record, f"$scrypt$ln=4,r=2,p=3$cw${unpadded(wanted)}")
 
 
 class Parts(unittest.TestCase):

@@ -1,16 +1,14 @@
 """Strings of other programs, both ways: what they write is read here, and what is written here they
 read and write alike. Nothing is tried of a program that isn't installed."""
 
-import base64
 import ctypes
 import ctypes.util
 import itertools
-import re
 import subprocess
 import unittest
 import warnings
 
-from records import SMALL, verdict
+from records import SMALL, unpadded, verdict
 
 import rigzumal
 from rigzumal import PasswordHasher, ScryptHasher, Type
@@ -43,32 +41,6 @@ SCRYPT_REFUSED = {
     **{it: "salt" for it in ((4, 8, 1, 0, 65), (4, 8, 1, 49, 32))},
     **{it: "tag" for it in ((4, 8, 1, 16, 3), (4, 8, 1, 16, 65))},
 }
-# By the fault, a piece of a string and what stands in its place: strings that no program makes, or
-# none without 2 GiB.
-WITH_SALT = r"\$[^$]+(\$[^$]+)\Z"
-ARGON2_EDITS = [
-    *(("range", "m=64", it) for it in ("m=15", "m=2097153")),
-    *(("range", "t=1", it) for it in ("t=0", "t=4294967296")),
-    ("range", "p=2", "p=0"),
-    ("version", "v=19", "v=18"),
-    ("scheme", "argon2id", "argon2"),
-    ("params", "m=64", "m=064"),
-    ("params", "m=64,t=1", "t=1,m=64"),
-    *(("params", ",p=2", it) for it in ("", ",p=2,keyid=Zm9v")),
-    ("salt", WITH_SALT, r"$c29tZXNhbA\1"),  # of 7 bytes
-    *(("salt", r"dA\$", it) for it in ("dA==$", "dB$")),  # a bit behind the last byte
-    ("tag", r"\$[^$]+\Z", "$YmFk"),  # of 3 bytes
-    ("tag", r"\Z", "\r"),
-    ("shape", r"\$[^$]+\Z", ""),
-    ("shape", r"\Z", "$"),
-]
-SCRYPT_EDITS = [
-    *(("range", "ln=4", it) for it in ("ln=0", "ln=25")),
-    *(("range", "ln=4,r=8", it) for it in ("ln=16,r=1", "ln=21,r=9")),
-    ("range", "r=8", "r=0"),
-    ("range", "p=1", "p=0"),
-    ("params", "ln=4", "n=16"),
-]
 # Handlers of passlib's for other schemes.
 OTHER_SCHEMES = (
     ("bcrypt", {"rounds": 4}, "scheme"),
@@ -84,10 +56,6 @@ OTHER_SCHEMES = (
 def other(password):
     """Another one. It isn't longer: to scrypt `x` and `x` with a zero byte are the same."""
     return password[:-1] + bytes([password[-1] ^ 1]) if password else b"x"
-
-
-def unpadded(data):
-    return base64.b64encode(data).decode().rstrip("=")
 
 
 def salt_of(size):
@@ -148,21 +116,12 @@ class Judged(unittest.TestCase):
             for kind, version in (("id", 0x13), ("i", 0x10))[: 1 if at > 2 else 2]:
                 self.check_refused(make(kind, version, numbers, b"password"), word)
 
-    def check_edited(self, text, edits):
-        self.check_read(text, b"password")
-        for word, piece, new in edits:
-            changed, times = re.subn(piece, new, text)
-            self.assertEqual(times, 1, piece)
-            self.check_refused(changed, word)
-
 
 class OfTheProgram(Judged):
     def test_read(self):
         need("argon2")
         self.check_argon2(by_program, PASSWORDS)
         self.check_read(run("argon2", "somesalt", "-e", given="password").strip(), b"password")
-        text = by_program("id", 0x13, (64, 1, 2, 16, 32), b"password")
-        self.check_edited(text, ARGON2_EDITS)
 
 
 class OfPasslib(Judged):
@@ -177,7 +136,6 @@ class OfPasslib(Judged):
             self.check_read(scrypt_by_passlib(numbers, password), password)
         for numbers, word in SCRYPT_REFUSED.items():
             self.check_refused(scrypt_by_passlib(numbers, b"password"), word)
-        self.check_edited(scrypt_by_passlib((4, 8, 1, 16, 32), b"password"), SCRYPT_EDITS)
 
     def test_other_schemes(self):
         import passlib.hash
