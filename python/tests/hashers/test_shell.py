@@ -155,13 +155,6 @@ class Shell(unittest.TestCase):
         self.assertIn(text, fault)
         self.assertNotRegex(fault, "Traceback|hunter2")
 
-    def test_calibration(self):
-        status, costs, fault = run("calibrate --target-ms 40 --memory 4M --lanes 1 --below")
-        self.assertEqual(status, 0, fault)
-        self.assertRegex(costs, r"^\$argon2id\$v=19\$m=\d+,t=\d+,p=1\n$")
-        costs = run("calibrate --target-ms 10 --memory 19M --lanes 1")[1]
-        self.assertEqual(costs, "$argon2id$v=19$m=19456,t=2,p=1\n")
-
     @each(("2G", 2097152), ("16", 16), ("16K", 16), ("16k", 16), ("1M", 1024))
     def test_sizes(self, text, memory):
         self.assertEqual(memory_of(text), memory)
