@@ -3,9 +3,15 @@ user: each operation, at each moment, of models of each shape."""
 
 import contextlib
 import itertools
+import random
+import threading
+import time
+from concurrent.futures import ThreadPoolExecutor
+from unittest import mock
 
 import project  # noqa: F401: Django, set up
 from django.contrib.auth.models import User
+from django.db import connections
 from django.test import TransactionTestCase, override_settings
 from django.utils.functional import SimpleLazyObject
 from meanwhile import Cheap, before_update, cheap, comparing, delete_elsewhere
@@ -13,6 +19,7 @@ from meanwhile import is_right, meanwhile, reset_elsewhere, rows, signed_up, sta
 from meanwhile import ACTS, CHANGES, LOGINS, NEW, OF_MIXIN, OLD, SETS
 from users_app.models import ByMail, Hidden, Locked, Member, Person, Pupil, Staff
 
+from rigzumal.django import passwords
 from rigzumal.django.hashers import Argon2PasswordHasher
 from rigzumal.django.passwords import RecordChanged
 from rigzumal.django.records import TRIES
@@ -25,6 +32,15 @@ THEIRS = "django.contrib.auth.backends.ModelBackend"
 # The models; whether a stock User compares; whether the user is a lazy one, as `request.user` is.
 SHAPES = [(model, False, False) for model in (User, Person, Locked, Member, Staff, Hidden, ByMail)]
 SHAPES += [(Pupil, False, False), (User, True, False), (User, False, True), (Person, False, True)]
+
+
+def edit(user):
+    """A save of another field."""
+    user.first_name = "edited"
+    user.save()
+
+
+WRITES = {"reset": lambda user: passwords.set_password(user, "reset"), "edit": edit}
 
 
 def cases(model, is_raised):
@@ -61,7 +77,7 @@ class Races(Cheap, TransactionTestCase):
 
     def answer(self, act, user):
         try:
-            return ACTS[act](user)
+            return {**ACTS, **WRITES}[act](user)
         except RecordChanged as error:
             self.assertIn("was changed", str(error))
             return RecordChanged
@@ -109,6 +125,33 @@ class Races(Cheap, TransactionTestCase):
                 self.assertEqual(self.answer(act, user), True if turns < TRIES else lost)
             new = NEW if act in CHANGES and turns < TRIES else OLD
             self.assertTrue(is_right(user, new))
+
+    @each(*(User, Person) * 20)
+    def test_threads(self, model):
+        """By connections of their own: a change or a reset is done, and nothing undoes it."""
+        user, barrier = self.signed_up(model), threading.Barrier(6)
+        verify = Argon2PasswordHasher.verify
+
+        def slow(*given):
+            time.sleep(random.choice((0, 0.001, 0.003)))
+            return verify(*given)
+
+        def act(name):
+            own = model.objects.get(pk=user.pk)
+            barrier.wait(60)
+            try:
+                return self.answer(name, own)
+            finally:
+                connections.close_all()
+
+        edit = "edit" if model is Person else "check"
+        names = ("change", "reset", "check", "authenticate", "verify", edit)
+        slowed = mock.patch.object(Argon2PasswordHasher, "verify", slow)
+        label = override_settings(AUTH_USER_MODEL=model._meta.label)
+        with label, slowed, cheap(memory=128), ThreadPoolExecutor(6) as pool:
+            changed, was_reset, *_ = pool.map(act, names)
+        done = [NEW] * (changed is True) + ["reset"] * (was_reset is None)
+        self.assertEqual([it for it in (NEW, "reset", OLD) if is_right(user, it)], done or [OLD])
 
     def test_djangos_own_undoes_the_change(self):
         """What all of this is for: by Django's backend the old password is put back."""

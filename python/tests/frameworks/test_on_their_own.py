@@ -1,5 +1,5 @@
 """What wants a process or a server of its own: the tests of Django and of the login page on
-PostgreSQL, random histories, and Django's own tests."""
+PostgreSQL, and Django's own tests."""
 
 import functools
 import os
@@ -50,27 +50,12 @@ class Runs(unittest.TestCase):
         url = f"postgresql://store@127.0.0.1:{postgres()}/one"
         self.discover("test_login_page*.py", DATABASE=url)
 
-    def database(self, vendor):
-        """What names a database of this vendor, or of none."""
-        need_module("django")
-        if vendor != "postgresql":
-            return {}
-        need_module("psycopg2")
-        return {"FRAMEWORKS_POSTGRES": postgres()}
-
-    @each(("legal rounds on sqlite",), ("legal rounds on postgresql",), ("refused", "--broken"))
-    def test_histories(self, row):
-        """1,000 random interleavings are legal each; without a comparison one of them isn't."""
-        said, *words = row
-        env = self.database(said.rpartition(" ")[2])
-        for mixin in ((), ("--mixin",)):
-            found = self.run_python("django_histories.py", *words, *mixin, **env)
-            self.assertIn(said, found)
-
     @each("sqlite", "postgresql")
     def test_djangos_own(self, vendor):
         """Django's tests of auth, over this backend and these hashers."""
         source = os.environ.get("DJANGO_SOURCE")
         if source is None:
             self.skipTest("DJANGO_SOURCE names no folder of Django's source")
-        self.run_python("django_own.py", source, **self.database(vendor))
+        need_module("django", *(["psycopg2"] if vendor == "postgresql" else []))
+        env = {"FRAMEWORKS_POSTGRES": postgres()} if vendor == "postgresql" else {}
+        self.run_python("django_own.py", source, **env)
