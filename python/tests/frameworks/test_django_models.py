@@ -5,7 +5,7 @@ import itertools
 from unittest import mock
 
 import project  # noqa: F401: Django, set up
-from django.contrib.auth import authenticate, hashers
+from django.contrib.auth import authenticate
 from django.contrib.auth.models import AbstractUser, User
 from django.core import serializers
 from django.db import DatabaseError, IntegrityError, transaction
@@ -92,16 +92,6 @@ class AsDjangos(Cheap, TransactionTestCase):
         for it in serializers.deserialize("json", text):
             it.save()
         return is_right(ann, "old")
-
-    @beside(True)
-    def test_update_or_create(self, model, ann):
-        record = hashers.make_password("new")
-        model.objects.update_or_create(username="ann", defaults={"password": record})
-        with transaction.atomic():
-            found = model.objects.select_for_update().get()
-            found.first_name = "locked"
-            found.save()
-        return is_right(ann, "new")
 
     @beside(["new"])
     def test_the_validators_are_told(self, model, ann):
