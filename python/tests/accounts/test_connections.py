@@ -19,31 +19,25 @@ BUSY = sqlite3.OperationalError("database is locked")
 REFUSED = sqlite3.OperationalError("no such table: users")
 
 
-class Runtime:
-    """Answers each use by what it is given; a pause is noted, and passes at once."""
-
-    def __init__(self, *answers):
-        self.answers, self.used, self.pauses, self.now = list(answers), [], [], 100.0
-
-    async def use(self, pool, job):
-        self.used.append(pool)
-        answer = self.answers.pop(0) if self.answers else "done"
-        if isinstance(answer, BaseException):
-            raise answer
-        return answer
-
-    async def pause(self, seconds):
-        self.pauses.append(seconds)
-        self.now += seconds
-
-
 class Patience(unittest.TestCase):
     def connections(self, *answers, patience=10.0, replica=None):
-        runtime, time = Runtime(*answers), _connections.time
+        """Over a runtime whose uses end so, and the next one is done; a pause passes at once."""
+        runtime, time = mock.AsyncMock(now=100.0, pauses=[]), _connections.time
+        runtime.use.side_effect = [*answers, "done"]
+
+        def pause(seconds):
+            runtime.pauses.append(seconds)
+            runtime.now += seconds
+
+        runtime.pause.side_effect = pause
         self.enterContext(mock.patch.object(time, "monotonic", lambda: runtime.now))
         self.enterContext(mock.patch.object(_connections.random, "uniform", lambda *span: 1.0))
         table = Table(Sqlite("users", "name", "record"), False, lambda worked: None)
         return runtime, Connections(runtime, "primary", replica, table, patience)
+
+    def used(self, runtime):
+        """The pools that were used."""
+        return [it.args[0] for it in runtime.use.mock_calls]
 
     def test_pauses_double_up_to_half_a_second(self):
         """Of a server that can't be reached, and of one that undoes what is sent."""
@@ -71,7 +65,7 @@ class Patience(unittest.TestCase):
             runtime, connections = self.connections(*[error] * 9)
             with self.assertRaisesRegex(Unavailable, "database is locked") as raised:
                 run(connections.patiently(None, patience))
-            self.assertEqual(len(runtime.used), count)
+            self.assertEqual(runtime.use.call_count, count)
             self.assertIs(raised.exception.__cause__, error)
 
     def test_pauses_differ(self):
@@ -109,7 +103,7 @@ class Patience(unittest.TestCase):
             with self.assertLogs("rigzumal.accounts", "WARNING") as logs:
                 done = [run(connections.at_replica(None)) for _ in given]
             self.assertEqual([isinstance(it, Undone) for it in done], [True, True, False, True])
-            self.assertEqual((runtime.used, runtime.pauses), (["replica"] * 4, []))
+            self.assertEqual((self.used(runtime), runtime.pauses), (["replica"] * 4, []))
             self.assertEqual(len(logs.output), 2)
             self.assertIn("the replica is passed over: ", logs.output[0])
         runtime, connections = self.connections("a record", replica="replica")
@@ -119,7 +113,7 @@ class Patience(unittest.TestCase):
         runtime, connections = self.connections()
         self.assertIsInstance(run(connections.at_replica(None)), Undone)
         self.assertEqual(run(connections.patiently(None)), "done")
-        self.assertEqual((runtime.used, runtime.pauses), (["primary"], []))
+        self.assertEqual((self.used(runtime), runtime.pauses), (["primary"], []))
 
 
 class Refused(Exception):

@@ -10,11 +10,11 @@ import threading
 from unittest import mock
 
 import engines
-from support import FOREIGN_KEY_FAILED, HIGH, LOW, Awaiting, Base, after_hash, called, each
-from support import scripted
+from servers import SqliteFile
+from support import FOREIGN_KEY_FAILED, HIGH, LOW, Base, after_hash, called, each, scripted
 from rigzumal import OutOfMemoryError
-from rigzumal.accounts import Accounts, AsyncAccounts, MariaDB, Reply, Sqlite, StoreFault
-from rigzumal.accounts import Unavailable, _connections, parts, types
+from rigzumal.accounts import MariaDB, Reply, StoreFault, Unavailable, _connections
+from rigzumal.accounts import parts, types
 from rigzumal.accounts._session import Result, run
 from rigzumal.accounts.types import Answer, Kind, Request, Ticket, Worked
 
@@ -83,62 +83,36 @@ class Operations(Base):
 
     def test_replicas_may_lag(self):
         """A copy that is gone is no answer: the primary is looked at."""
-        stale = self.another()
-        stale.execute("ATTACH ':memory:' AS old")
-        stale.execute("CREATE TABLE old.users (name TEXT PRIMARY KEY, record TEXT)")
-        stale.execute("INSERT INTO old.users VALUES ('ann', ?)", (LOW.hash("old"),))
-        self.give("new")
-        dialect = Sqlite("users", "name", "record")
-
-        @contextlib.contextmanager
-        def replica():
-            old = dialect.select.replace("`users`", "`old`.`users`")
-            with mock.patch.object(dialect, "select", old):
-                yield stale
-
-        accounts = self.accounts(dialect=dialect, replica=replica)
-        one = f"UPDATE old.users SET record = '{LOW.hash('old')}'"
-        none, gone = "UPDATE old.users SET record = NULL", "DELETE FROM old.users"
+        stale = SqliteFile().connect()
+        self.addCleanup(stale.close)
+        stale.execute(self.dialect.create())
+        accounts = self.accounts(replica=lambda: contextlib.nullcontext(stale))
+        one, none = [("ann", LOW.hash("old"))], [("ann", None)]
         # What has no record there, or no row, may have one by now.
-        for sql, password, calls in (
+        for rows, password, calls in (
             (one, "new", "verify ann old no; verify ann new yes"),
             (one, "new", "change ann old x wrong; change ann new newer replaced"),
             (one, None, "verify ann old absent; remove ann old absent; enrol ann x enrolled"),
             (none, "new", "verify ann new yes; login ann old no; enrol ann x exists"),
-            (gone, "new", "login ann new yes; verify ann old no; reset ann x replaced"),
+            ([], "new", "login ann new yes; verify ann old no; reset ann x replaced"),
+            *((it, "", "verify ann old noaccount; enrol ann old noaccount") for it in ([], one)),
         ):
-            stale.execute(sql)
+            stale.execute("DELETE FROM users")
+            stale.executemany("INSERT INTO users VALUES (?, ?)", rows)
             self.give(password)
-            with self.subTest(sql=sql[:30]):
+            if password == "":
+                self.conn.execute("DELETE FROM users")
+            with self.subTest(rows=len(rows), calls=calls):
                 self.assert_replies(calls, accounts)
                 self.assertFalse(accounts._connections._is_passed_over)
-        self.conn.execute("DELETE FROM users")
-        self.assert_replies("verify ann old noaccount", accounts)
-        stale.execute("INSERT INTO old.users VALUES ('ann', ?)", (LOW.hash("old"),))
-        self.assert_replies("enrol ann old noaccount; verify ann old noaccount", accounts)
 
-    def test_copies_are_read_from_the_replica(self):
+    @each("verify ann one yes", "login ann one yes", "change ann one one replaced")
+    def test_copies_are_read_from_the_replica(self, text):
         """One look each, and everything else at the primary."""
-        uses = []
-
-        @contextlib.contextmanager
-        def used(name):
-            uses.append(name)
-            yield self.conn
-
-        @contextlib.asynccontextmanager
-        async def awaited(name):
-            with used(name) as conn:
-                yield Awaiting(conn)
-
-        for kind, pool in ((Accounts, used), (AsyncAccounts, awaited)):
-            more = {"replica": functools.partial(pool, "replica")}
-            made = kind(functools.partial(pool, "primary"), self.dialect, LOW, **more)
-            accounts = engines.Awaited(made) if kind is AsyncAccounts else made
-            for text in ("verify ann one yes", "login ann one yes", "change ann one one replaced"):
-                uses.clear()
-                self.assert_replies(text, accounts)
-                self.assertEqual(uses, ["replica", "primary"])
+        uses = mock.Mock(side_effect=lambda name: contextlib.nullcontext(self.conn))
+        primary, replica = (functools.partial(uses, it) for it in ("primary", "replica"))
+        self.assert_replies(text, self.over(primary, replica=replica))
+        self.assertEqual(uses.mock_calls, [mock.call("replica"), mock.call("primary")])
 
     def test_a_replica_that_is_down(self):
         """Logins go on at the primary, and so do changes."""
@@ -189,19 +163,9 @@ class Operations(Base):
         """Where the server wants the transaction anew, and ROLLBACK fails."""
         made = []
         accounts = self.accounts(connect=lambda: made.append(self.connect()) or made[-1])
-        table, compare, undo = accounts._table, accounts._table.compare, self.dialect.undo
-        busy = [sqlite3.OperationalError("database is locked")]
-
-        async def fails(session):
-            raise sqlite3.OperationalError("no")
-
-        async def once(*given):
-            self.dialect.undo = fails if busy else undo
-            if busy:
-                raise busy.pop()
-            return await compare(*given)
-
-        table.compare = once
+        busy, table = sqlite3.OperationalError("database is locked"), accounts._table
+        table.compare = mock.AsyncMock(wraps=table.compare, side_effect=[busy, mock.DEFAULT])
+        self.dialect.undo = mock.AsyncMock(side_effect=busy)
         self.assertIs(accounts.change("ann", "one", "two"), Reply.REPLACED)
         self.assertEqual(len(made), 2)
 
@@ -225,14 +189,8 @@ class Operations(Base):
         error = sqlite3.OperationalError("database or disk is full")
         with mock.patch.object(full._table, "compare", mock.Mock(side_effect=error)):
             self.assertIs(full.login("ann", "one"), Reply.YES)
-        work = full._judge.work
-
-        def no_memory(ticket):
-            if ticket.request.kind is Kind.UPGRADE:
-                raise OutOfMemoryError(8)
-            return work(ticket)
-
-        full._judge.work = no_memory
+        effects = [OutOfMemoryError(8), mock.DEFAULT]
+        full._judge.work = mock.Mock(wraps=full._judge.work, side_effect=effects)
         self.assertIs(full.login("ann", "one"), Reply.YES)
 
     def test_a_missing_table(self):

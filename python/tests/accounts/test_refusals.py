@@ -6,7 +6,7 @@ import sqlite3
 from unittest import mock
 
 from engines import Awaited
-from support import HIGH, LOW, Base, called, each
+from support import HIGH, LOW, Base, called, each, scripted
 from rigzumal.accounts import Accounts, AsyncAccounts, MariaDB, OutcomeUnknown, Postgres, Reply
 from rigzumal.accounts import PerThread, Sqlite, StoreFault, Unavailable
 from rigzumal.accounts.types import NO_ROW, Answer, Kind, Request, Ticket, Worked
@@ -254,19 +254,13 @@ class Errors(Base):
     def test_a_warning_in_the_servers_language(self, severity, word, raised):
         """It is known by its severity as no language changes it."""
         notice = mock.Mock(severity=word, severity_nonlocalized=severity, sqlstate="01000")
-        session = mock.Mock()
-
-        async def execute(sql, *values):
-            self.assertEqual(sql, "COMMIT")
-            ((handler,), _) = session.conn.add_notice_handler.call_args
-            handler(notice)
-            return Result([], 0, "COMMIT")
-
-        session.execute = execute
+        session = scripted(Result([], 0, "COMMIT"))
+        session.conn.add_notice_handler.side_effect = lambda handler: handler(notice)
         with self.assertRaises(ConnectionError) if raised else contextlib.nullcontext():
             run(Postgres("t", "k", "r").commit(session))
-        ((handler,), _) = session.conn.add_notice_handler.call_args
-        session.conn.remove_notice_handler.assert_called_once_with(handler)
+        session.execute.assert_called_once_with("COMMIT")
+        (added,) = session.conn.add_notice_handler.mock_calls
+        session.conn.remove_notice_handler.assert_called_once_with(*added.args)
 
     @each(
         ("nobody there", "ConnectionError: nobody there"),
