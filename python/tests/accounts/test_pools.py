@@ -188,52 +188,42 @@ class Cancellations(Base):
 class Openings(Base):
     """PerUse: no connection outlives its task, whenever that is cancelled."""
 
-    def test_one_that_is_cancelled(self):
-        """While it is opened, used or closed, or not at all; in two loops."""
-        opened, closed, stop = [], [], {}
-
-        async def reach(place):
-            if place == stop["place"]:
-                stop["reached"].set()
-                await stop["goes_on"].wait()
-
-        class Connection:
-            async def close(self):
-                await reach("closing")
-                closed.append(self)
-
-        async def connect():
-            await reach("opening")
-            opened.append(Connection())
-            return opened[-1]
-
-        async def use(pool):
-            async with pool():
-                await reach("using")
+    @each("opening", "using", "closing")
+    def test_one_that_is_cancelled(self, place):
+        """As it is opened, used or closed: in the end it is closed."""
+        closed = mock.Mock()
 
         async def act():
-            pool = PerUse(connect)
-            for place in (None, "opening", "using", "closing"):
-                stop.update(place=place, reached=asyncio.Event(), goes_on=asyncio.Event())
-                task = asyncio.create_task(use(pool))
-                if place:
-                    await asyncio.wait_for(stop["reached"].wait(), 60)
-                    task.cancel()
-                    with self.assertRaises(asyncio.CancelledError):
-                        await task
-                    stop["goes_on"].set()
-                else:
-                    await task
-                for _ in range(10):
-                    await asyncio.sleep(0)
-                self.assertEqual((len(opened), opened), (len(closed), closed), place)
-            with self.assertRaises(StoreFault):
-                async with pool():
-                    raise StoreFault
+            reached, goes_on = asyncio.Event(), asyncio.Event()
 
-        for _ in range(2):
-            asyncio.run(act())
-        self.assertEqual((len(closed), opened), (10, closed))
+            async def at(here):
+                if here == place:
+                    reached.set()
+                    await goes_on.wait()
+
+            async def close():
+                await at("closing")
+                closed()
+
+            async def connect():
+                await at("opening")
+                return mock.Mock(close=close)
+
+            async def use():
+                async with PerUse(connect)():
+                    await at("using")
+
+            task = asyncio.create_task(use())
+            await asyncio.wait_for(reached.wait(), 60)
+            task.cancel()
+            with self.assertRaises(asyncio.CancelledError):
+                await task
+            goes_on.set()
+            for _ in range(10):
+                await asyncio.sleep(0)
+
+        asyncio.run(act())
+        closed.assert_called_once_with()
 
     def test_few_are_opened_at_a_time(self):
         """Each holds the loop up for its part, and what else is ready waits for all."""
@@ -259,7 +249,7 @@ class Openings(Base):
         """Cancelled at each request to the driver's thread, no thread and no file is left."""
         aiosqlite = module("aiosqlite")
         self.give("one")
-        execute, requests, stop = aiosqlite.core.Connection._execute, [], {}
+        execute, requests, stop = aiosqlite.core.Connection._execute, [], {"at": 1}
 
         def files():
             links = glob.glob("/proc/self/fd/*")
@@ -271,26 +261,19 @@ class Openings(Base):
 
         async def counted(conn, *args, **more):
             requests.append(1)
-            if len(requests) == stop.get("at"):
+            if len(requests) == stop["at"]:
                 stop["task"].cancel()
             return await execute(conn, *args, **more)
 
-        async def is_done(accounts, turns=0):
-            """Whether a change ends by itself; else it is cancelled there, or after these turns."""
+        async def is_done(accounts):
+            """Whether a change ends by itself; else it is cancelled there."""
             requests.clear()
             task = stop["task"] = asyncio.create_task(accounts.change("ann", "one", "one"))
-            for _ in range(turns):
-                await asyncio.sleep(0)
-            if turns:
-                task.cancel()
             with contextlib.suppress(asyncio.CancelledError):
                 return (await task) is Reply.REPLACED
 
         async def act():
             accounts = AsyncAccounts(PerUse(connect), self.dialect, LOW)
-            for turns in range(1, 5):  # while it is opened
-                await is_done(accounts, turns)
-            stop["at"] = 1
             while not await is_done(accounts):
                 stop["at"] += 1
             for thread in threads() - before[0]:
