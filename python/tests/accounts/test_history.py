@@ -9,7 +9,6 @@ import math
 import os
 import random
 import tempfile
-import time
 import unittest
 from collections import Counter
 
@@ -281,22 +280,6 @@ class Said(unittest.TestCase):
             found = history.verdict({it: bad if it == "bad" else good for it in names.split()})
             self.assertIn("'bad'", found.reason)
         self.assertIsNone(history.verdict({"good": good}))
-
-    def test_time_in_proportion(self):
-        """A long history of one account takes as long as many short ones."""
-        took = {}
-        for count in (5_000, 40_000):
-            text = "; ".join(
-                f"o{it} change {it}-{it + 9} replaced r{it}>r{it + 1};"
-                f" v{it} verify {it}-{it + 9} yes r{it}>r{it}"
-                for it in range(count)
-            )
-            of = account("r0", f"r{count}", text)
-            of.end.called += count
-            begun = time.process_time()
-            history.check(of)
-            took[count] = time.process_time() - begun
-        self.assertLess(took[40_000], 8 * 3 * took[5_000])
 
 
 class Logs(unittest.TestCase):

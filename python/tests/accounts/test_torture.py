@@ -13,7 +13,7 @@ from support import Base, commanded, each, losing
 import torture
 from rigzumal.accounts import Reply, StoreFault
 from rigzumal.accounts._table import Table
-from rigzumal.accounts.types import Answer, Kind
+from rigzumal.accounts.types import Answer
 from torture import __main__ as command, _torture
 from torture.logs import Log
 
@@ -83,10 +83,6 @@ class Tortures(Base):
         self.assertGreater(len(found_out), 0)
 
     # ---- what is noted
-
-    def test_all_kinds_and_ways(self):
-        self.assertEqual(set(_torture.WAYS), {"whole", "also", "parts", "within"})
-        self.assertEqual(set(_torture.MIX), {"login", *(it.value for it in Kind)})
 
     @each(
         *(("perform", "whole"), ("perform", "also"), ("login", "whole"), ("commit_in", "within")),
