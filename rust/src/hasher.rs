@@ -76,17 +76,6 @@ impl Drop for Secret {
 ///
 /// It is `Send` and `Sync`: one is enough for all threads of a program. Costs and sizes that no
 /// record can have are refused as the hasher is made, and not at a user's login.
-///
-/// ```
-/// use rigzumal::{Costs, Error, Hasher};
-/// let hasher = Hasher::new(Costs::argon2id(256, 2, 1))?;
-/// let record = hasher.hash_password(b"correct horse")?;
-/// assert_eq!(hasher.verify_password(b"correct horse", &record), Ok(()));
-/// assert_eq!(hasher.verify_password(b"another", &record), Err(Error::Mismatch));
-/// assert!(!hasher.needs_rehash(&record));
-/// assert!(Hasher::default().needs_rehash(&record));
-/// # Ok::<(), Error>(())
-/// ```
 #[derive(Clone, Default)]
 pub struct Hasher {
     costs: Costs,

@@ -66,13 +66,7 @@
 //!
 //! `std`, which is on by default, makes [`Error`] a `std::error::Error`. Without it the crate needs
 //! `core` and `alloc` alone; the library underneath needs Linux and its C library all the same.
-//!
-//! # Building
-//!
-//! `build.rs` takes the library from the folder that `RIGZUMAL_LIB_DIR` names, from `c/out` beside
-//! the crate, or from where pkg-config finds it. If `librigzumal.a` is there it is linked in, and a
-//! program needs nothing at run time. Otherwise `librigzumal.so` is linked, and the loader has to
-//! find `librigzumal.so.1`: in a folder that ldconfig knows, or that `LD_LIBRARY_PATH` names.
+//! README.md says where the build looks for it.
 
 #![cfg_attr(not(feature = "std"), no_std)]
 #![deny(missing_docs, unsafe_code, unsafe_op_in_unsafe_fn)]

@@ -178,20 +178,6 @@ fn nothing_secret_is_shown() {
     assert_eq!(format!("{record:?}"), "Record($argon2id$v=19$m=8,t=1,p=1$..)");
 }
 
-#[test]
-fn threads_and_memory() {
-    let hasher = of(Costs::argon2id(8192, 1, 4));
-    let salt = b"sixteen of salt.";
-    let record = hasher.hash_password_with_salt(b"x", salt).unwrap();
-    for threads in [0, 1, 2, 4, 300] {
-        let other = hasher.clone().threads(threads);
-        assert_eq!(other.hash_password_with_salt(b"x", salt).as_ref(), Ok(&record));
-        assert_eq!(other.verify_password(b"x", &record), Ok(()));
-        assert_eq!(other.verify_password(b"y", &record), Err(Error::Mismatch));
-    }
-    assert!(rigzumal::trim() > 0);
-}
-
 /// How many threads this process has for most of the time that some work takes: one that was joined
 /// may be listed for a moment more.
 fn usual_threads_in(work: impl FnOnce() + Send) -> usize {

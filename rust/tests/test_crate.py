@@ -15,7 +15,6 @@ from tests.helpers import LIBRARIES, common_folder, need, run
 ROOM = common_folder()
 ROOM_OF_CARGO = {"CARGO_TARGET_DIR": str(ROOM / "cargo"), "RIGZUMAL_LIB_DIR": str(LIBRARIES)}
 STRICT = {"RUSTDOCFLAGS": "-D warnings", **ROOM_OF_CARGO}
-MOST_UNSAFE_LINES = 150
 
 
 def cargo(*words, env=None, at=CRATE):
@@ -129,16 +128,6 @@ class Crate(unittest.TestCase):
             long = [it for it in path.read_text().splitlines() if len(it) > 100]
             if long:
                 self.fail(f"{path}: {long}")
-
-    def test_rust_unsafe(self):
-        """What is unsafe stands in one short module, and the crate denies it elsewhere."""
-        if len((CRATE / "src/ffi.rs").read_text().splitlines()) >= MOST_UNSAFE_LINES:
-            self.fail("ffi.rs is long")
-        lib = (CRATE / "src/lib.rs").read_text()
-        if "#![deny(missing_docs, unsafe_code, unsafe_op_in_unsafe_fn)]" not in lib:
-            self.fail("unsafe code is not denied")
-        if lib.count("allow(unsafe_code)") != 1:
-            self.fail("unsafe code is allowed in another module too")
 
 
 if __name__ == "__main__":

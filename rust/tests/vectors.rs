@@ -56,10 +56,8 @@ fn keys_are_those_of_rfc_7914() {
         (of(14, 8, 1), "pleaseletmein", "SodiumChloride", "7023bdcb3afd7348461c06cd81fd38ebfda8f"),
     ] {
         let mut key = [0; 64];
-        assert_eq!(
-            scrypt.hash_password_into(password.as_bytes(), salt.as_bytes(), &mut key),
-            Ok(())
-        );
+        let made = scrypt.hash_password_into(password.as_bytes(), salt.as_bytes(), &mut key);
+        assert_eq!(made, Ok(()));
         assert!(hex(&key).starts_with(front), "{front}");
     }
 }
