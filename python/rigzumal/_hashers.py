@@ -45,10 +45,12 @@ class _Hasher(Frozen):
     threads: int = 1
     _LEAST_SALT: int
 
+    _COSTS: str
+
     @property
     def costs(self) -> str:
         """The costs, as at the front of a record: "$argon2id$v=19$m=65536,t=3,p=4"."""
-        raise NotImplementedError
+        return self._COSTS.format_map(vars(self)).lower()
 
     def _scheme(self) -> tuple[int, ...]:
         """The scheme, the version and the three numbers, as in a record's parts."""
@@ -59,11 +61,9 @@ class _Hasher(Frozen):
         return self.secrets or (self.secret,)
 
     def hash(self, password: Secret, *, salt: Optional[Bytes] = None) -> str:
-        """A new record of the password.
+        """A new record of the password, which has any length below 2^32 bytes.
 
-        Args:
-            password: the password, of any length below 2^32 bytes.
-            salt: 8 to 48 bytes (of scrypt 1 to 48); by default the system's getrandom makes one.
+        The salt has 8 to 48 bytes (of scrypt 1 to 48); by default the system draws one.
 
         Raises:
             InvalidNumbersError: the salt is too short or too long.
@@ -102,8 +102,7 @@ class _Hasher(Frozen):
     def verify_and_rehash(self, hash: Secret, password: Secret) -> Optional[str]:
         """None if the password is right and its record may stay; a new record if it is old.
 
-        Raises:
-            Those of `verify` and `hash`.
+        It raises as `verify` and `hash`.
         """
         place = self._verified(hash, password)
         is_old = place > 0 or self.check_needs_rehash(hash)
@@ -112,10 +111,8 @@ class _Hasher(Frozen):
     def check_needs_rehash(self, hash: Secret) -> bool:
         """Whether the record has another scheme, other costs or other sizes than a new one.
 
-        This call can't tell which secret the record was made with: `verify_and_rehash` can.
-
-        Raises:
-            InvalidRecordError: the text is no record.
+        Which secret it was made with only `verify_and_rehash` can tell. A text that is no
+        record is an InvalidRecordError.
         """
         parts = _library.parts(hash)
         found = (parts.scheme, parts.version, parts.memory, parts.passes, parts.lanes)
@@ -133,18 +130,13 @@ class PasswordHasher(_Hasher):
         hash_len: bytes of the tag, 4 to 64.
         salt_len: bytes of a generated salt, 8 to 48.
         type: the kind of Argon2.
-        secret: a pepper, which you keep apart from the records: RFC 9106's K. With it the hasher
-            verifies records of the same secret alone, and none of scrypt. It is never empty: an
-            unset variable is no pepper. No repr shows it.
-        threads: how many threads may work the lanes of one record, the caller's among them; it
-            changes no record. 1 is right for a service: other logins use the other processors.
-            `parallelism` is right for a program that hashes one password at a time: 64 MiB and
-            four lanes need a third of the time on four idle processors. At most one thread for
-            each processor starts, and none below 4 MiB.
-        secrets: the new pepper and older ones, instead of `secret`, while peppers rotate. Records
-            are made with the first, which is then `secret`, and verified with any: a wrong
-            password costs a hash for each. `verify_and_rehash` replaces records of older ones.
-            b"" among the older ones stands for records that were made without a pepper.
+        secret: a pepper, never empty: RFC 9106's K. With it the hasher verifies records of the
+            same secret alone, and none of scrypt. No repr shows it.
+        threads: how many threads may work the lanes of one record, the caller's among them: at
+            most one for each processor, and no other below 4 MiB. 1 is right for a service.
+        secrets: the new pepper, which is then `secret`, and older ones, while peppers rotate. A
+            record of an older one is verified too, and replaced by `verify_and_rehash`; a wrong
+            password costs a hash for each. b"" among them stands for no pepper.
 
     Raises:
         InvalidNumbersError: a number is out of its range.
@@ -158,6 +150,7 @@ class PasswordHasher(_Hasher):
     parallelism: int
     type: Type
     _LEAST_SALT = 8
+    _COSTS = "$argon2{type.name}$v=19$m={memory_cost},t={time_cost},p={parallelism}"
 
     def __init__(
         self,
@@ -205,12 +198,6 @@ class PasswordHasher(_Hasher):
         hidden = ("secret", "secrets")
         return {name: it for name, it in vars(self).items() if name not in hidden}
 
-    @property
-    def costs(self) -> str:
-        """The costs, as at the front of a record: "$argon2id$v=19$m=65536,t=3,p=4"."""
-        numbers = f"m={self.memory_cost},t={self.time_cost},p={self.parallelism}"
-        return f"$argon2{self.type.name.lower()}$v=19${numbers}"
-
     def _scheme(self) -> tuple[int, ...]:
         numbers = (self.memory_cost, self.time_cost, self.parallelism)
         return (int(self.type), 0x13, *numbers)
@@ -235,6 +222,7 @@ class ScryptHasher(_Hasher):
     block_size: int
     parallelism: int
     _LEAST_SALT = 1
+    _COSTS = "$scrypt$ln={log2_n},r={block_size},p={parallelism}"
 
     def __init__(
         self,
@@ -256,11 +244,6 @@ class ScryptHasher(_Hasher):
             salt_len=in_range("salt_len", salt_len, self._LEAST_SALT, 48, _SALT),
         )
 
-    @property
-    def costs(self) -> str:
-        """The costs, as at the front of a record: "$scrypt$ln=17,r=8,p=1"."""
-        return f"$scrypt$ln={self.log2_n},r={self.block_size},p={self.parallelism}"
-
     def _scheme(self) -> tuple[int, ...]:
         return (_SCRYPT, 0, self.log2_n, self.block_size, self.parallelism)
 
@@ -281,8 +264,6 @@ def argon2(
 ) -> bytes:
     """The Argon2 tag of hash_len bytes (RFC 9106), with memory_cost in KiB.
 
-    Up to `threads` threads work its lanes: see PasswordHasher.
-
     Raises:
         InvalidNumbersError: a number is outside its range.
         OutOfMemoryError: too little memory was free.
@@ -301,13 +282,7 @@ def argon2(
 def scrypt(
     password: Secret, salt: Bytes, *, log2_n: int, r: int, p: int, length: int = 32
 ) -> bytes:
-    """The scrypt key of length bytes (RFC 7914), with N = 2^log2_n.
-
-    Raises:
-        InvalidNumbersError: a number is outside its range.
-        OutOfMemoryError: too little memory was free.
-        TypeError: an input isn't bytes, or a number is no int.
-    """
+    """The scrypt key of length bytes (RFC 7914), with N = 2^log2_n; raises as `argon2`."""
     costs = _library.ScryptNumbers(*map(checked, (log2_n, r, p)))
     data = (*pair(_library.bytes_of(password)), *pair(_library.data_of(salt)))
     call = _library._library.rigzumal_scrypt

@@ -63,19 +63,21 @@ class NoRandomError(RigzumalError):
     """The system gave no random bytes for a salt."""
 
 
+_EXCEPTIONS: Final[dict[int, type[RigzumalError]]] = {
+    MISMATCH: VerifyMismatchError,
+    MEMORY: OutOfMemoryError,
+    NO_RANDOM: NoRandomError,
+}
+
+
 def raise_fault(number: int, text: Secret = b"") -> None:
     """Raises the exception for a fault's number and this record; 0 is no fault."""
     if number == OK:
         return
-    if number == MISMATCH:
-        raise VerifyMismatchError(number)
-    if number == MEMORY:
-        raise OutOfMemoryError(number)
-    if number == NO_RANDOM:
-        raise NoRandomError(number)
-    if number < MISMATCH:
-        raise InvalidRecordError(number, _range_of(text) if number == RANGE else "")
-    raise InvalidNumbersError(number)
+    kind = _EXCEPTIONS.get(number)
+    if kind is None:
+        kind = InvalidRecordError if number < MISMATCH else InvalidNumbersError
+    raise kind(number, _range_of(text) if number == RANGE else "")
 
 
 def _range_of(text: Secret) -> str:
@@ -256,9 +258,7 @@ def record(
     secret: Optional[bytes] = None,
     threads: int = 1,
 ) -> str:
-    """rigzumal_record_from.
-
-    The salt is bytes, or the size of a salt that the library generates."""
+    """rigzumal_record_from; the salt is bytes, or the size of one that the library draws."""
     text = ctypes.create_string_buffer(TEXT_SIZE)
     given = (text, TEXT_SIZE, checked(tag_size), text_bytes(costs))
     drawn = (None, checked(salt)) if isinstance(salt, int) else pair(salt)
