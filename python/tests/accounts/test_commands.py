@@ -103,12 +103,9 @@ class Answers(Commands):
             (f"{names} examine", "one", ""),
             (f"{names} add 7", "one", "enrolled"),
             (f"{names} check 7", "one", "yes"),
-            (f"{names} check x", "one", 1),
             *((f"{names} rename {it}", "one", "renamed") for it in ("7 8", "8 7")),
             (f"{names.rpartition(' ')[0]} check 7", "one", "yes"),
         )
-        said = self.run_command(*names.split(), "check", "x", given="one", status=1)
-        self.assertEqual(said, "rigzumal: 'x' is no whole number\n")
         ((record,),) = self.conn.execute("SELECT pw FROM people").fetchall()
         self.assertEqual(self.run_command(*names.split(), "export"), f"7 {record}\n")
 

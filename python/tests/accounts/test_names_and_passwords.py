@@ -101,7 +101,7 @@ class NewNames(Commands):
 
     def test_numbers(self):
         self.table("TEXT", "INTEGER")
-        for name in (" 7", "7 ", "1_0", "+7", "0x7", "\u0667", "", "7.0", "1" * 20):
+        for name in ("x", " 7", "7 ", "1_0", "+7", "0x7", "\u0667", "", "7.0", "1" * 20):
             said = self.command("--numbers", "add", name, given="one", status=1)
             self.assertEqual(said, f"rigzumal: {name!r}{NUMBER}\n")
             self.command("--numbers", *self.import_of(name), status=6)
@@ -152,11 +152,16 @@ class Rules(Base):
         self.assert_replies("verify ann one yes; login ann one yes; upgrade ann one kept", accounts)
         self.assertIs(accounts.change("ann", "one", taken), Reply.REPLACED)
 
-    def test_no_row_is_read_for_a_refused_one(self):
-        accounts = self.over(self.no_connection, least_length=2, prepare=opaque_string)
-        for setter in self.setters(accounts):
-            for refused in ("x", "x\ty", "x" * 257):
-                self.assertRaises(ValueError, setter, refused)
+    @each(
+        *(({}, it) for it in ("x" * 257, "\u00e9" * 129, "secret\ud800")),
+        *(({"least_length": 2, "prepare": opaque_string}, it) for it in ("x", "x\ty", "x" * 257)),
+    )
+    def test_no_row_is_read_for_a_refused_one(self, rules, refused):
+        """Nor is anything hashed, and no text is shown."""
+        for setter in self.setters(self.over(self.no_connection, **rules)):
+            with self.hashes(0), self.assertRaises(ValueError) as raised:
+                setter(refused)
+            self.assertNotIn("secret", str(raised.exception))
 
     def test_one_form_is_hashed_in_every_operation(self):
         accounts = self.set_up(prepare=opaque_string)

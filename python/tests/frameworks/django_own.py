@@ -9,7 +9,6 @@ the place of SQLite.
 import os
 import pathlib
 import sys
-import warnings
 
 FOLDER = pathlib.Path(sys.argv[1]) / "tests"
 sys.path[:0] = [str(FOLDER)]
@@ -17,7 +16,7 @@ sys.path[:0] = [str(FOLDER)]
 import django
 from django.conf import global_settings, settings
 from django.test.runner import DiscoverRunner
-from django.utils import deprecation
+import runtests
 from settings import DATABASES, PORT, ROOM, TEMPLATES
 
 BACKEND = "rigzumal.django.backends.CompareAndSetBackend"
@@ -38,10 +37,7 @@ global_settings.PASSWORD_HASHERS = [
     *(f"rigzumal.django.hashers.{it}" for it in OURS),
 ]
 global_settings.AUTHENTICATION_BACKENDS = [BACKEND]
-# As in Django's runner, with the renderer of forms that it has in 4.1 and 4.2.
-for name, kind in vars(deprecation).items():
-    if name.startswith("RemovedInDjango"):
-        warnings.simplefilter("error", kind)
+# As in Django's runner.
 if (4, 1) <= django.VERSION < (5, 0):
     global_settings.FORM_RENDERER = "django.forms.renderers.DjangoDivFormRenderer"
 
@@ -49,28 +45,12 @@ if not PORT:
     for name, database in DATABASES.items():
         database["TEST"] = {"NAME": f"file:{name}?mode=memory&cache=shared"}
 
-# The settings of Django's own runner (tests/runtests.py).
+# The settings of that runner; the app comes behind auth, so the command is Django's.
 settings.configure(
     DATABASES=DATABASES,
-    INSTALLED_APPS=[
-        "django.contrib.contenttypes",
-        "django.contrib.auth",
-        "django.contrib.sites",
-        "django.contrib.sessions",
-        "django.contrib.messages",
-        "django.contrib.admin.apps.SimpleAdminConfig",
-        "django.contrib.staticfiles",
-        "auth_tests",
-        "rigzumal.django",  # behind auth: the command is Django's
-    ],
-    MIDDLEWARE=[
-        "django.contrib.sessions.middleware.SessionMiddleware",
-        "django.middleware.common.CommonMiddleware",
-        "django.middleware.csrf.CsrfViewMiddleware",
-        "django.contrib.auth.middleware.AuthenticationMiddleware",
-        "django.contrib.messages.middleware.MessageMiddleware",
-    ],
-    TEMPLATES=[{**TEMPLATES[0], "DIRS": [str(FOLDER / "templates")]}],
+    INSTALLED_APPS=[*runtests.ALWAYS_INSTALLED_APPS, "auth_tests", "rigzumal.django"],
+    MIDDLEWARE=runtests.ALWAYS_MIDDLEWARE,
+    TEMPLATES=[{**TEMPLATES[0], "DIRS": [runtests.TEMPLATE_DIR]}],
     ROOT_URLCONF="urls",
     STATIC_URL="static/",
     STATIC_ROOT=os.path.join(ROOM, "static"),

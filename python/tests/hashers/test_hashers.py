@@ -3,7 +3,6 @@ hashlib make."""
 
 import array
 import hashlib
-import itertools
 import unicodedata
 import unittest
 
@@ -59,19 +58,11 @@ class Verifying(unittest.TestCase):
         self.assertEqual(found, [True, False, False, False, False])
 
     def test_a_secret_is_rfc_9106s(self):
-        hasher = SMALL.replace(secret=b"pepper")
-        record = hasher.hash("password", salt=b"somesalt")
+        """Rotation, of test_values.py, has who reads such a record."""
+        record = SMALL.replace(secret=b"pepper").hash("password", salt=b"somesalt")
         tag = rigzumal.argon2("password", b"somesalt", secret=b"pepper", **COSTS)
         self.assertEqual(record.rsplit("$", 1)[1], unpadded(tag))
-        other = SMALL.replace(secret=b"Pepper")
-        for one, password in itertools.product((hasher, SMALL, other), ("password", "x")):
-            with self.subTest(one=one, password=password):
-                is_right = one is hasher and password == "password"
-                self.assertIs(verdict(one, record, password), is_right)
         self.assertFalse(SMALL.replace(salt_len=8).check_needs_rehash(record))
-        with self.assertRaises(rigzumal.InvalidRecordError):
-            hasher.verify(ScryptHasher(log2_n=4).hash("x"), "x")
-        self.assertNotIn("pepper", repr(hasher))
 
 
 class Rehash(unittest.TestCase):

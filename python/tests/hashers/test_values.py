@@ -111,6 +111,8 @@ class Rotation(unittest.TestCase):
         (NEW, BOTH, True, False),
         (OLD, BOTH, True, True),
         (SMALL, BOTH, False, False),
+        (NEW, SMALL, False, False),
+        (NEW, OLD, False, False),
         (SMALL, NEW_OR_NONE, True, True),
         (SCRYPT, NEW_OR_NONE, True, True),
         *((it, it, True, False) for it in (SMALL, NEW, SCRYPT)),
