@@ -23,7 +23,8 @@ TAGS = {
     (Type.ID, 0x13): "9dfeb910e80bad0311fee20f9c0e2b12c17987b4cac90c2ef54d5b3021c68bfe",
 }
 RECORDS = {
-    kind: f"$argon2{kind.name.lower()}$v=19$m=256,t=2,p=1$c29tZXNhbHQ${unpadded(bytes.fromhex(tag))}"
+    kind: f"$argon2{kind.name.lower()}$v=19$m=256,t=2,p=1$c29tZXNhbHQ$"
+    + unpadded(bytes.fromhex(tag))
     for (kind, version), tag in TAGS.items()
     if version == 0x13
 }
