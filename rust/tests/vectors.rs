@@ -170,11 +170,11 @@ fn bad_numbers_and_sizes_are_refused() {
 #[test]
 fn errors_have_the_numbers_and_words_of_the_library() {
     for (fault, number, words) in [
-        (Error::Shape, 1, "field is missing"),
+        (Error::Shape, 1, "lacks a field"),
         (Error::Range, 5, "outside its range"),
         (Error::Memory, 8, "out of memory"),
         (Error::Mismatch, 10, "another password"),
-        (Error::KeySize, 22, "key has not"),
+        (Error::KeySize, 22, "the key size"),
         (Error::NoRandom, 26, "no random bytes"),
         (Error::Other(99), 99, "no such fault"),
     ] {
