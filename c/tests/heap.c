@@ -6,6 +6,7 @@
 #include "watched_memory.h"
 
 #include <pthread.h>
+#include <signal.h>
 #include <unistd.h>
 
 static struct block {
@@ -156,14 +157,24 @@ static bool is_advised(int advice, const unsigned char *start, size_t size) {
     return it->times == 1 && it->start <= start && start + size <= it->start + it->size;
 }
 
-static bool reads_zeros_in_child(unsigned char *start, size_t size) {
+/* A child reads zeros where a block of its parent's is, and changes nothing of it. It ends with a
+ * word where it gives that back, whatever it has taken itself: its call would answer wrong. */
+static void check_child(unsigned char *start, size_t size) {
+    int streams[2], status;
+    char said[80] = "";
+    CHECK(pipe(streams) == 0);
     pid_t child = fork();
     if (child == 0) {
-        bool is_zero = is_all(start, 0, size);
+        CHECK(is_all(start, 0, size) && dup2(streams[1], STDERR_FILENO) >= 0);
         memset(start, 0x99, size);
-        _exit(!is_zero);
+        take_block(100);
+        rattle_dealloc(start);
+        _exit(0);
     }
-    return status_of(child) == 0;
+    CHECK(waitpid(child, &status, 0) == child && WIFSIGNALED(status));
+    CHECK(WTERMSIG(status) == SIGABRT && read(streams[0], said, sizeof said - 1) > 0);
+    CHECK(strstr(said, "a forked child went on with its parent's call\n") != NULL);
+    CHECK(close(streams[0]) == 0 && close(streams[1]) == 0);
 }
 
 /* The whole of a new mapping is to have huge pages, once, and the rest is unmapped. It is the
@@ -184,7 +195,8 @@ static void test_mappings(void) {
         CHECK(is_hidden(start) && is_hidden(last));
         CHECK(!has_flag(start, " sh") && !has_flag(last, " sh"));
         memset(start, 0x66, sizes[i]);
-        CHECK(reads_zeros_in_child(start, sizes[i]) && is_all(start, 0x66, sizes[i]));
+        check_child(start, sizes[i]);
+        CHECK(is_all(start, 0x66, sizes[i]));
         CHECK(advised[MADV_FREE].times == 0);
         rattle_dealloc(start);
         CHECK(is_advised(MADV_FREE, start, rest) && mapped == rest);
