@@ -117,7 +117,9 @@ static int vectors_of(const struct features *found) {
 }
 
 #define CLEAR(n) "pxor %%xmm" #n ", %%xmm" #n "\n\t"
+#ifndef CLEAR_NARROW /* a test sees that they aren't run where they don't exist */
 #define CLEAR_NARROW(n) "vpxord %%xmm" #n ", %%xmm" #n ", %%xmm" #n "\n\t"
+#endif
 #define CLEAR_WIDEST(n) "vpxord %%zmm" #n ", %%zmm" #n ", %%zmm" #n "\n\t"
 #define CLEAR_MASK(n) "kxorw %%k" #n ", %%k" #n ", %%k" #n "\n\t"
 
