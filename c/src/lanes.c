@@ -70,7 +70,7 @@ static void await(struct run *run, uint64_t done) {
 /* Counts one more, and wakes those who may wait for it: for the end of a slice, or for the tag. */
 static void count_done(struct run *run) {
     uint64_t done = atomic_fetch_add(&run->done, 1) + 1;
-    if (done <= run->segments && done % run->task->numbers.lanes != 0)
+    if (done <= run->segments && done % run->task->numbers.argon2.lanes != 0)
         return;
     sigset_t before = block_signals(run);
     pthread_mutex_lock(&run->lock);
@@ -85,7 +85,7 @@ static void note_fault(struct run *run, uint8_t fault) {
 }
 
 static uint8_t work_segment(const struct run *run, uint64_t number) {
-    uint32_t lanes = run->task->numbers.lanes;
+    uint32_t lanes = run->task->numbers.argon2.lanes;
     uint64_t turn = number / lanes;
     struct segment_index index = {(uint32_t)(turn / SLICES), (uint32_t)(turn % SLICES),
                                   (uint32_t)(number % lanes)};
@@ -103,7 +103,7 @@ static void work_segments(struct run *run) {
         uint64_t number = atomic_fetch_add(&run->next_segment, 1);
         if (number >= run->segments)
             return;
-        await(run, number - number % run->task->numbers.lanes);
+        await(run, number - number % run->task->numbers.argon2.lanes);
         if (atomic_load(&run->fault) == RIGZUMAL_OK)
             note_fault(run, work_segment(run, number));
         count_done(run);
@@ -120,7 +120,7 @@ static void make_tag(struct run *run) {
 
 /* Clears the memory, a segment at a time, when the tag is made. */
 static void clear_segments(struct run *run) {
-    uint32_t lanes = run->task->numbers.lanes;
+    uint32_t lanes = run->task->numbers.argon2.lanes;
     await(run, run->segments + 1);
     for (;;) {
         uint64_t number = atomic_fetch_add(&run->next_cleared, 1);
@@ -246,7 +246,7 @@ uint8_t lanes_size(const struct tag_numbers *numbers, size_t *size) {
     uint32_t segment_size;
     uint8_t fault = CALL(cred_argon2_segment_len, numbers, &segment_size);
     if (fault == RIGZUMAL_OK)
-        *size = (size_t)SLICES * numbers->lanes * segment_size * sizeof(struct argon2_block);
+        *size = (size_t)SLICES * numbers->argon2.lanes * segment_size * sizeof(struct argon2_block);
     return fault;
 }
 
@@ -258,9 +258,10 @@ uint8_t lanes_work(const struct task *task, uint32_t threads) {
     size_t slice_size = size / SLICES / sizeof(struct argon2_block);
     struct run run = {.task = task,
                       .process = getpid(),
-                      .segment_size = slice_size / task->numbers.lanes,
+                      .segment_size = slice_size / task->numbers.argon2.lanes,
                       .slice_size = slice_size,
-                      .segments = (uint64_t)SLICES * task->numbers.passes * task->numbers.lanes,
+                      .segments = (uint64_t)SLICES * task->numbers.argon2.passes *
+                                  task->numbers.argon2.lanes,
                       .lock = PTHREAD_MUTEX_INITIALIZER,
                       .more_done = PTHREAD_COND_INITIALIZER};
     int cancel_state;
@@ -282,10 +283,10 @@ static uint32_t allowed_processors(void) {
 }
 
 uint32_t lanes_useful_threads(const struct tag_numbers *numbers, uint32_t allowed) {
-    uint32_t most = allowed < numbers->lanes ? allowed : numbers->lanes;
+    uint32_t most = allowed < numbers->argon2.lanes ? allowed : numbers->argon2.lanes;
     if (most > MOST_HELPERS + 1)
         most = MOST_HELPERS + 1;
-    if (most < 2 || numbers->memory < LEAST_SHARED_MEMORY)
+    if (most < 2 || numbers->argon2.memory < LEAST_SHARED_MEMORY)
         return 1;
     uint32_t processors = allowed_processors();
     return processors < most ? processors : most;

@@ -123,8 +123,7 @@ static int work_by_callbacks(struct task *task, const argon2_context *context) {
 }
 
 static int make_tag_in_parts(uint8_t *tag, argon2_context *context, argon2_type type) {
-    struct tag_numbers numbers = {(uint32_t)type,  context->version, context->m_cost,
-                                  context->t_cost, context->lanes,   context->outlen};
+    struct tag_numbers numbers = {numbers_of(context, type), context->outlen};
     bool is_begun = false;
     struct tag_in_parts made = {context, numbers, tag, &is_begun};
     struct task task = {numbers, begin_tag, end_tag, &made, NULL};

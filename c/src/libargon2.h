@@ -51,11 +51,7 @@ typedef struct {
     uint32_t secretlen;
     uint8_t *ad;
     uint32_t adlen;
-    uint32_t t_cost;
-    uint32_t m_cost;
-    uint32_t lanes;
-    uint32_t threads;
-    uint32_t version;
+    uint32_t t_cost, m_cost, lanes, threads, version;
     int (*allocate_cbk)(uint8_t **memory, size_t size);
     void (*free_cbk)(uint8_t *memory, size_t size);
     uint32_t flags;

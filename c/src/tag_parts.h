@@ -26,9 +26,7 @@ struct argon2_block {
 
 /* The numbers of a tag, as the crate's tag_numbers.rt lays them out. */
 struct tag_numbers {
-    uint32_t kind, version;
-    uint32_t memory; /* in KiB */
-    uint32_t passes, lanes;
+    struct rigzumal_argon2 argon2;
     uint32_t tag_size;
 };
 

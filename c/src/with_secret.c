@@ -6,18 +6,13 @@
 #include "secrets.h"
 #include "setting.h"
 
-static struct rigzumal_argon2 numbers_of(const struct setting_reading *setting) {
-    const struct tag_numbers *it = &setting->numbers;
-    return (struct rigzumal_argon2){it->kind, it->version, it->memory, it->passes, it->lanes};
-}
-
 static int make_tag(uint8_t *tag, const struct setting_reading *setting,
                     const struct rigzumal_inputs *inputs) {
-    struct rigzumal_argon2 numbers = numbers_of(setting);
     struct rigzumal_inputs with_salt = *inputs;
     with_salt.salt = setting->salt;
     with_salt.salt_size = setting->salt_size;
-    return rigzumal_argon2_from(tag, setting->numbers.tag_size, &numbers, &with_salt);
+    return rigzumal_argon2_from(tag, setting->numbers.tag_size, &setting->numbers.argon2,
+                                &with_salt);
 }
 
 static int make_record(char *text, size_t text_size, size_t tag_size, const char *costs,
@@ -33,11 +28,9 @@ static int make_record(char *text, size_t text_size, size_t tag_size, const char
     uint8_t tag[RIGZUMAL_TAG_SIZE_MAX];
     if (fault == RIGZUMAL_OK)
         fault = make_tag(tag, &reading, inputs);
-    if (fault == RIGZUMAL_OK) {
-        struct rigzumal_argon2 numbers = numbers_of(&reading);
-        fault = rigzumal_argon2_write(text, text_size, &numbers, reading.salt, reading.salt_size,
-                                      tag, tag_size);
-    }
+    if (fault == RIGZUMAL_OK)
+        fault = rigzumal_argon2_write(text, text_size, &reading.numbers.argon2, reading.salt,
+                                      reading.salt_size, tag, tag_size);
     explicit_bzero(tag, sizeof tag);
     return cleared(fault);
 }

@@ -35,8 +35,7 @@ int rigzumal_argon2_from(void *tag, size_t tag_size, const struct rigzumal_argon
     int fault = null_fault(inputs);
     if (fault != RIGZUMAL_OK)
         return fault;
-    struct tag_numbers of_parts = {numbers->kind,   numbers->version, numbers->memory,
-                                   numbers->passes, numbers->lanes,   (uint32_t)tag_size};
+    struct tag_numbers of_parts = {*numbers, (uint32_t)tag_size};
     uint32_t threads = lanes_useful_threads(&of_parts, inputs->threads);
     if (threads == 1 || tag_size > UINT32_MAX) {
         struct argon2_inputs all = {PROVED(inputs)};

@@ -84,7 +84,7 @@ static uint8_t end(const void *inputs, const struct argon2_block *last, size_t c
 }
 
 static void *call(void *unused) {
-    struct task task = {{2, 0x13, 4 * LANES * SEGMENT, 1, LANES, 32}, begin, end, NULL, NULL};
+    struct task task = {{{2, 0x13, 4 * LANES * SEGMENT, 1, LANES}, 32}, begin, end, NULL, NULL};
     caller = pthread_self();
     CHECK_NUMBER(lanes_work(&task, LANES), 0);
     return unused;

@@ -5,7 +5,7 @@
 #include "watched_lanes.h"
 
 static void set_numbers(uint32_t lanes, uint32_t passes, size_t segment) {
-    now.numbers = (struct tag_numbers){2, 0x13, 8 * lanes, passes, lanes, 32};
+    now.numbers = (struct tag_numbers){{2, 0x13, 8 * lanes, passes, lanes}, 32};
     now.segment = segment;
     now.slice = segment * lanes;
 }
@@ -55,7 +55,7 @@ static void test_order(int turns) {
         try_threads(1 + random_below(9), RIGZUMAL_OK);
         CHECK(now.begins == 1 && now.ends == 1);
         CHECK((uint64_t)now.segments_over ==
-              (uint64_t)SLICES * now.numbers.passes * now.numbers.lanes);
+              (uint64_t)SLICES * now.numbers.argon2.passes * now.numbers.argon2.lanes);
     }
 }
 
@@ -66,8 +66,8 @@ static void test_large_numbers(void) {
         begin_turn(false);
         refusals = 0;
         set_numbers(large[i].lanes, large[i].passes, 2);
-        try_threads(now.numbers.lanes, RIGZUMAL_OK);
-        CHECK(now.ends == 1 && now.starts == (int)now.numbers.lanes - 1);
+        try_threads(now.numbers.argon2.lanes, RIGZUMAL_OK);
+        CHECK(now.ends == 1 && now.starts == (int)now.numbers.argon2.lanes - 1);
         CHECK((uint32_t)now.segments_over == SLICES * large[i].passes * large[i].lanes);
     }
 }
@@ -115,7 +115,8 @@ static void test_small_stacks(void) {
 static void test_faults(int turns) {
     for (int turn = 0; turn < turns; turn++) {
         begin_turn(turn % 2 == 0);
-        uint32_t lanes = now.numbers.lanes, segments = SLICES * now.numbers.passes * lanes;
+        uint32_t lanes = now.numbers.argon2.lanes,
+                 segments = SLICES * now.numbers.argon2.passes * lanes;
         now.bad_segment = random_below(segments);
         try_threads(1 + random_below(9), PLACE);
         for (uint64_t next = now.bad_segment / lanes * lanes + lanes; next < segments; next++)
@@ -133,14 +134,14 @@ static void test_faults(int turns) {
         try_threads(1 + random_below(9), RIGZUMAL_MEMORY);
         CHECK(now.begins == 0);
         begin_turn(false);
-        now.numbers.kind = 3;
+        now.numbers.argon2.kind = 3;
         try_threads(1 + random_below(9), RIGZUMAL_NO_KIND);
         CHECK(now.takes == 0);
     }
 }
 
 static uint32_t threads_for(uint32_t lanes, uint32_t memory, uint32_t allowed) {
-    struct tag_numbers numbers = {2, 0x13, memory, 1, lanes, 32};
+    struct tag_numbers numbers = {{2, 0x13, memory, 1, lanes}, 32};
     return lanes_useful_threads(&numbers, allowed);
 }
 

@@ -162,8 +162,8 @@ static void look_at_thread(void) {
 static uint8_t work_segment(const struct given_segment *it) {
     const struct segment_index *index = it->index;
     CHECK(memcmp(it->numbers, &now.numbers, sizeof now.numbers) == 0);
-    CHECK(index->pass < now.numbers.passes && index->slice < SLICES);
-    CHECK(index->lane < now.numbers.lanes);
+    CHECK(index->pass < now.numbers.argon2.passes && index->slice < SLICES);
+    CHECK(index->lane < now.numbers.argon2.lanes);
     CHECK(it->own == now.slices[index->slice] + index->lane * now.segment);
     CHECK(it->own_count == now.segment);
     for (uint32_t i = 0; i < SLICES - 1; i++) {
@@ -171,10 +171,10 @@ static uint8_t work_segment(const struct given_segment *it) {
         CHECK(it->earlier[i].count == now.slice);
     }
     int64_t g = (int64_t)SLICES * index->pass + index->slice;
-    uint64_t number = (uint64_t)g * now.numbers.lanes + index->lane;
+    uint64_t number = (uint64_t)g * now.numbers.argon2.lanes + index->lane;
     CHECK(count(&now.begun[number]) == 0);
     CHECK(seen(&now.begins) == 1 && seen(&now.ends) == 0);
-    CHECK(seen(&now.segments_over) >= g * (int64_t)now.numbers.lanes);
+    CHECK(seen(&now.segments_over) >= g * (int64_t)now.numbers.argon2.lanes);
     check_stamps(g, it);
     look_at_thread();
     rest();
@@ -192,19 +192,19 @@ static uint8_t work_segment(const struct given_segment *it) {
 }
 
 static uint8_t segment_len(const struct tag_numbers *numbers, uint32_t *segment_size) {
-    if (numbers->kind > 2)
+    if (numbers->argon2.kind > 2)
         return RIGZUMAL_NO_KIND;
     *segment_size = (uint32_t)now.segment;
     return 0;
 }
 
 static uint8_t end(const void *inputs, const struct argon2_block *last, size_t blocks) {
-    uint64_t all = (uint64_t)SLICES * now.numbers.passes * now.numbers.lanes;
+    uint64_t all = (uint64_t)SLICES * now.numbers.argon2.passes * now.numbers.argon2.lanes;
     CHECK(inputs == &now && is_caller() && count(&now.ends) == 0 && !seen(&now.has_fault));
     CHECK(seen(&now.segments_over) == (int64_t)all);
     CHECK(last == now.slices[SLICES - 1] && blocks == now.slice);
     for (int turn = 0; turn < 2; turn++) {
-        CHECK(are_stamped(last, blocks, stamp_of((int64_t)SLICES * now.numbers.passes - 1)));
+        CHECK(are_stamped(last, blocks, stamp_of((int64_t)SLICES * now.numbers.argon2.passes - 1)));
         rest();
     }
     return (uint8_t)now.end_answer;
