@@ -171,10 +171,10 @@ static void check_child(unsigned char *start, size_t size) {
         rattle_dealloc(start);
         _exit(0);
     }
-    CHECK(waitpid(child, &status, 0) == child && WIFSIGNALED(status));
-    CHECK(WTERMSIG(status) == SIGABRT && read(streams[0], said, sizeof said - 1) > 0);
+    CHECK(close(streams[1]) == 0 && waitpid(child, &status, 0) == child);
+    CHECK(WIFSIGNALED(status) && WTERMSIG(status) == SIGABRT);
+    CHECK(read(streams[0], said, sizeof said - 1) > 0 && close(streams[0]) == 0);
     CHECK(strstr(said, "a forked child went on with its parent's call\n") != NULL);
-    CHECK(close(streams[0]) == 0 && close(streams[1]) == 0);
 }
 
 /* The whole of a new mapping is to have huge pages, once, and the rest is unmapped. It is the
