@@ -5,7 +5,7 @@
 
 #include <stdbool.h>
 
-enum { LANES = 4, TEXT = RIGZUMAL_TEXT_SIZE };
+enum { LANES = 4 };
 
 /* By the argon2 program: printf password | argon2 somesalt -id -t 2 -k 256 -p 1 -l 32 -e. */
 static const char record[] =
@@ -75,7 +75,7 @@ static void test_usual_values(void) {
     } usual[] = {{RIGZUMAL_ARGON2_COSTS, "$argon2id$v=19$m=65536,t=3,p=4$"},
                  {RIGZUMAL_SCRYPT_COSTS, "$scrypt$ln=17,r=8,p=1$"}};
     for (size_t i = 0; i < COUNT(usual); i++) {
-        char text[TEXT];
+        char text[TEXT_ROOM];
         struct rigzumal_parts parts;
         CHECK_NUMBER(rigzumal_record(ARRAY(text), RIGZUMAL_TAG_SIZE, usual[i].costs, NULL,
                                      RIGZUMAL_SALT_SIZE, LITERAL("password")),

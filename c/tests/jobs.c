@@ -66,6 +66,7 @@ JOB(check_from, rigzumal_check_from(it->record_with_secret, &inputs))
 JOB(record_fault, rigzumal_record_fault(RECORD(it->record)))
 JOB(setting_fault, rigzumal_setting_fault(has_trouble(it, BAD_RECORD) ? it->record : it->setting))
 JOB(explained, rigzumal_explain(TEXT, RECORD(it->record)))
+JOB(explained_cost, rigzumal_explain(TEXT, it->cheap_record))
 JOB(needs_rehash, rigzumal_needs_rehash(it->record, COSTS, sizeof salt, TAG))
 JOB(parts, rigzumal_parts(&(struct rigzumal_parts){0}, it->record))
 JOB(key, rigzumal_scrypt(it->made, KEY, &(struct rigzumal_scrypt){it->job->number, 2, 2}, PASSWORD,
@@ -242,6 +243,7 @@ const struct job jobs[] = {
     {"rigzumal_setting_fault of a record", setting_fault, OF_A_BAD_RECORD},
     {"rigzumal_explain", explained, DONE},
     {"rigzumal_explain of a bad record", explained, OF_A_BAD_RECORD},
+    {"rigzumal_explain of a cost out of range", explained_cost, RIGZUMAL_RANGE, NO_TROUBLE, 0},
     {"rigzumal_parts", parts, DONE},
     {"rigzumal_needs_rehash", needs_rehash, DONE},
     {"rigzumal_step of an enrol", step, DONE_WITH(RIGZUMAL_ENROL)},
@@ -298,12 +300,9 @@ void fill_vault(struct vault *vault) {
         {{"", key, DONE_WITH(4)}, vault->key, vault->made, KEY},
         {{"", libargon2_raw, DONE_WITH(LONG_TAG)}, vault->long_tag, vault->made, LONG_TAG},
         {{"", libargon2_encoded, DONE_WITH(LONG_TAG)}, vault->long_string, vault->text, ENCODED},
-        {{"", record_with_secret, DONE},
-         vault->record_with_secret,
-         vault->text,
-         sizeof vault->text},
-        {{"", scrypt_record, DONE}, vault->scrypt_record, vault->text, sizeof vault->text},
-        {{"", record, DONE}, vault->record, vault->text, sizeof vault->text},
+        {{"", record_with_secret, DONE}, vault->record_with_secret, vault->text, TEXT_ROOM},
+        {{"", scrypt_record, DONE}, vault->scrypt_record, vault->text, TEXT_ROOM},
+        {{"", record, DONE}, vault->record, vault->text, TEXT_ROOM},
     };
     for (size_t i = 0; i < COUNT(made); i++) {
         CHECK_NUMBER(answer_of(&made[i].job, vault), RIGZUMAL_OK);
@@ -312,5 +311,6 @@ void fill_vault(struct vault *vault) {
         memset(vault->made, 0, sizeof vault->made);
     }
     strcat(strcpy(vault->bad_record, vault->record), "$");
+    strstr(strcpy(vault->cheap_record, vault->record), "m=")[2] = '1';
     strcat(strcpy(vault->setting, COSTS), strrchr(vault->record, '$'));
 }

@@ -5,7 +5,7 @@
 
 #include <stddef.h>
 
-enum { TAG = 40, KEY = 48, ENCODED = 200, LONG_TAG = 80 };
+enum { TAG = 40, KEY = 48, ENCODED = 200, LONG_TAG = 80, TEXT_ROOM = RIGZUMAL_TEXT_SIZE };
 
 /* What is wrong with a call's inputs. */
 enum trouble { NO_TROUBLE, OTHER_PASSWORD, OTHER_SECRET, BAD_RECORD, LITTLE_ROOM };
@@ -16,10 +16,11 @@ struct vault {
     unsigned char given_password[48], given_secret[40]; /* those that a call clears */
     unsigned char tag[TAG], tag_with_secret[TAG], key[KEY], long_tag[LONG_TAG];
     char long_string[ENCODED]; /* of argon2.h, with the long tag */
-    char record[RIGZUMAL_TEXT_SIZE], bad_record[RIGZUMAL_TEXT_SIZE];
-    char record_with_secret[RIGZUMAL_TEXT_SIZE], scrypt_record[RIGZUMAL_TEXT_SIZE];
-    char setting[RIGZUMAL_TEXT_SIZE]; /* with the tag where a salt ought to be */
-    char text[RIGZUMAL_TEXT_SIZE];
+    char record[TEXT_ROOM], record_with_secret[TEXT_ROOM], scrypt_record[TEXT_ROOM];
+    char bad_record[TEXT_ROOM];   /* with a field too many */
+    char cheap_record[TEXT_ROOM]; /* with a cost out of range */
+    char setting[TEXT_ROOM];      /* with the tag where a salt ought to be */
+    char text[TEXT_ROOM];
     unsigned char made[LONG_TAG];
     const struct job *job; /* that is under way */
 };

@@ -121,10 +121,10 @@ class Records(unittest.TestCase):
                     self.assertEqual((made, call("check_from", record, given)), (wanted, wanted))
 
     def test_lost_inputs_by_place(self):
-        """The same of the calls that have their inputs in places."""
+        """The same of the calls that have their inputs in places: of several the first is named."""
         good = {"password": b"password", "salt": b"somesalt", "secret": b"", "associated": b""}
-        for name, fault in LOST.items():
-            given = {**good, name: (None, 32)}
+        for at, (name, fault) in enumerate(LOST.items()):
+            given = {**good, **dict.fromkeys(INPUTS[at:], (None, 32))}
             password, secret = given["password"], given["secret"]
             calls = [written("argon2", 32, numbers(2, 19, 8, 1, 1), *given.values())]
             if name in ("password", "salt"):

@@ -97,9 +97,11 @@ class Steps(unittest.TestCase):
             with self.subTest(operation=operation, copy=copy, **given):
                 found = step_from(operation, copy, lost, good, COSTS, **given)
                 self.assertEqual(found, (N.NULL_PASSWORD, "", NO_REPLY))
+                found = step_from(operation, copy, good, lost, COSTS, **given)
                 if operation == N.CHANGE:
-                    found = step_from(operation, copy, good, lost, COSTS, **given)
                     self.assertEqual(found, (N.NULL_PASSWORD, "", NO_REPLY))
+                else:  # which reads no new one
+                    self.assertEqual(found, step_from(operation, copy, good, good, COSTS, **given))
                 given |= {"secret": None, "secret_size": 8}
                 found = step_from(operation, copy, good, good, COSTS, **given)
                 self.assertEqual(found, (N.NULL_SECRET, "", NO_REPLY))

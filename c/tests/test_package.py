@@ -5,11 +5,14 @@ import re
 import shlex
 import shutil
 import stat
+import sys
 import unittest
 
 from harness import COMPILER, IS_HOST, OUT, ROOM, TOP
 from harness import files_below, need, need_host, run, runnable
 
+sys.path.insert(0, str(TOP.parent / "tools"))
+from tree import CRATES, all_below  # noqa: E402
 
 VERSION = (TOP.parent / "VERSION").read_text().strip()
 INSTALLED = {
@@ -129,6 +132,15 @@ class Package(unittest.TestCase):
             self.assertIn("1234567890abcdef", run("readelf", "-n", out / name))
         (out / "v4.a").write_bytes(b"")  # the toolchain allows none
         made()
+        with (room / "c/Makefile").open("a") as makefile:
+            makefile.write("# changed\n")
+        self.assertIn(COMPILER, made())
+        summed = set(re.findall(r"  \.\./(.*)", (out / "proved.sum").read_text()))
+        wanted = {"crates.txt", "tools/build_v4.py"}
+        for name in ("cred_c", *all_below("cred_c")):
+            files = [it for it in files_below(CRATES / name) if not it.startswith("out/")]
+            wanted |= {f"crates/{name}/{it}" for it in files if it.endswith((".rt", ".antt"))}
+        self.assertEqual(summed, wanted)
         (out / "proved.sum").write_text("of other sources")
         run("make", "RT=false", at=room / "c", status=2)
 

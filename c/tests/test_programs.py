@@ -112,6 +112,7 @@ class Programs(unittest.TestCase):
             (str(128 * MIB), "16 32 64 80 128"),
             ("16M", "16 32 64 60 64"),  # no number, and passed over
             ("0x8000000", "16 32 64 60 64"),
+            ("-1", "16 32 64 60 64"),
             ("", "16 32 64 60 64"),
         ):
             env = {} if bound is None else {"RIGZUMAL_KEEP": bound}
