@@ -311,6 +311,7 @@ void fill_vault(struct vault *vault) {
         memset(vault->made, 0, sizeof vault->made);
     }
     strcat(strcpy(vault->bad_record, vault->record), "$");
-    strstr(strcpy(vault->cheap_record, vault->record), "m=")[2] = '1';
+    strcat(strcpy(vault->cheap_record, "$argon2id$v=19$m=8,t=1,p=3$c29tZXNhbHQ"),
+           strrchr(vault->record, '$'));
     strcat(strcpy(vault->setting, COSTS), strrchr(vault->record, '$'));
 }
