@@ -61,9 +61,11 @@ class _Hasher(Frozen):
         return self.secrets or (self.secret,)
 
     def hash(self, password: Secret, *, salt: Optional[Bytes] = None) -> str:
-        """A new record of the password, which has any length below 2^32 bytes.
+        """A new record of the password.
 
-        The salt has 8 to 48 bytes (of scrypt 1 to 48); by default the system draws one.
+        Args:
+            password: the password, of any length below 2^32 bytes.
+            salt: 8 to 48 bytes (of scrypt 1 to 48); by default the system's getrandom makes one.
 
         Raises:
             InvalidNumbersError: the salt is too short or too long.
@@ -130,13 +132,18 @@ class PasswordHasher(_Hasher):
         hash_len: bytes of the tag, 4 to 64.
         salt_len: bytes of a generated salt, 8 to 48.
         type: the kind of Argon2.
-        secret: a pepper, never empty: RFC 9106's K. With it the hasher verifies records of the
-            same secret alone, and none of scrypt. No repr shows it.
-        threads: how many threads may work the lanes of one record, the caller's among them: at
-            most one for each processor, and no other below 4 MiB. 1 is right for a service.
-        secrets: the new pepper, which is then `secret`, and older ones, while peppers rotate. A
-            record of an older one is verified too, and replaced by `verify_and_rehash`; a wrong
-            password costs a hash for each. b"" among them stands for no pepper.
+        secret: a pepper, which you keep apart from the records: RFC 9106's K. With it the hasher
+            verifies records of the same secret alone, and none of scrypt. It is never empty: an
+            unset variable is no pepper. No repr shows it.
+        threads: how many threads may work the lanes of one record, the caller's among them; it
+            changes no record. 1 is right for a service: other logins use the other processors.
+            `parallelism` is right for a program that hashes one password at a time: 64 MiB and
+            four lanes need a third of the time on four idle processors. At most one thread for
+            each processor starts, and none below 4 MiB.
+        secrets: the new pepper and older ones, instead of `secret`, while peppers rotate. Records
+            are made with the first, which is then `secret`, and verified with any: a wrong
+            password costs a hash for each. `verify_and_rehash` replaces records of older ones.
+            b"" among the older ones stands for records that were made without a pepper.
 
     Raises:
         InvalidNumbersError: a number is out of its range.
@@ -264,6 +271,8 @@ def argon2(
 ) -> bytes:
     """The Argon2 tag of hash_len bytes (RFC 9106), with memory_cost in KiB.
 
+    Up to `threads` threads work its lanes: see PasswordHasher.
+
     Raises:
         InvalidNumbersError: a number is outside its range.
         OutOfMemoryError: too little memory was free.
@@ -282,7 +291,13 @@ def argon2(
 def scrypt(
     password: Secret, salt: Bytes, *, log2_n: int, r: int, p: int, length: int = 32
 ) -> bytes:
-    """The scrypt key of length bytes (RFC 7914), with N = 2^log2_n; raises as `argon2`."""
+    """The scrypt key of length bytes (RFC 7914), with N = 2^log2_n.
+
+    Raises:
+        InvalidNumbersError: a number is outside its range.
+        OutOfMemoryError: too little memory was free.
+        TypeError: an input isn't bytes, or a number is no int.
+    """
     costs = _library.ScryptNumbers(*map(checked, (log2_n, r, p)))
     data = (*pair(_library.bytes_of(password)), *pair(_library.data_of(salt)))
     call = _library._library.rigzumal_scrypt
