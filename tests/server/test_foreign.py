@@ -36,9 +36,9 @@ def made_by(command: str, password: str) -> str:
     return run(*command.split(), given=f"{password}\n").strip().rpartition(":")[2]
 
 
-def salted_sha1(password: bytes) -> str:
+def salted_sha1(password: bytes, salt: bytes = SALT) -> str:
     """As slappasswd makes it."""
-    return "{SSHA}" + base64.b64encode(hashlib.sha1(password + SALT).digest() + SALT).decode()
+    return "{SSHA}" + base64.b64encode(hashlib.sha1(password + salt).digest() + salt).decode()
 
 
 def sha1(password: str) -> str:
@@ -72,6 +72,7 @@ class Foreign(Case):
         for password in ("", "secret", "y" * 16, "pä", "k" * 72, "m" * 127):
             records = {it: made_by(command, password) for it, command in MAKERS.items()}
             records["salted sha1"] = salted_sha1(password.encode())
+            records["salted sha1, long"] = salted_sha1(password.encode(), SALT * 3)
             for name, record in records.items():
                 with self.subTest(name, password=password):
                     if name == "openssl" and not password:
@@ -219,8 +220,20 @@ class Foreign(Case):
         login.send(f"a verify ada {SECRET}\n")
         until(lambda: any(it.startswith("verify ada") for it in service.asked()), "the login")
         admin.talk("disable ada -> disabled")
-        self.assertEqual(login.line(), b"a absent")
+        self.assertEqual(login.line(), b"a yes")
         login.talk("verify ada {secret} -> absent\nknown ada -> absent")
+
+    def test_removed_amid_a_login(self) -> None:
+        """Whoever leaves the file while a right login is being judged is refused, and doesn't move."""
+        self.file.write_text(f"ada:{made_by('htpasswd -niBC 13 u', 'secret')}\n")
+        service = self.over()
+        login, admin = service.both()
+        login.send(f"a verify ada {SECRET}\n")
+        until(lambda: any(it.startswith("verify ada") for it in service.asked()), "the login")
+        run("htpasswd", "-D", self.file, "ada")
+        self.assertEqual(login.line(), b"a no")
+        admin.talk("known ada -> noaccount")
+        self.assertEqual(self.gone(), [])
 
     def test_a_book_that_refuses(self) -> None:
         """Whoever the book can't take stays in the file: a password of over 256 bytes, or want of memory."""

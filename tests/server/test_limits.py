@@ -1,8 +1,10 @@
 """Tests of bin/credkeep-server: its limits: lines, clients, turns."""
 
 import contextlib
+import os
 import pathlib
 import re
+import signal
 import socket
 import time
 
@@ -59,6 +61,22 @@ class Limits(Case):
                 for _ in range(4000):
                     client.socket.send(b"a verify ada -\n" * 100)
             service.process.kill()
+
+    def test_read_ahead(self) -> None:
+        """Of lines that wait for others little is read, however much has come."""
+        service = self.serving("--tries", "0", faults="mute=verify")
+        client, sent = service.client(), []
+        client.talk("known ada -> noaccount")
+        client.socket.setblocking(False)
+        for number in (signal.SIGSTOP, signal.SIGCONT):
+            os.kill(service.process.pid, number)
+            time.sleep(0.5)
+            sent.append(0)
+            with contextlib.suppress(BlockingIOError):
+                for _ in range(4000):
+                    sent[-1] += client.socket.send(b"a verify ada -\n" * 100)
+        self.assertLess(sent[1], 10_000, f"behind {sent[0]} bytes")
+        service.process.kill()
 
     def test_lines_of_who_has_gone(self) -> None:
         """What a client left behind that changes nothing is never asked; changes are made."""

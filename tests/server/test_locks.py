@@ -16,6 +16,7 @@ login change ada {wrong} {fresh} -> wrong
 admin login ada {secret} -> no
 admin upgrade ada {secret} -> wrong
 admin remove ada {secret} -> wrong
+admin rename ada -> bad 11 line
 admin locks -> locks ada:locked
 admin unlock ada -> unlocked
 admin unlock ada -> none
@@ -40,7 +41,7 @@ login known ada -> yes
 login verify ada {fresh} -> yes
 admin expire ada -> expired
 admin lock ada -> locked
-admin locks -> locks ada:locked ada:expired
+admin locks -> locks ada:expired ada:locked
 login verify ada {fresh} -> no
 login known ada -> absent
 login change ada {fresh} {secret} -> wrong
@@ -99,7 +100,7 @@ class Locks(Case):
         service.talk("admin locks -> locks ada:locked bob:expired\nadmin lock bob -> locked")
         service.stop()
         service = self.serving("--tries", "0", folder=folder)
-        service.talk("admin locks -> locks ada:locked bob:locked bob:expired")
+        service.talk("admin locks -> locks ada:locked bob:expired bob:locked")
 
     def test_renamed_and_deleted(self) -> None:
         """A mark goes with its name; a new account of an old name has none."""

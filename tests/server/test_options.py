@@ -81,10 +81,10 @@ class Mistakes(Case):
         """An option that needs another package of Debian's names it, and nothing starts."""
         room = self.room()
         for module, option in (("passlib", "--foreign"), ("h11", "--http")):
-            (room / f"{module}.py").write_text("raise ImportError")
+            (room / f"{module}.py").write_text(f"raise ImportError(name={module!r})")
             given = {"environment": {"PYTHONPATH": str(room)}, "waits": False, "folder": room}
             (room / "old").touch()
-            said = f"credkeep-server: {option} needs python3-{module}\n"
+            said = f"credkeep-server: python3-{module} is missing, which an option needs\n"
             self.assertEqual(self.serving(option, f"{room}/old", **given).ended(), (1, said))
 
     def test_spaces_in_a_path(self) -> None:

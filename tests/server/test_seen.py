@@ -170,7 +170,7 @@ class Seen(Case):
             counted = tries.Tally(Options())
             for name in "abac":
                 counted.count(verify, [name], "yes")
-        self.assertEqual([counted.last(name)[:4] for name in "abc"], ["last", "none", "last"])
+        self.assertEqual([counted.answer(b"last", it)[:4] for it in "abc"], ["last", "none", "last"])
 
 
 # What no log may have: passwords, as they are and as fields, and names.

@@ -6,14 +6,15 @@ import contextlib
 import io
 import os
 import pathlib
+import select
 import socket
 import subprocess
 import time
-from typing import Any
+from typing import Optional
 from unittest import mock
 
 from served import PYTHON, Case, Client, need_root
-from daemon.book import Places, share_of
+from daemon.book import share_of
 from daemon.clients import FEW, Door
 from daemon.options import Options
 from daemon.service import Service
@@ -79,35 +80,58 @@ class Floods(Case):
             self.assertGreater(time.monotonic() - begun, 0.25, f"{count} connections")
 
     def test_connections_that_have_gone(self) -> None:
-        """Each is closed as it is let in. While most have gone, few wait to be let in."""
+        """Each is closed as it is let in. While they have gone, few wait to be let in."""
 
-        async def waiting(count: int, is_flooded: bool) -> int:
-            """So many come, and are let in; how many more can wait then."""
-            service = Service(Options())
+        async def waiting(is_flooded: bool) -> int:
+            """A hundred come, and are let in; how many more can wait then."""
             door = Door("a", str(self.room() / "s"), 0o600, "-", frozenset())
-            door.open(service)
-            assert door.listener
-            clients = [socket.socket(socket.AF_UNIX) for _ in range(count)]
-            for client in clients:
-                client.connect(door.path)
+            door.open(Service(Options()))
+            clients = [socket.socket(socket.AF_UNIX) for _ in range(100 + 2 * FEW)]
+            for it in clients[:100]:
+                it.connect(door.path)
                 if is_flooded:
-                    client.close()
-            with mock.patch("daemon.clients.ACCEPTED", count):
-                door.accept(door.listener, service)
-            self.assertEqual(len(door.clients), 0 if is_flooded else count)
-            more = [socket.socket(socket.AF_UNIX) for _ in range(2 * FEW)]
-            for client in more:
-                client.setblocking(False)
-            waits = sum(client.connect_ex(door.path) == 0 for client in more)
-            door.close()
-            for client in (*clients, *more):
-                client.close()
-            for it in [*door.clients]:
+                    it.close()
+            while not self.is_empty(door.listener):
+                await asyncio.sleep(0)
+            self.assertEqual(len(door.clients), 0 if is_flooded else 100)
+            for it in clients[100:]:
+                it.setblocking(False)
+            waits = sum(it.connect_ex(door.path) == 0 for it in clients[100:])
+            door.end()
+            for it in clients:
                 it.close()
+            while door.clients:
+                await asyncio.sleep(0)
             return waits
 
-        self.assertEqual(asyncio.run(waiting(200, is_flooded=True)), FEW + 1)
-        self.assertEqual(asyncio.run(waiting(200, is_flooded=False)), 2 * FEW)
+        self.assertEqual(asyncio.run(waiting(is_flooded=True)), FEW + 1)
+        self.assertEqual(asyncio.run(waiting(is_flooded=False)), 2 * FEW)
+
+    def test_a_line_in_a_pass(self) -> None:
+        """A connection that has many lines at once gives the others their turn behind each."""
+
+        async def taken() -> str:
+            lines, service = list[bytes](), Service(Options())
+            door = Door("a", str(self.room() / "s"), 0o600, "-", frozenset())
+            with mock.patch.object(service, "submit", lambda _, it: (lines.append(it) or b"", b"")):
+                door.open(service)
+                clients = [Client(pathlib.Path(door.path)) for _ in range(2)]
+                for client, letter in zip(clients, "ab"):
+                    client.send(f"{letter}\n" * 50)
+                while len(lines) < 100:
+                    await asyncio.sleep(0)
+                door.end()
+                for client in clients:
+                    client.close()
+                while door.clients:
+                    await asyncio.sleep(0)
+            return b"".join(lines).decode()
+
+        self.assertIn("abab" * 10, asyncio.run(taken()))
+
+    def is_empty(self, listener: Optional[socket.socket]) -> bool:
+        """Whether nobody waits to be let in."""
+        return not select.select([listener], [], [], 0)[0]
 
     def test_services_of_root(self) -> None:
         """Each service that asks as root has connections of its own."""
@@ -150,52 +174,3 @@ class Shares(Case):
                 self.assertEqual(share_of(0, 1), ought, text)
                 self.assertEqual(share_of(33, 1), "uid 33")
         self.assertEqual(share_of(0, 2**22 + 1), "uid 0")  # which is no process
-
-
-class Step:
-    """A connection that notes its steps, and has so many."""
-
-    def __init__(
-        self, test: "Steps", places: Places[Any], user: str, name: str, count: int
-    ) -> None:
-        self.test, self.places, self.user, self.name = test, places, user, name
-        self.count, self.loop = count, asyncio.get_running_loop()
-
-    def submit(self) -> None:
-        self.places.submit(self.user, self, self)
-
-    def step(self) -> None:
-        self.test.said += self.name
-        self.count -= 1
-        if self.count:
-            self.submit()
-        self.places.release(self.user)
-
-
-class Steps(Case):
-    """The places for connections that send a line; each connection is a letter."""
-
-    said = ""
-
-    def passes(self, count: int, *connections: tuple[str, str, int]) -> list[str]:
-        """The steps of each pass of the loop, with so many places."""
-        found = []
-
-        async def run() -> None:
-            with mock.patch("daemon.service.STEPS", count):
-                places: Places[Any] = Service(Options()).steps
-            for connection in connections:
-                Step(self, places, *connection).submit()
-            while places.users or places.running.total():
-                await asyncio.sleep(0)
-                found.append(self.said)
-                self.said = ""
-
-        asyncio.run(run())
-        return found
-
-    def test_passes(self) -> None:
-        """A pass of the loop has so many steps, and one of whoever comes beside a flood."""
-        flood = [("one", it, 2) for it in "abcde"]
-        said = self.passes(4, *flood, ("two", "x", 3))
-        self.assertEqual(said, ["abcx", "dex", "abx", "cde"])

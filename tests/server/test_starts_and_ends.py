@@ -1,6 +1,5 @@
 """Tests of bin/credkeep-server: how it starts, what the book gets, how it ends, and systemd's words."""
 
-import asyncio
 import contextlib
 import os
 import pathlib
@@ -11,9 +10,6 @@ import time
 from collections.abc import Callable
 
 from served import SECRET, Case, Client, is_listening, need, until
-from daemon.clients import Door
-from daemon.options import Options
-from daemon.service import Service
 
 
 class Starting(Case):
@@ -102,26 +98,6 @@ class Endings(Case):
             self.assertEqual(status, ought, faults)
             self.assertIn(f"end: status {ought}", log)
 
-    def test_clients_that_come_too_late(self) -> None:
-        """Once it is ending, who comes is told and closed: none is waited for, however its line falls."""
-
-        async def said() -> bytes:
-            service, door = Service(Options()), Door("a", "", 0, "-", frozenset())
-            service.is_ending = True
-            ours, theirs = socket.socketpair()
-            with theirs:
-                theirs.sendall(b"a known ada\n")
-                ours.setblocking(False)
-                door.let_in(door.client(service, door, ours))
-                theirs.settimeout(10)
-                said = await asyncio.to_thread(theirs.recv, 100)
-                with self.assertRaises(ConnectionError):  # its line was never read
-                    await asyncio.to_thread(theirs.recv, 100)
-                self.assertEqual(door.clients, set())
-                return said
-
-        self.assertEqual(asyncio.run(said()), b"* unavailable\n")
-
     def test_unread_answers(self) -> None:
         """Whoever leaves answers unread delays the end by a moment, and the book ends by itself."""
         for lines in ("a known ada\n" * 1000, "a list\n" * 300, "\n" * 900):
@@ -141,6 +117,7 @@ class Endings(Case):
             service = self.serving("--at-once", "2", faults="mute=verify")
             service.client().send("a verify ada -\n" * 20)
             until(lambda: len(service.asked()) == 2, "the book's lines")
+            time.sleep(0.5)  # until the server has the others
             if is_stopped:
                 os.kill(service.book_pid(), signal.SIGSTOP)
             begun = time.monotonic()

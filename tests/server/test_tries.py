@@ -8,7 +8,7 @@ from unittest import mock
 from served import SECRET, WRONG, Case, Client, as_user, need_root
 from daemon import tries
 from daemon.tries import Limiter
-from daemon.log import log
+from daemon.journal import log
 
 
 class Tries(Case):

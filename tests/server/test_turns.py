@@ -2,6 +2,7 @@
 
 import asyncio
 import time
+from collections import deque
 from collections.abc import Callable
 from unittest import mock
 
@@ -19,14 +20,14 @@ class Waiting(Case):
     def start(self, line: str) -> None:
         self.started += line
 
-    def take(self, places: Places[str], user: int, client: str, lines: str) -> str:
+    def take(self, places: Places, user: int, client: str, lines: str) -> str:
         """What is started as so many lines of a client come."""
         for line in lines:
             self.users[line] = user
             places.submit(user, client, line)
         return self.ended(places, "")
 
-    def ended(self, places: Places[str], lines: str) -> str:
+    def ended(self, places: Places, lines: str) -> str:
         """What is started once these have ended."""
         for line in lines:
             places.release(self.users[line])
@@ -66,11 +67,18 @@ class Changes(Case):
         super().setUp()
         self.gone, self.clock, self.is_busy = "", 0.0, True
         self.rests: list[tuple[float, Callable[[], None]]] = []
+        self.at_book = deque["asyncio.Future[bytes]"]()
         self.enterContext(mock.patch.object(time, "monotonic", lambda: self.clock))
 
-    async def go(self, rounds: Rounds, letter: str) -> None:
-        await rounds.begin(is_alone=letter.islower())
+    async def go(self, letter: str) -> bytes:
+        """What the book answers once it is let; then the change has gone."""
         self.gone += letter
+        answer = asyncio.get_running_loop().create_future()
+        self.at_book.append(answer)
+        return await answer
+
+    def begin(self, rounds: Rounds, letter: str) -> "asyncio.Future[bytes]":
+        return asyncio.ensure_future(rounds.change(lambda: self.go(letter), letter.islower()))
 
     def played(self, *scene: tuple[str, int, int, str]) -> None:
         """Of each step: what comes, how many end after 20 ms, the rest behind these, what went."""
@@ -81,11 +89,12 @@ class Changes(Case):
                 for come, ended, rest, ought in scene:
                     self.is_busy = self.is_busy and "-" not in come
                     letters = come.strip("-")
-                    tasks += [asyncio.ensure_future(self.go(rounds, it)) for it in letters]
+                    tasks += [self.begin(rounds, it) for it in letters]
                     await asyncio.sleep(0)
                     self.clock += 0.02
                     for _ in range(ended):
-                        rounds.end()
+                        self.at_book.popleft().set_result(b"")
+                    await asyncio.sleep(0)
                     rests = [round(1000 * seconds) for seconds, _ in self.rests]
                     self.assertEqual(rests, [rest] if ended else [])
                     while self.rests:
@@ -122,20 +131,30 @@ class Changes(Case):
 
         async def run() -> None:
             loop, rounds = asyncio.get_running_loop(), Rounds(lambda: self.is_busy)
+
+            async def passes() -> None:
+                for _ in range(3):
+                    await asyncio.sleep(0)
+
+            async def end() -> None:
+                self.at_book.popleft().set_result(b"")
+                await passes()
+
             with mock.patch.object(loop, "call_later", lambda *it: self.rests.append(it)):
-                await rounds.begin(is_alone=True)
-                rounds.end()
+                first = self.begin(rounds, "a")
+                await passes()
+                await end()
                 self.is_busy = False
-                await rounds.begin(is_alone=True)
+                second = self.begin(rounds, "b")
+                await passes()
                 self.is_busy = True
-                waiting = asyncio.ensure_future(self.go(rounds, "a"))
-                await asyncio.sleep(0)
-                for gone in ("", "a"):
+                third = self.begin(rounds, "c")
+                await passes()
+                for gone in ("ab", "abc"):
                     self.rests.pop()[1]()
-                    for _ in range(3):
-                        await asyncio.sleep(0)
+                    await passes()
                     self.assertEqual(self.gone, gone)
-                    rounds.end()
-                await waiting
+                    await end()
+                await asyncio.gather(first, second, third)
 
         asyncio.run(run())

@@ -54,9 +54,7 @@ class Reply(enum.Enum):
     if not TYPE_CHECKING:
 
         def __bool__(self) -> bool:
-            raise TypeError(
-                "an answer is neither true nor false: compare it with Reply.YES"
-            )
+            raise TypeError("an answer is neither true nor false: compare it with Reply.YES")
 
 
 class ServerError(Exception):

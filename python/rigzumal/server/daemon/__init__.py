@@ -9,11 +9,13 @@ import os
 import re
 import resource
 import signal
+import socket
 import sys
 import time
+from typing import Any
 
 from .book import UNAVAILABLE
-from .log import Problem, log, log_fault, notify
+from .journal import Problem, log, log_fault, notify
 from .options import Options, parse
 from .service import Service
 from .tries import metrics
@@ -38,6 +40,8 @@ def main() -> int:
         return asyncio.run(serve(options))
     except Problem as problem:
         log.error("%s", problem)
+    except ImportError as fault:
+        log.error("python3-%s is missing, which an option needs", fault.name)
     except OSError as fault:
         log.error("%s: %s", fault.filename or "the system", fault.strerror)
     return 1
@@ -48,13 +52,15 @@ async def serve(options: Options) -> int:
     for door in options.doors:
         door.prepare()
     service = Service(options)
-    loop, stop = asyncio.get_running_loop(), asyncio.Event()
+    loop = asyncio.get_running_loop()
     loop.set_exception_handler(log_fault)
+    stop = loop.create_future()
     for number in (signal.SIGTERM, signal.SIGINT):
-        loop.add_signal_handler(number, stop.set)
-    await service.book.start(options.book_words())
+        loop.add_signal_handler(number, stop.cancel)
+    own: Any = {"start_new_session": True}  # signals to a terminal are the server's
+    await loop.subprocess_exec(lambda: service.book, *options.book_words(), stderr=None, **own)
     opening = loop.create_task(open_doors(service))
-    ends = [opening, service.book.ended, loop.create_task(stop.wait())]
+    ends: list[asyncio.Future[Any]] = [opening, service.book.ended, stop]
     await asyncio.wait(ends, return_when=asyncio.FIRST_COMPLETED)
     status = await end(service)
     if opening.done():
@@ -70,7 +76,8 @@ async def open_doors(service: Service) -> None:
         door.open(service)
     log.info("start: %s", service.options.file)
     notify("READY=1")
-    probing = asyncio.ensure_future(probe(service))
+    # What a hash takes is measured some times: other work on the machine may slow one down.
+    asyncio.gather(*(service.log_in(b"verify", b"-", b"-") for _ in range(3)))
     idle = service.options.idle or float("inf")
     usec = os.environ.get("WATCHDOG_USEC", "")
     beat = int(usec) / 2e6 if re.fullmatch("[1-9][0-9]{0,18}", usec) else 30.0
@@ -78,41 +85,30 @@ async def open_doors(service: Service) -> None:
         notify("WATCHDOG=1")
         service.tally.limiter.drop_expired()
         for it in service.clients():
-            is_waiting = it.running and not (it.output or it.is_ending)
+            is_waiting = it.running and not it.writing.locked()
             if it.active < time.monotonic() - idle and not is_waiting:
-                it.close()
+                it.end(socket.SHUT_RDWR)
         await asyncio.sleep(min(beat, idle / 10))
-    await probing
-
-
-async def probe(service: Service) -> None:
-    """Measures a hash some times, since other work on the machine may slow one down."""
-    for _ in range(3):
-        await service.log_in(b"verify", b"-", b"-")  # which hashes, as for any name
 
 
 async def end(service: Service) -> int:
     """Ends the clients, each once it has its answers, then the book; returns its status."""
-    began, book = time.monotonic(), service.book
-    service.is_ending = True
+    began, seconds, book = time.monotonic(), 0.0, service.book
     notify("STOPPING=1")
     for door in service.options.doors:
-        door.close()
+        door.end()
     for client in service.clients():
         client.end()
-    seconds = 0.0
     while (service.clients() or service.tasks) and seconds <= LINES_SECONDS:
         await asyncio.sleep(0.01)
         seconds = time.monotonic() - began
         for client in service.clients():
-            if not client.running and seconds > UNREAD_SECONDS:
-                client.close()
+            if client.writing.locked() and seconds > UNREAD_SECONDS:
+                client.end(socket.SHUT_RDWR)
     if count := sum(client.running for client in service.clients()):
         log.error("%d lines had no answer after %d s", count, seconds)
-    for client in service.clients():
-        client.close()
     book.stdin.close()
-    await asyncio.wait([book.ended], timeout=began + LAST_SECONDS - time.monotonic())
+    await asyncio.wait([book.ended], timeout=LAST_SECONDS - seconds)
     status = book.ended.result() if book.ended.done() else 0
     if not book.ended.done():
         log.error("the book is killed: it still runs after %d s", LAST_SECONDS)
@@ -120,5 +116,5 @@ async def end(service: Service) -> int:
         await book.ended
     if book.strays:
         log.error("the book wrote %d answers to no line", book.strays)
-    log.info("end: status %d, %s", status, service.tally.stats(""))
+    log.info("end: status %d, %s", status, service.tally.stats())
     return status

@@ -7,19 +7,16 @@ import os
 import re
 import signal
 import time
-from asyncio.subprocess import PIPE
 from collections import Counter, OrderedDict, deque
-from collections.abc import Callable, Sequence
+from collections.abc import Awaitable, Callable
 from contextlib import suppress
-from typing import Generic, Hashable, Optional, TypeVar
+from typing import Any, Hashable, Optional
 
 LONGEST_ANSWER = 65536  # bytes
 UNAVAILABLE = b"unavailable"
 REST, LONGEST_REST = 1.5, 0.1  # of the time that a round took, and seconds
-# The first two names of a control group: /system.slice/ssh.service,
-# /user.slice/user-1000.slice.
+# The first two names of a control group: /system.slice/ssh.service, /user.slice/user-1000.slice.
 GROUP = re.compile(rb"^\d+:(?:name=systemd)?:((?:/[^/\n]+){1,2})", re.M)
-Item = TypeVar("Item")
 
 
 def decoded(field: bytes) -> Optional[bytes]:
@@ -31,24 +28,16 @@ def decoded(field: bytes) -> Optional[bytes]:
         return None
 
 
-class Book:
+class Book(asyncio.SubprocessProtocol):
     """`credkeep FILE serve --tagged`, which answers in any order."""
 
     def __init__(self) -> None:
         self.pending = dict[bytes, asyncio.Future[bytes]]()  # answers, by their tags
-        self.tags, self.strays = itertools.count(1), 0
+        self.tags, self.strays, self.rest = itertools.count(1), 0, b""
+        self.ended: asyncio.Future[int] = asyncio.get_running_loop().create_future()
 
-    async def start(self, words: Sequence[str]) -> None:
-        self.process = await asyncio.create_subprocess_exec(
-            *words,
-            stdin=PIPE,
-            stdout=PIPE,
-            limit=LONGEST_ANSWER,
-            start_new_session=True,  # signals to a terminal are the server's
-        )
-        assert self.process.stdin and self.process.stdout
-        self.stdin, self.stdout = self.process.stdin, self.process.stdout
-        self.ended = asyncio.ensure_future(self.read())
+    def connection_made(self, process: Any) -> None:
+        self.process, self.stdin = process, process.get_pipe_transport(0)
 
     def ask(self, *words: bytes) -> asyncio.Future[bytes]:
         """The answer to a line; UNAVAILABLE if the book ends before it has one."""
@@ -60,62 +49,56 @@ class Book:
             self.stdin.write(b"%b %b\n" % (tag, b" ".join(words)))
         return answer
 
-    async def read(self) -> int:
-        """Hands over its answers until it ends, and returns its status."""
-        try:
-            while (line := await self.stdout.readline()).endswith(b"\n"):
-                tag, _, text = line[:-1].partition(b" ")
-                if answer := self.pending.pop(tag, None):
-                    is_text = re.fullmatch(rb"[ -~]+", text)
-                    answer.set_result(text if is_text else UNAVAILABLE)
-                else:
-                    self.strays += 1
-        except ValueError:  # an answer that has no end
+    def pipe_data_received(self, _: int, data: bytes) -> None:
+        """Hands over its answers, and kills it at one that has no end."""
+        if len(self.rest) > LONGEST_ANSWER:
+            return
+        *lines, self.rest = (self.rest + data).split(b"\n")
+        for line in lines:
+            tag, _space, text = line.partition(b" ")
+            if answer := self.pending.pop(tag, None):
+                is_text = re.fullmatch(rb"[ -~]+", text)
+                answer.set_result(text if is_text else UNAVAILABLE)
+            else:
+                self.strays += 1
+        if len(self.rest) > LONGEST_ANSWER:
             self.kill()
-            while await self.stdout.read(LONGEST_ANSWER):
-                pass
-        status = await self.process.wait()
-        with suppress(OSError):  # of lines that it didn't read
-            await self.stdin.wait_closed()
+
+    def connection_lost(self, _: object) -> None:
+        """It has ended, and all that it wrote has come."""
+        status = self.process.get_returncode()
+        self.ended.set_result(status if status >= 0 else 128 - status)
         for answer in self.pending.values():
             answer.set_result(UNAVAILABLE)
-        return status if status >= 0 else 128 - status
 
     def kill(self) -> None:
         """Kills it. asyncio's own call might lose its status."""
-        if self.process.returncode is None:
+        if self.process.get_returncode() is None:
             with suppress(ProcessLookupError):
-                os.kill(self.process.pid, signal.SIGKILL)
+                os.kill(self.process.get_pid(), signal.SIGKILL)
 
 
 def share_of(uid: int, pid: int) -> str:
-    """The user whose share a process uses: its uid, or a service of root's.
-
-    Most servers that log users in ask as root; none of them shuts the others out.
-    """
+    """The user whose share a process uses: its uid, or the service where that is root's."""
     found = None
     if uid == 0:
         with suppress(OSError):  # the process has gone, or is hidden
             with open(f"/proc/{pid}/cgroup", "rb", buffering=0) as file:
                 found = GROUP.search(file.read(4096))
-    return (
-        f"uid {uid} in {found[1].decode(errors='replace')}" if found else f"uid {uid}"
-    )
+    return f"uid {uid} in {found[1].decode(errors='replace')}" if found else f"uid {uid}"
 
 
-class Places(Generic[Item]):
+class Places:
     """Places, and the items that wait for one: users take turns, then the clients of each.
 
-    The user with the fewest running items has the next. The last place is for a user
-    with none: so a flood leaves it free.
+    The user with the fewest running items has the next. A flood leaves the last place free.
     """
 
-    def __init__(self, count: int, start: Callable[[Item], object]) -> None:
-        self.free, self.start = count, start
-        self.running = Counter[Hashable]()
-        self.users = OrderedDict[Hashable, OrderedDict[Hashable, deque[Item]]]()
+    def __init__(self, count: int, start: Callable[[Any], object]) -> None:
+        self.free, self.start, self.running = count, start, Counter[Hashable]()
+        self.users = OrderedDict[Hashable, OrderedDict[Hashable, deque[Any]]]()
 
-    def submit(self, user: Hashable, client: Hashable, item: Item) -> None:
+    def submit(self, user: Hashable, client: Hashable, item: Any) -> None:
         """Starts an item once it has a place, which may be now."""
         clients = self.users.setdefault(user, OrderedDict())
         clients.setdefault(client, deque()).append(item)
@@ -146,36 +129,32 @@ class Places(Generic[Item]):
 class Rounds:
     """The book answers nobody while a change waits for the disk.
 
-    Beside logins, changes go in rounds, and rest for longer than the round took. Changes
-    that hash are synced together, so all that wait go in one round. Each other change
-    is a sync of its own, so one of them goes. Without logins no change waits here.
+    Beside logins, changes go in rounds, and rest for longer than the round took. Changes that
+    hash are synced together, so all that wait go in one round. Each other change is a sync of
+    its own, and only begins a round. Without logins no change waits here.
     """
 
     def __init__(self, is_busy: Callable[[], bool]) -> None:
         self.is_busy = is_busy  # whether somebody logs in
-        self.gate, self.has_alone = asyncio.Event(), False
-        self.running, self.began = 0, 0.0
+        self.gate, self.running, self.began = asyncio.Event(), 0, 0.0
         self.gate.set()
 
-    async def begin(self, is_alone: bool) -> None:
-        """Returns once a change may go: now, or in the next round."""
+    async def change(self, answer: Callable[[], Awaitable[bytes]], is_alone: bool) -> bytes:
+        """The answer to a change, which goes now, or in the next round."""
         is_due = self.gate.is_set()
         while self.is_busy() and not is_due:
             await self.gate.wait()
-            is_due = not (is_alone and self.has_alone)
+            is_due = self.gate.is_set() or not is_alone
         self.gate.clear()
-        self.has_alone = self.has_alone or is_alone
         self.began = self.began if self.running else time.monotonic()
         self.running += 1
-
-    def end(self) -> None:
-        """A change was answered; after the last of a round come the others."""
+        said = await answer()
         self.running -= 1
         if not self.running:
-            self.has_alone = False
             took = time.monotonic() - self.began if self.is_busy() else 0.0
-            rest = min(REST * took, LONGEST_REST)
-            asyncio.get_running_loop().call_later(rest, self.open_gate)
+            loop, rest = asyncio.get_running_loop(), min(REST * took, LONGEST_REST)
+            loop.call_later(rest, self.open_gate)
+        return said
 
     def open_gate(self) -> None:
         """Lets the next round begin, unless one has begun, whose end will do so."""

@@ -11,159 +11,133 @@ import socket
 import struct
 import time
 from collections import Counter
+from contextlib import closing, suppress
 from dataclasses import dataclass, field
 from typing import TYPE_CHECKING, Hashable, Optional
 
 from .book import share_of
-from .log import Problem, log_seldom, problems_at
+from .journal import Problem, log_seldom, problems_at
 
 if TYPE_CHECKING:
     from .service import Service
 
 CLIENTS, FEW = 1024, 64  # a door's, and how many wait to be let in
-ACCEPTED = 16  # clients in a pass of the loop: then others have steps
+ACCEPTED = 16  # clients in a pass of the loop: then others have their turn
+AT_ONCE = 32  # requests of a client
 LONGEST = 960  # bytes of a line
 READ, WRITTEN = 4096, 16384  # bytes at a time
-# Seconds behind an answer that took no work of the book, times a user's connections: all
-# of these get a thousand such answers a second.
-PAUSE = 0.001
+PAUSE = 0.001  # seconds behind an answer without the book's work, times a user's clients
 
 
 class Client:
     """One that sends lines, and gets an answer to each, in any order.
 
-    Little is read at a time, and nothing while answers are unread.
+    A little is read at a time, and a line is taken in a pass of the loop. A request runs until
+    its answer is sent, so nothing is read while many are unread.
     """
 
-    most = 32  # requests that run at once
     no_room = b"* unavailable\n"
-    is_cutting = False  # the rest of a line that is too long
-    has_more = False  # what was read, and not taken
-    is_watched = is_due = is_paused = is_ending = is_gone = False
+    is_watched = is_ending = is_gone = False
+    task: asyncio.Task[None]
 
     def __init__(self, service: Service, door: Door, sock: socket.socket) -> None:
         self.service, self.door, self.socket = service, door, sock
         peer = sock.getsockopt(socket.SOL_SOCKET, socket.SO_PEERCRED, 12)
         self.pid, self.uid, _ = struct.unpack("3i", peer)
         self.user = (door.name, share_of(self.uid, self.pid))  # whose turn it is
-        self.input, self.output = bytearray(), bytearray()  # to be taken, to be sent
         self.running, self.active = 0, time.monotonic()
-        self.file, self.loop = sock.fileno(), asyncio.get_running_loop()
-        sock.setblocking(False)
+        self.answered, self.writing = asyncio.Event(), asyncio.Lock()
+        self.loop = asyncio.get_running_loop()
+        sock.setsockopt(socket.SOL_SOCKET, socket.SO_SNDBUF, WRITTEN)
 
-    def has_request(self) -> bool:
-        return b"\n" in self.input or len(self.input) > LONGEST
-
-    def take_request(self) -> None:
-        """Submits a line; of a long one the beginning, which is refused."""
-        line, end, self.input = self.input.partition(b"\n")
-        if not self.is_cutting:
-            self.service.submit(self, bytes(line))
-        self.is_cutting = not end
-
-    def reply(self, tag: bytes, answer: bytes) -> None:
-        self.write(b"%b %b\n" % (tag, answer))
-
-    def answer(self, tag: bytes, answer: bytes) -> None:
-        self.running -= 1
-        self.reply(tag, answer)
-
-    def refuse(self, tag: bytes, answer: bytes) -> None:
-        """Answers a request with which the book had no work, and pauses."""
-        self.is_paused = True
-        self.reply(tag, answer)
-        self.loop.call_later(PAUSE * self.door.counts[self.user], self.end_pause)
-
-    def end_pause(self) -> None:
-        self.is_paused = False
-        self.go_on()
-
-    def is_full(self) -> bool:
-        return self.running >= self.most or self.is_paused or bool(self.output)
-
-    def go_on(self) -> None:
-        """Takes the next request in its turn, or waits for one, or closes behind the last."""
-        if self.is_gone or self.is_due or self.is_full():
-            return
-        if self.has_request():
-            self.is_due = True
-            self.service.steps.submit(self.user, self, self)
-        elif not self.is_ending:
-            if not self.is_watched:
-                self.is_watched = True
-                self.loop.add_reader(self.file, self.wake)
-        elif not self.running:
-            self.close()
-
-    def step(self) -> None:
-        self.is_due = False
-        try:
-            if not self.is_gone and not self.is_full() and self.has_request():
-                self.take_request()
-            self.go_on()
-        finally:
-            self.service.steps.release(self.user)
-
-    def wake(self) -> None:
-        """Reads a little, unless it has enough."""
-        if self.is_due or self.is_full() or self.is_ending:
-            self.is_watched = False
-            self.loop.remove_reader(self.file)
-        else:
-            self.read()
-            self.go_on()
-
-    def read(self) -> None:
-        """Reads the input; at its end the client still gets its answers, if it can."""
-        try:
-            if more := self.socket.recv(READ):
-                self.input += more
-            else:
-                self.is_ending = True
-                self.socket.send(b"")  # which fails where nobody reads any more
-        except BlockingIOError:
-            return
-        except OSError:
-            self.close()
-
-    def write(self, text: bytes) -> None:
-        """Sends it, and goes on once the client has taken all."""
-        self.output += text
-        if len(self.output) == len(text):
-            self.send()
-
-    def send(self) -> None:
-        """Sends a piece of the output, and the next one once the client takes it."""
-        if not self.output:
-            self.loop.remove_writer(self.file)
-            return
-        try:
-            del self.output[: self.socket.send(self.output[:WRITTEN])]
-        except BlockingIOError:
-            pass
-        except OSError:
-            return self.close()
-        self.active = time.monotonic()
-        if self.output:
-            self.loop.add_writer(self.file, self.send)
-        else:
-            self.go_on()
-
-    def end(self) -> None:
-        """Takes no more requests, and closes once those that run are answered."""
-        self.is_ending, self.has_more = True, False
-        self.input.clear()
-        self.go_on()
+    async def run(self) -> None:
+        """Reads requests, and closes once they are answered, or nobody reads any more."""
+        with closing(self), suppress(OSError):
+            await self.read()
+            self.socket.send(b"")  # which fails where nobody reads
+            await self.has_fewer(1)
+        async with self.writing:  # after whoever waits for the socket
+            self.socket.close()
 
     def close(self) -> None:
-        """Closes the connection at once. Its running requests go on, unanswered."""
-        if not self.is_gone:
-            self.is_gone = True
-            self.loop.remove_reader(self.file)
-            self.loop.remove_writer(self.file)
-            self.socket.close()
-            self.door.clients.discard(self)
-            self.door.counts -= Counter([self.user])
+        self.is_ending = self.is_gone = True
+        self.door.clients.discard(self)
+        self.door.counts -= Counter([self.user])
+        self.loop.remove_reader(self.socket)
+
+    async def read(self) -> None:
+        """Submits each line; of a long one the beginning, which is refused."""
+        text, is_rest = b"", False
+        while more := await self.receive():
+            text += more
+            while b"\n" in text or len(text) > LONGEST:
+                line, end, text = text.partition(b"\n")
+                await (self.pause() if is_rest else self.submit(line))
+                is_rest = not end
+                if text:
+                    await asyncio.sleep(0)  # others have their turn
+
+    async def receive(self) -> bytes:
+        """Some bytes; none at the end. It stays watched: that takes loop.sock_recv's time."""
+        self.received: asyncio.Future[bytes] = self.loop.create_future()
+        if not self.is_watched:
+            self.is_watched = True
+            self.loop.add_reader(self.socket, self.wake)
+        return b"" if self.is_ending else await self.received
+
+    def wake(self) -> None:
+        if self.received.done():  # nobody waits for it
+            self.is_watched = False
+            self.loop.remove_reader(self.socket)
+            return
+        try:
+            self.received.set_result(self.socket.recv(READ))
+        except BlockingIOError:
+            return
+        except OSError as fault:
+            self.received.set_exception(fault)
+
+    async def submit(self, line: bytes) -> None:
+        """Has a line answered, once few enough others run."""
+        await self.has_fewer(AT_ONCE)
+        if self.is_ending:
+            return
+        tag, refusal = self.service.submit(self, line)
+        if refusal:
+            await self.reply(tag, refusal)
+            await self.pause()
+
+    async def has_fewer(self, count: int) -> None:
+        """Returns once fewer requests run."""
+        while self.running >= count:
+            self.answered.clear()
+            await self.answered.wait()
+
+    async def pause(self) -> None:
+        await asyncio.sleep(PAUSE * self.door.counts[self.user])
+
+    async def answer(self, tag: bytes, answer: bytes) -> None:
+        await self.reply(tag, answer)
+        self.running -= 1
+        self.answered.set()
+
+    async def reply(self, tag: bytes, answer: bytes) -> None:
+        await self.write(b"%b %b\n" % (tag, answer))
+
+    async def write(self, text: bytes) -> None:
+        """Sends it in pieces, as the client takes them."""
+        async with self.writing:
+            try:
+                await self.loop.sock_sendall(self.socket, text)
+            except OSError:
+                self.end(socket.SHUT_RDWR)
+        self.active = time.monotonic()
+
+    def end(self, how: int = socket.SHUT_RD) -> None:
+        """Takes no more requests; by SHUT_RDWR those that run aren't answered either."""
+        self.is_ending = True
+        with suppress(OSError):
+            self.socket.shutdown(how)
 
 
 @dataclass(eq=False)
@@ -179,38 +153,35 @@ class Door:
     port: int = 0  # of 127.0.0.1
     gid: int = -1
     listener: Optional[socket.socket] = None  # systemd's, or the server's own
+    accepting: Optional[asyncio.Task[None]] = None
     clients: set[Client] = field(default_factory=set)
     counts: Counter[Hashable] = field(default_factory=Counter)  # clients of each user
 
     def prepare(self) -> None:
-        """Finds systemd's socket, or else takes the lock of its own."""
-        if os.environ.get("LISTEN_PID") != str(os.getpid()):
-            return self.lock()
-        names = os.environ.get("LISTEN_FDNAMES", "").split(":")
-        if self.name not in names:
-            raise Problem(f"systemd handed over no socket with the name {self.name}")
-        it = self.listener = socket.socket(fileno=3 + names.index(self.name))
-        family = socket.AF_INET if self.port else socket.AF_UNIX
-        if (it.type, it.family) != (socket.SOCK_STREAM, family):
-            what = f"the socket {self.name} that systemd handed over"
-            raise Problem(f"{what} is no stream")
-
-    def lock(self) -> None:
-        """Finds the group, and locks the socket for as long as this process lives."""
+        """Finds systemd's socket; or its group, and the lock of its own, to the process's end."""
+        if os.environ.get("LISTEN_PID") == str(os.getpid()):
+            names = os.environ.get("LISTEN_FDNAMES", "").split(":")
+            if self.name not in names:
+                raise Problem(f"systemd handed over no socket with the name {self.name}")
+            it = self.listener = socket.socket(fileno=3 + names.index(self.name))
+            family = socket.AF_INET if self.port else socket.AF_UNIX
+            if (it.type, it.family) != (socket.SOCK_STREAM, family):
+                raise Problem(f"the socket {self.name} that systemd handed over is no stream")
+            return
         try:
             self.gid = -1 if self.group == "-" else grp.getgrnam(self.group).gr_gid
         except KeyError:
             raise Problem(f"there is no group {self.group}, for {self.path}") from None
-        folder, path = os.path.dirname(self.path), f"{self.path}.lock"
         if self.port:
-            return  # which is its server's alone
+            return
+        folder = os.path.dirname(self.path)
         with problems_at(f"{folder}, for a socket"):
             if not os.path.isdir(folder):
                 os.mkdir(folder)
                 os.chmod(folder, 0o755)
-        it = os.open(path, os.O_RDWR | os.O_CREAT, 0o600)
+        lock = os.open(f"{self.path}.lock", os.O_RDWR | os.O_CREAT, 0o600)
         try:
-            fcntl.flock(it, fcntl.LOCK_EX | fcntl.LOCK_NB)
+            fcntl.flock(lock, fcntl.LOCK_EX | fcntl.LOCK_NB)
         except BlockingIOError:
             raise Problem(f"another server has {self.path}") from None
 
@@ -229,50 +200,47 @@ class Door:
         return made
 
     def open(self, service: Service) -> None:
-        """Lets clients in. At the server's end the path stays: it may be systemd's."""
         with problems_at(self.path):
             self.listener = self.listener or self.bound()
             self.listener.setblocking(False)
             self.listener.listen(CLIENTS)
-        self.watch(service)
+        self.accepting = asyncio.ensure_future(self.accept(service, self.listener))
 
-    def watch(self, service: Service) -> None:
-        if it := self.listener:
-            asyncio.get_running_loop().add_reader(it, self.accept, it, service)
+    async def accept(self, service: Service, listener: socket.socket) -> None:
+        """Lets clients in; while they have gone as they come, few may wait before the others."""
+        while True:
+            try:
+                for _ in range(ACCEPTED):
+                    sock, _address = await asyncio.get_running_loop().sock_accept(listener)
+                    listener.listen(CLIENTS if self.let_in(service, sock) else FEW)
+                await asyncio.sleep(0)
+            except OSError:  # no descriptor is free
+                await asyncio.sleep(0.1)
 
-    def close(self) -> None:
-        if it := self.listener:
-            asyncio.get_running_loop().remove_reader(it)
-            it.close()
-            self.listener = None
+    def let_in(self, service: Service, sock: socket.socket) -> bool:
+        """A user has at most half of the places that others leave; false if it has gone."""
+        with suppress(OSError):  # if nothing has come
+            if not sock.recv(1, socket.MSG_PEEK):
+                sock.close()
+                return False
+        client = self.client(service, self, sock)
+        own = self.counts[client.user]
+        if own + len(self.clients) < CLIENTS - 1:
+            self.clients.add(client)
+            self.counts[client.user] += 1
+            client.task = asyncio.ensure_future(client.run())
+            return True
+        with suppress(OSError):
+            sock.send(client.no_room)
+        sock.close()
+        text = "no more connections at %s for %s, which has %d"
+        log_seldom(client.user, text, *client.user, own)
+        service.tally.counts["refused"] += 1
+        return True
 
-    def accept(self, listening: socket.socket, service: Service) -> None:
-        gone = 0
-        try:
-            for _ in range(ACCEPTED):
-                client = self.client(service, self, listening.accept()[0])
-                self.let_in(client)
-                gone += client.is_gone
-        except (BlockingIOError, ConnectionAbortedError):
-            gone = 0
-        except OSError:  # no descriptor is free
-            loop = asyncio.get_running_loop()
-            loop.remove_reader(listening)
-            loop.call_later(0.1, self.watch, service)
-        # Where most have gone, one who comes isn't to wait behind a thousand of these.
-        listening.listen(FEW if gone > ACCEPTED / 2 else CLIENTS)
-
-    def let_in(self, client: Client) -> None:
-        """A user has at most half of the places that others leave."""
-        own, is_ending = self.counts[client.user], client.service.is_ending
-        self.clients.add(client)
-        self.counts[client.user] += 1
-        if own + len(self.clients) < CLIENTS and not is_ending:
-            client.read()  # it may have gone already
-            return client.go_on()
-        client.write(client.no_room)
-        client.close()
-        if not is_ending:
-            text = "no more connections at %s for %s, which has %d"
-            log_seldom(client.user, text, *client.user, own)
-            client.service.tally.counts["refused"] += 1
+    def end(self) -> None:
+        """Lets nobody in any more. The path stays: the socket may be systemd's."""
+        if self.accepting and self.listener:
+            self.accepting.cancel()
+            asyncio.get_running_loop().remove_reader(self.listener)
+            self.listener.close()

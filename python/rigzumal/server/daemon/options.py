@@ -11,7 +11,7 @@ from functools import partial
 from typing import Any, NoReturn
 
 from .clients import Door
-from .log import Problem
+from .journal import Problem
 
 VERSION = "0.2.0"
 BOOKS, SOCKETS = pathlib.Path("/var/lib/rigzumal"), pathlib.Path("/run/rigzumal")
@@ -29,6 +29,7 @@ class Kind:
     tries: bool = False  # it takes the present password, so it may be a guess
     wrong: bytes = b"wrong"  # the answer to a wrong password
     new: int = 0  # which field is a new password, if any
+    is_own: bool = False  # it is answered by the server, and not by the book
 
 
 KINDS = {
@@ -40,9 +41,8 @@ KINDS = {
     "rename": Kind(changes=True, names=2),
     "known show": Kind(),
     "list": Kind(names=0),
-    # These are answered by the server, and not by the book.
-    "stats waits locks": Kind(names=0),
-    "forgive last": Kind(),
+    "stats waits locks": Kind(names=0, is_own=True),
+    "forgive last": Kind(is_own=True),
 }
 OPERATIONS = {word.encode(): it for key, it in KINDS.items() for word in key.split()}
 
@@ -64,15 +64,13 @@ def costs(word: str) -> str:
     return word
 
 
-def option(text: str, metavar: str, default: object = "", kind: object = None) -> Any:
+def option(text: str, metavar: str = "", default: object = "", kind: object = 0) -> Any:
+    """A field of Options that the command line sets; a flag if it has no value."""
+    if not metavar:
+        return field(default=False, metadata={"help": text, "action": "store_true"})
     text += f" ({default})" if default != "" else ""
     kind = kind or (str if default == "" else number)
-    shown = {"help": text, "metavar": metavar, "type": kind}
-    return field(default=default, metadata=shown)
-
-
-def flag(text: str) -> Any:
-    return field(default=False, metadata={"help": text, "action": "store_true"})
+    return field(default=default, metadata={"help": text, "metavar": metavar, "type": kind})
 
 
 @dataclass
@@ -87,7 +85,7 @@ class Options:
     uid_tries: int = option("the same for each person's uid, over all names", "N", 0)
     idle: int = option("until an idle client is closed", "SECONDS", 600)
     audit: str = option("append a JSON line to this file for each change", "LOG")
-    audit_tries: bool = flag("log failed tries too")
+    audit_tries: bool = option("log failed tries too")
     metrics: str = option("print the counts of an admin socket's server", "SOCKET")
     foreign: str = option("an old file, whose users move into the book", "HTPASSWD")
     upgrade: str = option("new costs, to which a verify upgrades", "COSTS", "", costs)
@@ -99,8 +97,8 @@ class Options:
     most_work: str = option("for credkeep: the bound of memory times passes", "N")
     wait: int = option("for credkeep: the wait for FILE", "SECONDS", 30, seconds)
     credkeep: str = option("another program than credkeep", "PROGRAM", "credkeep", str)
-    mail_names: bool = flag("names may be e-mail addresses")
-    fold_local_part: bool = flag("fold the part before the @ too")
+    mail_names: bool = option("names may be e-mail addresses")
+    fold_local_part: bool = option("fold the part before the @ too")
 
     def workers(self) -> int:
         """The lines that the book hashes at once: one more, for another user."""
@@ -120,26 +118,6 @@ class Parser(argparse.ArgumentParser):
         raise Problem(f"{message}; --help shows all options")
 
 
-def parser() -> Parser:
-    made = Parser(
-        usage="credkeep-server [OPTION].. FILE",
-        description="Lets many clients of Unix sockets ask the kept book FILE.",
-        epilog="credkeep-server(8) tells more.",
-    )
-    text = "the book, which `credkeep FILE init` makes"
-    made.add_argument("file", metavar="FILE", nargs="?", default="", help=text)
-    made.add_argument(
-        "--version", action="version", version=f"credkeep-server {VERSION}"
-    )
-    words = ("NAME", "PATH", "MODE", "GROUP", "OPERATIONS")
-    text = "a socket in place of the login and the admin socket; for each one"
-    made.add_argument("--socket", nargs=5, action="append", metavar=words, help=text)
-    for it in fields(Options):
-        if it.metadata:
-            made.add_argument("--" + it.name.replace("_", "-"), **it.metadata)
-    return made
-
-
 def folder_of(file: str) -> pathlib.Path:
     path = pathlib.Path(os.path.abspath(file)).with_suffix("")
     return SOCKETS / (path.name if path.parent == BOOKS else "-".join(path.parts[1:]))
@@ -147,32 +125,31 @@ def folder_of(file: str) -> pathlib.Path:
 
 def door(name: str, path: str, mode: str, group: str, operations: str) -> Door:
     if not re.fullmatch("0?[0-7]{3}", mode):
-        text = f"the mode of the socket {name} is octal, such as 0660, not {mode!r}"
-        raise Problem(text)
+        raise Problem(f"the mode of the socket {name} is octal, such as 0660, not {mode!r}")
     if len(os.fsencode(path)) > LONGEST_PATH:
         raise Problem(f"{path}: a socket's path has up to {LONGEST_PATH} bytes")
-    words = os.fsencode(operations).split(b",")
-    allowed = frozenset(OPERATIONS if operations == "all" else words)
-    for word in allowed - OPERATIONS.keys():
-        known = ", ".join(it.decode() for it in OPERATIONS)
-        text = f"{word.decode(errors='replace')!r} is no operation"
-        raise Problem(f"the socket {name}: {text}; write all, or some of {known}")
+    allowed = frozenset(OPERATIONS if operations == "all" else os.fsencode(operations).split(b","))
+    if unknown := allowed - OPERATIONS.keys():
+        word, known = os.fsdecode(min(unknown)), ", ".join(map(os.fsdecode, OPERATIONS))
+        text = f"{word!r} is no operation; write all, or some of {known}"
+        raise Problem(f"the socket {name}: {text}")
     return Door(name, os.path.abspath(path), int(mode, 8), group, allowed)
 
 
-def web_door(address: str, first: Door) -> Door:
-    """The door of --http, whose mode and group are those of the first socket."""
-    loopback = re.fullmatch(r"127\.0\.0\.1:([1-9][0-9]{0,4})", address)
-    port = int(loopback[1]) if loopback else 0
-    if port > 65535 or not (port or "/" in address):
-        text = f"--http takes the path of a socket or 127.0.0.1:PORT, not {address!r}"
-        raise Problem(text)
-    try:
-        from .web import WebClient
-    except ImportError:
-        raise Problem("--http needs python3-h11") from None
-    path, takes = address if port else os.path.abspath(address), frozenset([b"verify"])
-    return Door("http", path, first.mode, first.group, takes, WebClient, port)
+def parser() -> Parser:
+    text = "Lets many clients of Unix sockets ask the kept book FILE."
+    made = Parser(usage="credkeep-server [OPTION].. FILE", description=text)
+    made.epilog = "credkeep-server(8) tells more."
+    text = "the book, which `credkeep FILE init` makes"
+    made.add_argument("file", metavar="FILE", nargs="?", default="", help=text)
+    made.add_argument("--version", action="version", version=f"credkeep-server {VERSION}")
+    words = ("NAME", "PATH", "MODE", "GROUP", "OPERATIONS")
+    text = "a socket in place of the login and the admin socket; for each one"
+    made.add_argument("--socket", nargs=5, action="append", metavar=words, help=text)
+    for it in fields(Options):
+        if it.metadata:
+            made.add_argument("--" + it.name.replace("_", "-"), **it.metadata)
+    return made
 
 
 def parse(words: Sequence[str]) -> Options:
@@ -189,8 +166,17 @@ def parse(words: Sequence[str]) -> Options:
         ["admin", f"{folder}/admin.sock", "0600", "-", "all"],
     ]
     options.doors = [door(*it) for it in given]
-    if options.http:
-        options.doors.append(web_door(options.http, options.doors[0]))
+    if address := options.http:
+        from .web import WebClient  # which needs h11
+
+        loopback = re.fullmatch(r"127\.0\.0\.1:([1-9][0-9]{0,4})", address)
+        port = int(loopback[1]) if loopback else 0
+        if port > 65535 or not (port or "/" in address):
+            raise Problem(f"--http takes the path of a socket or 127.0.0.1:PORT, not {address!r}")
+        _, _, mode, group, _ = given[0]
+        web = door("http", address, mode, group, "verify")
+        web.client, web.port, web.path = WebClient, port, address if port else web.path
+        options.doors.append(web)
     named = Counter(word for it in options.doors for word in (it.name, it.path))
     if twice := [word for word, count in named.items() if count > 1]:
         raise Problem(f"two sockets are called {twice[0]}")

@@ -1,32 +1,33 @@
-"""Clients' lines to the book, and its answers to them."""
-
-from __future__ import annotations
+"""Clients' lines to the book, its answers to them, and the names that are locked."""
 
 import asyncio
 import base64
 import hashlib
+import json
 import random
 import re
 import time
 from collections import deque
 from dataclasses import dataclass, field, replace
 from functools import partial
+from typing import Any
 
 from .book import UNAVAILABLE, Book, Places, Rounds, decoded
 from .clients import LONGEST, Client
-from .journal import Audit, Locks
-from .log import Problem, log_seldom
+from .journal import UNDOES, Journal, Marks, log_seldom, utc
 from .options import OPERATIONS, Kind, Options
-from .tries import LATER, PEOPLE, Tally
+from .tries import LATER, TRIED, Tally
 
 TAG = re.compile(rb"[a-z0-9]{1,20}")
-LONG = b"bad 16 long"
-# What `known` says where `show` has no record.
-KNOWN = {b"none": b"absent", b"bad 5 noaccount": b"noaccount"}
+LONG, NONE = b"bad 16 long", b"bad 5 noaccount"
+KNOWN = {b"none": b"absent", NONE: b"noaccount"}  # what `known` says to these of `show`
 HASHED_ANEW = (b"absent", b"noaccount")  # took a hash of the costs of new records
-STEPS = 8  # places for connections that send a line, in a pass of the loop
-LOOKS, CHANGES = 16, 128  # for lines that change nothing, and for quick changes
+LOOKS, CHANGES = 16, 128  # places for lines that change nothing, and for quick changes
 SYNC = 0.01  # seconds that a change waits for the disk, more or less
+REFUSED = (b"noaccount", b"bad ", LATER)  # changes nothing; a name may be a password
+PEOPLE = range(1000, 60001)  # uids whose failed tries count: a service logs in many
+# What an administrator marks a name by, and the answer.
+MARKS = {b"lock": b"locked", b"unlock": b"unlocked", b"expire": b"expired"}
 
 
 @dataclass(eq=False)
@@ -36,18 +37,12 @@ class Request:
     client: Client
     tag: bytes
     words: list[bytes]  # the operation and its fields
-    places: Places[Request]
+    places: Places
     came: float = field(default_factory=time.monotonic)
 
     @property
     def kind(self) -> Kind:
         return OPERATIONS[self.words[0]]
-
-    @property
-    def keys(self) -> list[str]:
-        """At what a failed try counts: the name, and the user if it is a person."""
-        name, uid = self.words[1].decode(errors="replace"), self.client.uid
-        return [name, f"uid {uid}"] if uid in PEOPLE else [name]
 
 
 class Service:
@@ -55,39 +50,36 @@ class Service:
 
     def __init__(self, options: Options) -> None:
         self.options, self.book, self.tally = options, Book(), Tally(options)
-        self.steps = Places[Client](STEPS, lambda it: it.loop.call_soon(it.step))
         self.hashes = Places(options.workers(), self.dispatch)
         self.changes = Places(CHANGES, self.dispatch)
         self.looks = Places(LOOKS, self.dispatch)
         self.logins, self.rounds = 0, Rounds(lambda: self.logins > 0)
         self.hash_seconds = 1.0  # what a hash takes if nothing else waits
         self.login_seconds = deque[float](maxlen=16)  # what the last logins took
-        self.tasks, self.is_ending = set[asyncio.Task[None]](), False
+        self.tasks = set[asyncio.Task[None]]()
+        self.audit = Journal(options.audit)
+        if options.audit:
+            self.audit.append(b"")  # which fails now if it can't be written
         self.upgrading = asyncio.Lock()
-        self.audit = Audit(options.audit, options.audit_tries)
         self.answer = self.ask  # or an old file's, where the book lacks the name
         if options.foreign:
-            try:
-                from .foreign import Foreign
-            except ImportError:
-                raise Problem("--foreign needs python3-passlib") from None
+            from .foreign import Foreign  # which needs passlib
+
             self.answer = Foreign(self, options.foreign).answer
         self.locks = Locks(self)
-        self.tally.own[b"locks"] = self.locks.shown
 
     def clients(self) -> list[Client]:
         return [client for door in self.options.doors for client in door.clients]
 
-    def submit(self, client: Client, line: bytes) -> None:
-        """Has a line answered, now or once it had a place."""
+    def submit(self, client: Client, line: bytes) -> tuple[bytes, bytes]:
+        """Has a line answered once it had a place, or returns its tag and an answer."""
         tag, *words = line.split(b" ")
         is_tag, is_long = TAG.fullmatch(tag), len(line) > LONGEST
         if is_long or not is_tag:
-            answer = LONG if is_long else b"bad 11 line"
-            return client.refuse(tag if is_tag else b"*", answer)
+            return tag if is_tag else b"*", LONG if is_long else b"bad 11 line"
         words += [b"", b""][len(words) :]  # an operation, and one field at least
         if answer := self.own_answer(client, words):
-            return client.refuse(tag, answer)
+            return tag, answer
         client.running += 1
         kind = OPERATIONS[words[0]]
         is_quick = kind.changes and self.hash_seconds <= SYNC
@@ -95,12 +87,12 @@ class Service:
         places = self.changes if kind.changes else self.looks
         places = self.hashes if kind.hashes and not is_quick else places
         places.submit(client.user, client, Request(client, tag, words, places))
+        return tag, b""
 
     def own_answer(self, client: Client, words: list[bytes]) -> bytes:
         """The server's answer to a line that the book needn't be asked for, or nothing."""
         if words[0] not in client.door.operations:
-            is_known = words[0] in OPERATIONS
-            what = words[0].decode() if is_known else "an unknown operation"
+            what = words[0].decode() if words[0] in OPERATIONS else "an unknown operation"
             values = (client.door.name, client.uid, what)
             log_seldom(values, "denied at %s to uid %d: %s", *values)
             self.tally.counts["denied"] += 1
@@ -110,14 +102,14 @@ class Service:
         words[names] = map(self.in_book, words[names])
         if sum(map(len, words)) + len(words) > LONGEST:  # with names that became longer
             return LONG
-        if own := self.tally.own.get(words[0]):
-            return own(words[1].decode(errors="replace")).encode()
-        for typed in words[kind.new : kind.new + 1] if kind.new else ():
-            password = decoded(typed)  # if it is none, the book refuses it
-            letters = (password or b"").decode(errors="surrogateescape")
-            if password is not None and len(letters) < self.options.least_length:
-                return b"short"
-        return b""
+        if words[0] == b"locks":
+            return self.locks.shown().encode()
+        if kind.is_own:
+            return self.tally.answer(words[0], words[1].decode(errors="replace")).encode()
+        password = decoded(words[kind.new]) if 0 < kind.new < len(words) else None
+        letters = (password or b"").decode(errors="surrogateescape")
+        is_short = password is not None and len(letters) < self.options.least_length
+        return b"short" if is_short else b""  # the book refuses what is no password
 
     def in_book(self, name: bytes) -> bytes:
         """The book's form of a name; "@", which is no name, for a refused one."""
@@ -139,13 +131,15 @@ class Service:
 
     async def process(self, request: Request) -> None:
         """Has a request answered, unless its client has gone and it changes nothing."""
-        client, kind, keys, answer = request.client, request.kind, request.keys, b""
+        client, kind, answer = request.client, request.kind, b""
+        # At what a failed try counts: the name, and the user if it is a person.
+        keys = [request.words[1].decode(errors="replace"), f"uid {client.uid}"]
+        keys = keys if client.uid in PEOPLE else keys[:1]
         self.tally.waited += time.monotonic() - request.came
         try:
             if kind.changes or not client.is_gone:
-                ask = partial(self.locks.answer, request)
-                tries = keys if kind.tries else []
-                answer = await self.tally.limiter.judge(ask, *tries)
+                answering = partial(self.locks.answer, request)
+                answer = await self.tally.limiter.judge(answering, *(keys if kind.tries else ()))
         finally:
             request.places.release(client.user)
         is_shown = request.words[0] == b"disable" and b":" in answer  # with its record
@@ -153,13 +147,10 @@ class Service:
         self.tally.count(kind, keys, noted.decode())
         if answer == LATER:
             # After the time of a hash: names that the book lacks take that too.
-            seconds = random.choice(self.login_seconds or [self.hash_seconds])
-            await asyncio.sleep(seconds)
-        if kind.changes and not await self.audit.record(request, noted):
+            await asyncio.sleep(random.choice(self.login_seconds or [self.hash_seconds]))
+        if not await self.note(request, noted) and kind.changes:
             answer = UNAVAILABLE  # nobody says that a change was made that isn't noted
-        client.answer(request.tag, answer)
-        if not kind.changes:
-            await self.audit.record(request, answer)
+        await client.answer(request.tag, answer)
         if answer == b"yes" and self.options.upgrade and request.words[0] == b"verify":
             await self.upgrade(request)
 
@@ -170,12 +161,10 @@ class Service:
             return b"yes" if answer[:1] == b"$" else KNOWN.get(answer, answer)
         if request.kind.tries and not request.kind.changes:
             return await self.log_in(*request.words)
+        asking = partial(self.book.ask, *request.words)
         if request.places is not self.changes:
-            return await self.book.ask(*request.words)
-        await self.rounds.begin(is_alone=not request.kind.hashes)
-        answer = await self.book.ask(*request.words)
-        self.rounds.end()
-        return answer
+            return await asking()
+        return await self.rounds.change(asking, is_alone=not request.kind.hashes)
 
     async def log_in(self, *words: bytes) -> bytes:
         """The answer to a login; the quickest tells the time of a hash of new costs."""
@@ -193,8 +182,23 @@ class Service:
     async def ask_besides(self, request: Request, *words: bytes) -> bytes:
         """The book's answer to a further line of a request, which is audited too."""
         answer = await self.book.ask(*words)
-        await self.audit.record(replace(request, words=list(words)), answer)
+        await self.note(replace(request, words=list(words)), answer)
         return answer
+
+    async def note(self, request: Request, answer: bytes) -> bool:
+        """Adds an answered change or a right password to the audit log; false if it can't."""
+        is_refused, kind = answer.startswith(REFUSED), request.kind
+        tried = TRIED.get(answer.decode()) if kind.tries else None
+        is_noted = tried == "yes" or tried and self.options.audit_tries
+        if not self.audit.path or not (is_noted or kind.changes and not is_refused):
+            return True
+        client, (operation, *fields) = request.client, request.words
+        entry: dict[str, Any] = {"time": utc(), "door": client.door.name}
+        entry.update(uid=client.uid, pid=client.pid, operation=operation.decode())
+        for key, name in zip(("name", "new_name"), fields[: kind.names]):
+            entry[key] = None if is_refused else name.decode(errors="replace")
+        entry["answer"] = answer.decode()
+        return await self.audit.add(json.dumps(entry).encode())
 
     async def upgrade(self, request: Request) -> None:
         """Upgrades a record of other costs, after its password was right; one at a time."""
@@ -203,7 +207,67 @@ class Service:
         async with self.upgrading:
             name, password = request.words[1:3]
             record = await self.book.ask(b"show", name)
-            costs = f"{self.options.upgrade}$".encode()
-            if record[:1] == b"$" and not record.startswith(costs):
+            if record[:1] == b"$" and not record.startswith(f"{self.options.upgrade}$".encode()):
                 answer = await self.ask_besides(request, b"upgrade", name, password)
                 self.tally.counts["upgraded"] += answer == b"upgraded"
+
+
+class Locks(Marks):
+    """The marks of names, in a file beside the book, which has their records."""
+
+    def __init__(self, service: Service) -> None:
+        super().__init__(f"{service.options.file}-locks")
+        self.service = service
+
+    def shown(self) -> str:
+        said = [f"{name.decode()}:{MARKS[it].decode()}" for name, it in sorted(self.pairs)]
+        return " ".join(["locks", *said])
+
+    async def answer(self, request: Request) -> bytes:
+        """The answer to a request: a wrong password's for a locked name."""
+        operation, name = request.words[:2]
+        if operation in MARKS:
+            return await self.mark(request)
+        if operation == b"rename":
+            return await self.rename(request)
+        is_locked, asked = self.has(name, b"lock"), request
+        if is_locked and request.kind.tries:
+            # As long as a wrong password takes, and nothing is changed.
+            asked = replace(request, words=[b"verify", *request.words[1:3]])
+        answer = await self.service.answer(asked)
+        if answer in (b"yes", b"no") and (is_locked or self.has(name, b"lock")):
+            return b"absent" if operation == b"known" else request.kind.wrong
+        if answer == b"yes" and self.has(name, b"expire"):
+            return b"expired"
+        if answer in (b"replaced", b"enrolled") and self.has(name, b"expire"):
+            return answer if await self.put(name, b"renew") else UNAVAILABLE
+        if answer == b"deleted":
+            await self.clear(name)
+        return answer
+
+    async def mark(self, request: Request) -> bytes:
+        """Locks, unlocks or expires a name that the book or an old file has."""
+        mark, name = request.words[:2]
+        if mark == b"unlock" and not self.has(name, b"lock"):
+            return b"none"
+        answer = await self.service.answer(replace(request, words=[b"known", name]))
+        if answer not in (b"yes", b"absent"):
+            return answer
+        return MARKS[mark] if await self.put(name, mark) else UNAVAILABLE
+
+    async def rename(self, request: Request) -> bytes:
+        """Renames an account; the new name has its marks before it has the record."""
+        name, new = request.words[1], request.words[-1]
+        is_free = await self.service.book.ask(b"show", new) == NONE
+        for mark in UNDOES.values():
+            if is_free and self.has(name, mark) and not await self.put(new, mark):
+                return UNAVAILABLE
+        answer = await self.service.answer(request)
+        if is_free:
+            await self.clear(name if answer == b"renamed" else new)
+        return answer
+
+    async def clear(self, name: bytes) -> None:
+        for undo, mark in UNDOES.items():
+            if self.has(name, mark):
+                await self.put(name, undo)

@@ -1,4 +1,4 @@
-"""Failed tries and how long the next has to wait, and what else was answered."""
+"""Failed tries and how long the next has to wait, and what is counted."""
 
 import asyncio
 import re
@@ -8,13 +8,12 @@ from collections import Counter, OrderedDict
 from collections.abc import Awaitable, Callable, Iterator, Sequence
 from dataclasses import dataclass
 
-from .log import Problem, log, log_seldom, problems_at, utc
+from .journal import Problem, log, log_seldom, problems_at, utc
 from .options import Kind, Options, folder_of
 
 LATER = b"later"  # for this try it is too early
 REMEMBERED = 65536  # names and users
 LONGEST_WAIT, FORGOTTEN = 900.0, 3600.0  # seconds
-PEOPLE = range(1000, 60001)  # uids whose failed tries count: a service logs in many
 MOST_SHOWN, LONGEST_STATS = 1000, 4096  # names in an answer, letters of one
 # What the answers to a try are counted as.
 TRIED = dict.fromkeys("yes expired replaced upgraded kept removed".split(), "yes")
@@ -46,9 +45,9 @@ class Tries:
 class Limiter:
     """Failed tries at each of many names, and of each of many users: "uid 1000".
 
-    From `most` on, each failed try doubles the wait for the next. No more tries run at
-    once than may fail until then. The memory is bounded: expired tries go first, then
-    the keys that needn't wait, the oldest first.
+    From `most` on, each failed try doubles the wait for the next. No more tries run at once than
+    may fail until then. The memory is bounded: expired tries go first, then the keys that needn't
+    wait, the oldest first.
     """
 
     def __init__(self, most: int, most_of_user: int = 0) -> None:
@@ -135,16 +134,13 @@ class Limiter:
 
 
 class Tally:
-    """The answers of a server since its start."""
+    """The answers of a server since its start, counted."""
 
     def __init__(self, options: Options) -> None:
         self.limiter = Limiter(options.tries, options.uid_tries)
         self.book, self.doors = folder_of(options.file).name, options.doors
         self.counts, self.waited = Counter[str](), 0.0
         self.logins = OrderedDict[str, float]()
-        # What an administrator asks the server itself for.
-        self.own = {b"stats": self.stats, b"waits": self.waits, b"last": self.last}
-        self.own[b"forgive"] = self.forgive
 
     def count(self, kind: Kind, keys: Sequence[str], answer: str) -> None:
         """Counts an answer, and the failed try that it may be, at its name and its user."""
@@ -171,24 +167,23 @@ class Tally:
             for key in {"yes": (), "noaccount": users}.get(tried, keys):
                 self.limiter.fail(key)
 
-    def stats(self, _: str) -> str:
+    def stats(self) -> str:
         now: dict[str, object] = {**self.counts, "waited": f"{self.waited:.3f}"}
         now["clients"] = sum(len(door.clients) for door in self.doors)
         now["waits"] = sum("=" not in it for it in self.limiter.waits())
         now["book"] = re.sub("[^A-Za-z0-9_.-]", "_", self.book)
         return " ".join(["stats", *(f"{it}={now.get(it, 0)}" for it in COUNTED)])
 
-    def waits(self, _: str) -> str:
-        return " ".join(["waits", *[*self.limiter.waits()][:MOST_SHOWN]])
-
-    def forgive(self, name: str) -> str:
-        key = name.replace("uid=", "uid ", 1)
-        is_found = self.limiter.forgive(key, "an administrator forgave it")
-        return "forgiven" if is_found else "none"
-
-    def last(self, name: str) -> str:
-        """The time of the last right password, since this server's start."""
-        return f"last {utc(self.logins[name])}" if name in self.logins else "none"
+    def answer(self, operation: bytes, name: str) -> str:
+        """What the server itself knows; `last` is the time of a right password."""
+        if operation == b"waits":
+            return " ".join(["waits", *[*self.limiter.waits()][:MOST_SHOWN]])
+        if operation == b"forgive":
+            key, why = name.replace("uid=", "uid ", 1), "an administrator forgave it"
+            return "forgiven" if self.limiter.forgive(key, why) else "none"
+        if operation == b"last":
+            return f"last {utc(self.logins[name])}" if name in self.logins else "none"
+        return self.stats()
 
 
 def metrics(path: str) -> str:
@@ -198,17 +193,15 @@ def metrics(path: str) -> str:
         it.connect(path)
         it.sendall(b"1 stats\n")
         answer = it.makefile(errors="replace").readline(LONGEST_STATS)
-    head, *words = answer.split(" ")[1:] or [""]
-    pairs = [word.strip().partition("=") for word in words]
-    values = {key: value for key, _, value in pairs if re.fullmatch(r"[\w.-]+", value)}
-    if head != "stats" or values.keys() != set(COUNTED):
+    found = dict(re.findall(r" (\w+)=([\w.-]+)", answer))
+    if found.keys() != set(COUNTED):
         raise Problem(f"{path}: its clients may not ask for stats")
     lines = list[str]()
     for name, (counts, said) in METRICS.items():
         kind = "counter" if name.endswith("_total") else "gauge"
         lines += [f"# HELP credkeep_{name} {said}", f"# TYPE credkeep_{name} {kind}"]
         for count in counts.split():
-            label = f'book="{values["book"]}"'
-            label += f',answer="{count}"' if " " in counts else ""
-            lines.append(f"credkeep_{name}{{{label}}} {values[count]}")
-    return "\n".join(lines) + "\n"
+            label = f',answer="{count}"' if " " in counts else ""
+            label = f'book="{found["book"]}"{label}'
+            lines.append(f"credkeep_{name}{{{label}}} {found[count]}")
+    return "\n".join([*lines, ""])

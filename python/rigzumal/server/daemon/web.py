@@ -20,6 +20,7 @@ HEADERS = {
     405: [("Allow", "GET, HEAD")],
 }
 BASIC = re.compile(rb"basic +([A-Za-z0-9+/]+={0,2})", re.I)
+METHODS = (b"GET", b"HEAD")
 NAME = re.compile(rb"[!-~\x80-\xff]+")
 
 
@@ -38,46 +39,37 @@ def credentials(headers: Sequence[tuple[bytes, bytes]]) -> Optional[bytes]:
 
 
 class WebClient(Client):
-    """One that sends requests. It gets the answer to each before the next is read."""
+    """One that sends requests. It gets the answer to each before the next is taken."""
 
-    most = 1
     no_room = b"HTTP/1.1 503 Service Unavailable\r\nContent-Length: 0\r\nConnection: close\r\n\r\n"
-    name = b""
 
     def __init__(self, *words: Any) -> None:
         super().__init__(*words)
         self.http: Any = h11.Connection(h11.SERVER, max_incomplete_event_size=MOST_HEAD)
 
-    def has_request(self) -> bool:
-        return bool(self.input) or self.has_more
-
-    def take_request(self) -> None:
-        if self.input:
-            self.http.receive_data(bytes(self.input))
-            self.input.clear()
+    async def read(self) -> None:
         try:
-            request = self.http.next_event()
-            self.has_more = isinstance(request, h11.Request)
-            if not self.has_more:
-                return
-            has_body = not isinstance(self.http.next_event(), h11.EndOfMessage)
+            while more := await self.receive():
+                self.http.receive_data(more)
+                while isinstance(request := self.http.next_event(), h11.Request):
+                    is_whole = isinstance(self.http.next_event(), h11.EndOfMessage)
+                    await self.take(request, is_whole)
+                    await self.has_fewer(1)
         except h11.RemoteProtocolError as fault:
-            return self.respond(fault.error_status_hint)
-        fields = credentials(request.headers)
-        if has_body:
-            self.respond(413)
-        elif request.method not in (b"GET", b"HEAD"):
-            self.respond(405)
-        elif fields is None:
-            self.respond(401)
-        else:
+            await self.respond(fault.error_status_hint)
+
+    async def take(self, request: Any, is_whole: bool) -> None:
+        fields, is_read = credentials(request.headers), request.method in METHODS
+        if fields and is_whole and is_read:
             self.name = fields.split(b" ")[0]
-            self.service.submit(self, b"1 verify " + fields)
+            return await self.submit(b"1 verify " + fields)
+        await self.respond(413 if not is_whole else 401 if is_read else 405)
+        await self.pause()
 
-    def reply(self, tag: bytes, answer: bytes) -> None:
-        self.respond(401 if answer.startswith(NOBODY) else STATUSES.get(answer, 503))
+    async def reply(self, tag: bytes, answer: bytes) -> None:
+        await self.respond(401 if answer.startswith(NOBODY) else STATUSES.get(answer, 503))
 
-    def respond(self, status: int) -> None:
+    async def respond(self, status: int) -> None:
         """Sends a status, and goes on with the next request if there may be one."""
         headers = [("Content-Length", "0"), *HEADERS.get(status, ())]
         if status == 429:
@@ -85,9 +77,8 @@ class WebClient(Client):
             seconds = self.service.tally.limiter.rest(name, f"uid {self.uid}")
             headers.append(("Retry-After", str(max(1, math.ceil(seconds)))))
         head = h11.Response(status_code=status, headers=headers)
-        self.write(self.http.send(head) + self.http.send(h11.EndOfMessage()))
+        await self.write(self.http.send(head) + self.http.send(h11.EndOfMessage()))
         if self.http.our_state is self.http.their_state is h11.DONE:
             self.http.start_next_cycle()
-            self.go_on()
         else:
             self.end()
