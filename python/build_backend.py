@@ -33,9 +33,7 @@ def version() -> str:
 
 def field(name: str) -> str:
     """What pyproject.toml says of the project under this name."""
-    found = re.search(
-        rf'^{name} = "(.*)"', (HERE / "pyproject.toml").read_text(), re.MULTILINE
-    )
+    found = re.search(rf'^{name} = "(.*)"', (HERE / "pyproject.toml").read_text(), re.MULTILINE)
     if found is None:
         sys.exit(f"pyproject.toml has no {name}")
     return found[1]
@@ -94,9 +92,7 @@ def package() -> dict[str, bytes]:
 
 def line_of(name: str, data: bytes) -> str:
     """A file's line in RECORD."""
-    digest = (
-        base64.urlsafe_b64encode(hashlib.sha256(data).digest()).decode().rstrip("=")
-    )
+    digest = base64.urlsafe_b64encode(hashlib.sha256(data).digest()).decode().rstrip("=")
     return f"{name},sha256={digest},{len(data)}\n"
 
 
@@ -107,9 +103,7 @@ def write_wheel(directory: str, held: dict[str, bytes]) -> str:
     record = "".join(line_of(name, data) for name, data in files.items())
     files[f"{folder}/RECORD"] = (record + f"{folder}/RECORD,,\n").encode()
     name = f"rigzumal-{version()}-{tag()}.whl"
-    with zipfile.ZipFile(
-        pathlib.Path(directory) / name, "w", zipfile.ZIP_DEFLATED
-    ) as archive:
+    with zipfile.ZipFile(pathlib.Path(directory) / name, "w", zipfile.ZIP_DEFLATED) as archive:
         for path, data in files.items():
             entry = zipfile.ZipInfo(path)  # of 1980, so that one tree makes one wheel
             entry.external_attr = 0o644 << 16
@@ -139,9 +133,7 @@ def build_editable(
     return write_wheel(wheel_directory, {"rigzumal.pth": f"{HERE}\n".encode()})
 
 
-def build_sdist(
-    sdist_directory: str, config_settings: Optional[dict[str, Any]] = None
-) -> str:
+def build_sdist(sdist_directory: str, config_settings: Optional[dict[str, Any]] = None) -> str:
     """There is none: the library's proved code isn't built by Python."""
     sys.exit("there is no sdist: build a wheel, by `make -C python wheel`")
 

@@ -183,9 +183,7 @@ class PasswordHasher(_Hasher):
             raise ValueError("the secret is empty; without a pepper leave it out")
         self._set(
             time_cost=in_range("time_cost", time_cost, 1, _MOST, _PASSES),
-            memory_cost=in_range(
-                "memory_cost", memory_cost, least, _MOST_MEMORY, _COST
-            ),
+            memory_cost=in_range("memory_cost", memory_cost, least, _MOST_MEMORY, _COST),
             parallelism=parallelism,
             hash_len=in_range("hash_len", hash_len, 4, 64, _TAG),
             salt_len=in_range("salt_len", salt_len, self._LEAST_SALT, 48, _SALT),

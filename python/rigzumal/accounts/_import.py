@@ -168,9 +168,7 @@ class Import:
         counts = Counter(words)
         return {word: counts[word] for word in ("added", "there", "another")}
 
-    def _records(
-        self, lines: Iterable[str], key_of: Callable[[str], Key]
-    ) -> Iterator[Line]:
+    def _records(self, lines: Iterable[str], key_of: Callable[[str], Key]) -> Iterator[Line]:
         """The names and records of an import, all read before any is added."""
         is_text, fault_of = self.dialect.key_type is str, _library.record_fault
         for number, line in enumerate(lines, 1):

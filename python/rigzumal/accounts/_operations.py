@@ -71,9 +71,7 @@ class Operations(Generic[AnyPool]):
         self._dialect, self._tries = dialect, tries
         self._runtime = self._kind(dialect.execute_options, executor)
         self._table = Table(dialect, confirm, self._before_commit)
-        self._connections = Connections(
-            self._runtime, pool, replica, self._table, patience
-        )
+        self._connections = Connections(self._runtime, pool, replica, self._table, patience)
 
     def _before_commit(self, worked: Worked) -> None:
         """Called before each COMMIT of a change is sent."""

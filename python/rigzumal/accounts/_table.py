@@ -95,9 +95,7 @@ class Table:
         both = isinstance(copy, str) and isinstance(after, str)
         return bool(self.dialect.at_once) and both and copy != after
 
-    async def _at_once(
-        self, session: Session, worked: Worked
-    ) -> Union[Answer, Undone, None]:
+    async def _at_once(self, session: Session, worked: Worked) -> Union[Answer, Undone, None]:
         """A change by one statement; None if a transaction has to find out."""
         dialect, copy, after = self.dialect, worked.ticket.copy, worked.after
         is_sent = False
@@ -208,9 +206,7 @@ class Table:
             raise StoreFault(ANOTHER_RECORD)
         return Answer(worked.reply, copy, worked.after)
 
-    async def examine(
-        self, session: Session, record: str, used: Container[Kind]
-    ) -> list[Fault]:
+    async def examine(self, session: Session, record: str, used: Container[Kind]) -> list[Fault]:
         """The faults that the engine or a trial shows: no catalogue shows a role that
         may not update, a rule that does nothing, or a CHECK that no record passes."""
         self.dialect.fresh(session.conn)

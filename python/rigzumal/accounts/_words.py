@@ -50,9 +50,7 @@ def parser(description: str, texts: Mapping[str, str]) -> argparse.ArgumentParse
     )
     options = [_options()]
     made = {
-        name: commands.add_parser(
-            name, help=text, description=f"{text}.", parents=options
-        )
+        name: commands.add_parser(name, help=text, description=f"{text}.", parents=options)
         for name, text in texts.items()
     }
     for name in ("add", "check", "change", "reset", "disable", "delete", "rename"):

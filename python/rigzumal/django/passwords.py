@@ -56,9 +56,7 @@ def change_password(user: Any, old_password: Any, new_password: Any) -> bool:
 
 
 @hidden
-def change_judged(
-    user: Any, old_password: Any, new_password: Any, judged: Optional[str]
-) -> bool:
+def change_judged(user: Any, old_password: Any, new_password: Any, judged: Optional[str]) -> bool:
     """`change_password`, after the old password was right for the record `judged`.
 
     If the row still has that record, the password isn't judged again.

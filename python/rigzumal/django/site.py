@@ -16,9 +16,7 @@ from django.urls import reverse
 class AdminSite(sites.AdminSite):
     """Django's AdminSite."""
 
-    def password_change(
-        self, request: Any, extra_context: Optional[dict[str, Any]] = None
-    ) -> Any:
+    def password_change(self, request: Any, extra_context: Optional[dict[str, Any]] = None) -> Any:
         """Changes the password of the user who is logged in."""
         # They ask for the user model, which isn't there yet where this is imported.
         from rigzumal.django.forms import AdminOwnPasswordChangeForm

@@ -122,9 +122,7 @@ class CompareAndSetMixin(models.Model):
             self._password = None  # it wasn't saved: no validator hears of it
             raise
 
-    def _may_lose(
-        self, database: str, update_fields: Optional[Collection[str]]
-    ) -> bool:
+    def _may_lose(self, database: str, update_fields: Optional[Collection[str]]) -> bool:
         """Whether a save within a transaction writes a password over one that was read."""
         if update_fields is not None and "password" not in update_fields:
             return False
@@ -162,9 +160,7 @@ class CompareAndSetMixin(models.Model):
         return updated
 
     @hidden
-    def _do_insert(
-        self, manager: Any, using: str, fields: Any, *rest: Any, **more: Any
-    ) -> Any:
+    def _do_insert(self, manager: Any, using: str, fields: Any, *rest: Any, **more: Any) -> Any:
         """Model's INSERT into one table."""
         made = super()._do_insert(manager, using, fields, *rest, **more)
         if any(it.attname == "password" for it in fields):

@@ -175,9 +175,7 @@ class Package(unittest.TestCase):
         """black leaves the sources as they are: the package's, the packers', and the tests'."""
         need("black")
         black = ("black", "-q", "--check", "-l")
-        package = (PYTHON / "rigzumal", PYTHON / "build_backend.py", TOP / "packaging")
-        run(*black, "88", "--extend-exclude=/server/daemon/", *package)
-        run(*black, "99", PYTHON / "rigzumal/server/daemon")
+        run(*black, "99", PYTHON / "rigzumal", PYTHON / "build_backend.py", TOP / "packaging")
         parts = ("python/tests", "docs/tests", "rust/tests", "c/tests", "c/pam/tests")
         parts += ("examples/login_page", "tests/helpers.py", "tests/operations.py")
         parts += ("tests/credbook", "tests/credkeep")

@@ -247,9 +247,7 @@ class Dialect:
         """Writes a record if the row has the copy; an equal record is written too."""
         return await session.execute(self.update, after, key, copy)
 
-    async def put_at_once(
-        self, session: Session, after: Copy, key: Key, copy: Copy
-    ) -> int:
+    async def put_at_once(self, session: Session, after: Copy, key: Key, copy: Copy) -> int:
         """Writes a record by one statement that commits; the number of touched rows."""
         raise NotImplementedError
 
@@ -355,9 +353,7 @@ class Dialect:
     def length_faults(self, kind: str, length: int) -> Iterator[Fault]:
         """A column that is too short for records of accounts, or of other programs."""
         if length < LONGEST_WRITTEN:
-            yield self.record_fault(
-                f"{kind}: a record has up to {LONGEST_WRITTEN} bytes"
-            )
+            yield self.record_fault(f"{kind}: a record has up to {LONGEST_WRITTEN} bytes")
         elif length < LONGEST_RECORD:
             text = f"another program's record has up to {LONGEST_RECORD} bytes"
             yield warning("record-length", f"{self.record_name} is {kind}: {text}")

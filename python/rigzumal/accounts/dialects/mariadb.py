@@ -95,9 +95,7 @@ class MariaDB(Dialect):
             " SELECT touched; END"
         )
 
-    async def put_at_once(
-        self, session: Session, after: Copy, key: Key, copy: Copy
-    ) -> int:
+    async def put_at_once(self, session: Session, after: Copy, key: Key, copy: Copy) -> int:
         values = (after, key, copy, key, after)
         try:
             ((touched,),) = (await session.execute(self.at_once, *values)).rows
@@ -231,9 +229,7 @@ def of_server(seen: dict[str, str]) -> Iterator[Fault]:
             yield not_durable(f"{name} is {seen[name]}: {CRASH_LOSES}")
     # With a binary log, what isn't in it after a power cut is rolled back.
     if seen.get("log_bin") == "ON" and seen.get("sync_binlog") != "1":
-        yield not_durable(
-            f"sync_binlog is {seen.get('sync_binlog')}: {POWER_CUT_LOSES}"
-        )
+        yield not_durable(f"sync_binlog is {seen.get('sync_binlog')}: {POWER_CUT_LOSES}")
     if seen.get("wsrep_on") == "ON" and not int(seen["wsrep_sync_wait"]) & 1:
         text = "wsrep_sync_wait lacks its bit 1: a node may read replaced records"
         yield error("no-sync-wait", text)

@@ -91,9 +91,7 @@ class Postgres(Dialect):
         is_put = f"COALESCE({same} AND {size}, false)"
         return f"{update} AND {one} RETURNING 1 / {is_put}::int"
 
-    async def put_at_once(
-        self, session: Session, after: Copy, key: Key, copy: Copy
-    ) -> int:
+    async def put_at_once(self, session: Session, after: Copy, key: Key, copy: Copy) -> int:
         values = (after, key, copy, key, after, after)
         return (await self._committed(session, self.at_once, *values)).affected
 

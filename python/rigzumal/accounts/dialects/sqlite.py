@@ -70,9 +70,7 @@ class Sqlite(Dialect):
         schema, _, t = self.table_name.rpartition(".")
         of = (t, schema) if schema else (t,)
         info = f"pragma_table_info({', '.join('?' * len(of))})"
-        found = await session.execute(
-            f'SELECT name, type, "notnull", pk FROM {info}', *of
-        )
+        found = await session.execute(f'SELECT name, type, "notnull", pk FROM {info}', *of)
         # Names of columns are the same in any case.
         spelled = {name.lower(): name for name in (self.record_name, self.key_name)}
         columns = {spelled.get(row[0].lower(), row[0]): row[1:] for row in found.rows}
