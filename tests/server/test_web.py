@@ -136,6 +136,9 @@ class Web(Case):
             (b"GET / HTTP/1.0\r\n" + login + b"\r\n", "200"),
             (b"GET / HTTP/1.1\r\n" + login + b"Connection: close\r\n\r\n", "200"),
             ((b"GET / HTTP/1.1\r\n" + login + b"\r\n") * 3, "200 200 200"),
+            # Behind the last request of a connection nothing is read.
+            (b"GET / HTTP/1.0\r\n" + login + b"\r\n\r\n", "200"),
+            ((b"GET / HTTP/1.1\r\n" + login + b"Connection: close\r\n\r\n") * 2, "200"),
             (b"GET / HTTP/1.1\r\n" + login + b"Content-Length: 0\r\n\r\n", "200"),
             (b"GET / HTTP/1.1\r\n" + login + b"Content-Length: 3\r\n\r\nabc", "413"),
             (b"GET / HTTP/1.1\r\n" + login + b"Transfer-Encoding: chunked\r\n\r\n", "413"),
@@ -153,7 +156,7 @@ class Web(Case):
                 said = re.findall(rb"^HTTP/1\.1 (\d+) ", found, re.M)
                 self.assertEqual(b" ".join(said).decode(), statuses, found)
         until(lambda: service.stats()["clients"] == 1, "all are closed")
-        self.assertEqual(len([it for it in service.asked() if it.startswith("verify")]), 7)
+        self.assertEqual(len([it for it in service.asked() if it.startswith("verify")]), 9)
         self.assertNotIn("fault", service.log())
 
     def test_no_room_and_no_book(self) -> None:

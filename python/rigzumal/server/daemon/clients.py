@@ -52,12 +52,14 @@ class Client:
 
     async def run(self) -> None:
         """Reads requests, and closes once they are answered, or nobody reads any more."""
-        with closing(self), suppress(OSError):
-            await self.read()
-            self.socket.send(b"")  # which fails where nobody reads
-            await self.has_fewer(1)
-        async with self.writing:  # after whoever waits for the socket
-            self.socket.close()
+        try:
+            with closing(self), suppress(OSError):
+                await self.read()
+                self.socket.send(b"")  # which fails where nobody reads
+                await self.has_fewer(1)
+        finally:
+            async with self.writing:  # after whoever waits for the socket
+                self.socket.close()
 
     def close(self) -> None:
         self.is_ending = self.is_gone = True

@@ -51,7 +51,9 @@ class WebClient(Client):
         try:
             while more := await self.receive():
                 self.http.receive_data(more)
-                while isinstance(request := self.http.next_event(), h11.Request):
+                while not self.is_ending and isinstance(
+                    request := self.http.next_event(), h11.Request
+                ):
                     is_whole = isinstance(self.http.next_event(), h11.EndOfMessage)
                     await self.take(request, is_whole)
                     await self.has_fewer(1)
