@@ -17,7 +17,7 @@ from served import PYTHON, Case, Client, need_root
 from daemon.book import share_of
 from daemon.clients import FEW, Door
 from daemon.options import Options
-from daemon.service import Service
+from daemon.service import TURNS, Service
 
 # What a client may send that costs the book nothing, and the end of each answer.
 IDLE_LINES = {
@@ -107,19 +107,22 @@ class Floods(Case):
         self.assertEqual(asyncio.run(waiting(is_flooded=True)), FEW + 1)
         self.assertEqual(asyncio.run(waiting(is_flooded=False)), 2 * FEW)
 
-    def test_a_line_in_a_pass(self) -> None:
-        """A connection that has many lines at once gives the others their turn behind each."""
+    def test_lines_in_a_pass(self) -> None:
+        """Connections take turns, a line in each, and a pass of the loop takes few lines of all."""
+        letters, most = "abcdefghijklmnopqrst", 0
 
         async def taken() -> str:
+            nonlocal most
             lines, service = list[bytes](), Service(Options())
             door = Door("a", str(self.room() / "s"), 0o600, "-", frozenset())
             with mock.patch.object(service, "submit", lambda _, it: (lines.append(it) or b"", b"")):
                 door.open(service)
-                clients = [Client(pathlib.Path(door.path)) for _ in range(2)]
-                for client, letter in zip(clients, "ab"):
-                    client.send(f"{letter}\n" * 50)
-                while len(lines) < 100:
+                clients = [Client(pathlib.Path(door.path)) for _ in letters]
+                for client, letter in zip(clients, letters):
+                    client.send(f"{letter}\n" * 5)
+                while (before := len(lines)) < 5 * len(letters):
                     await asyncio.sleep(0)
+                    most = max(most, len(lines) - before)
                 door.end()
                 for client in clients:
                     client.close()
@@ -127,7 +130,8 @@ class Floods(Case):
                     await asyncio.sleep(0)
             return b"".join(lines).decode()
 
-        self.assertIn("abab" * 10, asyncio.run(taken()))
+        self.assertIn(2 * letters, asyncio.run(taken()))
+        self.assertLessEqual(most, TURNS)
 
     def is_empty(self, listener: Optional[socket.socket]) -> bool:
         """Whether nobody waits to be let in."""

@@ -76,8 +76,6 @@ class Client:
                 line, end, text = text.partition(b"\n")
                 await (self.pause() if is_rest else self.submit(line))
                 is_rest = not end
-                if text:
-                    await asyncio.sleep(0)  # others have their turn
 
     async def receive(self) -> bytes:
         """Some bytes; none at the end. It stays watched: that takes loop.sock_recv's time."""
@@ -100,14 +98,22 @@ class Client:
             self.received.set_exception(fault)
 
     async def submit(self, line: bytes) -> None:
-        """Has a line answered, once few enough others run."""
+        """Has a line answered, once few enough others run, and it is this user's turn."""
         await self.has_fewer(AT_ONCE)
+        await self.has_turn()
         if self.is_ending:
             return
         tag, refusal = self.service.submit(self, line)
         if refusal:
             await self.reply(tag, refusal)
             await self.pause()
+
+    async def has_turn(self) -> None:
+        """Returns in a later pass of the loop, which has a place for a line."""
+        self.turn = asyncio.Event()
+        self.service.turns.submit(self.user, self, self)
+        await self.turn.wait()
+        self.service.turns.release(self.user)
 
     async def has_fewer(self, count: int) -> None:
         """Returns once fewer requests run."""
@@ -209,7 +215,7 @@ class Door:
         self.accepting = asyncio.ensure_future(self.accept(service, self.listener))
 
     async def accept(self, service: Service, listener: socket.socket) -> None:
-        """Lets clients in; while they have gone as they come, few may wait before the others."""
+        """Lets clients in; while none of them stays, few may wait before the others."""
         while True:
             try:
                 for _ in range(ACCEPTED):
@@ -220,7 +226,7 @@ class Door:
                 await asyncio.sleep(0.1)
 
     def let_in(self, service: Service, sock: socket.socket) -> bool:
-        """A user has at most half of the places that others leave; false if it has gone."""
+        """Whether it stays: a user has at most half of the places that others leave."""
         with suppress(OSError):  # if nothing has come
             if not sock.recv(1, socket.MSG_PEEK):
                 sock.close()
@@ -238,7 +244,7 @@ class Door:
         text = "no more connections at %s for %s, which has %d"
         log_seldom(client.user, text, *client.user, own)
         service.tally.counts["refused"] += 1
-        return True
+        return False
 
     def end(self) -> None:
         """Lets nobody in any more. The path stays: the socket may be systemd's."""

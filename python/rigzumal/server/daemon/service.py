@@ -22,6 +22,7 @@ TAG = re.compile(rb"[a-z0-9]{1,20}")
 LONG, NONE = b"bad 16 long", b"bad 5 noaccount"
 KNOWN = {b"none": b"absent", NONE: b"noaccount"}  # what `known` says to these of `show`
 HASHED_ANEW = (b"absent", b"noaccount")  # took a hash of the costs of new records
+TURNS = 8  # places for lines that are taken in a pass of the loop
 LOOKS, CHANGES = 16, 128  # places for lines that change nothing, and for quick changes
 SYNC = 0.01  # seconds that a change waits for the disk, more or less
 REFUSED = (b"noaccount", b"bad ", LATER)  # changes nothing; a name may be a password
@@ -50,6 +51,7 @@ class Service:
 
     def __init__(self, options: Options) -> None:
         self.options, self.book, self.tally = options, Book(), Tally(options)
+        self.turns = Places(TURNS, lambda it: it.loop.call_soon(it.turn.set))
         self.hashes = Places(options.workers(), self.dispatch)
         self.changes = Places(CHANGES, self.dispatch)
         self.looks = Places(LOOKS, self.dispatch)
