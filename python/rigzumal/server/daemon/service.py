@@ -150,9 +150,11 @@ class Service:
         if answer == LATER:
             # After the time of a hash: names that the book lacks take that too.
             await asyncio.sleep(random.choice(self.login_seconds or [self.hash_seconds]))
-        if not await self.note(request, noted) and kind.changes:
+        if kind.changes and not await self.note(request, noted):
             answer = UNAVAILABLE  # nobody says that a change was made that isn't noted
         await client.answer(request.tag, answer)
+        if not kind.changes:
+            await self.note(request, noted)  # a slow disk holds up no login
         if answer == b"yes" and self.options.upgrade and request.words[0] == b"verify":
             await self.upgrade(request)
 
