@@ -11,7 +11,7 @@ import subprocess
 import urllib.request
 from unittest import mock
 
-from machine import is_open
+from machine import is_open, shell
 from served import SECRET, TOP, WRONG, Case, Client, Service, field_of, need, ran, until
 from daemon import tries
 from daemon.options import OPERATIONS, Options
@@ -346,6 +346,21 @@ class Audited(Case):
         admin.send("".join(f"t{it} account m{it}\n" for it in range(200)))
         admin.lines(200)
         self.assertEqual(len(noted(path)), 201)
+
+    def test_logins_wait_for_no_line(self) -> None:
+        """A login is answered before its line is written, and a change behind it."""
+        need("strace")
+        room = self.room()
+        words = f"strace -f -qq -s 300 -e trace=sendto,write -o {room}/trace"
+        service = self.serving("--audit", f"{room}/audit", before=tuple(words.split()))
+        asked = "account ada -> ok\nenrol ada {secret} -> enrolled\nverify ada {secret} -> yes"
+        service.client("admin").talk(asked)
+        until(lambda: len(noted(room / "audit")) == 3, "the line of the login")
+        shell(f"pkill -TERM -P {service.process.pid}")
+        service.process.wait(timeout=60)
+        calls = r'sendto\(\d+, "\S+ (\w+)\\n"|write\(\d+, "\{.*operation\\": \\"(\w+)'
+        found = ["".join(it) for it in re.findall(calls, (room / "trace").read_text())]
+        self.assertEqual(found, ["account", "ok", "enrol", "enrolled", "yes", "verify"])
 
     def test_no_room(self) -> None:
         """A change whose line can't be written isn't said to be made; logins go on, and changes once there is room."""
