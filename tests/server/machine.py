@@ -20,8 +20,9 @@ RUN = pathlib.Path("/run/rigzumal/users")
 
 
 def on_page(path: str) -> str:
-    """The text of a file as the page has it."""
-    found = re.search(rf"```\n# {re.escape(path)}\n(.*?)```", PAGE.read_text(), re.S)
+    """The text of a file as the page has it, which may stand there for several."""
+    form = rf"```\n# (?:[^\n]+, )?{re.escape(path)}(?:, [^\n]+)?\n(.*?)```"
+    found = re.search(form, PAGE.read_text(), re.S)
     assert found, f"{path} isn't on the page"
     assert len(found[1].splitlines()) <= 30, f"{path} has over thirty lines"
     return found[1]
