@@ -6,7 +6,7 @@ import pathlib
 import subprocess
 from collections.abc import Iterator
 
-from tests.credkeep.books import EDITS, EMPTY_LOG, RECORD, Accounts, Book, BookTest, fails, lined
+from tests.credkeep.books import RECORD, Accounts, Book, BookTest, lined
 from tests.helpers import Ended, each, need_root, small_files
 
 # How many accounts a script adds, far more than there is room for.
@@ -27,22 +27,6 @@ def small_disk(folder: pathlib.Path, size: int) -> Iterator[pathlib.Path]:
 
 
 class OrdersTest(BookTest):
-    def test_orders(self) -> None:
-        """A file whose log can't be begun isn't opened. If the log can't grow, the change is named,
-        and what is kept is the book before it or the one after it."""
-        for change in EDITS:
-            for size in (0, EMPTY_LOG - 1, EMPTY_LOG, 4096):
-                with self.subTest(words=change.words, size=size):
-                    book = self.begun(change.before)
-                    done = book(*change.words, **small_files(size))
-                    if size < EMPTY_LOG:
-                        self.assertEqual(done, fails(5, "disk I/O error"))
-                        self.assertEqual(book.accounts(), change.before)
-                    else:
-                        text = "the change of ann may be kept or not"
-                        self.assertFails(done, 5, "credkeep: the database failed: ", text)
-                        self.assertStopped(change, done, book.accounts())
-
     def test_imports(self) -> None:
         """The import is named, and all or none of it is kept. The system's refusal is told as what
         it was: which error a lost import names stands in no clause."""

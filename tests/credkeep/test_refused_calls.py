@@ -6,7 +6,8 @@ import tempfile
 from collections.abc import Callable
 from typing import Any
 
-from tests.credkeep.books import DONE, EDITS, RECORD, Accounts, Book, BookTest, Change, lines_of
+from tests.credkeep.books import DONE, EDITS, OTHER, RECORD, SETTING, Accounts, Book, BookTest
+from tests.credkeep.books import Change, fails, lines_of
 from tests.helpers import Ended, Found, Stop, each, ended, need, need_native
 
 # The calls that change files or make changes last, and those between them. strace counts each by
@@ -21,6 +22,15 @@ WRITES = "pwrite64 write fsync fdatasync ftruncate".split()
 WAYS = [("error=EIO", CHANGES), ("error=ENOSPC", CHANGES), ("signal=KILL", CALLS)]
 
 MANY = {f"n{at:03}": RECORD for at in range(200)}
+HALF = {name: OTHER for name in [*MANY][::2]}
+RESET = ["reset", "ann", "--setting", SETTING]
+# Changes, and what their texts call them.
+ORDERS = [
+    *((it, "the change of ann") for it in EDITS),
+    (Change({"ann": OTHER}, RESET, {"ann": RECORD}, "password\n"), "the change of ann"),
+    (Change({}, ["import"], MANY, lines_of(MANY)), "the 200 new accounts"),
+    (Change(HALF, ["import", "--update"], MANY, lines_of(MANY)), "and the records of 100 others"),
+]
 # An older copy, and the book of a killed run's file and log.
 OLD = {"ann": "", "old": RECORD}
 NEW = {"ann": RECORD, "bob": "", "k1": ""}
@@ -54,9 +64,9 @@ class RefusedCallsTest(BookTest):
         how: str,
         look: Callable[[Book], Found],
         judge: Callable[[Ended, Found], None],
-    ) -> None:
-        """The order with each of these calls refused or killed at its first time, its second, and
-        on. The judge sees what a look finds afterwards."""
+    ) -> list[Ended]:
+        """How the order ends with each of these calls refused or killed at its first time, its
+        second, and on. The judge sees what a look finds afterwards."""
         ends = []
         for call in calls:
             with self.subTest(call=call, how=how):
@@ -64,13 +74,18 @@ class RefusedCallsTest(BookTest):
         statuses = {it.status for it in ends}
         may = ({-9}, {-9}) if how.startswith("signal") else ({5}, {0, 2, 5})
         self.assertTrue(may[0] <= statuses <= may[1], statuses)
+        return ends
 
-    @each(*EDITS, Change({}, ["import"], MANY, lines_of(MANY)))
-    def test_orders(self, change: Change) -> None:
-        """Each refusal leaves the book before the change or after it."""
+    @each(*ORDERS)
+    def test_orders(self, change: Change, called: str) -> None:
+        """Each refusal and each kill leaves the book before the change or after it. A file that
+        can't be opened is told, and a change that may be kept is named."""
         self.begun(change.before, "base/users.db").log.unlink(missing_ok=True)
         judge = functools.partial(self.assertStopped, change)
-        self.refuse_each(change, WRITES, "error=EIO", Book.accounts, judge)
+        self.refuse_each(change, WRITES, "signal=KILL", Book.accounts, judge)
+        ends = self.refuse_each(change, WRITES, "error=EIO", Book.accounts, judge)
+        self.assertIn(fails(5, "disk I/O error"), ends)
+        self.assertRegex("".join(it.faults for it in ends), f"{called} may be kept or not")
 
     def test_scripts(self) -> None:
         """What was answered is kept, and at most the line after it."""
