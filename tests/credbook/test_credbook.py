@@ -10,7 +10,7 @@ import unittest
 from typing import Any
 
 from tests import helpers
-from tests.credkeep.books import RECORD, SETTING, altered
+from tests.credkeep.books import RECORD, SETTING, altered, lined
 from tests.helpers import TOP, Ended, counts, each, ended, in_turn, instructions, manual, options_in
 from tests.helpers import program
 
@@ -30,8 +30,30 @@ NOT_UTF8 = b"\xff".decode(errors="surrogateescape")
 
 WORKERS = ["--workers 1", "--workers 64", "--workers 04", "--workers +4", "--workers=4"]
 
+# Lines with a record, a key or a password of each kind that is refused, and the last ones that
+# aren't.
+FIELDS = [
+    ("account a", "ok"),
+    (f"load a {RECORD}$", "bad 1 shape"),
+    (f"load a {RECORD.replace('2id', '2x')}", "bad 2 scheme"),
+    (f"load a {RECORD.replace('19', '17')}", "bad 3 version"),
+    (f"load a {RECORD.replace('m=256', 'm=0256')}", "bad 4 params"),
+    (f"load a {RECORD.replace('t=2', f't={2**32}')}", "bad 5 range"),
+    (f"load a {SCRYPT_RECORD.replace('TmFDbA', '')}", "bad 6 salt"),
+    (f"load a {RECORD[:-1]}5", "bad 7 tag"),
+    (f"load a {'x' * 513}", "bad 9 toolong"),
+    (f"load a {RECORD.replace('t=2', f't={2**32 - 1}')}", "ok"),
+    *((f"commit {it}", "bad 12 key") for it in ("", *"0 65 00 01 064 +1 -1 1x x 257".split())),
+    *((f"commit {it}", "bad 15 idle") for it in (1, 64)),
+    *(
+        (f"begin 1 verify a {it}", "bad 13 password")
+        for it in ("", "!", "--", "cGFzc3dvcmQ=", "cGFzc3dvcmR", "A", "A" * 343)
+    ),
+    *((f"begin {it} verify a {'A' * 342}", "begun") for it in (1, 64)),
+]
 RUNS = [
     (["run"], SCRIPT, Ended(0, ANSWERS)),
+    (["run"], lined(it for it, _ in FIELDS), Ended(0, lined(it for _, it in FIELDS))),
     *((["run", *it.split()], SCRIPT, Ended(0, ANSWERS)) for it in WORKERS),
     (["run"], "", Ended(0)),
     (["run"], "account a\nshow a", Ended(0, "ok\nnone\n")),
