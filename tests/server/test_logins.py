@@ -18,17 +18,6 @@ from machine import pamtester, shell, started
 from served import PYTHON, Case, Client, need, until
 from tests.helpers import at_a_terminal
 
-# Connects 1,100 times, and asks at 400 of these without end.
-FLOOD = """import socket, sys, time
-clients = [socket.socket(socket.AF_UNIX) for _ in range(1100)]
-for it in clients:
-    it.connect(sys.argv[1])
-for it in clients[:400]:
-    it.send(b"a verify ada -\\n" * 30)
-print("connected", flush=True)
-time.sleep(200)
-"""
-
 # The ends of what is logged of a wrong password, of one that is too early, and of an unknown name.
 OUR_TRIES = ["192.0.2.7  user=ada", "192.0.2.7 ", "192.0.2.7 "]
 
@@ -160,21 +149,6 @@ class Logins(Case):
         server.stop()
         shell("echo 'eve:fresh word5' | chpasswd")
         lets_in("both", "eve", "fresh word5")
-
-    @in_namespaces
-    def test_a_flooding_service(self, room: pathlib.Path) -> None:
-        """A service that takes all its connections, and floods, doesn't make the book unavailable to others."""
-        need("pamtester", "setpriv")
-        started(room)
-        install_stack()
-        words = ["setpriv", "--reuid", "33", "--regid", "33", "--groups", "64999"]
-        words += ["prlimit", "--nofile=2000", PYTHON, "-c", FLOOD, str(RUN / "login.sock")]
-        with subprocess.Popen(words, stdout=subprocess.PIPE) as flooding:
-            assert flooding.stdout
-            self.assertEqual(flooding.stdout.readline(), b"connected\n")
-            lets_in("both", "bob", "other word")
-            keeps_out("both", "bob", "unixword")
-            flooding.kill()
 
     @in_namespaces
     def test_su(self, room: pathlib.Path) -> None:

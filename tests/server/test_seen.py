@@ -127,9 +127,10 @@ class Seen(Case):
 
     def test_waits(self) -> None:
         """Who has to wait is listed and logged, and can be forgiven; a wait's begin and end are a line each."""
-        service = self.serving("--tries", "2", clocked=True).enrol(ada="secret", bob="secret")
-        for name in ("ada", "bob"):
-            service.talk(f"admin verify {name} {{wrong}} -> no\n" * 2)
+        service = self.serving("--tries", "2", clocked=True)
+        service.enrol(ada="secret", bob="secret", cid="secret")
+        for name, tries in (("ada", 2), ("bob", 2), ("cid", 1)):
+            service.talk(f"admin verify {name} {{wrong}} -> no\n" * tries)
         service.talk(
             """
             login verify ada {secret} -> later
@@ -137,6 +138,8 @@ class Seen(Case):
             admin forgive ada -> forgiven
             admin forgive ada -> none
             admin forgive zoe -> none
+            admin forgive cid -> forgiven
+            admin forgive cid -> none
             admin waits -> waits bob:2:1
             login verify ada {secret} -> yes
             login verify bob {secret} -> later

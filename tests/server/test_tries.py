@@ -1,11 +1,10 @@
 """Tests of bin/credkeep-server: failed tries."""
 
 import asyncio
-import os
 import time
 from unittest import mock
 
-from served import SECRET, WRONG, Case, Client, as_user, need_root
+from served import SECRET, WRONG, Case, as_user, need_root
 from daemon import tries
 from daemon.tries import Limiter
 from daemon.journal import log
@@ -93,22 +92,6 @@ class Tries(Case):
         client.talk("verify ada {wrong} -> no\n" * 2)
         client.send(f"a verify ada {SECRET}\n" * 100)
         self.assertEqual(client.lines(100), [b"a yes"] * 100)
-
-    def test_guesses_of_a_uid_at_once(self) -> None:
-        """So too of a person's guesses at many names."""
-        need_root()
-        path = self.room() / "s"
-        socket = f"--socket a {path} 0666 - verify --uid-tries 4 --at-once 20".split()
-        service = self.serving(*socket, faults="slow=0.05", clocked=True)
-        os.seteuid(4711)
-        try:
-            client = Client(path)
-        finally:
-            os.seteuid(0)
-        with client:
-            client.send("".join(f"a verify n{at} -\n" for at in range(20)))
-            said = client.lines(20)
-        self.assertEqual((said.count(b"a noaccount"), said.count(b"a later")), (4, 16))
 
     def test_too_early_takes_a_hash(self) -> None:
         """A try that is too early is answered after the time of a hash, as one at an unknown name is."""
@@ -230,13 +213,6 @@ class Limiters(Case):
             self.assertEqual((found.count, found.until), (count, self.clock + wait))
         self.tried(limiter, *["x"] * 3000)
         self.assertEqual(limiter.tries["x"].until, self.clock + 900)
-
-    def test_forgiven(self) -> None:
-        """Forgiving tells whether anything was there, of few tries and of many."""
-        limiter = Limiter(2)
-        self.tried(limiter, "few", "many", "many")
-        for key, ought in (("few", True), ("many", True), ("few", False), ("many", False)):
-            self.assertIs(limiter.forgive(key, "a test"), ought, key)
 
     def test_names_and_users(self) -> None:
         """A try runs once neither its name nor its user has as many running as may fail there."""
