@@ -87,12 +87,6 @@ class Mistakes(Case):
             said = f"credkeep-server: python3-{module} is missing, which an option needs\n"
             self.assertEqual(self.serving(option, f"{room}/old", **given).ended(), (1, said))
 
-    def test_spaces_in_a_path(self) -> None:
-        """FILE may have spaces, and anything else."""
-        folder = self.room() / "my folder %s $x"
-        folder.mkdir()
-        self.serving(folder=folder).client().talk("known ada -> noaccount")
-
     def test_a_second_server(self) -> None:
         """While the first one's book is still opening, a second one neither takes its sockets nor waits."""
         folder = self.room()
@@ -111,7 +105,9 @@ class Mistakes(Case):
         first.client().talk("known ada -> noaccount")
 
     def test_words_of_the_book(self) -> None:
-        """The book gets each option that is given, and no other but a place more; new costs go before the setting."""
+        """The book gets each option that is given, and no other but a place more; new costs go before the setting.
+
+        This one ends at once: no client is let in, and the status says so."""
         room, own = self.room(), len(os.sched_getaffinity(0)) + 1
         book, noted = room / "credkeep", room / "noted"
         limits = "--memory 1G --most-memory 2G --most-work 400000"
@@ -134,6 +130,7 @@ class Mistakes(Case):
             given = {"program": book, "folder": room, "environment": {"NOTED": str(noted)}}
             status, log = self.serving(*options.split(), waits=False, **given).ended()
             self.assertEqual(status, 3, log)
+            self.assertNotRegex(log, "start:|Traceback")
             ought = f"--wait {wait} {room}/users.db serve --tagged --at-once {at_once} {handed}"
             self.assertEqual(noted.read_text().splitlines(), ought.split(), options)
             noted.unlink()

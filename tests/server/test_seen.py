@@ -70,12 +70,12 @@ class Seen(Case):
     def test_metrics(self) -> None:
         """--metrics prints the counts as Prometheus reads them, with the book's name at each."""
         room = self.room()
-        service = self.serving(file=room / 'my "users.db').enrol(ada="secret")
+        service = self.serving(file=room / 'my "%s.db').enrol(ada="secret")
         service.client().talk("verify ada {wrong} -> no")
         status, text, faults = ran("--metrics", str(service.path("admin")))
         self.assertEqual((status, faults), (0, ""))
         samples = [line for line in text.splitlines() if not line.startswith("#")]
-        book = f'book="tmp-{room.name}-my__users"'
+        book = f'book="tmp-{room.name}-my___s"'
         self.assertIn(f'credkeep_tries_total{{{book},answer="no"}} 1', samples)
         self.assertIn(f"credkeep_changes_total{{{book}}} 2", samples)
         form = rf"credkeep_[a-z_]+\{{{book}(,answer=\"[a-z]+\")?\}} \d+(\.\d+)?"

@@ -144,15 +144,6 @@ class Endings(Case):
             status, log = service.ended()
             self.assertEqual((status, said in log), (1, True), log)
 
-    def test_no_book(self) -> None:
-        """A program that ends at once: no client is let in, and the status says so."""
-        room = self.room()
-        (room / "users.db").touch()
-        program = pathlib.Path("/bin/false")
-        status, log = self.serving(program=program, waits=False, folder=room).ended()
-        self.assertEqual(status, 1)
-        self.assertNotRegex(log, "start:|Traceback")
-
 
 class Systemd(Case):
     def notices(self) -> tuple[dict[str, str], Callable[[], list[bytes]]]:
