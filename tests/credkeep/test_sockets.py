@@ -4,13 +4,13 @@ import contextlib
 import os
 import pathlib
 import signal
-import socket
 import subprocess
 import time
 from collections.abc import Iterator
 
 from tests.credkeep.books import BookTest
 from tests.helpers import each, need
+from tests.server.served import Client
 
 
 def is_listening(path: pathlib.Path) -> bool:
@@ -33,24 +33,6 @@ def listening(command: list[str], path: pathlib.Path) -> Iterator[None]:
             os.killpg(listener.pid, signal.SIGTERM)
 
 
-def connected(path: pathlib.Path) -> socket.socket:
-    """A connection to what listens at a path."""
-    made = socket.socket(socket.AF_UNIX)
-    made.settimeout(60)
-    made.connect(str(path))
-    return made
-
-
-def answers_of(client: socket.socket, count: int) -> str:
-    """So many answers."""
-    answers = b""
-    while answers.count(b"\n") < count:
-        more = client.recv(4096)
-        assert more, "the connection was closed"
-        answers += more
-    return answers.decode()
-
-
 class SocketsTest(BookTest):
     @each("socat", "systemd-socket-activate")
     def test_two_clients(self, listener: str) -> None:
@@ -62,14 +44,14 @@ class SocketsTest(BookTest):
         if listener == "socat":
             socket_ = f"UNIX-LISTEN:{path},mode=600,fork,max-children=1"
             listen = [socket_, f"EXEC:{' '.join(service)}"]
-        with listening([listener, *listen], path), connected(path) as first:
-            first.sendall(b"account ann\nshow ann\n")
-            self.assertEqual(answers_of(first, 2), "ok\nnone\n")
-            with connected(path) as second:
-                second.sendall(b"account bob\nshow ann\n")
+        with listening([listener, *listen], path), Client(path) as first:
+            first.send("account ann\nshow ann\n")
+            self.assertEqual(first.lines(2), [b"ok", b"none"])
+            with Client(path) as second:
+                second.send("account bob\nshow ann\n")
                 time.sleep(0.2)
-                first.sendall(b"show bob\n")
-                self.assertEqual(answers_of(first, 1), "bad 5 noaccount\n")
+                first.send("show bob\n")
+                self.assertEqual(first.line(), b"bad 5 noaccount")
                 first.close()
-                self.assertEqual(answers_of(second, 2), "ok\nnone\n")
+                self.assertEqual(second.lines(2), [b"ok", b"none"])
         self.assertEqual(book("list", wait=30), (0, "ann\nbob\n", ""))
