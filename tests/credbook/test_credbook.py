@@ -139,7 +139,7 @@ class RunsTest(unittest.TestCase):
         self.assertEqual(options_in(helped) - {"--help", "--version"}, options_in(page))
         listed = helped.split("Commands:\n")[1].split("\n\n")[0]
         shown = re.findall(r"^  ([a-z]+)", listed, re.M)
-        self.assertEqual({*shown} - {"help"}, {*re.findall(r"^\.B ([a-z]+)$", page, re.M)})
+        self.assertEqual({*shown} - {"help"}, {*re.findall(r"^\.IP ([a-z]+)$", page, re.M)})
 
     def test_streams(self) -> None:
         """Streams that can't be read or written."""

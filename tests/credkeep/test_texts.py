@@ -213,7 +213,7 @@ class WordsTest(BookTest):
         each_words = [[], *([it] for it in commands)]
         helped = "".join(self.book(*it, "--help").written for it in each_words)
         self.assertEqual(options_in(helped) - {"--help", "--version"}, options_in(page))
-        headed = re.findall(r'^\.TP\n\.[A-Z]+ "?([a-z]+)', page, re.M)
+        headed = re.findall(r'^\.IP "?([a-z]+)', page, re.M)
         self.assertLessEqual(set(commands), set(headed))
 
     def test_refused_words(self) -> None:

@@ -295,7 +295,7 @@ class AskServer(Case):
         commands = re.findall(r"(?:^  |, )([a-z]+)(?= NAME|,|  | \[)", said, re.M)
         self.assertEqual(len(commands), 17, commands)
         for command in commands:
-            self.assertRegex(page, rf"(?m)^\.B.*[ ,]{command}\b", "the page lacks it")
+            self.assertRegex(page, rf"(?m)^\.IP .*\\fB{command}\\fP", "the page lacks it")
 
     def test_refused_passwords(self) -> None:
         """An empty password, or one of over 256 bytes, changes nothing."""

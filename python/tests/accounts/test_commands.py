@@ -138,7 +138,7 @@ class Words(Commands):
                     for text in completed:
                         self.assertRegex(text, rf"\b{option}\b")
         for command in ("hash", "verify", "calibrate", *cli._COMMANDS):
-            self.assertRegex(page, rf"(?m)^\.(B|BI) {command}( |$)")
+            self.assertRegex(page, rf'(?m)^\.IP "?\\fB{command}\\fP')
             for text in completed:
                 self.assertRegex(text, rf"\b{command}\b")
 
