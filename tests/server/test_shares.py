@@ -8,12 +8,12 @@ import os
 import pathlib
 import select
 import socket
-import subprocess
 import time
-from typing import Optional
+from collections.abc import AsyncIterator
 from unittest import mock
 
-from served import PYTHON, Case, Client, need_root
+from served import Case, Client
+from daemon import clients
 from daemon.book import share_of
 from daemon.clients import FEW, Door
 from daemon.options import Options
@@ -26,17 +26,6 @@ IDLE_LINES = {
     "unknown": (b"1 frob\n", b"1 denied"),
     "long": (b"1 " + b"x" * 1000 + b"\n", b"1 bad 16 long"),
 }
-# Joins a control group, and takes so many connections.
-JOINED = """import os, pathlib, socket, sys, time
-pathlib.Path(sys.argv[1], "cgroup.procs").write_text(str(os.getpid()))
-clients = [socket.socket(socket.AF_UNIX) for _ in range(int(sys.argv[3]))]
-for it in clients:
-    it.settimeout(20)
-    it.connect(sys.argv[2])
-clients[-1].send(b"a known ada\\n")
-print(clients[-1].recv(99).decode(), flush=True)
-time.sleep(200)
-"""
 
 
 class Floods(Case):
@@ -79,30 +68,39 @@ class Floods(Case):
                 client.close()
             self.assertGreater(time.monotonic() - begun, 0.25, f"{count} connections")
 
+    @contextlib.asynccontextmanager
+    async def door(self, service: Service) -> AsyncIterator[tuple[Door, contextlib.ExitStack]]:
+        """A door of a service in this process, and what closes its clients in the end."""
+        door = Door("a", str(self.room() / "s"), 0o600, "-", frozenset())
+        door.open(service)
+        with contextlib.ExitStack() as stack:
+            yield door, stack
+            door.end()
+        while door.clients:
+            await asyncio.sleep(0)
+
+    async def all_let_in(self, door: Door) -> None:
+        """Until nobody waits to be let in."""
+        while select.select([door.listener], [], [], 0)[0]:
+            await asyncio.sleep(0)
+
     def test_connections_that_have_gone(self) -> None:
         """Each is closed as it is let in. While they have gone, few wait to be let in."""
 
         async def waiting(is_flooded: bool) -> int:
             """A hundred come, and are let in; how many more can wait then."""
-            door = Door("a", str(self.room() / "s"), 0o600, "-", frozenset())
-            door.open(Service(Options()))
-            clients = [socket.socket(socket.AF_UNIX) for _ in range(100 + 2 * FEW)]
-            for it in clients[:100]:
-                it.connect(door.path)
-                if is_flooded:
-                    it.close()
-            while not self.is_empty(door.listener):
-                await asyncio.sleep(0)
-            self.assertEqual(len(door.clients), 0 if is_flooded else 100)
-            for it in clients[100:]:
-                it.setblocking(False)
-            waits = sum(it.connect_ex(door.path) == 0 for it in clients[100:])
-            door.end()
-            for it in clients:
-                it.close()
-            while door.clients:
-                await asyncio.sleep(0)
-            return waits
+            async with self.door(Service(Options())) as (door, stack):
+                made = (socket.socket(socket.AF_UNIX) for _ in range(100 + 2 * FEW))
+                clients = [stack.enter_context(it) for it in made]
+                for it in clients[:100]:
+                    it.connect(door.path)
+                    if is_flooded:
+                        it.close()
+                await self.all_let_in(door)
+                self.assertEqual(len(door.clients), 0 if is_flooded else 100)
+                for it in clients[100:]:
+                    it.setblocking(False)
+                return sum(it.connect_ex(door.path) == 0 for it in clients[100:])
 
         self.assertEqual(asyncio.run(waiting(is_flooded=True)), FEW + 1)
         self.assertEqual(asyncio.run(waiting(is_flooded=False)), 2 * FEW)
@@ -114,50 +112,33 @@ class Floods(Case):
         async def taken() -> str:
             nonlocal most
             lines, service = list[bytes](), Service(Options())
-            door = Door("a", str(self.room() / "s"), 0o600, "-", frozenset())
             with mock.patch.object(service, "submit", lambda _, it: (lines.append(it) or b"", b"")):
-                door.open(service)
-                clients = [Client(pathlib.Path(door.path)) for _ in letters]
-                for client, letter in zip(clients, letters):
-                    client.send(f"{letter}\n" * 5)
-                while (before := len(lines)) < 5 * len(letters):
-                    await asyncio.sleep(0)
-                    most = max(most, len(lines) - before)
-                door.end()
-                for client in clients:
-                    client.close()
-                while door.clients:
-                    await asyncio.sleep(0)
+                async with self.door(service) as (door, stack):
+                    for letter in letters:
+                        client = stack.enter_context(Client(pathlib.Path(door.path)))
+                        client.send(f"{letter}\n" * 5)
+                    while (before := len(lines)) < 5 * len(letters):
+                        await asyncio.sleep(0)
+                        most = max(most, len(lines) - before)
             return b"".join(lines).decode()
 
         self.assertIn(2 * letters, asyncio.run(taken()))
         self.assertLessEqual(most, TURNS)
 
-    def is_empty(self, listener: Optional[socket.socket]) -> bool:
-        """Whether nobody waits to be let in."""
-        return not select.select([listener], [], [], 0)[0]
-
     def test_services_of_root(self) -> None:
-        """Each service that asks as root has connections of its own."""
-        need_root()
-        groups = [pathlib.Path("/sys/fs/cgroup"), pathlib.Path("/sys/fs/cgroup/unified")]
-        top = next((it for it in groups if (it / "cgroup.procs").exists()), None)
-        if top is None or not os.access(top / "cgroup.procs", os.W_OK):
-            self.skipTest("no control groups may be made here")
-        service = self.serving()
-        said = {}
-        for name, count in (("sshd", 400), ("imap", 300), ("mail", 100)):
-            folder = top / f"rigzumal-test-{name}-{os.getpid()}"
-            folder.mkdir()
-            self.addCleanup(folder.rmdir)
-            words = [PYTHON, "-c", JOINED, str(folder), str(service.path()), str(count)]
-            client = subprocess.Popen(words, stdout=subprocess.PIPE, text=True)
-            self.addCleanup(client.wait)
-            self.addCleanup(client.kill)
-            assert client.stdout
-            self.addCleanup(client.stdout.close)
-            said[name] = client.stdout.readline()
-        self.assertEqual(said, dict.fromkeys(said, "a noaccount\n"))
+        """Each service that asks as root has connections of its own: of 64 places a user has 32."""
+        share_of = mock.Mock(side_effect=["sshd"] * 25 + ["imap"] * 18 + ["mail"] * 6)
+
+        async def let_in() -> int:
+            async with self.door(Service(Options())) as (door, stack):
+                for _ in range(49):
+                    stack.enter_context(Client(pathlib.Path(door.path)))
+                await self.all_let_in(door)
+                return len(door.clients)
+
+        with mock.patch.multiple(clients, CLIENTS=64, share_of=share_of):
+            self.assertEqual(asyncio.run(let_in()), 49)
+        share_of.assert_called_with(os.getuid(), os.getpid())
 
 
 class Shares(Case):
@@ -174,7 +155,9 @@ class Shares(Case):
             "5:memory:/a/b\n0::/\n": "uid 0",
             "": "uid 0",
         }.items():
-            with mock.patch.object(builtins, "open", lambda *_, **__: io.BytesIO(text.encode())):
+            opened = mock.Mock(return_value=io.BytesIO(text.encode()))
+            with mock.patch.object(builtins, "open", opened):
                 self.assertEqual(share_of(0, 1), ought, text)
+                self.assertEqual(opened.call_args.args[0], "/proc/1/cgroup")
                 self.assertEqual(share_of(33, 1), "uid 33")
         self.assertEqual(share_of(0, 2**22 + 1), "uid 0")  # which is no process
