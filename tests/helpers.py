@@ -251,10 +251,10 @@ def need(*programs: str) -> None:
             raise unittest.SkipTest(f"{name} isn't installed")
 
 
-def need_module(*names: str) -> None:
-    """Skips a test where this Python lacks one of these modules."""
+def need_module(*names: str, python: str = sys.executable) -> None:
+    """Skips a test where a Python, or this one, lacks one of these modules."""
     for name in names:
-        if subprocess.run([sys.executable, "-c", f"import {name}"], capture_output=True).returncode:
+        if subprocess.run([python, "-c", f"import {name}"], capture_output=True).returncode:
             raise unittest.SkipTest(f"Python's module {name} isn't installed")
 
 

@@ -152,7 +152,7 @@ class Book:
                 shutil.copy(source, copy)
 
 
-class Service:
+class Service(contextlib.AbstractContextManager["Service"]):
     """A program that answers lines. It is killed if it is there for too long."""
 
     def __init__(self, command: list[str], **options: Any) -> None:
@@ -163,9 +163,6 @@ class Service:
         self.guard = threading.Timer(LONGEST, self.process.kill)
         self.guard.daemon = True
         self.guard.start()
-
-    def __enter__(self) -> "Service":
-        return self
 
     def __exit__(self, *_: object) -> None:
         self.kill()

@@ -1,4 +1,4 @@
-"""Kills of scripts at random moments: what was answered stands. test_refused_calls.py has orders."""
+"""Scripts killed at random moments: what was answered stands. test_refused_calls.py has orders."""
 
 import signal
 import time

@@ -10,7 +10,7 @@ from collections.abc import Iterator
 
 from tests.credkeep.books import BookTest
 from tests.helpers import each, need
-from tests.server.served import Client
+from tests.server.served import Client, until
 
 
 def is_listening(path: pathlib.Path) -> bool:
@@ -24,10 +24,7 @@ def listening(command: list[str], path: pathlib.Path) -> Iterator[None]:
     """Another program that listens at a path and starts credkeep for each connection."""
     with subprocess.Popen(command, start_new_session=True, stderr=subprocess.DEVNULL) as listener:
         try:
-            until = time.monotonic() + 20
-            while not is_listening(path):
-                assert listener.poll() is None and time.monotonic() < until, "it doesn't listen"
-                time.sleep(0.02)
+            until(lambda: is_listening(path), "it listens")
             yield
         finally:
             os.killpg(listener.pid, signal.SIGTERM)

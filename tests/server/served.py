@@ -1,6 +1,8 @@
 """What the tests of the server share: a server in a temporary folder, and clients of it."""
 
 import base64
+import contextlib
+import functools
 import os
 import pathlib
 import socket
@@ -25,6 +27,8 @@ PYTHON = os.environ.get("SERVER_PYTHON", "/usr/bin/python3")
 SERVER = os.environ.get("CREDKEEP_SERVER", str(TOP / "bin/credkeep-server"))
 os.environ.setdefault("RIGZUMAL_LIBRARY", str(TOP / "c/out/librigzumal.so.1"))
 sys.path.insert(0, str(TOP / "python/rigzumal/server"))  # as the server's program does
+# Of the server's Python.
+need_module = functools.partial(helpers.need_module, python=PYTHON)
 
 
 def field_of(password: bytes) -> str:
@@ -68,12 +72,6 @@ def chosen_book() -> pathlib.Path:
         return FAST_BOOK
 
 
-def need_module(name: str) -> None:
-    """Skips a test of the server where its Python lacks a module."""
-    if subprocess.run([PYTHON, "-c", f"import {name}"], capture_output=True).returncode:
-        raise unittest.SkipTest(f"{PYTHON} has no {name}")
-
-
 def until(fact: Callable[[], bool], said: str, seconds: float = 20.0) -> None:
     """Waits for something."""
     end = time.monotonic() + seconds
@@ -82,10 +80,15 @@ def until(fact: Callable[[], bool], said: str, seconds: float = 20.0) -> None:
         time.sleep(0.01)
 
 
-def ran(*words: str) -> tuple[int, str, str]:
-    """Status, output and errors of the program with these words."""
-    done = subprocess.run([PYTHON, SERVER, *words], capture_output=True, text=True, timeout=30)
-    return done.returncode, done.stdout, done.stderr
+def ran(*words: str) -> helpers.Ended:
+    """How the program ends with these words."""
+    return helpers.ended([PYTHON, SERVER, *words])
+
+
+def free_port() -> int:
+    with socket.socket() as it:
+        it.bind(("127.0.0.1", 0))
+        return int(it.getsockname()[1])
 
 
 def is_listening(path: pathlib.Path) -> bool:
@@ -111,7 +114,7 @@ def as_user(uid: int, gid: int, path: pathlib.Path, *lines: str) -> str:
         return " ".join(client.ask(it) for it in lines)
 
 
-class Client:
+class Client(contextlib.AbstractContextManager["Client"]):
     """A connection to a socket of the server."""
 
     def __init__(self, path: pathlib.Path) -> None:
@@ -163,9 +166,6 @@ class Client:
 
     def close(self) -> None:
         self.socket.close()
-
-    def __enter__(self) -> "Client":
-        return self
 
     def __exit__(self, *_: object) -> None:
         self.close()

@@ -6,13 +6,12 @@ import os
 import pathlib
 import re
 import signal
-import socket
 import subprocess
 import urllib.request
 from unittest import mock
 
 from machine import is_open, shell
-from served import SECRET, TOP, WRONG, Case, Client, Service, field_of, need, ran, until
+from served import SECRET, TOP, WRONG, Case, Client, Service, field_of, free_port, need, ran, until
 from daemon import tries
 from daemon.options import OPERATIONS, Options
 from tests.helpers import Peer
@@ -21,12 +20,6 @@ from tests.helpers import Peer
 def noted(path: pathlib.Path) -> list[dict[str, object]]:
     """What an audit log has."""
     return [json.loads(line) for line in path.read_text().splitlines()]
-
-
-def free_port() -> int:
-    with socket.socket() as it:
-        it.bind(("127.0.0.1", 0))
-        return int(it.getsockname()[1])
 
 
 class Seen(Case):

@@ -11,7 +11,7 @@ import socket
 from typing import Any, Optional
 
 from machine import RUN, begun, in_namespaces, install, is_open, prepared, shell
-from served import Case, Service, need, need_module, ran, until
+from served import Case, Service, free_port, need, need_module, ran, until
 from test_sites import fetched, install_pages, web_logins
 
 BASIC = 'Basic realm="book", charset="UTF-8"'
@@ -210,9 +210,7 @@ class Web(Case):
         """A port of 127.0.0.1, and no other address."""
         need_module("h11")
         room = self.room()
-        with socket.socket() as it:
-            it.bind(("127.0.0.1", 0))
-            port = it.getsockname()[1]
+        port = free_port()
         service = self.serving("--http", f"127.0.0.1:{port}", folder=room).enrol(ada="secret")
         client = http.client.HTTPConnection("127.0.0.1", port, timeout=30)
         client.request("GET", "/", headers={"Authorization": basic(b"ada", b"secret")})  # type: ignore
