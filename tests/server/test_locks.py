@@ -1,10 +1,8 @@
 """Tests of bin/credkeep-server: names that are locked, and passwords that must be changed."""
 
-import os
 import time
 
-from served import SECRET, WRONG, Case, Service, need, until
-from test_seen import noted
+from served import SECRET, WRONG, Case, Service, need
 
 LOCKED = """
 admin lock ada -> locked
@@ -156,16 +154,3 @@ class Locks(Case):
         service = self.over(folder=folder, before=("prlimit", "--fsize=3010"))
         service.talk("admin lock ada -> unavailable\nlogin verify ada {secret} -> yes")
         self.assertIn("users.db-locks: File too large", service.log())
-
-    def test_seen(self) -> None:
-        """The audit log has who locked whom, and logins with a password that must be changed; changes count."""
-        path = self.room() / "audit"
-        service = self.over("--audit", str(path))
-        service.talk("admin lock ada -> locked\nadmin unlock ada -> unlocked")
-        service.talk("admin expire ada -> expired\nlogin verify ada {secret} -> expired")
-        until(lambda: len(noted(path)) == 8, "the login's line, which comes behind its answer")
-        said = [(it["operation"], it["name"], it["answer"], it["uid"]) for it in noted(path)[4:]]
-        marks = [("lock", "locked"), ("unlock", "unlocked"), ("expire", "expired")]
-        ought = [(operation, "ada", answer, os.getuid()) for operation, answer in marks]
-        self.assertEqual(said, [*ought, ("verify", "ada", "expired", os.getuid())])
-        self.assertEqual((service.stats()["changes"], service.stats()["yes"]), (7, 1))
