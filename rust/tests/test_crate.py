@@ -128,7 +128,3 @@ class Crate(unittest.TestCase):
             long = [it for it in path.read_text().splitlines() if len(it) > 100]
             if long:
                 self.fail(f"{path}: {long}")
-
-
-if __name__ == "__main__":
-    unittest.main()

@@ -21,8 +21,9 @@ fn check_tags(argon2: Argon2<'_>, password: &[u8], salt: &[u8], wanted: [&str; 3
     }
 }
 
+/// The second by `argon2 somesalt -v 10 -t 2 -k 256 -p 1 -r`.
 #[test]
-fn tags_are_those_of_rfc_9106() {
+fn tags_are_those_of_rfc_9106_and_of_the_argon2_program() {
     let wanted = [
         "512b391b6f1162975371d30919734294f868e3be3984f3c1a13a4db9fabe4acb",
         "c814d9d1dc7f37aa13f0d77f2494bda1c8de6b016dd388d29952a4c4672b6ce8",
@@ -31,11 +32,6 @@ fn tags_are_those_of_rfc_9106() {
     let (secret, associated) = (&[3; 8], &[4; 12]);
     let numbers = Argon2 { memory: 32, passes: 3, lanes: 4, ..Argon2::default() };
     check_tags(Argon2 { secret, associated, ..numbers }, &[1; 32], &[2; 16], wanted);
-}
-
-/// By `argon2 somesalt -v 10 -t 2 -k 256 -p 1 -r`.
-#[test]
-fn old_tags_are_those_of_the_argon2_program() {
     let wanted = [
         "bd404868ff00c52e7543c8332e6a772a5724892d7e328d5cf253bbc8e726b371",
         "fd4dd83d762c49bdeaf57c47bdcd0c2f1babf863fdeb490df63ede9975fccf06",

@@ -26,7 +26,7 @@ def small_disk(folder: pathlib.Path, size: int) -> Iterator[pathlib.Path]:
         subprocess.run(["umount", str(folder)], check=True)
 
 
-class OrdersTest(BookTest):
+class ImportsTest(BookTest):
     def test_imports(self) -> None:
         """The import is named, and all or none of it is kept. The system's refusal is told as what
         it was: which error a lost import names stands in no clause."""

@@ -12,6 +12,7 @@ import subprocess
 import time
 from typing import Any
 
+from machine import commands_on_page, shell
 from served import CHEAP, FAST_BOOK, SECRET, Case, Client, Service, field_of, need, ran, real_book
 from served import until
 
@@ -92,12 +93,9 @@ def cpu(service: Service) -> float:
 
 
 def hashed(address: str) -> str:
-    """The name of an address in the book, by coreutils."""
-    script = "b2sum -l 160 | cut -c1-40 | xxd -r -p | base32 | tr A-Z a-z | cut -c1-30"
-    done = subprocess.run(
-        script, shell=True, input=address.encode(), capture_output=True, check=True
-    )
-    return f"e.{done.stdout.decode().strip()}"
+    """The name of an address in the book, by the page's coreutils."""
+    (command,) = commands_on_page("printf %s ada@example.org")
+    return f"e.{shell(command.replace('ada@example.org', address)).strip()}"
 
 
 class OverCredkeep(Case):
