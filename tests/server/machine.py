@@ -9,10 +9,11 @@ import socket
 import subprocess
 import unittest
 from collections.abc import Callable
-from typing import Any, TypeVar
+from typing import TypeVar
 
 from served import CHEAP, FAST_BOOK, HERE, PYTHON, TOP, Case, Given, Service, chosen_book, need
 from served import need_root, same
+from tests.helpers import run
 
 PAGE = TOP / "docs/SERVERS.md"
 SECURITY = pathlib.Path("/usr/lib/x86_64-linux-gnu/security")
@@ -42,10 +43,7 @@ def commands_on_page(word: str) -> list[str]:
 
 
 def shell(line: str, status: int = 0) -> str:
-    both: Any = {"stdout": subprocess.PIPE, "stderr": subprocess.STDOUT}
-    done = subprocess.run(line, shell=True, text=True, timeout=280, **both)
-    same(done.returncode, status, f"{line}: {done.stdout}")
-    return str(done.stdout)
+    return run("sh", "-c", line, status=status)
 
 
 def private(room: pathlib.Path, *paths: str) -> None:
@@ -104,9 +102,8 @@ def is_open(port: int) -> bool:
 
 def pamtester(service: str, user: str, tasks: str, typed: str, status: int, text: str) -> None:
     words = ["pamtester", "-I", "rhost=192.0.2.7", service, user, *tasks.split()]
-    done = subprocess.run(words, input=typed, capture_output=True, text=True, timeout=60)
-    said = done.stdout + done.stderr
-    same((done.returncode, text in said), (status, True), f"{tasks}: {said}")
+    said = run(*words, given=typed, status=status)
+    same(text in said, True, f"{tasks}: {said}")
 
 
 def lets_in(service: str, user: str, password: str, tasks: str = "authenticate") -> None:

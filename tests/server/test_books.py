@@ -8,13 +8,13 @@ import os
 import pathlib
 import random
 import socket
-import subprocess
 import time
 from typing import Any
 
 from machine import commands_on_page, shell
 from served import CHEAP, FAST_BOOK, SECRET, Case, Client, Service, field_of, need, ran, real_book
 from served import until
+from tests.helpers import run
 
 DEARER = "$argon2id$v=19$m=128,t=2,p=1"
 RECORD = "$argon2id$v=19$m=8,t=1,p=1$c29tZXNhbHQ$AAAAAAAAAAAAAAAAAAAAAA"
@@ -106,14 +106,11 @@ class OverCredkeep(Case):
     def listed(self, folder: pathlib.Path) -> list[str]:
         """The names in the file, once the server has ended in order."""
 
-        def said(word: str) -> str:
-            words = [str(real_book()), str(folder / "users.db"), word]
-            return subprocess.run(words, capture_output=True, text=True, check=True).stdout
-
-        names = said("list").split()
+        book = (real_book(), folder / "users.db")
+        names = run(*book, "list").split()
         plural = "" if len(names) == 1 else "s"
         counts = f"{len(names)} account{plural}, 0 changes in the log\n"
-        self.assertEqual(said("verify"), counts, "it wasn't closed in order")
+        self.assertEqual(run(*book, "verify"), counts, "it wasn't closed in order")
         return names
 
     def test_operations(self) -> None:

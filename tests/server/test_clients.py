@@ -10,7 +10,6 @@ import os
 import pathlib
 import re
 import socket
-import subprocess
 import sys
 import threading
 import time
@@ -20,7 +19,7 @@ from typing import Any
 from unittest import mock
 
 from served import TOP, Case, need
-from tests.helpers import Peer
+from tests.helpers import Peer, run
 
 PAGE = (TOP / "docs/SERVERS.md").read_text()
 
@@ -370,7 +369,5 @@ class OtherLanguages(Case):
         service, script = self.serving("--tries", "3"), self.room() / "client.php"
         service.enrol(ada="secret")
         script.write_text(f"{block('php')}\n$path = 'unix://{service.path()}';\n{PHP_ROWS}")
-        words = ["php", "-d", "error_reporting=E_ALL", str(script)]
-        done = subprocess.run(words, capture_output=True, text=True)
-        ought = "true false false false false false false NULL"
-        self.assertEqual(done.stdout.split(), ought.split(), done.stderr)
+        said = run("php", "-d", "error_reporting=E_ALL", script)
+        self.assertEqual(said.split(), "true false false false false false false NULL".split())

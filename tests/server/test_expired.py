@@ -3,7 +3,7 @@
 import pathlib
 import shutil
 
-from machine import begun, in_namespaces, install, is_open, keeps_out, lets_in, shell, started
+from machine import in_namespaces, install, is_open, keeps_out, lets_in, shell, started
 from served import TOP, Case, Service, need, until
 from tests.helpers import at_a_terminal
 

@@ -6,15 +6,11 @@ import hashlib
 import importlib
 import json
 import os
-import pathlib
 import random
-import re
-import subprocess
 import threading
 from typing import Any
 
-from served import CHEAP, SECRET, WRONG, Case, Service, chosen_book, field_of, need, need_module
-from served import until
+from served import CHEAP, SECRET, WRONG, Case, Service, chosen_book, need, need_module, until
 from tests.helpers import run
 
 SALT = bytes(range(8))

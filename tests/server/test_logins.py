@@ -8,15 +8,13 @@ or by BOOK=fast.
 import contextlib
 import pathlib
 import socket
-import subprocess
 import threading
 from collections.abc import Iterator
-from typing import Any
 
 from machine import RUN, begun, in_namespaces, install, is_open, keeps_out, lets_in, on_page
 from machine import pamtester, shell, started
 from served import PYTHON, Case, Client, need, until
-from tests.helpers import at_a_terminal
+from tests.helpers import at_a_terminal, ended
 
 # The ends of what is logged of a wrong password, of one that is too early, and of an unknown name.
 OUR_TRIES = ["192.0.2.7  user=ada", "192.0.2.7 ", "192.0.2.7 "]
@@ -162,8 +160,7 @@ class Logins(Case):
 
         def tried(password: str) -> str:
             words = "setpriv --reuid 4712 --regid 4711 --clear-groups su ada -c".split()
-            given: Any = {"input": f"{password}\n", "capture_output": True, "text": True}
-            return subprocess.run([*words, "id -un"], timeout=60, **given).stdout.strip()
+            return ended([*words, "id -un"], f"{password}\n").written.strip()
 
         self.assertEqual([tried("secret"), tried("guess"), tried("unixword")], ["ada", "", ""])
         server.stop()
@@ -186,8 +183,7 @@ class Logins(Case):
             common = "StrictHostKeyChecking=no UserKnownHostsFile=/dev/null LogLevel=ERROR"
             common = " ".join(f"-o {it}" for it in f"{common} NumberOfPasswordPrompts=1".split())
             line = f"{before} ssh {common} {words} {user}@127.0.0.1 id -un"
-            done = subprocess.run(line, shell=True, capture_output=True, text=True, timeout=60)
-            return done.stdout.strip()
+            return ended(["sh", "-c", line]).written.strip()
 
         def tried(password: str, user: str = "ada") -> str:
             words = "-o PreferredAuthentications=keyboard-interactive -o PubkeyAuthentication=no"

@@ -14,7 +14,7 @@ from machine import is_open, shell
 from served import SECRET, TOP, WRONG, Case, Client, Service, field_of, free_port, need, ran, until
 from daemon import tries
 from daemon.options import OPERATIONS, Options
-from tests.helpers import Peer
+from tests.helpers import Peer, run
 
 
 def noted(path: pathlib.Path) -> list[dict[str, object]]:
@@ -231,8 +231,7 @@ class Logs(Case):
         words = f"mypy --strict --python-version=3.9 --cache-dir={self.room()}".split()
         at = TOP / "python/rigzumal/server"
         for checked in ("daemon", str(TOP / "bin/credkeep-ask")):
-            done = subprocess.run([*words, checked], cwd=at, capture_output=True, text=True)
-            self.assertEqual(done.returncode, 0, done.stdout)
+            run(*words, checked, at=at)
 
 
 # Lines, and whether the audit log has them, with the names and answers that it has.
