@@ -37,10 +37,6 @@ def salted_sha1(password: bytes, salt: bytes = SALT) -> str:
     return "{SSHA}" + base64.b64encode(hashlib.sha1(password + salt).digest() + salt).decode()
 
 
-def sha1(password: str) -> str:
-    return "{SHA}" + base64.b64encode(hashlib.sha1(password.encode()).digest()).decode()
-
-
 class Foreign(Case):
     def setUp(self) -> None:
         super().setUp()
@@ -181,7 +177,7 @@ class Foreign(Case):
     def test_removed_by_htpasswd(self) -> None:
         """A name that leaves the file is unknown at once; those who move meanwhile aren't lost."""
         names = [f"u{it}" for it in range(400)]
-        record = sha1("secret")
+        record = made_by(MAKERS["sha1"], "secret")
         self.file.write_text("".join(f"{it}:{record}\n" for it in names))
         service, left = self.over("--tries", "0"), set(names)
         moved, is_over = set[str](), threading.Event()
