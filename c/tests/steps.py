@@ -71,22 +71,6 @@ class Steps(unittest.TestCase):
         for secret, threads in ((None, 0), ("", 0), (None, 2), ("pepper", 2)):
             self.check_steps(secret, threads)
 
-    def test_faults(self):
-        """Of the proved step, in their order."""
-        long, right = bytes(257), b"password"
-        for operation, copy, password, new, setting, room, fault in (
-            (0, "$", long, long, "", 513, N.NO_OPERATION),
-            (N.VERIFY, "$", long, long, "", 513, N.COPY),
-            (N.VERIFY, "", right, right, None, 513, N.COPY),
-            (N.ENROL, None, long, right, COSTS, 513, N.LONG_PASSWORD),
-            (N.CHANGE, None, right, long, COSTS, 513, N.LONG_PASSWORD),
-            (N.ENROL, None, right, right, None, 513, N.SHAPE),
-            (N.ENROL, None, right, right, COSTS, 84, N.NO_ROOM),
-            (N.ENROL, None, right, right, COSTS, 0, N.NO_ROOM),
-        ):
-            found = step(operation, copy, password, new, setting, room)
-            self.assertEqual(found, (fault, "", NO_REPLY), (operation, copy))
-
     def test_lost_inputs(self):
         """A password or a secret that has a size and no bytes is refused, whatever the copy."""
         lost, good = (None, 8), pair("password")

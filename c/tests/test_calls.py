@@ -20,7 +20,6 @@ INSTRUCTIONS = {"v1": "%xmm", "v2": "pshufb", "v3": "%ymm", "v4": r"mm(1[6-9]|2\
 # Bits of leaf 7 and of XCR0: qemu has no such processor.
 LEVEL_4 = {"avx512f": 16, "avx512dq": 17, "avx512cd": 28, "avx512bw": 30, "avx512vl": 31}
 STATES = {"sse": 1, "avx": 2, "k0 to k7": 5, "zmm0 to zmm15": 6, "zmm16 to zmm31": 7}
-LOADER = "/lib64/ld-linux-x86-64.so.2"
 
 
 def processor(*flags, kept=None):
@@ -81,13 +80,6 @@ class Calls(unittest.TestCase):
             with self.subTest(build):
                 has = [re.search(INSTRUCTIONS[build], code[it]) is not None for it in code]
                 self.assertEqual(has, [it >= at for it in range(len(code))])
-
-    def test_this_processor(self):
-        """The build that is chosen here is of the highest level that the loader sees."""
-        need_host()
-        need(LOADER)
-        levels = re.findall(r"x86-64-(v\d) \(supported", run(LOADER, "--help"))
-        self.assertEqual(run(processor()).strip(), max(levels, default="v1"))
 
     def test_calls_on_processors(self):
         """Each call on a processor of each level, which knows no instructions of the next one."""

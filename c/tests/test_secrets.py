@@ -6,7 +6,7 @@ import re
 import struct
 import unittest
 
-from harness import ARCH, BUILDS, IN_THREADS, IS_NATIVE, LIBARGON2, SOURCES, WITHOUT_BUILDS
+from harness import ARCH, BUILDS, IN_THREADS, IS_NATIVE, LIBARGON2, WITHOUT_BUILDS
 from harness import built, need, need_glibc, need_host, run, sources_for
 
 
