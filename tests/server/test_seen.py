@@ -63,7 +63,9 @@ class Seen(Case):
     def test_metrics(self) -> None:
         """--metrics prints the counts as Prometheus reads them, with the book's name at each."""
         room = self.room()
-        service = self.serving(file=room / 'my "%s.db').enrol(ada="secret")
+        file = room / 'my "%s.db'
+        service = self.serving(file=file).enrol(ada="secret")
+        self.assertTrue(file.exists())
         service.client().talk("verify ada {wrong} -> no")
         status, text, faults = ran("--metrics", str(service.path("admin")))
         self.assertEqual((status, faults), (0, ""))

@@ -8,11 +8,12 @@ import os
 import pathlib
 import select
 import socket
+import subprocess
 import time
 from collections.abc import AsyncIterator
 from unittest import mock
 
-from served import Case, Client
+from served import PYTHON, Case, Client
 from daemon import clients
 from daemon.book import share_of
 from daemon.clients import FEW, Door
@@ -26,6 +27,16 @@ IDLE_LINES = {
     "unknown": (b"1 frob\n", b"1 denied"),
     "long": (b"1 " + b"x" * 1000 + b"\n", b"1 bad 16 long"),
 }
+
+
+# Has so many connections.
+CONNECTED = """import socket, sys, time
+clients = [socket.socket(socket.AF_UNIX) for _ in range(int(sys.argv[2]))]
+for it in clients:
+    it.connect(sys.argv[1])
+print("connected", flush=True)
+time.sleep(200)
+"""
 
 
 class Floods(Case):
@@ -130,15 +141,17 @@ class Floods(Case):
         share_of = mock.Mock(side_effect=["sshd"] * 25 + ["imap"] * 18 + ["mail"] * 6)
 
         async def let_in() -> int:
-            async with self.door(Service(Options())) as (door, stack):
-                for _ in range(49):
-                    stack.enter_context(Client(pathlib.Path(door.path)))
-                await self.all_let_in(door)
+            async with self.door(Service(Options())) as (door, _):
+                words = [PYTHON, "-c", CONNECTED, door.path, "49"]
+                with subprocess.Popen(words, stdout=subprocess.PIPE) as process:
+                    assert process.stdout and process.stdout.readline()
+                    await self.all_let_in(door)
+                    process.kill()
+                share_of.assert_called_with(os.getuid(), process.pid)
                 return len(door.clients)
 
         with mock.patch.multiple(clients, CLIENTS=64, share_of=share_of):
             self.assertEqual(asyncio.run(let_in()), 49)
-        share_of.assert_called_with(os.getuid(), os.getpid())
 
 
 class Shares(Case):
