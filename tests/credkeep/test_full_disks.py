@@ -26,20 +26,6 @@ def small_disk(folder: pathlib.Path, size: int) -> Iterator[pathlib.Path]:
         subprocess.run(["umount", str(folder)], check=True)
 
 
-class ImportsTest(BookTest):
-    def test_imports(self) -> None:
-        """The import is named, and all or none of it is kept. The system's refusal is told as what
-        it was: which error a lost import names stands in no clause."""
-        self.book.add("ann")
-        lines = lined(f"n{at}:{RECORD}" for at in range(COUNT))
-        done = self.book("import", given=lines, **small_files(100_000))
-        lost = f"; the {COUNT} new accounts may be kept or not, all or none of them"
-        self.assertFails(done, 5)
-        first = done.faults.splitlines()[0]
-        self.assertEqual(first, f"credkeep: the database failed: disk I/O error{lost}")
-        self.assertEqual(self.book.names(), ["ann"])
-
-
 class LostTest(BookTest):
     def on_full_disk(self, order: str, size: int) -> tuple[Ended, Book]:
         """How a script ended on a copy of the book whose disk has so many bytes, and the copy."""
@@ -72,3 +58,15 @@ class ScriptsTest(LostTest):
 
     def test_full_disk(self) -> None:
         self.assertLost(*self.on_full_disk("run", 256 * 1024), {})
+
+    def test_imports(self) -> None:
+        """The import is named, and all or none of it is kept. The system's refusal is told as what
+        it was: which error a lost import names stands in no clause."""
+        self.book.add("ann")
+        lines = lined(f"n{at}:{RECORD}" for at in range(COUNT))
+        done = self.book("import", given=lines, **small_files(100_000))
+        lost = f"; the {COUNT} new accounts may be kept or not, all or none of them"
+        self.assertFails(done, 5)
+        first = done.faults.splitlines()[0]
+        self.assertEqual(first, f"credkeep: the database failed: disk I/O error{lost}")
+        self.assertEqual(self.book.names(), ["ann"])

@@ -18,15 +18,14 @@ from collections.abc import Callable, Coroutine, Iterator
 from typing import Any
 from unittest import mock
 
+from machine import PAGE
 from served import TOP, Case, need
 from tests.helpers import Peer, run
-
-PAGE = (TOP / "docs/SERVERS.md").read_text()
 
 
 def block(language: str) -> str:
     """The one block of the page in a language."""
-    (found,) = re.findall(rf"```{language}\n(.*?)```", PAGE, re.S)
+    (found,) = re.findall(rf"```{language}\n(.*?)```", PAGE.read_text(), re.S)
     assert len(found.splitlines()) <= 30
     return str(found)
 

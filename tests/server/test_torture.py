@@ -163,9 +163,8 @@ def tortured(given: Given, seconds: float, kills: int) -> int:
     chance, log, service = random.Random(SEED), Log(), given.begun().wait_until_started()
     try:
         service.talk("".join(f"admin account {name} -> ok\n" for name in NAMES))
-        chances, end = [
-            random.Random(chance.random()) for _ in range(64)
-        ], time.monotonic() + seconds
+        chances = [random.Random(chance.random()) for _ in range(64)]
+        end = time.monotonic() + seconds
         clients = [Asking(given.folder, log, own, number) for number, own in enumerate(chances)]
         with concurrent.futures.ThreadPoolExecutor(64) as pool:
             asking = [pool.submit(it.go, end) for it in clients]
