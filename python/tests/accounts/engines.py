@@ -7,7 +7,7 @@ import uuid
 
 import servers
 from galera import Galera
-from support import CHECK_FAILED, HIGH, LOW, Awaiting, Base
+from support import CHECK_FAILED, HIGH, LOW, Awaiting, Base, module
 from rigzumal import ScryptHasher
 from rigzumal.accounts import AsyncAccounts, MariaDB, MySQL, Postgres, Sqlite
 from rigzumal.accounts.pools import PerUse
@@ -247,6 +247,14 @@ class OnSqliteTasks(OnSqlite):
 
     def accounts(self, hasher=LOW, dialect=None, **more):
         return self.over(PerUse(self.awaiting), hasher, dialect, **more)
+
+
+class OnAiosqlite(OnSqliteTasks):
+    """The same over a driver that is asynchronous."""
+
+    async def awaiting(self):
+        given = {"isolation_level": None, "timeout": 5}
+        return await module("aiosqlite").connect(self.server.path, **given)
 
 
 class OnPostgresTasks(OnPostgres):

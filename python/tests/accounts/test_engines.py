@@ -19,7 +19,7 @@ SHARED = (engines.OnPgBouncer, engines.OnGalera)
 globals().update(
     engines.made(suite, engine)
     for suite, on in (
-        (of_engines.Operations, (*ENGINES, *TASKS, *SHARED, *HASHERS)),
+        (of_engines.Operations, (*ENGINES, *TASKS, engines.OnAiosqlite, *SHARED, *HASHERS)),
         (of_engines.LostAnswers, (*ENGINES, *TASKS, *SHARED)),
         (of_tables.Connections, ENGINES),
         (of_tables.Tables, ENGINES),
