@@ -71,10 +71,12 @@ class Peppers(Base):
     ROTATED = ((OLD, BOTH), (LOW, NEW_OR_NONE), (ScryptHasher(4), NEW_OR_NONE))
 
     def test_a_record_is_of_one_secret(self):
-        """And of no other; nor is one for an INSERT."""
+        """And of no other; nor is one for an INSERT, which has a salt of its own."""
         accounts = self.accounts(self.NEW)
         self.assert_replies("reset ann one replaced", accounts)
-        for stands in (self.stands(), accounts.new_record("one")):
+        records = {self.stands(), *(accounts.new_record("one") for _ in range(2))}
+        self.assertEqual(len(records), 3)
+        for stands in records:
             self.put(stands)
             for hasher, reply in ((self.NEW, "yes"), (LOW, "no"), (self.OLD, "no")):
                 self.assert_replies(f"verify ann one {reply}", self.accounts(hasher))
@@ -191,10 +193,6 @@ class ForeignTasks(OnSqliteTasks, Foreign):
             threads.append(threading.current_thread().name)
             return self.hook(text, password)
 
-        class Callable:
-            async def __call__(self, *given):
-                return await awaited(*given)
-
         def plain(text, password):
             threads.append(threading.current_thread().name)
             return self.hook(text, password)
@@ -204,7 +202,7 @@ class ForeignTasks(OnSqliteTasks, Foreign):
         self.assertRaises(TypeError, self.accounts, foreign=plain, executor=8)
         with self.assertRaisesRegex(TypeError, "AsyncAccounts takes a ThreadPoolExecutor"):
             Accounts(self.connect, self.dialect, LOW, executor=executor)
-        for hook in (awaited, Callable(), functools.partial(awaited), plain):
+        for hook in (awaited, lambda *given: awaited(*given), functools.partial(awaited), plain):
             accounts = self.accounts(foreign=hook, executor=executor)
             self.put("$2b$one")
             threads.clear()

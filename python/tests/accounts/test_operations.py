@@ -133,17 +133,6 @@ class Operations(Base):
         salt = base64.b64encode(drawn).decode().rstrip("=")
         self.assertEqual(self.stands().split("$")[4], salt)
 
-    def test_a_new_record(self):
-        """For an INSERT of one's own; each has a salt of its own."""
-        accounts = self.accounts(HIGH)
-        records = {accounts.new_record("one") for _ in range(3)}
-        self.assertEqual(len(records), 3)
-        for record in records:
-            self.put(record)
-            self.assertIn("m=128,", record)
-            self.assert_replies("login ann one yes", accounts)
-            self.assertEqual(self.stands(), record)
-
     # ---- servers that fail, and connections that break
 
     def test_a_login_waits_once_for_a_server(self):
@@ -239,25 +228,16 @@ class Tasks(engines.OnSqliteTasks, Base):
             await awaited(conn, reply)
             raise KeyError("mine")
 
+        async def generates(conn, reply):
+            yield conn
+
         future = lambda *given: asyncio.ensure_future(awaited(*given))
         for also in (plain, awaited, future):
             self.assert_replies("change ann one one replaced; login ann one yes", also=also)
         self.assertRaises(KeyError, accounts.change, "ann", "one", "two", also=fails)
+        with self.assertRaisesRegex(TypeError, "a generator"):
+            accounts.change("ann", "one", "two", also=generates)
         self.assertTrue(self.is_right("one"))
         rows = [row for (row,) in self.conn.execute("SELECT reply FROM sessions")]
         self.assertEqual(rows, ["replaced", "yes"] * 3)
         self.assertEqual(told, [*rows, "replaced"])
-
-    def test_a_hook_that_ends_the_transaction(self):
-        """It is told so, and no record was written."""
-
-        async def ends(conn, reply):
-            conn.of.execute("COMMIT")
-
-        async def writes(conn, reply):
-            yield conn
-
-        for also, fault in ((ends, "has ended"), (writes, "a generator")):
-            with self.assertRaisesRegex(TypeError, fault):
-                self.accounts().change("ann", "one", "two", also=also)
-        self.assertTrue(self.is_right("one"))
