@@ -5,14 +5,13 @@ A dialect of one's own is tried by a subclass of these with what `engines.py` sa
 its `kind` (a server that is started, and connects), its `dialect`, and its settings.
 """
 
-import contextlib
 import itertools
 import re
 import threading
 from unittest import mock
 
 from support import after_hash, called, each, losing
-from rigzumal.accounts import Accounts, OutcomeUnknown, Reply, StoreFault, Unavailable
+from rigzumal.accounts import OutcomeUnknown, Reply, StoreFault, Unavailable
 from rigzumal.accounts.types import NO_ROW, Answer, Kind, Request
 
 AT_ONE = """verify ann one yes; verify ann two no; login ann one yes; login ann two no
@@ -138,14 +137,6 @@ class LostAnswers:
         self.assertRaises(OutcomeUnknown, accounts.change, "ann", "one", "two")
         self.assertTrue(self.is_right("another"))
 
-    def test_what_its_owner_has_removed_since(self):
-        """It stays removed, and its outcome is unknown."""
-        self.give(None)
-        accounts = self.losing(before=False)
-        self.at_second_look(accounts, lambda: self.give(None))
-        self.assertRaises(OutcomeUnknown, accounts.enrol, "ann", "new")
-        self.assertIsNone(self.stands())
-
     def test_what_was_done_is_put_over_itself(self):
         """What stands may not be on the disk."""
         accounts = self.losing(before=False)
@@ -241,26 +232,6 @@ class OnServers:
         timer.start()
         self.assert_replies("change ann one two replaced; enrol ben x enrolled", accounts)
         timer.join()
-
-    def test_connections_of_a_pool_that_all_died(self):
-        """Each is taken and given up, with no pause that grows."""
-        idle = [self.connect() for _ in range(40)]
-        self.end_sessions()
-
-        @contextlib.contextmanager
-        def pool():
-            conn = idle.pop() if idle else self.connect()
-            try:
-                yield conn
-            except BaseException:
-                conn.close()
-                raise
-
-        accounts = Accounts(pool, self.dialect, self.low)
-        with mock.patch.object(type(accounts._runtime), "pause") as pause:
-            self.assertIs(accounts.change("ann", "one", "two"), Reply.REPLACED)
-        self.assertEqual(pause.call_count, 40)
-        self.assertLess(sum(it.args[0] for it in pause.call_args_list), 0.5)
 
     @each(*itertools.product(("put_at_once", "commit"), (AttributeError, TypeError, NameError)))
     def test_a_fault_of_a_program_comes_through(self, name, error):
