@@ -87,7 +87,7 @@ class OnPostgres(OnServer):
     levels = [f"SET default_transaction_isolation = '{it}'" for it in LEVELS]
     keys = (
         ("bigint", int, 7, 8),
-        ("smallint", int, 7, 2**40),
+        *((it, int, 7, 2**40) for it in ("smallint", "numeric")),
         ("bytea", bytes, b"\0\xff", b"of another size"),
         ("uuid", uuid.UUID, uuid.UUID(int=7), uuid.UUID(int=8)),
     )

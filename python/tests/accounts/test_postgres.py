@@ -10,14 +10,11 @@ import threading
 from unittest import mock
 
 import engines
-import servers
 import torture
-from servers import psycopg
 from support import LOW, Base, Session, called, each, module, run
 from rigzumal import InvalidRecordError
 from rigzumal.accounts import AsyncAccounts, OutcomeUnknown, Reply, StoreFault, Unavailable
-from rigzumal.accounts.types import Kind, Request
-from rigzumal.accounts.pools import PerUse
+from rigzumal.accounts.types import Kind
 from torture import _torture
 
 
@@ -65,26 +62,6 @@ class OnPostgres(engines.OnPostgres, Base):
                     self.assertIs(accounts.commit_in(caller, worked).reply, worked.reply)
             caller.execute("ROLLBACK")
 
-    def test_a_session_that_an_old_snapshot_does_not_see(self):
-        """Under READ COMMITTED the change that waited ends it."""
-        self.give("old")
-        self.execute("DROP TABLE IF EXISTS sessions")
-        self.execute("CREATE TABLE sessions (name text)")
-        accounts = self.accounts()
-        login = self.worked(accounts, Kind.VERIFY, "old")
-        change = self.worked(accounts, Kind.CHANGE, "old", "new")
-        one, two = self.another(), self.another()
-        one.execute("BEGIN")
-        one.execute("SELECT count(*) FROM sessions")
-        two.execute("BEGIN")
-        self.assertIs(accounts.commit_in(two, login).reply, Reply.YES)
-        two.execute("INSERT INTO sessions VALUES ('ann')")
-        two.execute("COMMIT")
-        self.assertIs(accounts.commit_in(one, change).reply, Reply.REPLACED)
-        one.execute("DELETE FROM sessions WHERE name = 'ann'")
-        one.execute("COMMIT")
-        self.assertEqual(self.execute("SELECT * FROM sessions"), [])
-
     def test_a_commit_that_answers_rollback(self):
         """Who swallows a statement's error has a transaction that has failed, whose COMMIT
         raises nothing: that is a fault at once, and nothing was done or is looked for."""
@@ -106,23 +83,6 @@ class OnPostgres(engines.OnPostgres, Base):
         with self.assertRaisesRegex(StoreFault, "ROLLBACK to COMMIT"):
             run(self.dialect.commit(session))
         self.assertTrue(self.is_right("one"))
-
-    def test_an_index_that_is_not_valid(self):
-        """As CREATE UNIQUE INDEX CONCURRENTLY leaves one that found a key twice."""
-        self.execute("ALTER TABLE users DROP CONSTRAINT users_pkey")
-        self.execute("CREATE UNIQUE INDEX one ON users (name)")
-        self.assertEqual(self.accounts().examine(), [])
-        self.execute("UPDATE pg_index SET indisvalid = false WHERE indexrelid = 'one'::regclass")
-        (fault,) = self.accounts().examine()
-        self.assertEqual((fault.code, fault.is_error), ("key-not-unique", True))
-
-    def test_a_trigger_that_notes_the_time(self):
-        """The usual updated_at is no fault: what it does was tried."""
-        self.execute("ALTER TABLE users ADD updated_at timestamptz")
-        self.trigger("NEW.updated_at = now(); RETURN NEW;")
-        self.give("one")
-        self.assertEqual(self.accounts().examine(), [])
-        self.assertIs(self.accounts().change("ann", "one", "two"), Reply.REPLACED)
 
     # ---- a standby that doesn't answer
 
@@ -165,7 +125,6 @@ class OnPostgres(engines.OnPostgres, Base):
 
     def test_psycopgs_pool_of_asyncio(self):
         pools = module("psycopg_pool")
-        self.give("one")
 
         async def act():
             given = {"kwargs": {"autocommit": True}, "min_size": 2, "max_size": 4}
@@ -177,25 +136,6 @@ class OnPostgres(engines.OnPostgres, Base):
             self.end_sessions()
             self.assertIs(await accounts.change("ann", "one", "two"), Reply.REPLACED)
             await pool.close()
-
-        asyncio.run(act())
-
-    def test_asyncio(self):
-        """A caller's own transaction; the engines' tests have the rest."""
-
-        def connect(autocommit=True):
-            return psycopg.AsyncConnection.connect(self.server.url, autocommit=autocommit)
-
-        async def act():
-            low = AsyncAccounts(PerUse(connect), self.dialect, LOW, patience=0.5)
-            worked = await low.work(await low.begin(Request(Kind.CHANGE, "ann", "one", "two")))
-            async with await connect() as conn:
-                with self.assertRaises(StoreFault):
-                    await low.commit_in(conn, worked)
-            async with await connect(autocommit=False) as conn:
-                self.assertIs((await low.commit_in(conn, worked)).reply, Reply.REPLACED)
-                await conn.rollback()
-            self.assertIs((await low.commit(worked)).reply, Reply.REPLACED)
 
         asyncio.run(act())
 
