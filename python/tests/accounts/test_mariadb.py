@@ -74,7 +74,6 @@ class OnMariaDB(engines.OnMariaDB, Base):
     def test_found_rows(self):
         from pymysql.constants import CLIENT
 
-        self.give("one")
         accounts = self.accounts(connect=self.setting(client_flag=CLIENT.FOUND_ROWS))
         self.assertIs(accounts.change("ann", "one", "one"), Reply.REPLACED)
         slow = self.worked(accounts, Kind.CHANGE, "one", "two")
@@ -96,15 +95,6 @@ class OnMariaDB(engines.OnMariaDB, Base):
                 said = commanded(cli.main, *given, given=b"pw", status=5)
                 self.assertIn("the server keeps another name", said)
                 self.assertEqual(self.execute("SELECT * FROM accounts"), [])
-
-    def test_blanks_are_of_a_name(self):
-        """In the table that is made for accounts, 'ann ' is another name than 'ann'."""
-        accounts = self.accounts()
-        for name in ("ann ", " ann", "ANN", "ann\t", "\u00e4nn"):
-            self.assertIs(accounts.verify(name, "one"), Reply.NO_ACCOUNT)
-            self.execute(self.dialect.insert, name)
-            self.assertIs(accounts.verify(name, "one"), Reply.ABSENT)
-        self.assertIs(accounts.verify("ann", "one"), Reply.YES)
 
     def test_what_examine_says_of_a_session(self):
         """With a binary log, what isn't in it after a power cut is rolled back, so it is synced."""
