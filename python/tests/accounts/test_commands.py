@@ -1,7 +1,6 @@
 """The command: its words, answers and statuses, which are credkeep's."""
 
 import contextlib
-import io
 import os
 import pathlib
 import re
@@ -14,7 +13,7 @@ import unittest
 from unittest import mock
 
 import support
-from support import FOREIGN, LOW, RECORD, Commands, each
+from support import LOW, RECORD, Commands, each
 from rigzumal.accounts import cli
 from rigzumal.accounts.database import Database
 
@@ -194,12 +193,6 @@ class Passwords(Commands):
             ("check ann", "one", "no"),
             (f"check ann {secret}.none", "one", 1),
         )
-
-    def test_without_standard_input(self):
-        error = io.StringIO()
-        with mock.patch.object(sys, "stdin", None), contextlib.redirect_stderr(error):
-            self.assertEqual(cli.main(["check", "ann"]), 2)
-        self.assertEqual(error.getvalue(), "rigzumal: standard input is closed\n")
 
     def test_a_passwords_end(self):
         """Where another newline would be right, that is said."""

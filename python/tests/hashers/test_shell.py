@@ -122,7 +122,7 @@ class Shell(unittest.TestCase):
                         status, shown = self.at_a_terminal(words, key)
                         self.assertEqual((status, "Traceback" in shown), (wanted, False), shown)
         status, _, fault = ended(["sh", "-c", f"{shlex.join(COMMAND)} hash <&-"])
-        self.assertEqual((status, fault.count("\n")), (2, 1), fault)
+        self.assertEqual((status, fault), (2, "rigzumal: standard input is closed\n"))
         making = [*COMMAND[1:], "hash", *LEAST_WORDS.split()]
         with open("/dev/full", "wb") as full:
             done = ended([sys.executable, *making], "x", stdout=full)
