@@ -219,22 +219,6 @@ class Sessions(Page):
         self.assertNotIn(NEW, str(logged.output) + self.ann.text)
         self.assertTrue(self.ann.is_in() and self.opens(OLD))
 
-    def test_login_during_a_change(self):
-        """The change comes between the hash and the commit of a login with the old password."""
-        thief, worked = Browser(), Judge.work
-        changes = [lambda: self.assertEqual(self.ann.change(), 303)]
-
-        def slow(judge, ticket):
-            done = worked(judge, ticket)
-            if changes:
-                changes.pop()()
-            return done
-
-        with mock.patch.object(Judge, "work", slow):
-            self.assertEqual(thief.login(self.name, OLD), 200)
-        self.assertFalse(thief.is_in() or self.opens(OLD))
-        self.assertTrue(self.ann.is_in() and self.opens(NEW))
-
     @unittest.skipIf("DATABASE" in os.environ, "it is about SQLite's file")
     def test_file(self):
         """For its owner alone, with what SQLite puts beside it; committed to the disk."""
