@@ -1,4 +1,4 @@
-"""rigzumal.passlib by passlib's own tests, in full, and beside its own handlers."""
+"""rigzumal.passlib by passlib's own tests, in full, and what it has of its own."""
 
 import os
 import sys
@@ -12,7 +12,6 @@ os.environ["PASSLIB_TEST_MODE"] = "full"
 
 need_module("passlib")
 
-import passlib.hash
 from passlib.exc import MissingBackendError, PasswordSizeError
 from passlib.tests import test_handlers_argon2 as argon2_tests
 from passlib.tests import test_handlers_scrypt as scrypt_tests
@@ -20,13 +19,6 @@ from passlib.tests import test_handlers_scrypt as scrypt_tests
 import rigzumal.passlib
 
 ours, our_scrypt = rigzumal.passlib.argon2, rigzumal.passlib.scrypt
-PASSWORDS = ("", "lètmein", b"\xff\xfe", "x" * 1000)
-
-try:
-    passlib.hash.argon2.get_backend()
-    theirs = passlib.hash.argon2
-except MissingBackendError:
-    theirs = None
 
 
 class Argon2(argon2_tests._base_argon2_test):
@@ -60,28 +52,6 @@ class Scrypt(scrypt_tests._scrypt_test):
         super().populate_settings(kwds)
 
 
-class Beside(unittest.TestCase):
-    def both_ways(self, one_of, two_of):
-        for password in PASSWORDS:
-            one, two = one_of.hash(password), two_of.hash(password)
-            self.assertTrue(two_of.verify(password, one) and one_of.verify(password, two))
-            self.assertFalse(two_of.verify("y", one) or one_of.verify("y", two))
-            self.assertFalse(one_of.needs_update(two) or two_of.needs_update(one))
-
-    @unittest.skipIf(theirs is None, "argon2-cffi is not there")
-    @each(("i", 16), ("d", 24), ("id", 32), ("id", 64))
-    def test_argon2(self, type_, size):
-        costs = {"type": type_, "memory_cost": 64, "time_cost": 2, "parallelism": 2}
-        one_of, two_of = (it.using(digest_size=size, **costs) for it in (theirs, ours))
-        self.both_ways(one_of, two_of)
-        self.assertTrue(two_of.using(memory_cost=72).needs_update(one_of.hash("x")))
-
-    @each({}, {"ident": "$7$"}, {"block_size": 4, "parallelism": 3})
-    def test_scrypt(self, settings):
-        one_of = passlib.hash.scrypt.using(rounds=6, **settings)
-        self.both_ways(one_of, our_scrypt.using(rounds=6, **settings))
-
-
 class Ours(unittest.TestCase):
     def test_the_defaults(self):
         """Those of RFC 9106's second choice, whatever passlib's are."""
@@ -96,6 +66,14 @@ class Ours(unittest.TestCase):
             self.assertTrue(handler.verify("password", record))
         self.assertEqual({it.kwargs["threads"] for it in call.mock_calls}, {threads})
         self.assertTrue(ours.verify("password", record))
+
+    @each(ours.using(memory_cost=64, time_cost=1), our_scrypt.using(rounds=4))
+    def test_a_password_is_all_of_its_bytes(self, handler):
+        """As many as passlib takes, in UTF-8 or not; and none are a password too."""
+        for password in (b"\xff" * 4096, ""):
+            record = handler.hash(password)
+            self.assertTrue(handler.verify(password, record))
+            self.assertFalse(handler.verify(password[:-1] or "x", record))
 
     def test_no_exception_shows_a_password(self):
         record = ours.using(memory_cost=64, time_cost=1).hash("topsecret")
