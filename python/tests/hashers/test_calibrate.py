@@ -51,11 +51,13 @@ class Trials(unittest.TestCase):
         (linear(1 / 64), 250, 65536, 4, (16000, 1)),
         (with_a_slow_start, 250, 65536, 1, (65536, 19)),
         (with_a_slow_start, 59.9, 65536, 1, (8, 1)),
+        (linear(1 / 512), 250, 65536, 4, (65536, 1)),
+        (linear(1 / 512), 250, 65536, 4, (65536, 7), 4),
     )
-    def test_the_last(self, machine, target, memory, lanes, wanted):
-        """As many passes as the time allows; with one that is too slow, less memory, to the least
-        one at the end, which comes soon where memory costs nothing."""
-        last = tried(machine, target, memory, lanes)[-1].hasher
+    def test_the_last(self, machine, target, memory, lanes, wanted, threads=1):
+        """As many passes as the time allows, and more by threads; with one that is too slow, less
+        memory, to the least one at the end, which comes soon where memory costs nothing."""
+        last = tried(machine, target, memory, lanes, threads)[-1].hasher
         self.assertEqual((last.memory_cost, last.time_cost), wanted)
 
     @each(50, 60, 64, 65, 100, 500, 2000)
@@ -64,10 +66,6 @@ class Trials(unittest.TestCase):
         self.assertLessEqual(found[-1].milliseconds, max(target, found[0].milliseconds))
         fits = [it for it in found if it.milliseconds <= target]
         self.assertEqual(found[-1], max(fits, key=lambda it: it.milliseconds))
-
-    def test_threads_make_time_for_passes(self):
-        one, four = (tried(linear(1 / 512), 250, 65536, 4, n)[-1].hasher for n in (1, 4))
-        self.assertEqual((one.time_cost, four.time_cost), (1, 7))
 
 
 class Safety(unittest.TestCase):

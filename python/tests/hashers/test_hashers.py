@@ -72,7 +72,7 @@ class Rehash(unittest.TestCase):
     @each(
         (PasswordHasher, Type, OF_ARGON2),
         (argon2_cffi.PasswordHasher, argon2_cffi.Type, OF_ARGON2),
-        (ScryptHasher, (), {"log2_n": 4, "block_size": 2, "parallelism": 2}),
+        (ScryptHasher, (), {"log2_n": 4, "block_size": 2, "parallelism": 3}),
     )
     def test_of_other_numbers(self, maker, kinds, costs):
         numbers = {**costs, "hash_len": 32, "salt_len": 16}

@@ -1,5 +1,5 @@
-"""Strings of other programs, both ways: what they write is read here, and what is written here they
-read and write alike. Nothing is tried of a program that isn't installed."""
+"""Strings of other programs: what they write is read here, and what is written here some of them
+read. Nothing is tried of a program that isn't installed."""
 
 import ctypes
 import ctypes.util
@@ -11,7 +11,7 @@ import warnings
 from records import SMALL, unpadded, verdict
 
 import rigzumal
-from rigzumal import PasswordHasher, ScryptHasher, Type
+from rigzumal import PasswordHasher, Type
 from tests.helpers import need, need_module, run
 
 # Passwords in turn. The argon2 program takes 1 to 127 bytes.
@@ -23,34 +23,9 @@ MIB = 1 << 20
 # some aren't used, and more lanes and passes.
 ARGON2 = [(8, 1, 1, 8, 32), (256, 2, 1, 16, 4), (1000, 3, 3, 47, 24), (4096, 2, 4, 48, 64)]
 ARGON2_WIDE = [(2040, 1, 255, 16, 32), (8, 1000, 1, 16, 32), (65536, 3, 4, 16, 32)]
-# What these programs write and nobody reads here.
-ARGON2_REFUSED = {
-    (2048, 1, 256, 16, 32): "range",
-    (64, 1, 1, 49, 32): "salt",
-    (64, 1, 1, 16, 65): "tag",
-    (2048, 1, 256, 49, 65): "range",
-    (64, 1, 1, 49, 65): "salt",
-    (64, 1, 1, 330, 32): "salt",  # a text of 512 bytes
-    (128, 1, 1, 330, 32): "toolong",  # and of 513
-}
 # ln, r, p, bytes of salt and of tag.
 SCRYPT = [(1, 1, 1, 1, 32), (4, 8, 1, 16, 4), (10, 8, 16, 48, 64), (14, 8, 1, 16, 32)]
 SCRYPT += [(15, 1, 1, 47, 32), (16, 2, 3, 16, 24), (16, 8, 1, 16, 32), (1, 255, 255, 16, 32)]
-SCRYPT_REFUSED = {
-    **{it: "range" for it in ((1, 256, 1, 16, 32), (1, 1, 256, 0, 65))},
-    **{it: "salt" for it in ((4, 8, 1, 0, 65), (4, 8, 1, 49, 32))},
-    **{it: "tag" for it in ((4, 8, 1, 16, 3), (4, 8, 1, 16, 65))},
-}
-# Handlers of passlib's for other schemes.
-OTHER_SCHEMES = (
-    ("bcrypt", {"rounds": 4}, "scheme"),
-    ("pbkdf2_sha256", {"rounds": 1}, "scheme"),
-    ("sha512_crypt", {"rounds": 1000}, "scheme"),
-    ("scrypt", {"rounds": 4, "ident": "$7$"}, "scheme"),
-    ("django_argon2", {"rounds": 1, "memory_cost": 64, "parallelism": 1}, "shape"),
-    ("django_pbkdf2_sha256", {"rounds": 1}, "shape"),
-    ("ldap_salted_sha1", {}, "shape"),
-)
 
 
 def other(password):
@@ -99,22 +74,13 @@ class Judged(unittest.TestCase):
             found = [verdict(SMALL, text, it) for it in (password, other(password))]
             self.assertEqual(found, [True, False])
 
-    def check_refused(self, text, word):
-        with self.subTest(text=text):
-            with self.assertRaises(rigzumal.InvalidRecordError) as raised:
-                SMALL.verify(text, "password")
-            self.assertEqual(raised.exception.word, word)
-
     def check_argon2(self, make, passwords):
-        """What a program makes of each kind and version, within the ranges and outside them."""
+        """What a program makes of each kind and version."""
         passwords = itertools.cycle(passwords)
         rows = [*itertools.product(("d", "i", "id"), (0x13, 0x10), ARGON2)]
         for kind, version, numbers in (*rows, *(("id", 0x13, it) for it in ARGON2_WIDE)):
             password = next(passwords)
             self.check_read(make(kind, version, numbers, password), password)
-        for at, (numbers, word) in enumerate(ARGON2_REFUSED.items()):
-            for kind, version in (("id", 0x13), ("i", 0x10))[: 1 if at > 2 else 2]:
-                self.check_refused(make(kind, version, numbers, b"password"), word)
 
 
 class OfTheProgram(Judged):
@@ -134,31 +100,6 @@ class OfPasslib(Judged):
         self.check_argon2(argon2_by_passlib, PASSWORDS + LONGER)
         for numbers, password in itertools.product(SCRYPT, (b"", b"password", bytes(256))):
             self.check_read(scrypt_by_passlib(numbers, password), password)
-        for numbers, word in SCRYPT_REFUSED.items():
-            self.check_refused(scrypt_by_passlib(numbers, b"password"), word)
-
-    def test_other_schemes(self):
-        import passlib.hash
-
-        for name, given, word in OTHER_SCHEMES:
-            text = getattr(passlib.hash, name).using(**given).hash("password")
-            self.check_refused(text, word)
-        numbers = {"memory_cost": 64, "rounds": 1, "parallelism": 1, "salt": b"somesalt"}
-        with_data = passlib.hash.argon2(type="id", data=b"data", checksum=bytes(32), **numbers)
-        self.check_refused(with_data.to_string(), "params")
-
-    def test_written(self):
-        """Records are passlib's, over argon2-cffi and OpenSSL, letter by letter."""
-        passwords = itertools.cycle(PASSWORDS + LONGER)
-        for numbers, kind in itertools.product((*ARGON2, *ARGON2_WIDE), Type):
-            (m, t, p, salt, tag), password = numbers, next(passwords)
-            hasher = PasswordHasher(t, m, p, tag, salt, type=kind)
-            wanted = argon2_by_passlib(kind.name.lower(), 0x13, numbers, password)
-            self.assertEqual(hasher.hash(password, salt=salt_of(salt)), wanted)
-        for ln, r, p, salt, tag in SCRYPT:
-            password, hasher = next(passwords), ScryptHasher(ln, r, p, tag, salt)
-            wanted = scrypt_by_passlib((ln, r, p, salt, tag), password)
-            self.assertEqual(hasher.hash(password, salt=salt_of(salt)), wanted)
 
 
 class Further(Judged):
@@ -166,11 +107,8 @@ class Further(Judged):
 
     def check_both_ways(self, texts, says):
         for text in texts:
-            if text[0] != "$":
-                self.check_refused(text, "shape")
             bare = text[text.index("$") :]
             self.check_read(bare, b"correct horse")
-            self.check_refused(bare + "\r", "tag")
             it = rigzumal.parts(bare)
             sizes = {"hash_len": it.tag_size, "salt_len": it.salt_size}
             kind = Type[it.scheme.removeprefix("argon2").upper()]

@@ -44,19 +44,13 @@ class Refusals(unittest.TestCase):
     @each(
         *((it, "shape") for it in ("", ARGON2[:-1] + "\0", ARGON2.rsplit("$", 1)[0], SMALL.costs)),
         (ARGON2.replace("2id", "2x"), "scheme"),
-        (ARGON2.replace("m=256", "m=7"), "range"),
+        (ARGON2.replace("m=256", "m=7"), "range", "m=7 is under 8 p (8 KiB)"),
         (ARGON2 * 9, "toolong"),
     )
-    def test_texts(self, text, word):
+    def test_texts(self, text, word, message=None):
+        """A number out of its range is named with the range, and nothing else of the text."""
         for call in (lambda it: SMALL.verify(it, "x"), SMALL.check_needs_rehash, rigzumal.parts):
-            self.refused(rigzumal.InvalidRecordError, word, call, text)
-
-    def test_a_number_out_of_its_range_is_named(self):
-        """With the range, also by a copy of the exception; nothing else of the text is shown."""
-        text = "$argon2id$v=19$m=7,t=1,p=1$c29tZXNhbHQ$AAAAAA"
-        given, message = (rigzumal.InvalidRecordError, "range"), "m=7 is under 8 p (8 KiB)"
-        self.refused(*given, rigzumal.parts, text, message=message)
-        self.refused(*given, SMALL.verify, text, "x", message=message)
+            self.refused(rigzumal.InvalidRecordError, word, call, text, message=message)
 
     @each(
         (PasswordHasher, ARGON2_COSTS, "time_cost", 1, 2**32 - 1, "passes"),
@@ -91,12 +85,6 @@ class Refusals(unittest.TestCase):
     def test_what_a_hasher_takes_the_library_takes(self, hasher):
         """At the ends of each range that a test has the memory and the time for."""
         self.assertTrue(hasher.verify(hasher.hash("x"), "x"))
-
-    def test_the_highest_numbers_are_read(self):
-        dear = PasswordHasher(2**32 - 1, 2097152, 255)
-        for hasher in (dear, ScryptHasher(23, 2), ScryptHasher(21, 8), ScryptHasher(16, 255, 255)):
-            parts = rigzumal.parts(f"{hasher.costs}$c29tZXNhbHQ$c29tZXRhZw")
-            self.assertEqual(parts.costs[1:], hasher._scheme()[1:])
 
     @each(
         (SMALL, (0, 7, 49), "8 to 48"),
