@@ -156,7 +156,7 @@ class Checks(unittest.TestCase):
     @each(
         ("Unmixed", ["Methods.check_password", "Methods.set_password"]),
         ("Unreached", ["Methods.check_password"]),
-        ("Locked", []),
+        ("Peppered", []),
         ("Person", []),
     )
     def test_methods_that_would_be_passed_over(self, model, names):

@@ -15,7 +15,7 @@ from django.db.models.signals import post_save, pre_save
 from django.test import TestCase, TransactionTestCase, override_settings
 from meanwhile import Cheap, connected, is_right, reset_elsewhere, signed_up
 from meanwhile import ACTS
-from users_app.models import Locked, Person, Plain, Unmixed, Unreached
+from users_app.models import Peppered, Person, Plain, Unmixed, Unreached
 
 from rigzumal.django import passwords, users
 
@@ -141,25 +141,16 @@ class AsDjangos(Cheap, TransactionTestCase):
         return rendered.objects.get(pk=ann.pk).password == ann.password
 
 
-@override_settings(AUTH_USER_MODEL="users_app.Locked")
+@override_settings(AUTH_USER_MODEL="users_app.Peppered")
 class OwnMethods(Cheap, TestCase):
     """A model's own check_password and set_password."""
 
     def setUp(self):
         super().setUp()
-        self.ann = signed_up(Locked, username="ann")
+        self.ann = signed_up(Peppered, username="ann")
 
     def again(self):
-        return Locked.objects.get()
-
-    def test_a_locked_user_is_not_let_in(self):
-        Locked.objects.update(locked=True)
-        self.assertIsNone(authenticate(username="ann", password="old"))
-        for name, *new in (("check",), ("verify",), ("change", "new")):
-            operation = getattr(passwords, f"{name}_password")
-            for is_locked in (True, False):
-                Locked.objects.update(locked=is_locked)
-                self.assertIs(operation(self.again(), "old", *new), not is_locked)
+        return Peppered.objects.get()
 
     def test_it_is_called_once(self):
         self.assertEqual(authenticate(username="ann", password="old").checks, 1)
@@ -189,7 +180,7 @@ class OwnMethods(Cheap, TestCase):
 
     def test_what_would_be_passed_over_is_refused(self):
         setting = passwords.set_password
-        for act, model in ((passwords.check_password, User), (setting, User), (setting, Locked)):
+        for act, model in ((passwords.check_password, User), (setting, User), (setting, Peppered)):
             self.assertRaises(ValueError, act, model(username="ben"), "new")
         acts = ("check", "verify", "change", "set")
         for model, act in itertools.product((Unmixed, Unreached), acts):

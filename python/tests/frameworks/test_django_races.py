@@ -17,7 +17,7 @@ from django.utils.functional import SimpleLazyObject
 from meanwhile import Cheap, before_update, cheap, comparing, delete_elsewhere
 from meanwhile import is_right, meanwhile, reset_elsewhere, rows, signed_up, stands
 from meanwhile import ACTS, CHANGES, LOGINS, NEW, OF_MIXIN, OLD, SETS
-from users_app.models import ByMail, Hidden, Locked, Member, Person, Pupil, Staff
+from users_app.models import ByMail, Hidden, Peppered, Member, Person, Pupil, Staff
 
 from rigzumal.django import passwords
 from rigzumal.django.hashers import Argon2PasswordHasher
@@ -30,7 +30,9 @@ GONE = "deleted"
 NUMBERS = itertools.count()
 THEIRS = "django.contrib.auth.backends.ModelBackend"
 # The models; whether a stock User compares; whether the user is a lazy one, as `request.user` is.
-SHAPES = [(model, False, False) for model in (User, Person, Locked, Member, Staff, Hidden, ByMail)]
+SHAPES = [
+    (model, False, False) for model in (User, Person, Peppered, Member, Staff, Hidden, ByMail)
+]
 SHAPES += [(Pupil, False, False), (User, True, False), (User, False, True), (Person, False, True)]
 
 
@@ -95,7 +97,7 @@ class Races(Cheap, TransactionTestCase):
         self.assertEqual((answer, left), expected(act, other))
         if answer in (True, None):
             self.assertEqual(user.password, stands(read))
-            rehashes = act != "verify" or isinstance(read, Locked)
+            rehashes = act != "verify" or isinstance(read, Peppered)
             is_raised = Argon2PasswordHasher.memory_cost == 128
             self.assertEqual("m=128," in user.password, is_raised and rehashes)
 
@@ -111,7 +113,7 @@ class Races(Cheap, TransactionTestCase):
                     with self.subTest(model, act=act, moment=moment, other=other), cheap(memory):
                         self.race(read, user, act, moment, other)
 
-    @each(*itertools.product((User, Person, Locked), ("authenticate", "check", "change")))
+    @each(*itertools.product((User, Person, Peppered), ("authenticate", "check", "change")))
     def test_how_often(self, model, act):
         """An operation that is lost seven times is done, and one that is lost eight times isn't."""
         for turns in (TRIES - 1, TRIES):

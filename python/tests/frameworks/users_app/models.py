@@ -45,38 +45,37 @@ class Pupil(CompareAndSetMixin, Plain):
 
 
 class Methods:
-    """A model's methods of its own: no locked user is let in, and a change is noted."""
+    """A model's methods of its own: they add a pepper, and a change is noted."""
 
     pepper = "pepper "
 
     def check_password(self, raw_password):
         self.checks = getattr(self, "checks", 0) + 1
-        return not self.locked and super().check_password(self.pepper + raw_password)
+        return super().check_password(self.pepper + raw_password)
 
     def set_password(self, raw_password):
         super().set_password(self.pepper + raw_password)
         self.changes += 1
 
 
-class Lockable(models.Model):
-    """The columns of these methods."""
+class Counted(models.Model):
+    """The column of these methods."""
 
-    locked = models.BooleanField(default=False)
     changes = models.IntegerField(default=0)
 
     class Meta:
         abstract = True
 
 
-class Locked(Methods, CompareAndSetMixin, Lockable, Groupless):
+class Peppered(Methods, CompareAndSetMixin, Counted, Groupless):
     """Methods of its own, in front of the mixin."""
 
 
-class Unreached(CompareAndSetMixin, Methods, Lockable, Groupless):
+class Unreached(CompareAndSetMixin, Methods, Counted, Groupless):
     """Methods of its own behind the mixin, which would pass them over."""
 
 
-class Unmixed(Methods, Lockable, Groupless):
+class Unmixed(Methods, Counted, Groupless):
     """Methods of its own without the mixin."""
 
 
