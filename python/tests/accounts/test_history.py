@@ -244,10 +244,7 @@ ILLEGAL = (
     ("x", "y", "a change 1-2 replaced x>y; b change 1-2 replaced z>y", "both put y", "a b"),
     # Wrong judgements.
     ("x", "x", "a verify 1-2 no x>x", "a (verify) was answered no at x", "seed a"),
-    ("x", "x", "a change 1-2 wrong x>x", "a (change) was answered wrong at x", "seed a"),
-    ("x", "x", "a upgrade 1-2 kept x>x", "a (upgrade) was answered kept at x", "seed a"),
     ("x", "y", "a enrol 1-2 enrolled x>y", "a (enrol) was answered enrolled at x", "a"),
-    ("x", "x", "a remove 1-2 absent x>x", "a (remove) was answered absent at x", "a"),
     ("x", "y", "a remove 1-2 removed x>y", "a was answered removed, and put y", "a"),
     ("x", "x", "a verify 1-2 noaccount x>x", "a (verify) was answered noaccount at x", "a"),
     # A login with the old password, whose upgrade writes over a change.

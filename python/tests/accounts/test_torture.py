@@ -11,7 +11,7 @@ from unittest import mock
 
 from support import Base, commanded, each, losing
 import torture
-from rigzumal.accounts import Reply, StoreFault
+from rigzumal.accounts import StoreFault
 from rigzumal.accounts._table import Table
 from rigzumal.accounts.types import Answer
 from torture import __main__ as command, _torture
@@ -120,14 +120,6 @@ class Tortures(Base):
                 break
         self.assertEqual(kinds, {"upgrade", "verify", "change", "reset"})
         self.assertLessEqual(wanted, replies)
-
-    def test_a_login_that_says_yes_is_refused(self):
-        def careless(accounts):
-            login = accounts.login
-            accounts.login = lambda *given: (login(*given), Reply.YES)[1]
-
-        accounts = self.run_one(alter=careless, mix={"login": 1, "reset": 1})
-        self.assertIn("was answered yes", str(torture.verdict(accounts)))
 
     # ---- what is judged
 
