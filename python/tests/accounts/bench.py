@@ -19,16 +19,16 @@ import statistics
 import sys
 import time
 
-import support  # noqa: F401: finds the package
 import servers
+from support import LOW
 from runs import GALERA, MARIADB, POSTGRES, SQLITE
 from rigzumal import PasswordHasher
 from rigzumal.accounts import Accounts, PerThread
+from rigzumal.accounts._import import Import
 from rigzumal.accounts._session import Session
 from rigzumal.accounts.database import Database
 
 COUNT = 1000
-CHEAP = PasswordHasher(time_cost=1, memory_cost=64, parallelism=1)
 MIDDLE = PasswordHasher(time_cost=1, memory_cost=8192, parallelism=1)
 DEAR = PasswordHasher(time_cost=3, memory_cost=65536, parallelism=1)
 CHANGE, SEVERAL = "change", "change in a transaction"
@@ -43,9 +43,9 @@ class Load:
     def __init__(self, url, number=0):
         self.rng, self.database = random.Random(number), Database(url, number)
         self.pool, self.kind = PerThread(self.connect), self.database.dialect_kind()
-        self.accounts, self.several = self.over(CHEAP), self.over(CHEAP)
+        self.accounts, self.several = self.over(LOW), self.over(LOW)
         self.several._dialect.at_once = ""
-        self.record, self.dialect = CHEAP.hash("pw"), self.accounts._dialect
+        self.record, self.dialect = LOW.hash("pw"), self.accounts._dialect
         self.plain = self.dialect.update.partition(" AND ")[0]
 
     def connect(self):
@@ -63,7 +63,7 @@ class Load:
     def act(self, row):
         name = f"user{self.rng.randrange(COUNT)}"
         if row == "hash":
-            CHEAP.verify(self.record, "pw")
+            LOW.verify(self.record, "pw")
         elif row == LOGIN:
             self.accounts.login(name, "pw")
         elif row in (CHANGE, SEVERAL):
@@ -77,9 +77,9 @@ class Load:
             cursor = conn.cursor()
             cursor.execute(self.dialect.select, (name,))
             ((record,),) = cursor.fetchall()
-            CHEAP.verify(record, "pw")
+            LOW.verify(record, "pw")
             if row != LOOK:
-                made = CHEAP.hash("pw")
+                made = LOW.hash("pw")
                 if row == BRACED:
                     cursor.execute(self.dialect.begin)
                 cursor.execute(self.plain, (made, name))
@@ -90,16 +90,11 @@ class Load:
     def fill(self):
         """The table, whose accounts have one record."""
         with self.pool() as conn:
-            cursor = conn.cursor()
             if self.database.kind == "sqlite":
-                cursor.execute("PRAGMA journal_mode = WAL")
-            cursor.execute(self.dialect.create())
-            cursor.execute(self.dialect.begin)
-            for number in range(COUNT):
-                cursor.execute(self.dialect.insert, (f"user{number}",))
-                cursor.execute(self.plain, (self.record, f"user{number}"))
-            cursor.execute(self.dialect.commit_sql)
-            cursor.close()
+                conn.execute("PRAGMA journal_mode = WAL")
+            conn.cursor().execute(self.dialect.create())
+        lines = [(f"user{number}", self.record) for number in range(COUNT)]
+        Import(self.accounts, self.dialect, self.pool).put(lines)
         self.pool.close()
 
 

@@ -97,24 +97,16 @@ class Arguments(Base):
         self.assertTrue(self.is_right("one", "emial"))
 
     def test_names_of_subclasses_of_str(self):
-        class Safe(str):
-            """As Django's text that is marked safe."""
-
-            def __str__(self):
-                return "<b>ann</b>"
-
-        class Role(str, enum.Enum):
-            ANN = "ann"
-
+        """Each is the text that it holds, whatever its class shows: `str` of this one is another."""
+        key = enum.Enum("Role", {"ANN": "ann"}, type=str).ANN
         accounts = self.accounts()
-        for key in (Safe("ann"), Role.ANN):
-            self.assertIs(accounts.verify(key, "one"), Reply.YES)
-            self.assertIs(accounts.change(key, "one", "one"), Reply.REPLACED)
-            request = Request(Kind.VERIFY, key, "one")
-            self.assertIs(type(request.key), str)
-            self.assertEqual(request.key, "ann")
+        self.assertIs(accounts.verify(key, "one"), Reply.YES)
+        self.assertIs(accounts.change(key, "one", "one"), Reply.REPLACED)
+        request = Request(Kind.VERIFY, key, "one")
+        self.assertIs(type(request.key), str)
+        self.assertEqual(request.key, "ann")
         with self.assertRaises(TypeError):
-            self.accounts(dialect=self.another_dialect(key_type=int)).verify(Safe("7"), "x")
+            self.accounts(dialect=self.another_dialect(key_type=int)).verify(key, "x")
 
     def test_passwords_are_bytes_or_text(self):
         accounts = self.accounts(connect=self.no_connection)
@@ -164,19 +156,13 @@ class Errors(Base):
     def test_of_postgresql(self):
         """Each state by itself; an idle connection that the server has closed is made anew."""
 
-        def error(state, severity=None, kind=Error):
-            made = kind(state)
-            made.sqlstate = state
-            if severity:
-                made.diag = mock.Mock(severity_nonlocalized=severity)
-            return made
-
-        def of(states):
-            return map(error, states.split())
+        def of(states, severity=None):
+            diag = mock.Mock(severity_nonlocalized=severity)
+            return [mock.Mock(sqlstate=it, diag=diag) for it in states.split()]
 
         lost = "08000 08003 08006 57P01 57P02 57P03 57P04 57P05 25P03"
         refused = "23503 23514 P0001 22001 42P01 XX000 53100 0A000 57000"
-        operational = type("OperationalError", (Error,), {})
+        operational = type("OperationalError", (Error,), {})()
         self.assert_meanings(
             Postgres("t", "k", "r"),
             [
@@ -185,10 +171,10 @@ class Errors(Base):
                 (of(lost), Verdict.LOST, False),
                 (of("40003"), Verdict.REFUSED, False),
                 (of(refused), Verdict.REFUSED, True),
-                ([error("58030", "ERROR")], Verdict.REFUSED, True),
-                ([error("58030", "FATAL"), error("58030", "PANIC")], Verdict.REFUSED, False),
-                ([error(None)], Verdict.REFUSED, False),
-                ([error(None, kind=operational)], Verdict.LOST, False),
+                (of("58030", "ERROR"), Verdict.REFUSED, True),
+                ([*of("58030", "FATAL"), *of("58030", "PANIC")], Verdict.REFUSED, False),
+                ([Error()], Verdict.REFUSED, False),
+                ([operational], Verdict.LOST, False),
             ],
         )
 
