@@ -196,13 +196,11 @@ class Package(unittest.TestCase):
         (found,) = [line for line in output.splitlines() if "[truthy-bool]" in line]
         self.assertIn(":4: error:", found)
 
-    def test_types_of_frameworks(self):
-        """mypy --strict, as far as libraries that have no stubs here let it, with the login page."""
+    def test_types_of_the_login_page(self):
+        """mypy --strict, as far as libraries that have no stubs here let it."""
         need("mypy")
-        need_module("django", "passlib", "flask")
-        cache = f"--cache-dir={ROOM / 'mypy'}"
-        mypy = ("mypy", "--strict", "--ignore-missing-imports", cache)
-        run(*mypy, "rigzumal/django", "rigzumal/passlib.py", at=PYTHON)
+        need_module("flask")
         # Of waitress it knows that there are stubs, which nobody needs to have.
-        words = (*mypy, "--disable-error-code=import", "login_page.py")
+        loose = ("--ignore-missing-imports", "--disable-error-code=import")
+        words = ("mypy", "--strict", *loose, f"--cache-dir={ROOM / 'mypy'}", "login_page.py")
         run(*words, at=TOP / "examples/login_page", env={"MYPYPATH": str(PYTHON)})
