@@ -239,12 +239,7 @@ def hash_secret(
     type: Type,
     version: int = ARGON2_VERSION,
 ) -> bytes:
-    """The encoded hash, as hash_secret_raw makes it.
-
-    Raises:
-        HashingError: a number or a size is outside its range, or there is too little memory.
-        TypeError: the secret or the salt isn't bytes.
-    """
+    """The encoded hash, with the tag of hash_secret_raw, and its exceptions."""
     salt = _library.data_of(salt)
     costs = (time_cost, memory_cost, parallelism)
     tag = hash_secret_raw(secret, salt, *costs, hash_len, type, version)

@@ -11,15 +11,8 @@ import os
 from collections.abc import Coroutine
 from typing import Any, Optional, Union
 
-from rigzumal.server._client import (
-    LOGIN_SOCKET,
-    LONGEST_ANSWER,
-    Calls,
-    Question,
-    Reply,
-    Unavailable,
-    answer_of,
-)
+from rigzumal.server._client import LOGIN_SOCKET, LONGEST_ANSWER, Calls, Question, Reply
+from rigzumal.server._client import Unavailable, answer_of
 
 
 class Client(Calls[Coroutine[Any, Any, Reply], Coroutine[Any, Any, "list[str]"]]):
