@@ -4,13 +4,12 @@ import asyncio
 import itertools
 import os
 import sqlite3
-import unittest
 from unittest import mock
 
 import engines
 import of_engines
 from support import LOW, Awaiting, Base, each
-from rigzumal.accounts import PerThread, StoreFault, Unavailable
+from rigzumal.accounts import AsyncAccounts, PerThread, Reply, StoreFault, Unavailable
 from rigzumal.accounts.pools import PerUse
 
 BUSY = sqlite3.OperationalError("database is locked")
@@ -128,7 +127,7 @@ globals().update(
 )
 
 
-class Openings(unittest.TestCase):
+class Openings(Base):
     """PerUse: no connection outlives its task, whenever that is cancelled."""
 
     @each("opening", "using", "closing")
@@ -179,17 +178,13 @@ class Openings(unittest.TestCase):
             most.append(len(opening))
             await asyncio.sleep(0)
             opening.pop()
-            return mock.AsyncMock()
-
-        async def use(pool):
-            async with pool():
-                pass
+            return Awaiting(self.connect())
 
         async def act():
-            pool = PerUse(connect)
-            await asyncio.gather(*(use(pool) for _ in range(30)))
+            accounts = AsyncAccounts(PerUse(connect), self.dialect, LOW)
+            return {*await asyncio.gather(*(accounts.login("ann", "one") for _ in range(30)))}
 
-        asyncio.run(act())
+        self.assertEqual(asyncio.run(act()), {Reply.YES})
         self.assertEqual((len(most), max(most)), (30, 4))
 
 

@@ -2,6 +2,7 @@
 
 import contextlib
 import enum
+import itertools
 import sqlite3
 from unittest import mock
 
@@ -144,80 +145,67 @@ class Error(Exception):
     """A driver's."""
 
 
+def of_states(states, severity=None):
+    """What psycopg raises of these."""
+    diag = mock.Mock(severity_nonlocalized=severity)
+    return [mock.Mock(sqlstate=it, diag=diag) for it in states.split()]
+
+
+def of_numbers(*numbers):
+    """What PyMySQL raises of these."""
+    return [Error(number, "in words") for number in numbers]
+
+
+def of_codes(*codes):
+    """What sqlite3 raises of these: a code counts, whatever the text says."""
+    for code, text in itertools.product(codes, ("database is locked", "disk I/O error")):
+        error = sqlite3.OperationalError(text)
+        error.sqlite_errorcode = code
+        yield error
+
+
+OF_POSTGRES = (
+    (of_states("40001 40P01 55P03 57014"), Verdict.AGAIN, True),
+    (of_states("25006 53300"), Verdict.ELSEWHERE, True),
+    (of_states("08000 08003 08006 57P01 57P02 57P03 57P04 57P05 25P03"), Verdict.LOST, False),
+    (of_states("40003"), Verdict.REFUSED, False),
+    (of_states("23503 23514 P0001 22001 42P01 XX000 53100 0A000 57000"), Verdict.REFUSED, True),
+    (of_states("58030", "ERROR"), Verdict.REFUSED, True),
+    ([*of_states("58030", "FATAL"), *of_states("58030", "PANIC")], Verdict.REFUSED, False),
+    ([Error()], Verdict.REFUSED, False),
+    # An idle connection that the server has closed.
+    ([type("OperationalError", (Error,), {})()], Verdict.LOST, False),
+)
+REFUSED = (1048, 1062, 1142, 1143, 1146, 1172, 1265, 1292, 1364, 1366, 1406, 1451, 1452)
+OF_MARIADB = (
+    (of_numbers(1213, 1205, 1020, 3024), Verdict.AGAIN, True),
+    (of_numbers(1969), Verdict.AGAIN, False),
+    (of_numbers(1290, 1836, 1040, 1203), Verdict.ELSEWHERE, True),
+    (of_numbers(0, 2002, 2003, 2006, 2013, 2055, 4031), Verdict.LOST, False),
+    (of_numbers(1047, 1053, 1317, 1927), Verdict.LOST, False),
+    (of_numbers(1021, 1026, 1030, 1180, 1181), Verdict.REFUSED, False),
+    (of_numbers(*REFUSED, 1644, 3819, 4025), Verdict.REFUSED, True),
+    ([Error()], Verdict.REFUSED, False),
+    ([ConnectionResetError()], Verdict.LOST, False),
+)
+# Before Python 3.11 an error of SQLite has its text alone.
+LOCKED, MISSING = map(sqlite3.OperationalError, ("database is locked", "no such table: x"))
+OF_SQLITE = (
+    ([*of_codes(5, 5 | 1 << 8, 5 | 2 << 8, 6, 6 | 1 << 8), LOCKED], Verdict.AGAIN, True),
+    ([*of_codes(8, 10, 10 | 4 << 8, 13, 14), MISSING], Verdict.REFUSED, False),
+)
+
+
 class Errors(Base):
-    def assert_meanings(self, dialect, cases):
-        """What each means before a COMMIT, and whether one that it answers was undone."""
-        for errors, verdict, gave_up in cases:
+    @each((Postgres, OF_POSTGRES), (MariaDB, OF_MARIADB), (MySQL, OF_MARIADB), (Sqlite, OF_SQLITE))
+    def test_what_they_mean(self, kind, rows):
+        """Each before a COMMIT, and whether one that it answers was undone."""
+        dialect = kind("t", "k", "r")
+        for errors, verdict, gave_up in rows:
             for error in errors:
                 with self.subTest(error=error):
                     self.assertIs(dialect.verdict(error), verdict)
                     self.assertEqual(dialect.gave_up(error), gave_up)
-
-    def test_of_postgresql(self):
-        """Each state by itself; an idle connection that the server has closed is made anew."""
-
-        def of(states, severity=None):
-            diag = mock.Mock(severity_nonlocalized=severity)
-            return [mock.Mock(sqlstate=it, diag=diag) for it in states.split()]
-
-        lost = "08000 08003 08006 57P01 57P02 57P03 57P04 57P05 25P03"
-        refused = "23503 23514 P0001 22001 42P01 XX000 53100 0A000 57000"
-        operational = type("OperationalError", (Error,), {})()
-        self.assert_meanings(
-            Postgres("t", "k", "r"),
-            [
-                (of("40001 40P01 55P03 57014"), Verdict.AGAIN, True),
-                (of("25006 53300"), Verdict.ELSEWHERE, True),
-                (of(lost), Verdict.LOST, False),
-                (of("40003"), Verdict.REFUSED, False),
-                (of(refused), Verdict.REFUSED, True),
-                (of("58030", "ERROR"), Verdict.REFUSED, True),
-                ([*of("58030", "FATAL"), *of("58030", "PANIC")], Verdict.REFUSED, False),
-                ([Error()], Verdict.REFUSED, False),
-                ([operational], Verdict.LOST, False),
-            ],
-        )
-
-    def test_of_mariadb_and_mysql(self):
-        """Each number of the lists by itself."""
-
-        def of(*numbers):
-            return [Error(number, "in words") for number in numbers]
-
-        refused = (1048, 1062, 1142, 1143, 1172, 1265, 1292, 1364)
-        refused += (1366, 1406, 1451, 1452, 1644, 3819, 4025, 1146)
-        for kind in (MariaDB, MySQL):
-            self.assert_meanings(
-                kind("t", "k", "r"),
-                [
-                    (of(1213, 1205, 1020, 3024), Verdict.AGAIN, True),
-                    (of(1969), Verdict.AGAIN, False),
-                    (of(1290, 1836, 1040, 1203), Verdict.ELSEWHERE, True),
-                    (of(0, 2002, 2003, 2006, 2013, 2055, 4031), Verdict.LOST, False),
-                    (of(1047, 1053, 1317, 1927), Verdict.LOST, False),
-                    (of(1021, 1026, 1030, 1180, 1181), Verdict.REFUSED, False),
-                    (of(*refused), Verdict.REFUSED, True),
-                    ([Error()], Verdict.REFUSED, False),
-                    ([ConnectionResetError()], Verdict.LOST, False),
-                ],
-            )
-
-    def test_of_sqlite(self):
-        """An error means what its number does; before Python 3.11 it has its text alone."""
-
-        def of(*codes):
-            for code in codes:
-                for text in ("database is locked", "disk I/O error"):
-                    error = sqlite3.OperationalError(text)
-                    error.sqlite_errorcode = code
-                    yield error
-
-        others = (8, 10, 10 | 4 << 8, 13, 14)
-        locked, missing = map(sqlite3.OperationalError, ("database is locked", "no such table: x"))
-        again = [*of(5, 5 | 1 << 8, 5 | 2 << 8, 6, 6 | 1 << 8), locked]
-        refused = [*of(*others), missing]
-        cases = [(again, Verdict.AGAIN, True), (refused, Verdict.REFUSED, False)]
-        self.assert_meanings(self.dialect, cases)
 
     def test_modes_of_sqlite(self):
         """From Python 3.12 on there is an attribute; -1 stands for the older way."""
