@@ -80,6 +80,8 @@ class Endings:
         self.conn.execute("ALTER TABLE users RENAME TO gone")
         self.assertRaises(wanted, accounts.verify, "ann", "one")
         self.assertEqual(self.pool.uses, 1)
+        accounts._dialect.examine = None
+        self.assertRaises(TypeError if wanted is StoreFault else wanted, accounts.examine)
         self.conn.execute("ALTER TABLE gone RENAME TO users")
 
     @each(*itertools.product((*WAYS, "is_interrupted"), INTERRUPTS))

@@ -30,6 +30,7 @@ RECORDS = {
 }
 COSTS = {"time_cost": 2, "memory_cost": 256, "parallelism": 1}
 OF_ARGON2 = {**COSTS, "memory_cost": 64, "parallelism": 2}
+HIGHEST = "$argon2id$v=19$m=2097152,t=4294967295,p=255$c29tZXNhbHQ$nf65EA"
 # printf 'pass\0word' | argon2 somesalt -id -t 1 -k 64 -p 1 -l 32 -e
 WITH_NUL = "$argon2id$v=19$m=64,t=1,p=1$c29tZXNhbHQ$6oIEETo0BJ7q/vyz7jFW6wFb/GyfaZJ1ejETi5d+Muo"
 
@@ -155,6 +156,7 @@ class Parts(unittest.TestCase):
     @each(
         ("$argon2d$v=16$m=2048,t=7,p=5$c29tZXNhbHQ$nf65EA", ("argon2d", 16, 2048, 7, 5, 8, 4)),
         ("$scrypt$ln=4,r=3,p=2$YmVucyBzYWx0$nf65EA", ("scrypt", 0, 4, 3, 2, 9, 4)),
+        (HIGHEST, ("argon2id", 19, 2**21, 2**32 - 1, 255, 8, 4)),
         *(
             (it, (f"argon2{kind.name.lower()}", 19, 256, 2, 1, 8, 32))
             for kind, it in RECORDS.items()
