@@ -169,11 +169,12 @@ OLD, NEW = "topsecret old", "topsecret new"
 BACKEND = backends.CompareAndSetBackend()
 
 
-def log_in(by):
+def log_in(by, field=None):
     """The backend's answer; the user gets the record at which the session is to end."""
 
     def act(user):
-        found = by(None, password=OLD, **{user.USERNAME_FIELD: user.get_username()})
+        given = {field or user.USERNAME_FIELD: user.get_username()}
+        found = by(None, password=OLD, **given)
         user.password = found.password if found else user.password
         return found is not None
 
@@ -186,7 +187,8 @@ def save(user):
 
 
 LOGINS = {
-    "authenticate": log_in(authenticate),
+    # Django's login view passes on what was typed as `username`, whatever a model calls it.
+    "authenticate": log_in(authenticate, "username"),
     "aauthenticate": log_in(functools.partial(awaited, BACKEND.aauthenticate)),
 }
 CHECKS = {

@@ -14,9 +14,9 @@ from django.test import RequestFactory, TestCase, TransactionTestCase, override_
 from django.test.utils import CaptureQueriesContext
 from django.utils.functional import SimpleLazyObject
 from django.views.debug import ExceptionReporter
-from meanwhile import Ann, Cheap, Router, cheap, reset_elsewhere, signed_up, stands
+from meanwhile import Ann, Cheap, Router, cheap, reset_elsewhere, stands
 from meanwhile import ACTS, BACKEND, NEW, OF_MIXIN, OLD, SETS
-from users_app.models import ByMail, Person
+from users_app.models import Person
 
 import rigzumal
 from rigzumal.django import backends, forms, passwords
@@ -198,14 +198,6 @@ class Logins(Ann, TestCase):
         self.client.force_login(self.ann, backend=begun)
         with override_settings(AUTHENTICATION_BACKENDS=listed):
             self.assertIs(get_user(self.client).is_authenticated, begun in listed)
-
-    @override_settings(AUTH_USER_MODEL="users_app.ByMail")
-    def test_named_by_an_address(self):
-        """Django's login view passes on what was typed as `username`, whatever the name is."""
-        ann = signed_up(ByMail, mail="ann@example.org")
-        for given in ({"username": ann.mail}, {"mail": ann.mail}):
-            self.assertEqual(authenticate(password="old", **given), ann)
-            self.assertIsNone(authenticate(password="guess", **given))
 
 
 class Databases(Cheap, TestCase):
