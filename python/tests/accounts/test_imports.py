@@ -74,11 +74,6 @@ class Imports(Commands):
 
     @each(
         ("ann", ""),
-        (f" {RECORD}", 'a line is "NAME RECORD"'),
-        (f"  {RECORD}", 'a line is "NAME RECORD"'),
-        (f"ann  {RECORD}", "the name begins or ends with a blank"),
-        (f"\u00a0ann {RECORD}", "the name begins or ends with a blank"),
-        (f"\ufeffann {RECORD}", "the name begins with a byte order mark"),
         (f"ann {RECORD} ", ""),  # the record is behind the last blank: it is none
         *((it, "the line is not UTF-8") for it in (f"\udcff {RECORD}", f"ann {RECORD}\udcff")),
         (f"be\0n {RECORD}", "the column can't hold this name"),
