@@ -133,40 +133,32 @@ class Logins(Ann, TestCase):
         User.objects.create_user("una")  # no usable password
 
     def costs(self, name, password):
-        """Who is let in, by how many hashes and queries."""
+        """Who is let in, the lengths of what is hashed, and how many queries come."""
         hashing = mock.patch.object(rigzumal, "argon2", side_effect=rigzumal.argon2)
         with hashing as hashed, CaptureQueriesContext(connections["default"]) as queries:
             user = authenticate(username=name, password=password)
-        return user, hashed.call_count, len(queries)
+        return user, [len(it.args[0]) for it in hashed.call_args_list], len(queries)
 
     def test_a_login_costs_one_hash_and_two_queries(self):
-        """Who isn't let in can't be told from who isn't there, nor by a round trip."""
+        """Who isn't let in can't be told from who isn't there, nor by a round trip. A long password
+        takes as long for each name, and so does text without UTF-8."""
+        of_django, wrong = hashers.UNUSABLE_PASSWORD_SUFFIX_LENGTH, ("wrong", "x" * 5000, "")
         for names, password, costs in (
-            ("ann nobody ina una", "wrong", (None, 1, 2)),
-            ("ina", "old", (None, 1, 2)),
-            ("ann", "old", (self.ann, 1, 2)),
-            ("ann", None, (None, 0, 0)),  # nothing to judge
+            *(("ann nobody ina", it, (None, [len(it)], 2)) for it in wrong),
+            ("ann nobody ina", "wrong\ud800", (None, [6, 0], 2)),  # an empty one in its place
+            ("una", "wrong", (None, [of_django], 2)),
+            ("ina", "old", (None, [3], 2)),
+            ("ann", "old", (self.ann, [3], 2)),
+            ("ann", None, (None, [], 0)),  # nothing to judge
         ):
             for name in names.split():
                 with self.subTest(name=name, password=password):
                     self.assertEqual(self.costs(name, password), costs)
-        self.assertEqual(self.costs(None, "old"), (None, 0, 0))
+        self.assertEqual(self.costs(None, "old"), (None, [], 0))
         before = stands(self.ina)
         with cheap(memory=128):
-            self.assertEqual(self.costs("ina", "old"), (None, 1, 2))
+            self.assertEqual(self.costs("ina", "old"), (None, [3], 2))
         self.assertEqual(stands(self.ina), before)
-
-    @each("x" * 5000, "wrong", "", "wrong\ud800")
-    def test_what_was_typed_is_hashed(self, password):
-        """So a long password takes as long for each name, and so does text without UTF-8."""
-        lengths = set()
-        for name in ("ann", "nobody", "ina"):
-            hashing = mock.patch.object(rigzumal, "argon2", side_effect=rigzumal.argon2)
-            with hashing as hashed:
-                self.assertIsNone(authenticate(username=name, password=password))
-            lengths.add(tuple(len(it.args[0]) for it in hashed.call_args_list))
-        self.assertEqual(len(lengths), 1, lengths)
-        self.assertEqual(lengths.pop()[0], len(password))
 
     @each("ann", "nobody")
     def test_a_broken_database_is_no_wrong_password(self, name):

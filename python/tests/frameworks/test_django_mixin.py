@@ -213,16 +213,6 @@ class Compared(Written):
         self.reset("reset")
         self.lose(self.ann, "newer")
 
-    def test_a_transaction_goes_on_after_a_lost_save(self):
-        """As a view under ATOMIC_REQUESTS does, which shows its form again."""
-        self.reset("reset")
-        self.ann.set_password("new")
-        with transaction.atomic():
-            self.model.objects.update(first_name="before")
-            self.lose(self.ann)
-            self.model.objects.update(last_name="after")
-        self.assertEqual(self.again().get_full_name(), "before after")
-
     def test_a_new_user_is_remembered_before_signals(self):
         """A handler of post_save that saves again writes no password."""
 
@@ -313,7 +303,8 @@ class Committed(Compared, TransactionTestCase):
 
     @override_settings(DATABASE_ROUTERS=[Router("other", "other")])
     def test_a_lost_save_in_a_transaction_of_another_database(self):
-        """That transaction goes on, and so does one of the first database."""
+        """That transaction goes on, as a view's under ATOMIC_REQUESTS does, which shows its form
+        again; and so does one of the first database."""
         self.there.create(pk=self.ann.pk, username="ann", password=self.ann.password)
         ann = self.there.get()
         self.there.update(password="another")
