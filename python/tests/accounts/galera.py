@@ -2,8 +2,9 @@
 
 import itertools
 import os
+from unittest import SkipTest
 
-from servers import MariaServer, Missing, need, pymysql
+from servers import MariaServer, need, pymysql
 
 LIBRARY = "/usr/lib/galera/libgalera_smm.so"
 
@@ -37,7 +38,7 @@ class Galera:
 
     def __init__(self, name, count=2):
         if not os.path.exists(LIBRARY):
-            raise Missing("galera-4 is not there")
+            raise SkipTest("galera-4 is not there")
         need(pymysql, "python3-pymysql", "rsync")
         self.nodes = [Node(f"{name}{number}") for number in range(count)]
         places = ",".join(f"127.0.0.1:{node.port}" for node in self.nodes)

@@ -13,7 +13,7 @@ import sqlite3
 import subprocess
 import tempfile
 import time
-import unittest
+from unittest import SkipTest
 
 try:
     import psycopg
@@ -36,10 +36,6 @@ def clear():
         shutil.rmtree(ROOM, ignore_errors=True)
 
 
-class Missing(unittest.SkipTest):
-    """A program or a module that isn't there."""
-
-
 def free_port(count=1):
     """The first of so many ports that nothing listens on."""
     while True:
@@ -53,12 +49,12 @@ def free_port(count=1):
 
 
 def need(driver, name, *programs):
-    """The path of the first program; Missing without the driver, or one of the programs."""
+    """The path of the first program; a skipped test without the driver, or one of the programs."""
     if driver is None:
-        raise Missing(f"{name} is not there")
+        raise SkipTest(f"{name} is not there")
     found = [shutil.which(it, path="/usr/sbin:/usr/bin") for it in programs]
     if None in found:
-        raise Missing(f"{programs[found.index(None)]} is not there")
+        raise SkipTest(f"{programs[found.index(None)]} is not there")
     return found[0] if found else None
 
 
@@ -67,9 +63,8 @@ def as_user(name):
     if os.getuid() != 0:
         return {}
     if name not in {it.pw_name for it in pwd.getpwall()}:
-        raise Missing(f"there is no user {name}")
-    entry = pwd.getpwnam(name)
-    return {"user": entry.pw_uid, "group": entry.pw_gid, "extra_groups": []}
+        raise SkipTest(f"there is no user {name}")
+    return {"user": name, "group": pwd.getpwnam(name).pw_gid, "extra_groups": []}
 
 
 def descendants(pid):
@@ -181,7 +176,7 @@ class PostgresServer(OfPostgres):
         need(psycopg, "python3-psycopg")
         found = sorted(pathlib.Path("/usr/lib/postgresql").glob("*/bin/initdb"))
         if not found:
-            raise Missing("postgresql is not there")
+            raise SkipTest("postgresql is not there")
         self.bin = found[-1].parent
         super().__init__(name)
         self.port = free_port()
@@ -341,7 +336,7 @@ class MySqlServer(OfMySql):
     def __init__(self, name):
         self.root = os.environ.get("RIGZUMAL_MYSQL", "").rstrip("/")
         if not self.root or os.getuid() != 0:
-            raise Missing("RIGZUMAL_MYSQL names no root of MySQL, or one isn't root")
+            raise SkipTest("RIGZUMAL_MYSQL names no root of MySQL, or one isn't root")
         need(pymysql, "python3-pymysql")
         super().__init__(name)
         self.port = free_port()
