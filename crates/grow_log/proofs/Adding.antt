@@ -1,6 +1,6 @@
 -- The steps on the words behind a log keep their rule.
 use Rattle.std.proofs.Common.{◌≡◌, ℕ, zero, suc, ◌<◌, ◌==◌, Bool, true, false, List, [], ◌∷◌, ◌++◌, length, slice_set, refl, ap, sym, subst, arith, inl, length-append, None, ◌∙◌}
-use Rattle.std.proofs.{lemmas.List.append-nil, lemmas.Bool.Decides.nat_tests}
+use Rattle.std.proofs.{lemmas.List.append-nil, lemmas.List.get_or-set_same, lemmas.List.get_or_append_left, lemmas.List.length-set, lemmas.Bool.Decides.nat_tests}
 use mathlib.Core.List.{IsPrefix}
 use prog.Atomic.{either}
 use Rattle.logbook.specs.Pages.{Cell, Nib, cell, keeps, adds, gives, no_nib, may_write, step, Moves, Goes}
@@ -16,22 +16,12 @@ moved xs ys n = Unit {0}
 
 -- ---- words, of which one is set or one more is made
 
-set_length : (cells : List Cell) (k : ℕ) (c : Cell) → length (slice_set cells k c) ≡ length cells
-set_length [] k c = refl
-set_length (x ∷ cells) zero c = refl
-set_length (x ∷ cells) (suc k) c = ap suc (set_length cells k c)
-
 home_set : (cells : List Cell) (k x j : ℕ) → is_home cells j ≡ true → is_home (slice_set cells k (x, true)) j ≡ true
 home_set [] k x j home = absurd (cc home)
 home_set (c ∷ cells) zero x zero home = refl
 home_set (c ∷ cells) zero x (suc j) home = home
 home_set (c ∷ cells) (suc k) x zero home = home
 home_set (c ∷ cells) (suc k) x (suc j) home = home_set cells k x j home
-
-home_here : (cells : List Cell) (k x : ℕ) → k < length cells → is_home (slice_set cells k (x, true)) k ≡ true
-home_here [] k x lt = absurd (omega (arith, lt))
-home_here (c ∷ cells) zero x lt = refl
-home_here (c ∷ cells) (suc k) x lt = home_here cells k x (omega (arith, lt))
 
 home_more : (cells : List Cell) (j : ℕ) → is_home cells j ≡ true → is_home (cells ++ (0, false) ∷ []) j ≡ true
 home_more [] j home = absurd (cc home)
@@ -44,17 +34,12 @@ away_set (c ∷ cells) zero x home away = absurd (cc (home, away))
 away_set (c ∷ cells) (suc k) x home away = away
 
 number_here : (cells : List Cell) (x : ℕ) → 0 < length cells → (cell (slice_set cells 0 (x, true)) 0).0 ≡ x
-number_here [] x some = absurd (omega (arith, some))
-number_here (c ∷ cells) x some = refl
+number_here cells x some = ap (λ (c : Cell). c.0) (get_or-set_same cells 0 (x, true) (0, false) some)
 
 number_other : (cells : List Cell) (k x : ℕ) → is_home cells 0 ≡ true → is_home cells k ≡ false → (cell (slice_set cells k (x, true)) 0).0 ≡ (cell cells 0).0
 number_other [] k x home away = refl
 number_other (c ∷ cells) zero x home away = absurd (cc (home, away))
 number_other (c ∷ cells) (suc k) x home away = refl
-
-number_more : (cells : List Cell) → 0 < length cells → (cell (cells ++ (0, false) ∷ []) 0).0 ≡ (cell cells 0).0
-number_more [] some = absurd (omega (arith, some))
-number_more (c ∷ cells) some = refl
 
 -- ---- links whose words are at home
 
@@ -80,7 +65,7 @@ all_seen {T} cells place (x ∷ xs) (l ∷ links) p home away =
 
 kept_set : {T : Type 0} (cells : List Cell) (links : List (Link T)) (x : ℕ) → (x ≡ 0 → links ≡ []) → IsKept cells links → IsKept (slice_set cells 0 (x, true)) links
 kept_set cells links x begun kept = record {
-  two = omega (arith, set_length cells 0 (x, true), kept.two);
+  two = omega (arith, length-set cells 0 (x, true), kept.two);
   first = home_set cells 0 x 0 kept.first;
   second = home_set cells 0 x first_place kept.second;
   begun = λ z. begun (sym (number_here cells x (omega (arith, kept.two))) ∙ z);
@@ -92,7 +77,7 @@ kept_more cells links kept = record {
   two = omega (arith, length-append cells ((0, false) ∷ []), kept.two);
   first = home_more cells 0 kept.first;
   second = home_more cells first_place kept.second;
-  begun = λ z. kept.begun (sym (number_more cells (omega (arith, kept.two))) ∙ z);
+  begun = λ z. kept.begun (sym (ap (λ (c : Cell). c.0) (get_or_append_left cells ((0, false) ∷ []) (0, false) 0 (omega (arith, kept.two)))) ∙ z);
   home = home_still cells (cells ++ (0, false) ∷ []) first_place links (home_more cells) kept.home;
 }
 
@@ -173,11 +158,11 @@ kept_snoc cells links new key value x some kept lt away at =
     let once = slice_set cells 0 (x, true) in
     let twice = slice_set once key (value, true) in
     let set = kept_set cells links x (λ z. absurd (some z)) kept in
-    let long = set_length cells 0 (x, true) in
-    let here : is_home twice key ≡ true = home_here once key value (omega (arith, lt, long)) in
+    let long = length-set cells 0 (x, true) in
+    let here : is_home twice key ≡ true = ap (λ (c : Cell). c.1) (get_or-set_same once key (value, true) (0, false) (omega (arith, lt, long))) in
     let number = number_other once key value set.first (away_set cells key x kept.first away) ∙ number_here cells x (omega (arith, kept.two)) in
     record {
-      two = omega (arith, long, set_length once key (value, true), kept.two);
+      two = omega (arith, long, length-set once key (value, true), kept.two);
       first = home_set once key value 0 set.first;
       second = home_set once key value first_place set.second;
       begun = λ z. absurd (some (sym number ∙ z));
