@@ -1,13 +1,14 @@
 -- Trees that list a schema of a book list no other.
-use Rattle.std.proofs.Common.{◌≡◌, ◌⊎◌, inl, inr, ℕ, zero, suc, ◌+◌, pos, List, [], ◌∷◌, filter, slice_get, Some, refl, sym, ap, subst, ◌∙◌, arith}
+use Rattle.std.proofs.Common.{◌≡◌, ◌⊎◌, inl, inr, ℕ, zero, suc, ◌+◌, pos, List, [], ◌∷◌, filter, length, slice_get, Some, refl, sym, ap, subst, ◌∙◌, arith}
+use Rattle.std.proofs.lemmas.{List.nil_from_length, Slice.Zip.AllZip-long}
 use Rattle.std.specs.List.{AllZip}
 use Rattle.sqlite.specs.declared.types.Value.{Value}
-use Rattle.sqlite.specs.declared.types.Value.TheVariants.{Null, Int, Real, Text, Blob}
+use Rattle.sqlite.specs.declared.types.Value.TheVariants.{Null, Int, Text}
 use Rattle.sqlite.specs.{Order.Row, Order.column, Tree.Trees, Table.Table, Schema.Schema, Compile.table_defined_by}
 use Rattle.sqlite_rules.specs.Lists.{Has}
 use Rattle.sqlite_trees.specs.Objects.{catalog_tree}
 use Rattle.sqlite_schema.specs.declared.schema.Index.{Index}
-use Rattle.sqlite_catalog.specs.Listing.{IsSound, IsTableRow, IsIndexRow, IsViewRow, IsDefined, automatic, is_index_row, is_view_row}
+use Rattle.sqlite_catalog.specs.Listing.{IsSound, IsTableRow, IsIndexRow, IsViewRow, IsDefined, automatic, is_index_row}
 use Rattle.cred_file.specs.Schema.{AreBookTables, IsBookSchema, account, key_index, statistics}
 use Rattle.cred_file.proofs.TableLemmas.{all_once}
 
@@ -34,13 +35,11 @@ one_defined Null i j tree h k =
     let at = p.0 ∙ sym q.0 in
     let key = p.1 ∙ sym q.1 in
     h.3 ∙ (λ x. automatic account (at x) (key x) (tree x)) ∙ sym k.3
-one_defined (Int n) i j tree h k = absurd h
-one_defined (Real x) i j tree h k = absurd h
 one_defined (Text sql) i j tree h k =
     let both = sym h.1 ∙ k.1 in
     let made : h.0 ≡ k.0 = cc in
     h.2 ∙ (λ x. record (made x) { tree = tree x; table = account.tree }) ∙ sym k.2
-one_defined (Blob b) i j tree h k = absurd h
+one_defined _ i j tree h k = absurd h
 
 -- the table of an index is the book's: the statistics have none
 which : (tables : List Table) → AreBookTables tables → (t : Table) → Has tables t → (t ≡ account) ⊎ (t ≡ statistics)
@@ -52,12 +51,10 @@ which tables (inr is) t has = elim (subst (λ ts. Has ts t) is has) [
 
 no_key : (v : Value) → IsDefined statistics key_index v → ⊥
 no_key Null d = let none = d.2 in absurd cc
-no_key (Int n) d = d
-no_key (Real x) d = d
 no_key (Text sql) d =
     let table : key_index.table ≡ statistics.tree = ap (λ (i : Index). i.table) d.2 in
     absurd (omega (arith, table))
-no_key (Blob b) d = d
+no_key _ d = d
 
 key_of_account : (row : Row) (t : Table) → (t ≡ account) ⊎ (t ≡ statistics) → IsDefined t key_index (column row 4) → t ≡ account
 key_of_account row t (inl is) d = is
@@ -85,11 +82,6 @@ the_key tables are (r ∷ []) (i ∷ []) p q = ap (λ (i : Index). i ∷ []) (on
 the_key tables are (r ∷ []) (i ∷ j ∷ is) p q = absurd p.1
 the_key tables are (r ∷ s ∷ rs) is p q = absurd q.1
 
-none_more : {A B : Type 0} (R : A → B → Type 0) (xs : List A) (zs : List B) → AllZip R xs [] → AllZip R xs zs → zs ≡ []
-none_more R [] [] p q = refl
-none_more R [] (z ∷ zs) p q = absurd q
-none_more R (x ∷ xs) zs p q = absurd p
-
 pub still_book : (db : Trees) (mine s : Schema) → IsBookSchema mine → IsSound mine db → IsSound s db → IsBookSchema s
 still_book db mine s is h k =
     let first = h.lists.listed in
@@ -99,5 +91,5 @@ still_book db mine s is h k =
     record {
       tables = subst AreBookTables (sym tables) is.tables;
       indexes = the_key mine.tables is.tables _ s.indexes rows (subst (AllZip (IsIndexRow mine.tables) (filter is_index_row (db catalog_tree))) is.indexes first.indexes);
-      views = none_more IsViewRow _ s.views (subst (AllZip IsViewRow (filter is_view_row (db catalog_tree))) is.views first.views) other.views;
+      views = nil_from_length s.views (AllZip-long IsViewRow _ s.views other.views ∙ sym (AllZip-long IsViewRow _ mine.views first.views) ∙ ap length is.views);
     }

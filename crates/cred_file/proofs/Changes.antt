@@ -1,5 +1,6 @@
 -- What the statements that change an account do to the table, at Ok and over a crash.
-use Rattle.std.proofs.Common.{◌≡◌, ◌⊎◌, inl, inr, ℕ, ℤ, List, [], ◌∷◌, ◌++◌, map, filter, flat_map, Bool, true, false, not, cond, ◌&&◌, ◌||◌, Some, None, Option, is_some, unwrap_or, IsTrue, Ok, Err, Result, refl, sym, ap, subst, subst₂, ◌∙◌}
+use Rattle.std.proofs.Common.{◌≡◌, ◌⊎◌, inl, inr, ℕ, ℤ, List, [], ◌∷◌, ◌++◌, map, filter, flat_map, Bool, true, false, cond, ◌&&◌, ◌||◌, Some, None, Option, is_some, unwrap_or, IsTrue, Ok, Err, Result, refl, sym, ap, subst, subst₂, ◌∙◌}
+use Rattle.std.proofs.lemmas.Bool.{and_parts, cond_both, not-true}
 use Rattle.std.specs.{List.list_any, List.list_all, List.Sorted.IsPermutation, Ordering.is_eq, Ordering.eq_by_cmp, Cmp.eq_by_cmp_equiv}
 use Rattle.std.specs.Cmp.Lexicographic.{nat_list_cmp_total}
 use Rattle.std.specs.FinMap as fin
@@ -24,24 +25,18 @@ use Rattle.cred_book.proofs.Rows.{row_over}
 use Rattle.cred_file.proofs.Shuffled.{row_of, stands_put, stands_without}
 use Rattle.cred_file.proofs.Texts.{matched, terms, deleting, renaming}
 
-either : (b : Bool) (x : Value) → cond b x x ≡ x
-either true x = refl
-either false x = refl
-
 cast_null : cast Integer Null ≡ Null
 unfolding unary
-cast_null = either _ Null
+cast_null = cond_both _ Null Null (λ v. v ≡ Null) (λ e. refl) (λ e. refl)
 
 cast_int : (n : ℤ) → cast Integer (Int n) ≡ Int n
 unfolding unary
-cast_int n = either _ (Int n)
+cast_int n = cond_both _ (Int n) (Int n) (λ v. v ≡ Int n) (λ e. refl) (λ e. refl)
 
 cast_told : (value : Value) (v : Option RecordValue) → Tells value v → cast Rattle.sqlite.specs.Kind.TheVariants.Text value ≡ value
 cast_told Null v tells = refl
 cast_told (Text t) v tells = refl
-cast_told (Int n) v tells = absurd tells
-cast_told (Rattle.sqlite.specs.declared.types.Value.TheVariants.Real x) v tells = absurd tells
-cast_told (Rattle.sqlite.specs.declared.types.Value.TheVariants.Blob b) v tells = absurd tells
+cast_told _ v tells = absurd tells
 
 -- a part that gave a value did not stop on the way
 pub went : {B E R : Type 0} {b : B} {Stops : E → Type 0} → ((stop : E) × Stops stop × (Ok b ≡ Err stop)) ⊎ R → R
@@ -52,7 +47,7 @@ pub same_value : {B E : Type 0} {a b : B} → ◌≡◌ {A = Result B E} (Ok a) 
 same_value e = cc
 
 fresh_is : (rows : List Row) (new : Row) → are_fresh rows (new ∷ []) ≡ true → is_taken rows new ≡ false
-fresh_is rows new e = elim (is_taken rows new) as (λ b. (not b && true) ≡ true → b ≡ false) [ true ↦ λ e. absurd cc | false ↦ λ _. refl ] e
+fresh_is rows new e = not-true _ (and_parts _ _ e).0
 
 truth_back : (b : Bool) → (is_true (from_truth (Some b)) && true) ≡ b
 unfolding binary
@@ -88,7 +83,7 @@ matched_rows params (r ∷ rs) = elim (passes params r) as (λ b. cond b ((param
 abbrev pub AreQuiet : List Table → Type 0
 AreQuiet beside = (keys : Keys) (db : Trees) (edit : Edit) → works (book_schema beside) keys 0 edit.table.tree (taken_by db edit) edit.news ≡ []
 
-absent_now : (book : Accounts) (name : List ℕ) → fin.contains_key (fin.remove book name) name ≡ false
+pub absent_now : (book : Accounts) (name : List ℕ) → fin.contains_key (fin.remove book name) name ≡ false
 absent_now book name = ap is_some (get-remove nat_list_cmp_total book name name ∙ ap (λ b. cond b None (fin.get book name)) ((eq_by_cmp_equiv nat_list_cmp_total).refl name))
 
 -- an UPDATE of the row of a name, by two terms for the name and the value

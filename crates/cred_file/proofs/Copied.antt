@@ -1,15 +1,12 @@
 -- A copy of a book, as its accounts are entered into an empty one.
 use Rattle.std.proofs.Common.{◌≡◌, ◌⊎◌, inl, inr, ◌≤◌, None, subst, sym, ◌∙◌}
 use Rattle.std.specs.FinMap as fin
-use Rattle.sqlite.specs.{Held.Held, Held.state, State.State, State.HasCleanDisk, Store.Ghosts, Tree.Trees}
+use Rattle.sqlite.specs.{Held.Held, Held.state, State.State, State.HasCleanDisk, Store.Ghosts}
 use Rattle.cred_book.specs.Accounts.{Accounts, register_capacity}
 use Rattle.cred_file.specs.{Copies.MayCopy, Keeps.HoldsBook, Keeps.IsTableOf, Keeps.Keeps, Keeps.LeavesOnly}
-
-either : (db : Trees) (first after copy : Accounts) → first ≡ fin.empty → after ≡ copy → (book : Accounts) → (book ≡ first) ⊎ (book ≡ after) → HoldsBook db book → HoldsBook db fin.empty ⊎ HoldsBook db copy
-either db first after copy none all book (inl is) holds = inl (subst (λ b. HoldsBook db b) (is ∙ none) holds)
-either db first after copy none all book (inr is) holds = inr (subst (λ b. HoldsBook db b) (is ∙ all) holds)
 
 -- a crash leaves an empty book, or all of it
 pub may_copy : (old new : State) (first after copy : Accounts) → first ≡ fin.empty → after ≡ copy → LeavesOnly new (λ b. (b ≡ first) ⊎ (b ≡ after)) → MayCopy old new copy
 may_copy old new first after copy none all left db may =
-    let found = left db may in inr (either db first after copy none all found.0 found.1 found.2)
+    let found = left db may in
+    inr (elim found.1 [ inl is ↦ inl (subst (λ b. HoldsBook db b) (is ∙ none) found.2) | inr is ↦ inr (subst (λ b. HoldsBook db b) (is ∙ all) found.2) ])

@@ -1,5 +1,5 @@
 -- Rows stand for one book, and so the next run opens the book that was kept.
-use Rattle.std.proofs.Common.{◌≡◌, List, map, Option, Ok, Err, Result, IfOk, IfErr, sym, ap, subst, ◌∙◌}
+use Rattle.std.proofs.Common.{◌≡◌, List, map, Option, Ok, Err, Result, IfErr, sym, ap, subst, ◌∙◌}
 use Rattle.std.specs.FinMap as fin
 use Rattle.sqlite.specs.{Order.Row, Tree.Trees, Held.Held, Held.state, Store.Ghosts, State.HasCleanDisk}
 use Rattle.cred_book.specs.Accounts.{Accounts}
@@ -16,11 +16,7 @@ found_again g conn book again lost keeps clean db may stands =
     let l = keeps.left clean db may in
     subst (IsOrWith book lost) (stands_once (db 0) l.0 again l.2.stands stands) l.1
 
--- of an answer with two facts
-pub of_ok : {A E : Type 0} (P Q R : A → Type 0) (r : Result A E) → ((a : A) → P a → Q a → R a) → IfOk r P → IfOk r Q → IfOk r R
-of_ok P Q R (Ok a) f p q = f a p q
-of_ok P Q R (Err e) f p q = p
-
+-- of an error with two facts
 pub of_err : {A E : Type 0} (P Q R : E → Type 0) (r : Result A E) → ((e : E) → P e → Q e → R e) → IfErr r P → IfErr r Q → IfErr r R
 of_err P Q R (Ok a) f p q = p
 of_err P Q R (Err e) f p q = f e p q

@@ -1,9 +1,10 @@
 -- The accounts of two books, as those of one are added to the other and taken out again.
-use Rattle.std.proofs.Common.{◌≡◌, ◌⊎◌, inl, inr, ◌+◌, ◌≤◌, ℕ, List, [], ◌∷◌, ◌++◌, length, Bool, true, false, cond, ◌||◌, ◌&&◌, T, Option, Some, None, is_some, refl, sym, ap, subst, ◌∙◌, arith}
-use Rattle.std.proofs.lemmas.{List.length-append, Bool.or_right}
+use Rattle.std.proofs.Common.{◌≡◌, ◌⊎◌, inl, inr, ◌+◌, ◌≤◌, ℕ, List, [], ◌∷◌, ◌++◌, length, Bool, true, false, cond, ◌||◌, T, Option, Some, None, is_some, refl, sym, ap, subst, ◌∙◌, arith}
+use Rattle.std.proofs.lemmas.Bool.{cond_both}
+use lib.Ieee.Fits.{and_l, and_r}
 use Rattle.std.specs.{Option.option_or, Ordering.eq_by_cmp, Ordering.is_eq, Ordering.is_lt, declared.cmp.Ordering.Ordering}
 use Rattle.std.specs.declared.cmp.Ordering.TheVariants.{Less, Equal, Greater}
-use Rattle.std.specs.Cmp.{eq_by_cmp_equiv}
+use Rattle.std.specs.Cmp.{Equal-is, eq_by_cmp_equiv}
 use Rattle.std.specs.FinMap as fin
 use Rattle.std.specs.FinMap.Entries.{below_all}
 use Rattle.std.specs.FinMap.{get-empty, get-entries, get-from_entries, get-insert, get-remove, len-empty, len-entries, len-insert}
@@ -14,7 +15,6 @@ use Rattle.cred_book.proofs.Rows.{no_some, same_rows}
 use Rattle.cred_book.specs.{Accounts.Accounts, Names.name_cmp}
 use Rattle.cred_file.specs.{Edits.AreApart, Edits.AreThere, Edits.joined, Edits.taken_in, Keeps.Has}
 use Rattle.cred_file.specs.Transactions.{IsUnderWay, KeepsOthers, MakesWithin}
-use Rattle.cred_file.proofs.TableLemmas.{is_equal}
 
 abbrev pub Entries : Type 0
 Entries = List (List ℕ × Option RecordValue)
@@ -27,11 +27,11 @@ ties q name = eq_by_cmp name_cmp q name
 
 -- names that tie are in a book both or neither
 pub tied : (book : Accounts) (key q : List ℕ) → ties q key ≡ true → fin.get book q ≡ fin.get book key
-tied book key q e = fin.get_tied nat_list_cmp_total book key q (is_equal _ (sym ((eq_by_cmp_equiv nat_list_cmp_total).symm q key) ∙ e))
+tied book key q e = fin.get_tied nat_list_cmp_total book key q ((Equal-is _).0 (sym ((eq_by_cmp_equiv nat_list_cmp_total).symm q key) ∙ e))
 
 -- ---- what is found in two books
 
-deeper : {X : Type 0} (c : Bool) (x : X) (o p : Option X) → cond c (Some x) (option_or o p) ≡ option_or (cond c (Some x) o) p
+pub deeper : {X : Type 0} (c : Bool) (x : X) (o p : Option X) → cond c (Some x) (option_or o p) ≡ option_or (cond c (Some x) o) p
 deeper true x o p = refl
 deeper false x o p = refl
 
@@ -43,12 +43,11 @@ get_behind : (front : Entries) (book : Accounts) (q : List ℕ) → fin.get (fin
 get_behind front book q =
     get-from_entries nat_list_cmp_total (front ++ fin.entries book) q ∙ find_append front (fin.entries book) q ∙ ap (option_or (find q front)) (sym (get-entries book q))
 
-get_joined : (old more : Accounts) (q : List ℕ) → fin.get (joined old more) q ≡ option_or (fin.get more q) (fin.get old q)
+pub get_joined : (old more : Accounts) (q : List ℕ) → fin.get (joined old more) q ≡ option_or (fin.get more q) (fin.get old q)
 get_joined old more q = get_behind (fin.entries more) old q ∙ ap (λ o. option_or o (fin.get old q)) (sym (get-entries more q))
 
 beside : {X : Type 0} (c : Bool) (x : X) (o : Option X) → is_some o ≡ true → is_some (cond c (Some x) o) ≡ true
-beside true x o is = refl
-beside false x o is = is
+beside c x o is = cond_both c (Some x) o (λ p. is_some p ≡ true) (λ here. refl) (λ other. is)
 
 either_some : {X : Type 0} (o p : Option X) → is_some p ≡ true → is_some (option_or o p) ≡ true
 either_some None p is = is
@@ -63,14 +62,6 @@ joined_keeps old more q absent = get_joined old more q ∙ ap (λ o. option_or o
 
 -- ---- the entries that are left
 
-first_of : (a b : Bool) → T (a && b) → T a
-first_of true b p = tt
-first_of false b p = absurd p
-
-second_of : (a b : Bool) → T (a && b) → T b
-second_of true b p = p
-second_of false b p = absurd p
-
 less : (o : Ordering) → T (is_lt o) → is_eq o ≡ false
 less Less p = refl
 less Equal p = absurd p
@@ -80,8 +71,8 @@ less Greater p = absurd p
 find_below : (x : List ℕ) (es : Entries) → T (below_all name_cmp x es) → (q : List ℕ) → ties q x ≡ true → find q es ≡ None
 find_below x [] h q tie = refl
 find_below x (e ∷ es) h q tie =
-    let apart : ties q e.0 ≡ false = (eq_by_cmp_equiv nat_list_cmp_total).congr q x e.0 tie ∙ less _ (first_of _ _ h) in
-    ap (λ b. cond b (Some e.1) (find q es)) apart ∙ find_below x es (second_of _ _ h) q tie
+    let apart : ties q e.0 ≡ false = (eq_by_cmp_equiv nat_list_cmp_total).congr q x e.0 tie ∙ less _ (and_l _ _ h) in
+    ap (λ b. cond b (Some e.1) (find q es)) apart ∙ find_below x es (and_r _ _ h) q tie
 
 -- these are entries of a book, in order
 pub record AreLeft (more : Accounts) (rest : Entries) : Type 0 where
@@ -93,14 +84,14 @@ all_left more = record { sorted = fin.entries_sorted more; each = λ q is. ap is
 
 module _ (more : Accounts) (k : List ℕ) (slot : Option RecordValue) (left : Entries) (are : AreLeft more ((k, slot) ∷ left)) where
   pub still_left : AreLeft more left
-  still_left = record { sorted = second_of _ _ are.sorted; each = λ q is. are.each q (beside (ties q k) slot (find q left) is) }
+  still_left = record { sorted = and_r _ _ are.sorted; each = λ q is. are.each q (beside (ties q k) slot (find q left) is) }
 
   -- the first of them
   pub among : fin.contains_key more k ≡ true
   among = are.each k (ap (λ b. is_some (cond b (Some slot) (find k left))) ((eq_by_cmp_equiv nat_list_cmp_total).refl k))
 
   none_again : (q : List ℕ) → ties q k ≡ true → find q left ≡ None
-  none_again = find_below k left (first_of _ _ are.sorted)
+  none_again = find_below k left (and_l _ _ are.sorted)
 
 -- ---- the accounts that are added in turn
 
@@ -123,7 +114,7 @@ one_entered old more now after rest left k v slot was is same put =
           ∙ in_front (ties q k) (find q left) (none_again more k slot left are q) (fin.get now q)
           ∙ sym (get-insert nat_list_cmp_total (fin.from_entries (left ++ fin.entries now)) k slot q ∙ ap (cond (ties q k) (Some slot)) (get_behind left now q)))
           ∙ ap (λ es. fin.from_entries {R = name_cmp} (es ++ fin.entries now)) (sym is) ∙ was.joins;
-      others = λ q absent. get-insert nat_list_cmp_total now k slot q ∙ apart q absent (ties q k) refl ∙ was.others q absent;
+      others = λ q absent. get-insert nat_list_cmp_total now k slot q ∙ apart q absent ∙ was.others q absent;
     })
   where
     are : AreLeft more ((k, slot) ∷ left)
@@ -133,9 +124,8 @@ one_entered old more now after rest left k v slot was is same put =
     in_front true o none there = ap (λ o. option_or o (Some slot)) (none refl)
     in_front false o none there = refl
 
-    apart : (q : List ℕ) → fin.contains_key more q ≡ false → (b : Bool) → ties q k ≡ b → cond b (Some slot) (fin.get now q) ≡ fin.get now q
-    apart q absent false tie = refl
-    apart q absent true tie = absurd (let there = sym (ap is_some (tied more k q tie) ∙ among more k slot left are) ∙ absent in cc)
+    apart : (q : List ℕ) → fin.contains_key more q ≡ false → cond (ties q k) (Some slot) (fin.get now q) ≡ fin.get now q
+    apart q absent = cond_both (ties q k) (Some slot) (fin.get now q) (λ o. o ≡ fin.get now q) (λ tie. absurd (let there = sym (ap is_some (tied more k q tie) ∙ among more k slot left are) ∙ absent in cc)) (λ other. refl)
 
 again : (old : Accounts) → fin.from_entries (fin.entries old) ≡ old
 again old = same_rows _ _ (get_behind [] old)
@@ -213,11 +203,8 @@ all_removed old more now rest was none q = ap (λ es. cond (is_some (find q es))
 
 -- what is left then is what there was
 pub undone : (old more now after : Accounts) → AreApart old more → KeepsOthers old more now → ((q : List ℕ) → fin.get after q ≡ cond (fin.contains_key more q) None (fin.get now q)) → after ≡ old
-undone old more now after apart others gone = same_rows _ _ (λ q. gone q ∙ at q (fin.contains_key more q) refl)
-  where
-    at : (q : List ℕ) (b : Bool) → fin.contains_key more q ≡ b → cond b None (fin.get now q) ≡ fin.get old q
-    at q true e = sym (no_some _ (apart q e))
-    at q false e = others q e
+undone old more now after apart others gone = same_rows _ _ (λ q.
+    gone q ∙ cond_both (fin.contains_key more q) None (fin.get now q) (λ o. o ≡ fin.get old q) (λ e. sym (no_some _ (apart q e))) (others q))
 
 -- ---- whether a name is in both
 
@@ -234,14 +221,12 @@ pub one_so : (is_there : Bool) (book more : Accounts) (rest left : Entries) (k :
 one_so is_there book more rest left k slot was is so = record {
   are = still_left more k slot left (subst (AreLeft more) is was.are);
   each = λ q has. elim (was.each q has) [
-    | inl in_rest ↦ at q (ties q k) refl (ap (λ es. is_some (find q es)) (sym is) ∙ in_rest)
+    | inl in_rest ↦
+        cond_both (ties q k) (Some slot) (find q left) (λ o. is_some o ≡ true → (is_some (find q left) ≡ true) ⊎ (fin.contains_key book q ≡ is_there))
+        (λ tie some. inr (ap is_some (tied book k q tie) ∙ so)) (λ other some. inl some) (ap (λ es. is_some (find q es)) (sym is) ∙ in_rest)
     | inr done ↦ inr done
   ];
 }
-  where
-    at : (q : List ℕ) (b : Bool) → ties q k ≡ b → is_some (cond b (Some slot) (find q left)) ≡ true → (is_some (find q left) ≡ true) ⊎ (fin.contains_key book q ≡ is_there)
-    at q true tie has = inr (ap is_some (tied book k q tie) ∙ so)
-    at q false tie has = inl has
 
 pub all_so : (is_there : Bool) (book more : Accounts) (rest : Entries) → AreAll is_there book more rest → rest ≡ [] → (q : List ℕ) → fin.contains_key more q ≡ true → fin.contains_key book q ≡ is_there
 all_so is_there book more rest was none q has = elim (was.each q has) [ inl in_rest ↦ absurd (let e = ap (λ es. is_some (find q es)) (sym none) ∙ in_rest in cc) | inr done ↦ done ]

@@ -3,7 +3,7 @@ use Rattle.std.proofs.Common.{is_some, arith, ◌≤◌, ◌≡◌, ◌⊎◌, i
 use Rattle.std.specs.FinMap as fin
 use Rattle.std.specs.{FinMap.len-insert, Cmp.Lexicographic.nat_list_cmp_total}
 use Rattle.sqlite.specs.declared.types.Value.{Value}
-use Rattle.sqlite.specs.declared.types.Value.TheVariants.{Null, Int, Real, Text, Blob}
+use Rattle.sqlite.specs.declared.types.Value.TheVariants.{Null, Text}
 use Rattle.sqlite.specs.{declared.error.Error.Error, Values.bound_value, Order.Row, Tree.Trees, Schema.Schema}
 use Rattle.sqlite.specs.{Command.TheVariants.Commit, Command.TheVariants.Insert, Command.TheVariants.Release, Command.TheVariants.Update, Command.TheVariants.Delete, Source.TheVariants.Values, Table.Table, Effect.Database}
 use Rattle.sqlite.specs.Listing.{understood}
@@ -13,12 +13,12 @@ use Rattle.sqlite_schema.specs.declared.command.Command.{Command}
 use Rattle.sqlite.proofs.Callers.{IsPlain, command_of, statement_of, runs_as}
 use Rattle.cred_phc.specs.{Values.IsRecord, Values.RecordValue, Text.record_text, Reading.read_record}
 use Rattle.cred_phc.proofs.RecordLaws.{read_back}
-use Rattle.std.proofs.{Common.nat_lt, Common.◌<◌, Common.false, Common.◌||◌, Common.OnOk, Common.IfErr, Common.IfOk, Common.IfSome, lemmas.Bool.lt-ltb, lemmas.Bool.le-ltb}
+use Rattle.std.proofs.{Common.nat_lt, Common.◌<◌, Common.false, Common.◌||◌, Common.OnOk, Common.IfErr, Common.IfOk, lemmas.Bool.lt-ltb, lemmas.Bool.le-ltb}
 use Rattle.cred_book.specs.{Accounts.Accounts, Accounts.register_capacity, Calls.EntersWithin, Names.is_name, declared.error.BookError.BookError}
 use Rattle.sqlite_catalog.specs.Listing.{IsSound}
 use Rattle.cred_file.specs.Schema.{IsBookSchema, book_schema, statistics, insert_text, update_text, delete_text, rename_text}
-use Rattle.cred_file.specs.{Failures.Changes, Failures.IsLossOf, Failures.Refuses, Failures.Remembers, Kept.Kept, Table.StandsFor, Table.IsTextOf, Table.Tells, Edits.after_attempt, Edits.renamed, Edits.PutsEntry}
-use Rattle.cred_file.specs.{Keeps.HoldsBook, Keeps.IsTableOf, Keeps.IsRenamable, Keeps.LeavesOnly, Keeps.Keeps, Keeps.IsOrWith, declared.fault.Attempt.Attempt, declared.fault.Lost.Lost}
+use Rattle.cred_file.specs.{Failures.Changes, Failures.Refuses, Table.StandsFor, Table.IsTextOf, Table.Tells, Edits.after_attempt, Edits.renamed, Edits.PutsEntry}
+use Rattle.cred_file.specs.{Keeps.HoldsBook, Keeps.IsTableOf, Keeps.IsRenamable, Keeps.LeavesOnly, Keeps.Keeps, Keeps.IsOrWith, declared.fault.Lost.Lost}
 use Rattle.sqlite_trees.specs.View.{doubt}
 use Rattle.cred_book.specs.declared.error.BookError.TheVariants as error
 use Rattle.cred_book.proofs.Rows.{no_some}
@@ -93,20 +93,15 @@ module _ {sql : List ℕ} {params : Row} {command : Command} {from to : Accounts
       ]
 
 -- a record that is written is told by its text
-pub record_told : (t : List ℕ) (v : RecordValue) → t ≡ record_text v → IsRecord v → Tells (Text t) (Some v)
-record_told t v is ranges = ap read_record is ∙ read_back v ranges
-
 pub text_told : {A E : Type 0} (r : Result A E) (items : A → List ℕ) (v : RecordValue) → IfOk r (λ t. items t ≡ record_text v) → OnOk r (IsRecord v) → IfOk r (λ t. IsTextOf (items t) (Some v))
-text_told (Ok t) items v is ranges = record_told (items t) v is ranges
+text_told (Ok t) items v is ranges = ap read_record is ∙ read_back v ranges
 text_told (Err e) items v is ranges = tt
 
 -- what is bound for such a value is the value
 pub bound_told : (value : Value) (v : Option RecordValue) → Tells value v → bound_value value ≡ value
 bound_told Null v tells = refl
 bound_told (Text t) v tells = refl
-bound_told (Int n) v tells = absurd tells
-bound_told (Real x) v tells = absurd tells
-bound_told (Blob b) v tells = absurd tells
+bound_told _ v tells = absurd tells
 
 -- ---- the statements
 
@@ -207,17 +202,6 @@ module _ {S : Type 0} (g : Ghosts S) (old new : Held S) (book : Accounts) (lost 
     left = λ late. does late (keeps.table (early late) none);
   }))
 
--- a change that is lost is told of, if none was lost before
-pub remembers_loss : {S : Type 0} {attempt : Attempt} {Fails : Error → Type 0} {old new : Kept S} {why : BookError} (loss : Lost) → new.lost ≡ Some loss → old.lost ≡ None → loss.attempt ≡ attempt → Fails loss.error
-    → Remembers attempt Fails old new (Err why)
-remembers_loss {attempt = attempt} {Fails = Fails} {new = new} loss is none same fails = record {
-  written = tt;
-  loses = record {
-    remembered = subst (λ l. IfSome l (λ x. new.lost ≡ Some x)) (sym none) tt;
-    lost = λ _. subst (λ l. IfSome l (IsLossOf attempt Fails)) (sym is) (record { attempt_is = same; error = fails });
-  };
-}
-
 -- how many accounts there are with a new name, and with an old one
 pub len_new : (book : Accounts) (name : List ℕ) (v : Option RecordValue) → fin.contains_key book name ≡ false → fin.len book < register_capacity → fin.len (fin.insert book name v) ≤ register_capacity
 len_new book name v absent room =
@@ -232,8 +216,7 @@ pub not_entered : (room : ℕ) (old new : Accounts) (name : List ℕ) (v : Optio
 not_entered room old new name v error.Exists h = h.1
 not_entered room old new name v error.Full h = h.2
 not_entered room old new name v error.Memory h = h.2
-not_entered room old new name v error.Name h = absurd h
-not_entered room old new name v error.NoAccount h = absurd h
+not_entered room old new name v _ h = absurd h
 
 -- a name that is replaced is put
 pub put_replaced : (room : ℕ) (old new : Accounts) (name : List ℕ) (v : Option RecordValue) (r : Result (Unit {0}) BookError) → fin.contains_key old name ≡ true → OnOk r (new ≡ fin.insert old name v) → IfErr r (λ e. (e ≡ error.Memory) × (new ≡ old)) → PutsEntry room old new name v r
@@ -246,5 +229,4 @@ put_entered room old new name v (Ok u) absent h = (ap (λ b. b || nat_lt (fin.le
 put_entered room old new name v (Err error.Exists) absent h = absurd (let there = h.0 in cc)
 put_entered room old new name v (Err error.Full) absent h = (ap (λ b. b || nat_lt (fin.len old) room) absent ∙ le-ltb (fin.len old) room h.1, h.2)
 put_entered room old new name v (Err error.Memory) absent h = (ap (λ b. b || nat_lt (fin.len old) room) absent ∙ lt-ltb (fin.len old) room h.1, h.2)
-put_entered room old new name v (Err error.Name) absent h = h
-put_entered room old new name v (Err error.NoAccount) absent h = h
+put_entered room old new name v (Err _) absent h = h

@@ -73,8 +73,6 @@ module _ (prior tail : List Row) (row : Row) (book : Accounts) (last : Option �
       ap (list_any (has_rowid id)) ends.2 ∙ list_any-append (has_rowid id) ends.0 (r ∷ []) ∙ or_right (list_any (has_rowid id) ends.0) _ (or_left _ false hit)
 
   pub left_out : (fault : OpenFault) → IsNotAdded row book last fault → AreAtFault rows fault
-  left_out fault.NotEmpty h = h
-  left_out fault.NoBook h = h
   left_out (fault.NoName id) h = here (λ r. has_rowid id r && is_no_name (column r 1)) (and_from _ _ (numbered row id h.0) h.1)
   left_out (fault.NoRecord id why) h = here (λ r. has_rowid id r && is_no_record why (column r 2)) (and_from _ _ (numbered row id h.0) h.1)
   left_out (fault.Twice id) h =
@@ -93,3 +91,4 @@ module _ (prior tail : List Row) (row : Row) (book : Accounts) (last : Option �
       | inr again ↦ inr (again.0, twice (has_rowid again.0) (last_again last again.0 draft.ends again.1 again.2) (numbered row again.0 again.1))
     ],
   )
+  left_out _ h = h

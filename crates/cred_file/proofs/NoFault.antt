@@ -6,9 +6,8 @@ use Rattle.std.specs.FinMap.{len-empty, len-insert}
 use Rattle.std.specs.{Cmp.Lexicographic.nat_list_cmp_total, List.AllZip, List.list_any, Ordering.is_eq}
 use Rattle.std.specs.Cmp.{eq_by_cmp_equiv}
 use Rattle.sqlite.specs.declared.types.Value.{Value}
-use Rattle.sqlite.specs.declared.types.Value.TheVariants.{Null, Int, Real, Text, Blob}
+use Rattle.sqlite.specs.declared.types.Value.TheVariants.{Null, Int, Text}
 use Rattle.sqlite.specs.{Order.Row, Order.column, Order.value_cmp, State.State, Effect.IsDatabase}
-use Rattle.sqlite_trees.specs.Tree.{has_rowid}
 use Rattle.sqlite_value.proofs.OrderLemmas.{value_cmp_total, value_cmp-Text}
 use Rattle.cred_phc.specs.{Values.RecordValue, declared.error.PhcError.PhcError}
 use Rattle.cred_book.specs.Accounts.{Accounts, register_capacity}
@@ -19,6 +18,11 @@ use Rattle.cred_file.specs.{Table.Line, Table.Says, Table.Tells, Table.entry_of,
 use Rattle.cred_file.specs.Opening.{agree, is_no_name, is_no_record, is_refused, is_repeated, AreAtFault, IsUnopened, IsForWant}
 use Rattle.cred_file.proofs.{TableLemmas.any_known, TableLemmas.any_line, TableLemmas.name_symm, Catalogued.still_book}
 
+-- what a wider test doesn't pass, a narrower one doesn't
+narrower : {X : Type 0} (test wide : X → Bool) → ((x : X) → wide x ≡ false → test x ≡ false) → (xs : List X) → list_any wide xs ≡ false → list_any test xs ≡ false
+narrower test wide fails [] e = refl
+narrower test wide fails (x ∷ xs) e = let parts = or_parts (wide x) (list_any wide xs) e in or_from _ _ (fails x parts.0) (narrower test wide fails xs parts.1)
+
 -- a test that no row passes
 none_pass : (test : Row → Bool) → ((row : Row) (l : Line) → Says row l → test row ≡ false) → (rows : List Row) (ls : List Line) → AllZip Says rows ls → list_any test rows ≡ false
 none_pass test fails rows ls all = any_line test (λ l. false) fails rows ls all ∙ list_any_none (λ l. false) ls (λ k d low. refl)
@@ -26,31 +30,15 @@ none_pass test fails rows ls all = any_line test (λ l. false) fails rows ls all
 told : (why : Option PhcError) (v : Value) (stored : Option RecordValue) → Tells v stored → is_no_record why v ≡ false
 told None Null stored tells = refl
 told (Some e) Null stored tells = refl
-told why (Text t) None tells = absurd tells
 told None (Text t) (Some v) tells = refl
 told (Some e) (Text t) (Some v) tells = ap (is_refused e) tells
-told why (Int n) stored tells = absurd tells
-told why (Real x) stored tells = absurd tells
-told why (Blob b) stored tells = absurd tells
+told _ _ _ tells = absurd tells
 
 -- ---- no name twice
 
 -- the lines are two, of one name
 abbrev pub repeats : Line → Line → Bool
 repeats l m = not (is_eq (value_cmp (Int l.id) (Int m.id))) && has_name l.name m
-
-not_itself : (l : Line) → repeats l l ≡ false
-not_itself l = ap (λ b. not b && has_name l.name l) ((eq_by_cmp_equiv value_cmp_total).refl (Int l.id))
-
-no_other : (l : Line) (ls : List Line) → list_any (has_name l.name) ls ≡ false → list_any (repeats l) ls ≡ false
-no_other l [] e = refl
-no_other l (m ∷ ls) e = let parts = or_parts (has_name l.name m) (list_any (has_name l.name) ls) e in or_from _ _ (and_right _ _ parts.0) (no_other l ls parts.1)
-
-not_back : (x : Line) (ls : List Line) → list_any (has_name x.name) ls ≡ false → list_any (λ l. repeats l x) ls ≡ false
-not_back x [] e = refl
-not_back x (l ∷ ls) e =
-    let parts = or_parts (has_name x.name l) (list_any (has_name x.name) ls) e in
-    or_from _ _ (and_right _ _ (name_symm l.name x.name ∙ parts.0)) (not_back x ls parts.1)
 
 -- two tests that none passes
 neither : (f g : Line → Bool) (ls : List Line) → list_any f ls ≡ false → list_any g ls ≡ false → list_any (λ l. f l || g l) ls ≡ false
@@ -63,7 +51,9 @@ neither f g (l ∷ ls) p q =
 none_repeated : (ls : List Line) → AreApart ls → list_any (λ l. list_any (repeats l) ls) ls ≡ false
 none_repeated [] apart = refl
 none_repeated (x ∷ ls) apart =
-    or_from _ _ (or_from _ _ (not_itself x) (no_other x ls apart.1)) (neither (λ l. repeats l x) (λ l. list_any (repeats l) ls) ls (not_back x ls apart.1) (none_repeated ls apart.2))
+    let itself : repeats x x ≡ false = ap (λ b. not b && has_name x.name x) ((eq_by_cmp_equiv value_cmp_total).refl (Int x.id)) in
+    let back = narrower (λ l. repeats l x) (has_name x.name) (λ l other. and_right _ _ (name_symm l.name x.name ∙ other)) ls apart.1 in
+    or_from _ _ (or_from _ _ itself (narrower (repeats x) (has_name x.name) (λ l other. and_right _ _ other) ls apart.1)) (neither (λ l. repeats l x) (λ l. list_any (repeats l) ls) ls back (none_repeated ls apart.2))
 
 -- another row with the name
 abbrev pub namesakes : Row → Row → Bool
@@ -78,39 +68,32 @@ as_lines row l says = any_line (namesakes row) (repeats l) (λ r m said.
 each_as_line : (rows : List Row) (ls : List Line) → AllZip Says rows ls → list_any (is_repeated rows) rows ≡ list_any (λ l. list_any (repeats l) ls) ls
 each_as_line rows ls whole = any_line (is_repeated rows) (λ l. list_any (repeats l) ls) (λ r l says. as_lines r l says rows ls whole) rows ls whole
 
--- a narrower test
-narrower : (test wide : Row → Bool) (rows : List Row) → list_any wide rows ≡ false → list_any (λ row. test row && wide row) rows ≡ false
-narrower test wide [] e = refl
-narrower test wide (r ∷ rows) e = let parts = or_parts (wide r) (list_any wide rows) e in or_from _ _ (and_right _ _ parts.0) (narrower test wide rows parts.1)
-
 never : {X : Type 0} {b : Bool} → b ≡ true → b ≡ false → X
 never is isnt = absurd (true≢false (sym is ∙ isnt))
 
 -- a table has as many rows as its book has accounts
 as_many_of : (rows : List Row) (ls : List Line) → AllZip Says rows ls → AreApart ls → length rows ≡ fin.len (fin.from_entries {R = name_cmp} (map entry_of ls))
 as_many_of [] [] all apart = sym (len-empty name_cmp (Option RecordValue))
-as_many_of [] (l ∷ ls) all apart = absurd all
-as_many_of (r ∷ rows) [] all apart = absurd all
 as_many_of (r ∷ rows) (l ∷ ls) all apart =
     let rest = fin.from_entries {R = name_cmp} (map entry_of ls) in
     let absent = sym (any_known l.name rows rest (record { lines = ls; each = all.1; apart = apart.2; book_is = refl })) ∙ apart.1 in
     let grown : fin.len (fin.insert rest l.name l.stored) ≡ fin.len rest + 1 = len-insert nat_list_cmp_total rest l.name l.stored ∙ ap (λ b. cond b (fin.len rest) (fin.len rest + 1)) absent in
     omega (arith, grown, as_many_of rows ls all.1 apart.2)
+as_many_of _ _ all apart = absurd all
 
 pub as_many : (rows : List Row) (book : Accounts) → StandsFor rows book → length rows ≡ fin.len book
 as_many rows book s = as_many_of rows s.lines s.each s.apart ∙ ap (λ (b : Accounts). fin.len b) s.book_is
 
 pub no_fault : (rows : List Row) (book : Accounts) → fin.len book ≤ register_capacity → StandsFor rows book → (why : OpenFault) → AreAtFault rows why → IsForWant why
-no_fault rows book few s fault.NotEmpty h = absurd h
-no_fault rows book few s fault.NoBook h = absurd h
 no_fault rows book few s (fault.NoName id) h =
-    never h (narrower (has_rowid id) (λ row. is_no_name (column row 1)) rows (none_pass (λ row. is_no_name (column row 1)) (λ row l says. ap is_no_name says.name ∙ ap not says.is_name) rows s.lines s.each))
+    never h (narrower _ (λ row. is_no_name (column row 1)) (λ row other. and_right _ _ other) rows (none_pass (λ row. is_no_name (column row 1)) (λ row l says. ap is_no_name says.name ∙ ap not says.is_name) rows s.lines s.each))
 no_fault rows book few s (fault.NoRecord id why) h =
-    never h (narrower (has_rowid id) (λ row. is_no_record why (column row 2)) rows (none_pass (λ row. is_no_record why (column row 2)) (λ row l says. told why (column row 2) l.stored says.stored) rows s.lines s.each))
-no_fault rows book few s (fault.Twice id) h = never h (narrower (has_rowid id) (is_repeated rows) rows (each_as_line rows s.lines s.each ∙ none_repeated s.lines s.apart))
+    never h (narrower _ (λ row. is_no_record why (column row 2)) (λ row other. and_right _ _ other) rows (none_pass (λ row. is_no_record why (column row 2)) (λ row l says. told why (column row 2) l.stored says.stored) rows s.lines s.each))
+no_fault rows book few s (fault.Twice id) h = never h (narrower _ (is_repeated rows) (λ row other. and_right _ _ other) rows (each_as_line rows s.lines s.each ∙ none_repeated s.lines s.apart))
 no_fault rows book few s fault.TooMany h = absurd (omega (arith, h, as_many rows book s, few))
 no_fault rows book few s fault.Memory h = tt
 no_fault rows book few s (fault.Database e) h = tt
+no_fault rows book few s _ h = absurd h
 
 -- a sound database that a crash left of a book is refused for want alone
 pub for_want : (old new : State) (book : Accounts) → fin.len book ≤ register_capacity → HoldsBook old.now.trees book → IsDatabase old.now → (why : OpenFault) → IsUnopened old new why → IsForWant why

@@ -1,14 +1,13 @@
 -- What is left of a book where a name is taken out of it or renamed.
-use Rattle.std.proofs.Common.{◌≡◌, ◌≤◌, ◌+◌, ◌-◌, ℕ, List, Bool, true, false, cond, Option, Some, None, is_some, unwrap_or, refl, sym, ap, ◌∙◌, arith}
+use Rattle.std.proofs.Common.{◌≡◌, ◌≤◌, ◌+◌, ◌-◌, ℕ, List, Bool, true, false, cond, Option, Some, None, is_some, unwrap_or, refl, sym, ap, subst, ◌∙◌, arith}
 use Rattle.std.specs.Ordering.{eq_by_cmp}
-use Rattle.std.specs.Cmp.{eq_by_cmp_equiv}
 use Rattle.std.specs.FinMap as fin
 use Rattle.std.specs.{FinMap.len-insert, FinMap.len-remove, FinMap.get-remove, FinMap.get-insert, Cmp.Lexicographic.nat_list_cmp_total}
 use Rattle.cred_phc.specs.Values.{RecordValue}
 use Rattle.cred_book.specs.{Accounts.Accounts, Accounts.register_capacity, Names.name_cmp}
 use Rattle.cred_file.specs.Edits.{renamed}
 use Rattle.cred_book.proofs.Rows.{no_some, same_rows}
-use Rattle.cred_file.proofs.Joined.{tied}
+use Rattle.cred_file.proofs.{Changes.absent_now, Joined.tied}
 
 less : (b : Bool) (n m : ℕ) → m ≡ cond b (n - 1) n → n ≤ register_capacity → m ≤ register_capacity
 less true n m e low = omega (arith, e, low)
@@ -51,14 +50,11 @@ renamed_is book name other stored is absent = same_rows _ _ (λ q.
     swapped q true false e f = refl
     swapped q true true e f = absurd (let both = sym is ∙ sym (tied book name q e) ∙ tied book other q f ∙ no_some _ absent in cc)
 
+its_own : (o : Option (Option RecordValue)) → is_some o ≡ true → o ≡ Some (unwrap_or o None)
+its_own None there = absurd cc
+its_own (Some x) there = refl
+
 -- where the name was, there is none
 pub gone : (book : Accounts) (name other : List ℕ) → fin.contains_key book name ≡ true → fin.contains_key book other ≡ false → fin.contains_key (renamed book name other) name ≡ false
 gone book name other there absent =
-    ap is_some (get-insert nat_list_cmp_total (fin.remove book name) other _ name ∙ by_tie (eq_by_cmp name_cmp name other) refl)
-  where
-    none_there : fin.get (fin.remove book name) name ≡ None
-    none_there = get-remove nat_list_cmp_total book name name ∙ ap (λ b. cond b None (fin.get book name)) ((eq_by_cmp_equiv nat_list_cmp_total).refl name)
-
-    by_tie : (b : Bool) → eq_by_cmp name_cmp name other ≡ b → cond b (Some (unwrap_or (fin.get book name) None)) (fin.get (fin.remove book name) name) ≡ None
-    by_tie false e = none_there
-    by_tie true e = absurd (let both = sym there ∙ ap is_some (tied book other name e) ∙ absent in cc)
+    subst (λ (b : Accounts). fin.contains_key b name ≡ false) (renamed_is book name other _ (its_own _ there) absent) (absent_now (fin.insert book other _) name)

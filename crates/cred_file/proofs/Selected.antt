@@ -1,22 +1,15 @@
 -- What the query of all rows answers, and that it changes nothing.
-use Rattle.std.proofs.Common.{◌≡◌, ◌+◌, ◌<◌, inl, inr, arith, List, [], ◌∷◌, map, length, get_or, flat_map, IsTrue, false, refl, sym, ap, subst, subst₂, ◌∙◌}
-use Rattle.std.proofs.lemmas.{List.length-map, List.get_or-map, List.Elements.All-map, List.Sorted.All-permutation, List.Sorted.IsPermutation-map, List.Sorted.IsPermutation-sym}
+use Rattle.std.proofs.Common.{◌≡◌, ◌+◌, ◌<◌, inl, inr, arith, List, [], ◌∷◌, map, length, get_or, IsTrue, false, refl, sym, ap, subst, subst₂, ◌∙◌}
+use Rattle.std.proofs.lemmas.{List.Concat.flat_map_single, List.length-map, List.get_or-map, List.Elements.All-map, List.Sorted.All-permutation, List.Sorted.IsPermutation-map, List.Sorted.IsPermutation-sym}
 use Rattle.std.specs.{List.All, List.Sorted.IsPermutation, List.Sorted.IsSorted, Ordering.is_lt}
 use Rattle.sqlite.specs.{declared.types.Value.TheVariants.Null, Order.Row, Order.column, Order.value_cmp, Query.IsAnswer, Query.output, Query.output_cmp, Query.Output, Program.overlay}
+use Rattle.sqlite_trees.proofs.ListLemmas.{map-map}
 use Rattle.sqlite_value.proofs.OrderLemmas.{then-Equal}
 use Rattle.sqlite.specs.{Effect.Database, Effect.IsDatabase, State.State, State.Shown, State.IsUnchanged, State.CommitsShowing, State.Survives}
 use Rattle.sqlite.proofs.Callers.{IsPlain, reads_as, never_commits}
 use Rattle.cred_book.specs.Accounts.{Accounts}
 use Rattle.cred_file.specs.{Schema.IsBookSchema, Table.StandsFor, Keeps.IsTableOf, Opening.rows_text, Opening.IsAsBefore}
 use Rattle.cred_file.proofs.{Texts.all_rows, Texts.rows_is, Texts.rows_listed, Texts.rows_plain, Keeping.IsSettled, Keeping.holds, Shuffled.shown}
-
-each : (rows : List Row) → flat_map (λ r. ([] ∷ r ∷ []) ∷ []) rows ≡ map (λ r. [] ∷ r ∷ []) rows
-each [] = refl
-each (r ∷ rs) = ap (λ es. ([] ∷ r ∷ []) ∷ es) (each rs)
-
-outputs : (rows : List Row) → map (λ (o : Output). o.1) (map (output all_rows) (map (λ r. [] ∷ r ∷ []) rows)) ≡ map shown rows
-outputs [] = refl
-outputs (r ∷ rs) = ap (λ es. shown r ∷ es) (outputs rs)
 
 -- the rowids rise
 abbrev pub IsRising : List Row → Type 0
@@ -46,9 +39,9 @@ module _ (old new : State) (has : IsBookSchema old.now.schema) where
       let it = reads_as rows_text [] old new old.now.schema refl _ (rows_is _ has) (rows_plain _ has) (rows_listed _ has) rows h in
       let a : IsAnswer all_rows (overlay old.now.trees []) [] rows = it.answer Null in
       let envs = map (λ r. [] ∷ r ∷ []) (old.now.trees 0) in
-      let staged : a.staged ≡ envs = a.grouped ∙ each (old.now.trees 0) in
+      let staged : a.staged ≡ envs = a.grouped ∙ flat_map_single (λ (r : Row). [] ∷ r ∷ []) (old.now.trees 0) in
       let outs : a.kept ≡ map (output all_rows) envs = a.distinct ∙ ap (map (output all_rows)) staged in
-      let kept : map (λ (o : Output). o.1) a.kept ≡ map shown (old.now.trees 0) = ap (map (λ (o : Output). o.1)) outs ∙ outputs (old.now.trees 0) in
+      let kept : map (λ (o : Output). o.1) a.kept ≡ map shown (old.now.trees 0) = ap (map (λ (o : Output). o.1)) outs ∙ map-map (λ (o : Output). o.1) (output all_rows) envs ∙ map-map (λ e. (output all_rows e).1) (λ (r : Row). [] ∷ r ∷ []) (old.now.trees 0) in
       let shows : rows ≡ map (λ (o : Output). o.1) a.ordered = a.shown in
       let there : IsPermutation (map shown (old.now.trees 0)) rows = subst (λ ks. IsPermutation ks rows) kept
       (subst (λ rs. IsPermutation (map (λ (o : Output). o.1) a.kept) rs) (sym shows) (IsPermutation-map (λ (o : Output). o.1) a.kept a.ordered a.same)) in

@@ -1,13 +1,13 @@
 -- The order of the rows plays no part: so a row more or less can stand in front of the others.
 use Rattle.std.proofs.Common.{◌≡◌, ℕ, ℤ, List, [], ◌∷◌, map, length, filter, Bool, true, false, cond, not, ◌||◌, ◌&&◌, Some, refl, sym, ap, subst, ◌∙◌, arith, inl, inr}
 use Rattle.std.proofs.{lemmas.Bool.or_parts, lemmas.Bool.or_from, lemmas.Bool.true≢false, lemmas.List.length-map}
-use Rattle.std.proofs.{lemmas.List.Sums.length-filter, lemmas.List.Sorted.length_permutation, lemmas.List.Sorted.list_any-IsPermutation, lemmas.List.Sorted.sum_by-IsPermutation}
+use Rattle.std.proofs.lemmas.List.Sorted.{length_permutation, list_any-IsPermutation}
 use Rattle.std.specs.{List.AllZip, List.list_any, List.Sorted.IsPermutation, Ordering.is_eq, Ordering.eq_by_cmp, Ordering.match_ordering, Cmp.eq_by_cmp_equiv, Cmp.Lexicographic.nat_list_cmp_total}
 use Rattle.std.specs.declared.cmp.Ordering.TheVariants.{Less, Equal, Greater}
 use Rattle.std.specs.FinMap as fin
 use Rattle.std.specs.FinMap.{get-from_entries, get-insert}
 use Rattle.sqlite.specs.{declared.types.Value.TheVariants.Int, Order.Row, Order.column, Order.value_cmp}
-use Rattle.sqlite_trees.proofs.ListLemmas.{along_permutation, filter-map}
+use Rattle.sqlite_trees.proofs.ListLemmas.{IsPermutation-filter, along_permutation, filter-map}
 use Rattle.sqlite_trees.specs.{Tree.has_rowid, Tree.put_row, Tree.rowid, Tree.without_rowid, View.is_int}
 use Rattle.sqlite_value.proofs.OrderLemmas.{value_cmp_total}
 use Rattle.cred_book.proofs.Rows.{remove_again, same_rows}
@@ -16,7 +16,7 @@ use Rattle.cred_file.specs.declared.fault.OpenFault.{OpenFault}
 use Rattle.cred_file.specs.declared.fault.OpenFault.TheVariants as fault
 use Rattle.cred_file.specs.Table.{Line, Says, entry_of, has_id, has_name, AreApart, StandsFor}
 use Rattle.cred_file.specs.Opening.{agree, is_no_name, is_no_record, is_repeated, AreAtFault}
-use Rattle.cred_file.proofs.TableLemmas.{any_known, any_line, any_rows, id_symm, name_symm, numbered, said_once, same_name}
+use Rattle.cred_file.proofs.TableLemmas.{any_known, any_line, any_map, any_rows, id_symm, name_symm, numbered, said_once, same_name}
 
 -- what the query shows of a row
 abbrev pub shown : Row → Row
@@ -27,13 +27,9 @@ swap_or true true c = refl
 swap_or true false c = refl
 swap_or false b c = refl
 
--- two names that both tie with a third
-apart_names : (q a b : List ℕ) → eq_by_cmp name_cmp q a ≡ true → eq_by_cmp name_cmp q b ≡ true → eq_by_cmp name_cmp b a ≡ true
-apart_names q a b p r = let e = eq_by_cmp_equiv nat_list_cmp_total in sym (e.congr q b a r) ∙ p
-
 over : {X : Type 0} (q a b : List ℕ) → eq_by_cmp name_cmp b a ≡ false → (u v w : X) (s : Bool) → eq_by_cmp name_cmp q a ≡ s → (t : Bool) → eq_by_cmp name_cmp q b ≡ t
     → cond s u (cond t v w) ≡ cond t v (cond s u w)
-over q a b apart u v w true p true r = absurd (true≢false (sym (apart_names q a b p r) ∙ apart))
+over q a b apart u v w true p true r = absurd (true≢false (sym (sym ((eq_by_cmp_equiv nat_list_cmp_total).congr q b a r) ∙ p) ∙ apart))
 over q a b apart u v w true p false r = refl
 over q a b apart u v w false p t r = refl
 
@@ -139,8 +135,6 @@ pub record IsRowOf (test : Row → Bool) (name : List ℕ) (rows : List Row) (r 
 module _ (test : Row → Bool) (name : List ℕ) (finds : (r : Row) (l : Line) → Says r l → test r ≡ has_name name l) where
   row_in : (rows : List Row) (ls : List Line) → AllZip Says rows ls → AreApart ls → list_any (has_name name) ls ≡ true → (r : Row) × (l : Line) × IsRowOf test name rows r l
   row_in [] [] all apart e = absurd cc
-  row_in [] (l ∷ ls) all apart e = absurd all
-  row_in (r ∷ rows) [] all apart e = absurd all
   row_in (r ∷ rows) (l ∷ ls) all apart e = elim (has_name name l) as (λ b. has_name name l ≡ b → (x : Row) × (y : Line) × IsRowOf test name (r ∷ rows) x y) [
     | true ↦ λ p.
         let is = same_name name l.name p in
@@ -178,6 +172,7 @@ module _ (test : Row → Bool) (name : List ℕ) (finds : (r : Row) (l : Line) �
           },
         )
   ] refl
+  row_in _ _ all apart e = absurd all
 
   -- the row of a name that the book has
   pub row_of : (rows : List Row) (book : Accounts) (s : StandsFor rows book) → fin.contains_key book name ≡ true → (r : Row) × (l : Line) × IsRowOf test name rows r l
@@ -208,37 +203,26 @@ stands_without test rows book name s r l it =
 
 each_shown : (rows : List Row) (ls : List Line) → AllZip Says (map shown rows) ls → AllZip Says rows ls
 each_shown [] [] all = tt
-each_shown [] (l ∷ ls) all = absurd all
-each_shown (r ∷ rows) [] all = absurd all
 each_shown (r ∷ rows) (l ∷ ls) all = (record { id = all.0.id; name = all.0.name; is_name = all.0.is_name; stored = all.0.stored }, each_shown rows ls all.1)
+each_shown _ _ all = absurd all
 
 -- the rows of the answer stand for the book that the table's rows stand for
 pub stands_unshown : (table answer : List Row) (book : Accounts) → IsPermutation answer (map shown table) → StandsFor answer book → StandsFor table book
 stands_unshown table answer book p s = let t = shuffled answer (map shown table) book p s in record { lines = t.lines; each = each_shown table t.lines t.each; apart = t.apart; book_is = t.book_is }
 
-any_map : (test : Row → Bool) (rows : List Row) → list_any test (map shown rows) ≡ list_any (λ r. test (shown r)) rows
-any_map test [] = refl
-any_map test (r ∷ rows) = ap (λ b. test (shown r) || b) (any_map test rows)
-
 counted : (test : Row → Bool) (rows answer : List Row) → IsPermutation answer (map shown rows) → length (filter test answer) ≡ length (filter (λ r. test (shown r)) rows)
 counted test rows answer p =
-    length-filter test answer ∙ sym (sum_by-IsPermutation (λ r. cond (test r) 1 0) answer (map shown rows) p) ∙ sym (length-filter test (map shown rows))
-    ∙ ap length (filter-map test shown rows) ∙ length-map (filter (λ r. test (shown r)) rows) shown
+    sym (length_permutation _ _ (IsPermutation-filter test answer (map shown rows) p)) ∙ ap length (filter-map test shown rows) ∙ length-map (filter (λ r. test (shown r)) rows) shown
 
 module _ (table answer : List Row) (p : IsPermutation answer (map shown table)) where
   any_unshown : (test : Row → Bool) → list_any test answer ≡ list_any (λ r. test (shown r)) table
-  any_unshown test = list_any-IsPermutation test answer (map shown table) p ∙ any_map test table
-
-  repeated : (row : Row) → is_repeated answer row ≡ is_repeated table row
-  repeated row = any_unshown (λ other. not (agree 0 row other) && agree 1 row other)
+  any_unshown test = list_any-IsPermutation test answer (map shown table) p ∙ any_map test shown table
 
   -- what is wrong with the rows of the answer is wrong with the table's
   pub fault_unshown : (fault : OpenFault) → AreAtFault answer fault → AreAtFault table fault
-  fault_unshown fault.NotEmpty h = h
-  fault_unshown fault.NoBook h = h
   fault_unshown (fault.NoName id) h = sym (any_unshown (λ row. has_rowid id row && is_no_name (column row 1))) ∙ h
   fault_unshown (fault.NoRecord id why) h = sym (any_unshown (λ row. has_rowid id row && is_no_record why (column row 2))) ∙ h
-  fault_unshown (fault.Twice id) h = sym (λ i. list_any (λ row. has_rowid id row && repeated row i) table) ∙ sym (any_unshown (λ row. has_rowid id row && is_repeated answer row)) ∙ h
+  fault_unshown (fault.Twice id) h = sym (λ i. list_any (λ row. has_rowid id row && any_unshown (λ other. not (agree 0 row other) && agree 1 row other) i) table) ∙ sym (any_unshown (λ row. has_rowid id row && is_repeated answer row)) ∙ h
   fault_unshown fault.TooMany h = omega (arith, length_permutation answer (map shown table) p, length-map table shown, h)
   fault_unshown fault.Memory h = tt
   fault_unshown (fault.Database e) h = (
@@ -248,3 +232,4 @@ module _ (table answer : List Row) (p : IsPermutation answer (map shown table)) 
       | inr two ↦ inr (two.0, omega (arith, two.1, counted (has_rowid two.0) table answer p))
     ],
   )
+  fault_unshown _ h = h

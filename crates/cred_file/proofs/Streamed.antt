@@ -56,9 +56,6 @@ module _ (old mid new : State) (has : IsBookSchema old.now.schema) (same : IsUnc
   abbrev since : (c : Compiled) → IsStatement mid rows_text [] c → IsStatement old rows_text [] c
   since c h = record { is = subst (λ (d : Database). understood d.schema rows_text ≡ Ok c) same.0.now_is h.is; whole = h.whole; given = h.given; now = h.now }
 
-  source_since : (db : Database) → IsSourceOf (reads_listing mid.now.schema rows_text) mid.now db → IsSourceOf (reads_listing old.now.schema rows_text) old.now db
-  source_since db = subst (λ (d : Database). IsSourceOf (reads_listing d.schema rows_text) d db) same.0.now_is
-
   plain : (c : Compiled) → understood old.now.schema rows_text ≡ Ok c → c.returning ≡ None
   plain c is = (subst IsPlain is (rows_plain _ has)).0
 
@@ -75,5 +72,5 @@ module _ (old mid new : State) (has : IsBookSchema old.now.schema) (same : IsUnc
         h.0,
         it,
         subst (FailsToShow old new rows_text h.0 full e) (sym none)
-            (f.0, source_since f.0 f.1, subst (λ l. RefusesToRead l h.0.command f.0 full e) limit f.2, unchanged_then old mid new same f.3),
+            (f.0, subst (λ (d : Database). IsSourceOf (reads_listing d.schema rows_text) d f.0) same.0.now_is f.1, subst (λ l. RefusesToRead l h.0.command f.0 full e) limit f.2, unchanged_then old mid new same f.3),
       )

@@ -3,8 +3,9 @@ use Rattle.std.specs.Prelude.{◌≡◌, ◌⊎◌, ℕ, ◌≤◌, List, true, 
 use Rattle.std.specs.FinMap as fin
 use Rattle.sqlite.specs.{Schema.Schema, Tree.Trees, State.State, State.HasCleanDisk, Held.Held, Held.state, Store.Ghosts}
 use Rattle.sqlite_catalog.specs.Listing.{IsSound}
+use Rattle.sqlite_trees.specs.View.{IsClean}
 use Rattle.cred_book.specs.Accounts.{Accounts, register_capacity}
-use Rattle.cred_file.specs.{declared.fault.Lost.Lost, Edits.after_attempt, Schema.IsBookSchema, Table.StandsFor}
+use Rattle.cred_file.specs.{declared.fault.Lost.Lost, declared.fault.OpenFault.OpenFault, Edits.after_attempt, Opening.IsForWant, Schema.IsBookSchema, Table.StandsFor}
 
 -- a database with the one table, whose rows stand for the book
 pub record HoldsBook (db : Trees) (book : Accounts) : Type 0 where
@@ -65,3 +66,18 @@ pub record Keeps {S : Type 0} (g : Ghosts S) (conn : Held S) (book : Accounts)
   pub table : HasCleanDisk (state g conn) → lost ≡ None → IsTableOf (state g conn) book
   pub left : HasCleanDisk (state g conn) → LeavesOnly (state g conn) (IsOrWith book lost)
   pub few : (b : Accounts) → IsOrWith book lost b → fin.len b ≤ register_capacity
+
+-- a crash may leave a database of this book
+pub record MayLeave {S : Type 0} (g : Ghosts S) (store : S) (book : Accounts) : Type 0 where
+  pub clean : IsClean (g.view store)
+  pub db : Trees
+  pub left : g.recovers store db
+  pub holds : HoldsBook db book
+
+-- a crash may leave a database that is refused for this
+pub record MayRefuse {S : Type 0} (g : Ghosts S) (store : S) (why : OpenFault) : Type 0 where
+  pub clean : IsClean (g.view store)
+  pub db : Trees
+  pub left : g.recovers store db
+  pub for_want : (book : Accounts) → HoldsBook db book → fin.len book ≤ register_capacity
+      → IsForWant why

@@ -22,6 +22,7 @@ pub fn files_hold_the_book<S: Alter>()
 
 /// A renamed account no longer exists under its old name: a ticket that was begun there is
 /// answered `NoAccount`.
+#[tactic(auto, using(crate::proofs::Removing::gone))]
 pub fn a_renamed_name_is_gone()
     ensures { (book : Accounts) (name other : List ℕ) → fin.contains_key book name ≡ true
         → fin.contains_key book other ≡ false

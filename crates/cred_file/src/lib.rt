@@ -13,4 +13,4 @@ mod transaction;
 pub use fault::{Attempt, Lost, OpenFault};
 pub use file_book::FileBook;
 pub use laws::{a_renamed_name_is_gone, files_hold_the_book};
-pub use restart::crash_and_open;
+pub use restart::{crash_and_open, reopen};

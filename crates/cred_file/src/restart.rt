@@ -1,8 +1,9 @@
 //! The next run opens the book that a run kept, even after a crash.
 
-ghost use Rattle.std.specs.Prelude.{IfErr, IfOk, IfSome};
-ghost use Rattle.cred_file.specs.{Keeps.IsOrWith, Opening.IsForWant};
+ghost use Rattle.std.specs.Prelude.{IfErr, IfOk, IfSome, IsTrue};
+ghost use Rattle.cred_file.specs.{Keeps.IsOrWith, Keeps.MayLeave, Keeps.MayRefuse, Opening.IsForWant};
 ghost use Rattle.sqlite.specs.{Held.state, State.HasCleanDisk};
+ghost use Rattle.sqlite_trees.specs.View.{IsClean};
 
 use crate::fault::OpenFault;
 use crate::file_book::FileBook;
@@ -25,7 +26,21 @@ pub fn crash_and_open<S: Alter + Reopen + Drop>(
     ensures refused { IfSome result (λ r. IfErr r (λ e. HasCleanDisk (state S.Store e.1)
         → IsForWant e.0)) }
 {
-    let mut store = book.close().into_store();
+    reopen(alloc, book.close().into_store())
+}
+
+/// Crashes the machine, and opens the book that its disk holds then; `None` as for
+/// `crash_and_open`.
+pub fn reopen<S: Alter + Reopen + Drop>(
+    alloc: Global,
+    mut store: S,
+) -> Option<Result<FileBook<S>, (OpenFault, Connection<S>)>>
+    requires { IsClean (S.Store.view store) → IsTrue (S.Store.view store).is_numbered }
+    ensures found { IfSome result (λ r. IfOk r (λ b. HasCleanDisk (state S.Store b.conn)
+        → MayLeave S.Store store b.book)) }
+    ensures refused { IfSome result (λ r. IfErr r (λ e. HasCleanDisk (state S.Store e.1)
+        → MayRefuse S.Store store e.0)) }
+{
     let Ok(()) = store.crash_and_reopen() else {
         return None;
     };

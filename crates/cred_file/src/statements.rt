@@ -1,8 +1,7 @@
 //! The statements that change the table of accounts, and the one that reads it.
 
-ghost use Rattle.std.specs.Prelude.{◌≡◌, ◌≤◌, [], true, false, Option, IfErr, IfOk, OnOk};
+ghost use Rattle.std.specs.Prelude.{◌≡◌, ◌≤◌, [], true, false, IfErr, IfOk, OnOk};
 ghost use Rattle.std.specs.FinMap as fin;
-ghost use Rattle.cred_phc.specs.Values.{RecordValue};
 ghost use Rattle.cred_book.specs.Accounts.{register_capacity};
 ghost use Rattle.cred_file.specs.{Edits.renamed, Failures.Changes, Failures.FailsToDelete, Failures.FailsToPut, Failures.FailsToRename, Failures.Refuses};
 ghost use Rattle.cred_file.specs.Schema.{IsBookSchema, create_text, no_schema};
@@ -44,16 +43,17 @@ pub(crate) fn value_of<'a>(text: &'a [u8], stored: &Option<Record>) -> ValueRef<
 pub(crate) fn insert_row<S: Alter>(
     conn: &mut Connection<S>,
     name: &Name,
-    value: ValueRef<'_>,
+    text: &[u8],
+    stored: &Option<Record>,
 ) -> Result<usize, Error>
-    ensures { (v : Option RecordValue) → Tells (owned value.entry) v
-        → Changes S.Store conn.old conn.new (Lacks name.now)
-        (λ book. fin.insert book name.now v)
-        (FailsToPut S.Store conn.old conn.new false name.now v) result }
+    requires { IsTextOf text.now stored.now }
+    ensures { Changes S.Store conn.old conn.new (Lacks name.now)
+        (λ book. fin.insert book name.now stored.now)
+        (FailsToPut S.Store conn.old conn.new false name.now stored.now) result }
 {
     conn.execute(
         "INSERT INTO account (name, record) VALUES (?1, ?2)",
-        &[ValueRef::Text(name.bytes()), value],
+        &[ValueRef::Text(name.bytes()), value_of(text, stored)],
     )
 }
 
@@ -61,16 +61,17 @@ pub(crate) fn insert_row<S: Alter>(
 pub(crate) fn update_row<S: Alter>(
     conn: &mut Connection<S>,
     name: &Name,
-    value: ValueRef<'_>,
+    text: &[u8],
+    stored: &Option<Record>,
 ) -> Result<usize, Error>
-    ensures { (v : Option RecordValue) → Tells (owned value.entry) v
-        → Changes S.Store conn.old conn.new (Has name.now)
-        (λ book. fin.insert book name.now v)
-        (FailsToPut S.Store conn.old conn.new true name.now v) result }
+    requires { IsTextOf text.now stored.now }
+    ensures { Changes S.Store conn.old conn.new (Has name.now)
+        (λ book. fin.insert book name.now stored.now)
+        (FailsToPut S.Store conn.old conn.new true name.now stored.now) result }
 {
     conn.execute(
         "UPDATE account SET record = ?2 WHERE name = ?1",
-        &[ValueRef::Text(name.bytes()), value],
+        &[ValueRef::Text(name.bytes()), value_of(text, stored)],
     )
 }
 

@@ -17,8 +17,9 @@ use sqlite::{Alter, Connection, Error, ErrorCode, Transaction};
 use std::alloc::Global;
 
 /// Adds accounts to the book, and their rows to the table, and replaces the records of others, all
-/// by one transaction. After an error the book has some of the new accounts and no replaced record,
-/// and a crash leaves a table with none of the changes, or with all.
+/// by one transaction. The book has the replaced records once they are written: so nothing can fail
+/// after that. After an error it has some of the new accounts and no replaced record, and a crash
+/// leaves a table with none of the changes, or with all.
 pub(crate) fn take_together<S: Alter>(
     alloc: Global,
     conn: &mut Connection<S>,
@@ -40,38 +41,12 @@ pub(crate) fn take_together<S: Alter>(
     ensures clean { doubt (state S.Store conn.old).is_clean
         ≤ doubt (state S.Store conn.new).is_clean }
 {
-    write_together(alloc, conn, book, added, changed)?;
-    replace_each(book, changed);
-    Ok(())
-}
-
-/// Writes all changes. The book has the new accounts, and the records of others aren't replaced
-/// there yet: so nothing needs undoing if the database fails.
-fn write_together<S: Alter>(
-    alloc: Global,
-    conn: &mut Connection<S>,
-    book: &mut Register,
-    added: &Register,
-    changed: &Register,
-) -> Result<(), Error>
-    requires autocommit { conn.old.in_transaction ≡ false }
-    requires there { AreThere book.old changed.now }
-    ensures book { OnOk result (book.new ≡ joined book.old added.now) }
-    ensures part { OnErr result (KeepsOthers book.old added.now book.new) }
-    ensures taken { HasCleanDisk (state S.Store conn.new) → OnOk result
-        (IsTableOf (state S.Store conn.old) book.old
-        → IsTableOf (state S.Store conn.new) (taken_in book.old added.now changed.now)) }
-    ensures left { HasCleanDisk (state S.Store conn.new)
-        → IsTableOf (state S.Store conn.old) book.old
-        → LeavesOnly (state S.Store conn.new)
-        (λ b. (b ≡ book.old) ⊎ (b ≡ taken_in book.old added.now changed.now)) }
-    ensures clean { doubt (state S.Store conn.old).is_clean
-        ≤ doubt (state S.Store conn.new).is_clean }
-{
     let mut tx = conn.transaction();
     enter_each(alloc, &mut tx, book, added)?;
     update_each(alloc, &mut tx, changed)?;
-    finish(tx)
+    finish(tx)?;
+    replace_each(book, changed);
+    Ok(())
 }
 
 /// Commits the changes of the transaction.

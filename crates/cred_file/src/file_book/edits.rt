@@ -11,7 +11,7 @@ ghost use Rattle.cred_file.specs.declared.fault.Attempt.TheVariants as Attempt;
 
 use super::FileBook;
 use crate::fault::{Attempt, Lost};
-use crate::statements::{delete_row, insert_row, rename_row, text_of, update_row, value_of};
+use crate::statements::{delete_row, insert_row, rename_row, text_of, update_row};
 use cred_book::{BookError, Name, Reply, Worked};
 use cred_phc::Record;
 use sqlite::Alter;
@@ -186,7 +186,7 @@ impl<S: Alter> FileBook<S> {
             Ok(()) => {}
             Err(refusal) => return Err(refusal),
         }
-        match insert_row(&mut self.conn, &name, value_of(&text, &stored)) {
+        match insert_row(&mut self.conn, &name, &text, &stored) {
             Ok(_) => Ok(()),
             Err(error) => {
                 self.book.remove(&name);
@@ -212,7 +212,7 @@ impl<S: Alter> FileBook<S> {
         let Ok(text) = text_of(self.alloc, &stored) else {
             return Err(BookError::Memory);
         };
-        match update_row(&mut self.conn, name, value_of(&text, &stored)) {
+        match update_row(&mut self.conn, name, &text, &stored) {
             Ok(_) => {
                 self.book.replace(name, stored);
                 Ok(())

@@ -1,7 +1,69 @@
-use Rattle.std.proofs.Common.{subst, sym}
-use Rattle.cred_file.specs.Edits.{AreThere}
-use Rattle.cred_file.proofs.Joined.{there_still}
+use Rattle.std.proofs.Common.{◌≡◌, ◌⊎◌, sym, subst, refl, arith, rules}
+use Rattle.sqlite.specs.{Held.state, State.HasCleanDisk}
+use Rattle.cred_file.specs.{Keeps.IsTableOf, Keeps.LeavesOnly, Transactions.KeepsOthers, Edits.AreThere, Edits.taken_in}
+use Rattle.cred_file.proofs.Joined.{joined_keeps, there_still}
+use Rattle.cred_file.proofs.Within.{begun, committed, commit_left, on_any, uncommitted, written}
 use Rattle.cred_file.proofs.transaction.take_together.Goals as goal
 
+pub returns-in_err-enter_each-clause-left : goal.returns-in_err-enter_each-clause-left
+returns-in_err-enter_each-clause-left g c clean was =
+    let book = c.args.book.now in
+    let end = c.drop-tx.new.self.0 in
+    let same : end ≡ c.conn-1.given.0 = search rules in
+    let first = begun g.S.Store c.args.conn.now _ book c.transaction-tx.ensures.begun was in
+    subst (λ h. HasCleanDisk (state g.S.Store h) → LeavesOnly (state g.S.Store h) (λ b. (b ≡ book) ⊎ (b ≡ taken_in book c.args.added.now c.args.changed.now))) same
+    (λ late. uncommitted _ _ (state g.S.Store end) book _ late c.enter_each.ensures.survives c.drop-tx.ensures.survives first.left) clean
+
+pub returns-in_err-update_each-clause-part : goal.returns-in_err-update_each-clause-part
+returns-in_err-update_each-clause-part g c =
+    on_any c.from_residual-in_err-update_each.result (subst (λ b. KeepsOthers c.args.book.now c.args.added.now b) (sym c.in_ok-enter_each.ensures.book) (joined_keeps c.args.book.now c.args.added.now))
+
+pub returns-in_err-update_each-clause-left : goal.returns-in_err-update_each-clause-left
+returns-in_err-update_each-clause-left g c clean was =
+    let book = c.args.book.now in
+    let end = c.drop-tx-in_err-update_each.new.self.0 in
+    let same : end ≡ c.conn-in_err-update_each-1.given.0 = search rules in
+    let first = begun g.S.Store c.args.conn.now _ book c.transaction-tx.ensures.begun was in
+    subst (λ h. HasCleanDisk (state g.S.Store h) → LeavesOnly (state g.S.Store h) (λ b. (b ≡ book) ⊎ (b ≡ taken_in book c.args.added.now c.args.changed.now))) same (λ late.
+    let early : HasCleanDisk (state g.S.Store c.enter_each.new.tx.conn.now) = omega (arith, c.update_each.ensures.survives.clean, c.drop-tx-in_err-update_each.ensures.survives.clean, late) in
+    uncommitted _ _ (state g.S.Store end) book _ late c.update_each.ensures.survives c.drop-tx-in_err-update_each.ensures.survives (c.in_ok-enter_each.ensures.entered early book book refl first).left) clean
+
+pub returns-in_err-finish-clause-part : goal.returns-in_err-finish-clause-part
+returns-in_err-finish-clause-part g c =
+    on_any c.from_residual-in_err-finish.result (subst (λ b. KeepsOthers c.args.book.now c.args.added.now b) (sym c.in_ok-enter_each.ensures.book) (joined_keeps c.args.book.now c.args.added.now))
+
+pub returns-in_err-finish-clause-left : goal.returns-in_err-finish-clause-left
+returns-in_err-finish-clause-left g c clean was =
+    let book = c.args.book.now in
+    let more = state g.S.Store c.update_each.new.tx.conn.now in
+    let end = c.finish.new.tx.0 in
+    let same : end ≡ c.conn-2-1.given.0 = search rules in
+    let first = begun g.S.Store c.args.conn.now _ book c.transaction-tx.ensures.begun was in
+    let all = written book c.args.added.now c.args.changed.now c.requires.there first c.update_each.ensures.survives c.in_ok-enter_each.ensures.entered c.in_ok-update_each.ensures.updated in
+    subst (λ h. HasCleanDisk (state g.S.Store h) → LeavesOnly (state g.S.Store h) (λ b. (b ≡ book) ⊎ (b ≡ taken_in book c.args.added.now c.args.changed.now))) same
+    (λ late. commit_left more (state g.S.Store end) book _ late (all (omega (arith, c.finish.ensures.survives.clean, late))) c.finish.ensures.survives) clean
+
 pub replace_each-requires : goal.replace_each-requires
-replace_each-requires g c = subst (λ b. AreThere b c.args.changed.now) (sym c.in_ok-write_together.ensures.book) (there_still _ _ _ c.requires.there)
+replace_each-requires g c = subst (λ b. AreThere b c.args.changed.now) (sym c.in_ok-enter_each.ensures.book) (there_still _ _ _ c.requires.there)
+
+pub returns-clause-taken : goal.returns-clause-taken
+returns-clause-taken g c clean was =
+    let book = c.args.book.now in
+    let more = state g.S.Store c.update_each.new.tx.conn.now in
+    let end = c.finish.new.tx.0 in
+    let same : end ≡ c.conn-2-1.given.0 = search rules in
+    let first = begun g.S.Store c.args.conn.now _ book c.transaction-tx.ensures.begun was in
+    let all = written book c.args.added.now c.args.changed.now c.requires.there first c.update_each.ensures.survives c.in_ok-enter_each.ensures.entered c.in_ok-update_each.ensures.updated in
+    subst (λ h. HasCleanDisk (state g.S.Store h) → IsTableOf (state g.S.Store h) (taken_in book c.args.added.now c.args.changed.now)) same
+    (λ late. committed more (state g.S.Store end) book _ (g.met.S.Store.settled end.store) (all (omega (arith, c.finish.ensures.survives.clean, late))) (c.in_ok-finish.ensures.shown late)) clean
+
+pub returns-clause-left : goal.returns-clause-left
+returns-clause-left g c clean was =
+    let book = c.args.book.now in
+    let more = state g.S.Store c.update_each.new.tx.conn.now in
+    let end = c.finish.new.tx.0 in
+    let same : end ≡ c.conn-2-1.given.0 = search rules in
+    let first = begun g.S.Store c.args.conn.now _ book c.transaction-tx.ensures.begun was in
+    let all = written book c.args.added.now c.args.changed.now c.requires.there first c.update_each.ensures.survives c.in_ok-enter_each.ensures.entered c.in_ok-update_each.ensures.updated in
+    subst (λ h. HasCleanDisk (state g.S.Store h) → LeavesOnly (state g.S.Store h) (λ b. (b ≡ book) ⊎ (b ≡ taken_in book c.args.added.now c.args.changed.now))) same
+    (λ late. commit_left more (state g.S.Store end) book _ late (all (omega (arith, c.finish.ensures.survives.clean, late))) c.finish.ensures.survives) clean
