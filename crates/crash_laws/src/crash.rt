@@ -4,13 +4,13 @@ ghost use Rattle.std.specs.Prelude.{◌≡◌, ◌≤◌, IfErr, IfOk, IfSome, I
 ghost use Rattle.std.specs.FinMap as fin;
 ghost use Rattle.cred_book.specs.Accounts.{Accounts, register_capacity};
 ghost use Rattle.cred_file.specs.{Keeps.HoldsBook, Keeps.IsOrWith, Opening.IsForWant};
-ghost use Rattle.crash_laws.specs.Crashes.{IsHonest, IsLeft, MayLeave, MayRefuse};
+ghost use Rattle.crash_laws.specs.Crashes.{IsHonest, IsLeft};
 ghost use Rattle.sqlite.specs.{Held.state, State.HasCleanDisk, Steps.IsFresh, Tree.Trees};
 ghost use Rattle.sqlite_trees.specs.View.{IsClean, doubt};
 
 use crate::fail_stop::FailStop;
 use cred_book::BookError;
-use cred_file::{Attempt, FileBook, OpenFault};
+use cred_file::{Attempt, FileBook, OpenFault, reopen};
 use sqlite::{Alter, Connection};
 use sqlite_trees::store::Reopen;
 use std::alloc::Global;
@@ -117,24 +117,4 @@ fn make<S: Alter>(book: &mut FileBook<S>, change: Attempt) -> Result<(), BookErr
         Attempt::Delete(name) => book.delete(&name),
         Attempt::Rename { name, other } => book.rename(&name, &other),
     }
-}
-
-/// Crashes the machine, and opens the book that it holds then.
-fn reopen<S: Alter + Reopen + Drop>(
-    alloc: Global,
-    mut store: S,
-) -> Option<Result<FileBook<S>, (OpenFault, Connection<S>)>>
-    requires { IsClean (S.Store.view store) → IsTrue (S.Store.view store).is_numbered }
-    ensures found { IfSome result (λ r. IfOk r (λ b. HasCleanDisk (state S.Store b.conn)
-        → MayLeave S.Store store b.book)) }
-    ensures refused { IfSome result (λ r. IfErr r (λ e. HasCleanDisk (state S.Store e.1)
-        → MayRefuse S.Store store e.0)) }
-{
-    let Ok(()) = store.crash_and_reopen() else {
-        return None;
-    };
-    let Ok(conn) = Connection::over(alloc, store) else {
-        return None;
-    };
-    Some(FileBook::open(alloc, conn))
 }
