@@ -2,25 +2,9 @@
 use Rattle.std.proofs.Common.{◌≡◌, ℕ, ◌+◌, ◌-◌, ◌*◌, ◌/◌, ◌%◌, ◌^◌, ◌<◌, ◌≤◌, true, false, List, [], ◌∷◌, ◌++◌, length, take, drop, replicate, refl, ap, sym, ◌∙◌, arith, add-zero, length-append, length-drop}
 use Rattle.std.proofs.Math.Seq.{take-append-add, drop-append-add}
 use Rattle.std.proofs.lemmas.List.{append-nil, drop-append-le, drop-drop, length-replicate}
-use Rattle.cred_blake.specs.Blake2b.{compress, padded_block, key_block, initial_state, state_after, block_count}
-use Rattle.cred_blake.specs.{Hasher.IsTaken, Hasher.IsFed, Hasher.Holds, declared.hasher.Blake2b.Blake2b, declared.state.State.State}
+use Rattle.cred_blake.specs.Blake2b.{compress, padded_block, key_block, state_after, block_count}
+use Rattle.cred_blake.specs.{Hasher.IsTaken, Hasher.IsFed, declared.state.State.State}
 use Rattle.cred_blake.proofs.Blocks.{state_after_none, state_after_inner, state_after_last, state_after_append}
-
--- ---- the word of the contracts, opened
-
-pub Holds_out_len : (n : ℕ) (key m : List ℕ) (hasher : Blake2b) → Holds n key hasher m → hasher.out_len ≡ n
-unfolding Holds
-Holds_out_len n key m hasher held = held.0
-
-pub Holds_fed : (n : ℕ) (key m : List ℕ) (hasher : Blake2b) → Holds n key hasher m
-    → IsFed (initial_state n (length key)) (key_block key ++ m) hasher.state hasher.buffer
-unfolding Holds
-Holds_fed n key m hasher held = held.1
-
-pub Holds_from : (n : ℕ) (key m : List ℕ) (hasher : Blake2b) → hasher.out_len ≡ n
-    → IsFed (initial_state n (length key)) (key_block key ++ m) hasher.state hasher.buffer → Holds n key hasher m
-unfolding Holds
-Holds_from n key m hasher len fed = (len, fed)
 
 -- ---- a new hasher
 

@@ -13,10 +13,6 @@ pub hash_prime_long : (t : ℕ) (a : List ℕ) (r : ℕ) → 64 < t → r ≡ (t
 unfolding hash_prime
 hash_prime_long t a r long count = let test : nat_le t 64 ≡ false = grind (arith, nat_tests) in rw (test, count) refl
 
-pub chain_first : (t : ℕ) (a : List ℕ) → chain t a 0 ≡ blake 64 [] (to_le_bytes w32 t ++ a)
-unfolding chain
-chain_first t a = refl
-
 pub chain_next : (t : ℕ) (a : List ℕ) (i : ℕ) → 1 ≤ i → chain t a i ≡ blake 64 [] (chain t a (i - 1))
 unfolding chain
 chain_next t a i later = let from : i ≡ suc (i - 1) = omega arith in ap (λ (k : ℕ). chain t a k) from
@@ -24,7 +20,3 @@ chain_next t a i later = let from : i ≡ suc (i - 1) = omega arith in ap (λ (k
 pub halves_next : (t : ℕ) (a : List ℕ) (r : ℕ) → halves t a (r + 1) ≡ halves t a r ++ take 32 (chain t a r)
 unfolding halves
 halves_next t a r = let plus : r + 1 ≡ suc r = omega arith in ap (λ (k : ℕ). halves t a k) plus
-
-pub halves_first : (t : ℕ) (a : List ℕ) → halves t a 1 ≡ take 32 (chain t a 0)
-unfolding halves
-halves_first t a = refl

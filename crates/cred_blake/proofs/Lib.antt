@@ -4,6 +4,5 @@ pub mod Feeding
 pub mod Halves
 pub mod Lengths
 pub mod Schedule
-pub mod States
 pub mod Vectors
 pub mod WordBytes

@@ -25,6 +25,7 @@ impl Model for Digest {
 
 impl Digest {
     /// The first `len` bytes of a state.
+    #[tactic(auto, unfolding(crate::specs::Words::bytes_of))]
     pub(crate) fn of_state(h: &[u64; 8], len: usize) -> Digest
         requires { len ≤ MAX_LEN }
         ensures { result ≡ take len (bytes_of h.now) }

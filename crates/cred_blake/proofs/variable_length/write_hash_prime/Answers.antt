@@ -1,7 +1,7 @@
 use Rattle.std.proofs.Common.{◌≡◌, ℕ, List, ◌+◌, ◌-◌, ◌*◌, ◌/◌, length, take, ap, sym, ◌∙◌, arith}
 use Rattle.std.proofs.lemmas.List.{append-nil, take_all}
-use Rattle.cred_blake.specs.HashPrime.{chain}
-use Rattle.cred_blake.proofs.Halves.{hash_prime_short, hash_prime_long, chain_first, chain_next, halves_first, halves_next}
+use Rattle.cred_blake.specs.HashPrime.{chain, halves}
+use Rattle.cred_blake.proofs.Halves.{hash_prime_short, hash_prime_long, chain_next, halves_next}
 use Rattle.cred_blake.proofs.variable_length.write_hash_prime.Goals as goal
 
 pub returns-then-len-le-MAX_LEN : goal.returns-then-len-le-MAX_LEN
@@ -13,14 +13,14 @@ returns-then-len-le-MAX_LEN c =
     sym (take_all t c.put.new.out (omega arith)) ∙ written ∙ c.bytes.ensures ∙ value ∙ sym (hash_prime_short t c.args.input.now (omega arith))
 
 pub loop-i-init : goal.loop-i-init
+unfolding chain halves
 loop-i-init c =
     let t : ℕ = length c.args.out.now in
     let a = c.args.input.now in
-    let value = rw c.to_le_bytes-prefix.ensures at c.hash-v.ensures.value in
-    let first : c.hash-v.result ≡ chain t a 0 = value ∙ sym (chain_first t a) in
+    let first : c.hash-v.result ≡ chain t a 0 = rw c.to_le_bytes-prefix.ensures at c.hash-v.ensures.value in
     let width : 0 + length c.first_half.result.now ≡ 32 = omega arith in
     let written = rw width at c.put-2.ensures in
-    (omega arith, c.hash-v.ensures.len, first, written ∙ c.first_half.ensures.value ∙ ap (λ (v : List ℕ). take 32 v) first ∙ sym (halves_first t a))
+    (omega arith, c.hash-v.ensures.len, first, written ∙ c.first_half.ensures.value ∙ ap (λ (v : List ℕ). take 32 v) first)
 
 pub loop-i-preserved : goal.loop-i-preserved
 loop-i-preserved c =

@@ -1,12 +1,7 @@
 use Rattle.std.proofs.{Common.rules, Common.◌≡◌, Common.ℕ, Common.List, Common.◌∙◌, Common.take, Common.arith, Common.ap, Common.sym, lemmas.List.take_all}
 use Rattle.std.proofs.lemmas.Slice.{overwrites}
-use Rattle.cred_blake.specs.Words.{bytes_of}
 use Rattle.cred_blake.proofs.WordBytes.{bytes_of_more}
 use Rattle.cred_blake.proofs.digest.Digest.of_state.Goals as goal
-
-pub loop-i-init : goal.loop-i-init
-unfolding bytes_of
-loop-i-init c = search rules
 
 pub loop-i-preserved : goal.loop-i-preserved
 loop-i-preserved c = (search (rules, overwrites), bytes_of_more c.loop-i.bytes c.args.h.now _ c.loop-i.i _ c.loop-i.invariant.1 (omega arith) (omega arith) (c.copy_from_slice.ensures.after ∙ c.to_le_bytes.ensures))
