@@ -1,6 +1,6 @@
 -- Bytes cut into pieces of words.
 use Rattle.std.proofs.Common.{◌≡◌, ◌<◌, ◌≤◌, ℕ, zero, suc, ◌+◌, ◌*◌, ◌/◌, List, [], ◌∷◌, ◌++◌, length, take, drop, get_or, refl, ◌∙◌, ap, arith, below_more, length-append, length-drop}
-use Rattle.std.proofs.{lemmas.List.length-take-le, Math.Nat.mul-le-mul_left, Math.ListN.get_or-append, Math.Seq.get_or-append_seam, Math.Seq.take-append_seam}
+use Rattle.std.proofs.{lemmas.List.length-take-le, Math.ListN.get_or-append, Math.Seq.get_or-append_seam}
 use Rattle.cred_scrypt.specs.Scrypt.{words_of, piece}
 
 -- what holds of each element, and of one that is pushed, holds of each afterwards
@@ -18,14 +18,6 @@ unfolding words_of
 length-words_of b zero = refl
 length-words_of b (suc n) =
     simp length-append (omega (arith, length-words_of b n))
-
--- a list that was written as a whole over another of its length
-pub written_whole : {X : Type 0} (new old : List X) (n : ℕ) → n ≡ length new → take n (new ++ drop (length new) old) ≡ new
-written_whole new old n all = ap (λ m. take m (new ++ drop (length new) old)) all ∙ take-append_seam new (drop (length new) old)
-
--- the part i < n of n equal parts ends by their end
-pub part_inside : (width i n : ℕ) → i < n → width * i + width ≤ width * n
-part_inside width i n h = omega (arith, mul-le-mul_left {m = i + 1} {n = n} width (omega arith))
 
 -- the words of 128r bytes are a piece
 pub cut_is_piece : (r k width : ℕ) (b words : List ℕ) → width ≡ 128 * r → 128 * r * k + 128 * r ≤ length b

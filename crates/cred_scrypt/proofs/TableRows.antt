@@ -1,14 +1,10 @@
 -- The table of ROMix row by row, and the row that Integerify names.
 use Rattle.std.proofs.Common.{◌≡◌, ◌<◌, ◌≤◌, ℕ, ◌+◌, ◌*◌, ◌-◌, ◌%◌, ◌^◌, List, [], ◌∷◌, ◌++◌, length, take, drop, get_or, refl, sym, ◌∙◌, ap, add-one, arith, below_more, length-append}
 use Rattle.std.proofs.lemmas.List.{drop-append-le, take-append-le, take_all, get_or-take, get_or-drop, length-drop}
-use Rattle.std.proofs.{lemmas.Nat.pow-add, Math.Nat.add-mul-mod_self_left, Math.Seq.drop-append_seam}
-use Rattle.cred_scrypt.proofs.Cuts.{part_inside}
+use Rattle.std.proofs.{lemmas.Nat.column_fits, lemmas.Nat.pow-add, Math.Nat.add-mul-mod_self_left, Math.Seq.drop-append_seam}
 use Rattle.cred_scrypt.specs.Xor.{xor_all}
 use Rattle.cred_scrypt.specs.Mixing.{block_at, block_mix, mixes, little_endian, integerify, second_loop, ro_mix}
 use Rattle.cred_scrypt.specs.Table.{IsTable, row_at}
-
-pub no_rows : (r : ℕ) (b table : List ℕ) → table ≡ [] → IsTable r b table 0
-no_rows r b table none = record { size = omega (arith, ap length none); row = λ i h. absurd (omega arith) }
 
 -- a row that stood stays as the next one is appended
 row_at-append_le : (r : ℕ) (table x : List ℕ) (i : ℕ) → 32 * r * i + 32 * r ≤ length table
@@ -30,13 +26,9 @@ pub one_row_more : (r : ℕ) (b table x : List ℕ) (n : ℕ) → IsTable r b ta
 one_row_more r b table x n t next width = record {
   size = omega (arith, length-append table x, t.size);
   row = below_more (λ i. row_at r (table ++ x) i ≡ mixes r b i) n
-      (λ i below. row_at-append_le r table x i (omega (arith, part_inside (32 * r) i n below, t.size)) ∙ t.row i below)
+      (λ i below. row_at-append_le r table x i (omega (arith, column_fits (32 * r) i (32 * r) n below (omega arith), t.size)) ∙ t.row i below)
       (row_at-append_end r table x n t.size width ∙ next);
 }
-
-pub mixes_next : (r : ℕ) (b x y : List ℕ) (n : ℕ) → x ≡ mixes r b n → y ≡ block_mix r x → y ≡ mixes r b (n + 1)
-unfolding mixes
-mixes_next r b x y n was step = rw add-one (step ∙ ap (block_mix r) was)
 
 -- of a number in words, the low bits are those of its low word
 little_endian-mod : (words : List ℕ) (ln : ℕ) → ln ≤ 32
@@ -60,10 +52,6 @@ integerify_low_word r x ln some h =
     ∙ ap (λ w. w % 2 ^ ln)
     (get_or-take 16 (drop (16 * (2 * r - 1)) x) 0 0 (omega arith)
     ∙ get_or-drop (16 * (2 * r - 1)) x 0 0 ∙ ap (λ k. get_or x k 0) place)
-
-pub second_loop_none : (r n : ℕ) (b x : List ℕ) → x ≡ mixes r b n → x ≡ second_loop r n b 0
-unfolding second_loop
-second_loop_none r n b x was = was
 
 -- one step of the second loop, with the row j taken from the table
 pub second_loop_next : (r n : ℕ) (b table x y z : List ℕ) (j k : ℕ) → IsTable r b table n → j < n

@@ -1,10 +1,12 @@
 use Rattle.std.proofs.Common.{sym, arith}
-use Rattle.cred_scrypt.proofs.TableRows.{second_loop_none, second_loop_next, second_loop_all}
+use Rattle.cred_scrypt.specs.Mixing.{second_loop}
+use Rattle.cred_scrypt.proofs.TableRows.{second_loop_next, second_loop_all}
 use Rattle.cred_scrypt.proofs.romix.walk.Goals as goal
 
 pub steps-init : goal.steps-init
+unfolding second_loop
 steps-init c = record {
-  mixed = λ b table was. second_loop_none _ _ b _ was;
+  mixed = λ b table was. was;
   size = c.requires.size;
   same = c.requires.same;
 }
