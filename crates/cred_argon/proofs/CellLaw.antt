@@ -1,9 +1,9 @@
 -- The depth of the recursion plays no part: a cell meets its own equation.
 use Rattle.std.proofs.Common.{◌≡◌, ℕ, zero, suc, ◌<◌, ◌≤◌, ◌+◌, ◌-◌, ◌*◌, ◌/◌, ◌%◌, ◌^◌, List, Bool, true, false, ◌==◌, if◌then◌else◌, slice_index, refl, ap, ap₂, ◌∙◌, inl, inr, true≢false, arith}
-use Rattle.std.proofs.{lemmas.Nat.le-div, lemmas.Bool.cases_lt, lemmas.Bool.Decides.nat_tests}
+use Rattle.std.proofs.{lemmas.Nat.le-div, lemmas.Bool.cases_lt, lemmas.Bool.cond_both, lemmas.Bool.eqb-true, lemmas.Bool.Decides.nat_tests}
 use Rattle.cred_argon.specs.{declared.kind.Version.Version, declared.kind.Version.TheVariants.V10, declared.kind.Version.TheVariants.V13}
 use Rattle.cred_argon.specs.{declared.place.Place.Place, Parameters.Parameters, Parameters.IsUpTo, Parameters.segment_len}
-use Rattle.cred_argon.specs.{Compress.compress, Compress.xor_words, Places.place, Places.IsPlace, Places.IsComputed, Places.reference_place, Times.time_of}
+use Rattle.cred_argon.specs.{Compress.compress, Compress.xor_words, Places.IsPlace, Places.IsComputed, Places.reference_place, Times.time_of}
 use Rattle.cred_argon.specs.Cells.{first_cell, is_dependent, address_word, previous, older, word_by, reference_by, compression_at, is_first, is_fresh, cell_by, cell_within, cell}
 use Rattle.cred_argon.proofs.Picks.{reference_before}
 
@@ -31,19 +31,15 @@ abbrev pub IsEarlier : Parameters → Place → Place → Type 0
 IsEarlier a p c = IsPlace (segment_len a) a.lanes c × (time_of (segment_len a) c < time_of (segment_len a) p)
 
 pub previous_earlier : (a : Parameters) (p : Place) → IsComputed (segment_len a) a.lanes p → IsEarlier a p (previous (segment_len a) p)
-previous_earlier a p computed = go (p.column == 0) refl
-  where
-    go : (b : Bool) → (p.column == 0) ≡ b
-        → IsEarlier a p (if b then place (p.pass - 1) p.lane (4 * segment_len a - 1) else place p.pass p.lane (p.column - 1))
-    go true same =
-        let start : p.column ≡ 0 = grind (arith, nat_tests, same) in
-        let some : 0 < segment_len a = omega (arith, computed.column_inside) in
-        let later : 0 < p.pass = elim (cases_lt 0 p.pass) [ inl h ↦ h | inr h ↦ absurd (omega (arith, start, computed.not_first (omega arith))) ] in
-        let back : p.pass * (4 * segment_len a) ≡ (p.pass - 1) * (4 * segment_len a) + 4 * segment_len a = pass_before p.pass (4 * segment_len a) later in
-        (record { lane_inside = computed.lane_inside; column_inside = omega (arith, some) }, omega (arith, back, some, start))
-    go false same =
-        let some : 0 < p.column = grind (arith, nat_tests, same) in
-        (record { lane_inside = computed.lane_inside; column_inside = omega (arith, computed.column_inside) }, omega (arith, some))
+previous_earlier a p computed =
+    cond_both (p.column == 0) _ _ (IsEarlier a p) (λ same.
+    let start : p.column ≡ 0 = eqb-true p.column 0 same in
+    let some : 0 < segment_len a = omega (arith, computed.column_inside) in
+    let later : 0 < p.pass = elim (cases_lt 0 p.pass) [ inl h ↦ h | inr h ↦ absurd (omega (arith, start, computed.not_first (omega arith))) ] in
+    let back : p.pass * (4 * segment_len a) ≡ (p.pass - 1) * (4 * segment_len a) + 4 * segment_len a = pass_before p.pass (4 * segment_len a) later in
+    (record { lane_inside = computed.lane_inside; column_inside = omega (arith, some) }, omega (arith, back, some, start))) (λ same.
+    let some : 0 < p.column = grind (arith, nat_tests, same) in
+    (record { lane_inside = computed.lane_inside; column_inside = omega (arith, computed.column_inside) }, omega (arith, some)))
 
 pub reference_earlier : (a : Parameters) (p : Place) (w : ℕ) → 2 ≤ segment_len a → IsComputed (segment_len a) a.lanes p
     → IsEarlier a p (reference_place (segment_len a) a.lanes p (w % 2 ^ 32) (w / 2 ^ 32))

@@ -106,8 +106,4 @@ distance_own r u s l k there back four distance same =
 
 -- an empty segment that is to be worked isn't the first of all
 pub begun_later : (c : Turn) (k : ℕ) → first_offset c ≤ k → k ≡ 0 → 0 < number c
-begun_later c k begun none = go (number c) refl
-  where
-    go : (n : ℕ) → number c ≡ n → 0 < number c
-    go zero same = let two : 2 ≤ k = rw same at begun in absurd (omega (arith, two, none))
-    go (suc n) same = omega (arith, same)
+begun_later c k begun none = grind (arith, nat_tests)

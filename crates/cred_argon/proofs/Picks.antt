@@ -1,18 +1,16 @@
 -- The place that two words name, in time.
-use Rattle.std.proofs.Common.{◌≡◌, ℕ, zero, suc, ◌<◌, ◌≤◌, ◌+◌, ◌-◌, ◌*◌, ◌/◌, ◌%◌, Bool, true, false, min, ◌==◌, ◌||◌, if◌then◌else◌, refl, sym, arith}
+use Rattle.std.proofs.Common.{◌≡◌, ℕ, zero, suc, ◌<◌, ◌≤◌, ◌+◌, ◌-◌, ◌*◌, ◌/◌, ◌%◌, Bool, true, false, min, ◌==◌, ◌||◌, if◌then◌else◌, refl, sym, ◌∙◌, arith}
 use Rattle.std.proofs.Math.Nat.{div-add-mod, mod-add-mod, mod-lt, mul-le-mul_right, mul-lt-mul_of_pos_right}
-use Rattle.std.proofs.{lemmas.Nat.div-mul-add, lemmas.Nat.mod-mul-add, lemmas.Bool.Decides.nat_tests}
+use Rattle.std.proofs.{lemmas.Nat.div-mul-add, lemmas.Nat.mod-mul-add, lemmas.Bool.cond_both, lemmas.Bool.ne_eqb, lemmas.Bool.Decides.nat_tests}
 use Rattle.std.proofs.lemmas.List.FromFn.{length-map-range_with_len, get_or-map-range_with_len}
 use Rattle.cred_argon.specs.{declared.place.Place.Place, declared.position.Position.Position}
 use Rattle.cred_argon.specs.Places.{place_of, segment_of, IsComputed, reference_lane, pick, reference_place}
 use Rattle.cred_argon.specs.Times.{time_of, reference_count, IsBefore}
-use Rattle.cred_argon.proofs.Sets.{at_time, first_of, count_of, set_is, time_is, three_segments}
+use Rattle.cred_argon.proofs.Sets.{at_time, first_of, count_of, set_is, time_is, three_segments, own_least}
 
 -- a segment before, or two blocks of the own one, leave an element
 count_later : (s w k : ℕ) (own : Bool) → 2 ≤ s → s ≤ w → 0 < w + (if own then k else 0) - (if own || (k == 0) then 1 else 0)
-count_later s w k true some h = omega arith
-count_later s w zero false some h = omega arith
-count_later s w (suc k) false some h = let more : (suc k == 0) ≡ false = grind (arith, nat_tests) in rw more (omega arith)
+count_later s w k own some h = grind (arith, nat_tests)
 
 at_least_one : (g s : ℕ) → 0 < g → s ≤ min 3 g * s
 at_least_one g s h = let one : 1 * s ≤ min 3 g * s = mul-le-mul_right s (omega arith) in omega (arith, one)
@@ -52,57 +50,35 @@ time_at : (s l n : ℕ) → time_of s (at_time s l n) ≡ n
 time_at s l n = let whole : 4 * s * (n / (4 * s)) + n % (4 * s) ≡ n = div-add-mod n (4 * s) in omega (arith, whole)
 
 lane_inside : (s lanes : ℕ) (p : Place) (j2 : ℕ) → p.lane < lanes → reference_lane s lanes p j2 < lanes
-lane_inside s lanes p j2 h = go (segment_of s p == 0)
-  where
-    go : (b : Bool) → (if b then p.lane else j2 % lanes) < lanes
-    go true = h
-    go false = mod-lt j2 (omega arith)
+lane_inside s lanes p j2 h = cond_both (segment_of s p == 0) _ _ (λ (l : ℕ). l < lanes) (λ _. h) (λ _. mod-lt j2 (omega arith))
 
--- where it lies, for the own lane and for another
-before_own : (s lanes : ℕ) (p : Place) (l n : ℕ) → 2 ≤ s → IsComputed s lanes p → l < lanes → l ≡ p.lane
-    → n < count_of s p true → IsBefore s lanes p (at_time s l (first_of s p + n))
-before_own s lanes p l n some computed inside same below =
+-- where it lies, in the own lane or in another
+before : (s lanes : ℕ) (p : Place) (l n : ℕ) (own : Bool) → 2 ≤ s → IsComputed s lanes p → l < lanes → (l == p.lane) ≡ own
+    → n < count_of s p own → IsBefore s lanes p (at_time s l (first_of s p + n))
+before s lanes p l n own some computed inside same below =
     let stretch : first_of s p + min 3 (segment_of s p) * s ≡ segment_of s p * s = three_segments (segment_of s p) s in
     let time : segment_of s p * s + p.column % s ≡ time_of s p = time_is s p in
     let at : time_of s (at_time s l (first_of s p + n)) ≡ first_of s p + n = time_at s l (first_of s p + n) in
+    let within : n < min 3 (segment_of s p) * s + (if own then p.column % s else 0) = omega (arith, below) in
     record {
       column_inside = mod-lt (first_of s p + n) (omega arith);
       lane_inside = inside;
-      earlier = rw at (omega (arith, stretch, time, below));
+      earlier = rw at (omega (arith, stretch, time, within, own_least own (p.column % s)));
       recent = rw at (omega arith);
-      finished = λ other. absurd (other same);
-    }
-
-before_other : (s lanes : ℕ) (p : Place) (l n : ℕ) → 2 ≤ s → IsComputed s lanes p → l < lanes
-    → n < count_of s p false → IsBefore s lanes p (at_time s l (first_of s p + n))
-before_other s lanes p l n some computed inside below =
-    let stretch : first_of s p + min 3 (segment_of s p) * s ≡ segment_of s p * s = three_segments (segment_of s p) s in
-    let time : segment_of s p * s + p.column % s ≡ time_of s p = time_is s p in
-    let at : time_of s (at_time s l (first_of s p + n)) ≡ first_of s p + n = time_at s l (first_of s p + n) in
-    let within : n < min 3 (segment_of s p) * s = omega (arith, below) in
-    record {
-      column_inside = mod-lt (first_of s p + n) (omega arith);
-      lane_inside = inside;
-      earlier = rw at (omega (arith, stretch, time, within));
-      recent = rw at (omega arith);
-      finished = λ _. rw at (omega (arith, stretch, within));
+      finished = λ other.
+          let elsewhere : own ≡ false = sym same ∙ ne_eqb l p.lane other in
+          let early = rw elsewhere at within in
+          rw at (omega (arith, stretch, early));
     }
 
 pub reference_before : (s lanes : ℕ) (p : Place) (j1 j2 : ℕ) → 2 ≤ s → IsComputed s lanes p
     → IsBefore s lanes p (reference_place s lanes p j1 j2)
 reference_before s lanes p j1 j2 some computed =
-    rw (reference_is s lanes p j1 j2 some computed) (go (l == p.lane) refl (count_some s lanes p j2 some computed))
-  where
-    l : ℕ
-    l = reference_lane s lanes p j2
-
-    go : (own : Bool) → (l == p.lane) ≡ own → 0 < count_of s p own → IsBefore s lanes p (at_time s l (first_of s p + pick (count_of s p own) j1))
-    go true same n =
-        before_own s lanes p l (pick (count_of s p true) j1) some computed (lane_inside s lanes p j2 computed.lane_inside)
-        (grind (arith, nat_tests, same)) (pick_below (count_of s p true) j1 n)
-    go false same n =
-        before_other s lanes p l (pick (count_of s p false) j1) some computed (lane_inside s lanes p j2 computed.lane_inside)
-        (pick_below (count_of s p false) j1 n)
+    let l = reference_lane s lanes p j2 in
+    let n = count_of s p (l == p.lane) in
+    rw (reference_is s lanes p j1 j2 some computed)
+    (before s lanes p l (pick n j1) (l == p.lane) some computed (lane_inside s lanes p j2 computed.lane_inside) refl
+    (pick_below n j1 (count_some s lanes p j2 some computed)))
 
 spread : (a b s : ℕ) → (4 * a + b) * s ≡ a * (4 * s) + b * s
 spread a b s = omega arith

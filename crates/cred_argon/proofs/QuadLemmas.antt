@@ -1,24 +1,16 @@
 -- What holds of each slot of a vector of four words.
-use Rattle.std.proofs.Common.{◌≡◌, ℕ, zero, suc, ◌<◌, ◌+◌, ◌-◌, ◌*◌, ◌/◌, ◌%◌, ◌^◌, List, [], ◌∷◌, length, slice_index, bit_and, bit_or, arith, refl, subst}
-use Rattle.std.proofs.lemmas.Nat.{and_mask}
+use Rattle.std.proofs.Common.{◌≡◌, ℕ, ◌<◌, ◌+◌, ◌-◌, ◌*◌, ◌/◌, ◌%◌, ◌^◌, List, [], ◌∷◌, length, slice_index, bit_and, bit_or, arith, refl, subst, sym}
+use Rattle.std.proofs.{lemmas.Nat.and_mask, NetLemmas.Arrays.four_items}
+use borrow.Enum.Match.{each_below}
 use Rattle.std.specs.{Simd.Lanes.zip2, Int.w64, Int.rotate_right}
 use Rattle.cred_argon.specs.Compress.{add_product}
 
 pub below_four : (P : ℕ → Type 0) → P 0 → P 1 → P 2 → P 3 → (j : ℕ) → j < 4 → P j
-below_four P p0 p1 p2 p3 zero h = p0
-below_four P p0 p1 p2 p3 (suc zero) h = p1
-below_four P p0 p1 p2 p3 (suc (suc zero)) h = p2
-below_four P p0 p1 p2 p3 (suc (suc (suc zero))) h = p3
-below_four P p0 p1 p2 p3 (suc (suc (suc (suc n)))) h = absurd (omega arith)
+below_four P p0 p1 p2 p3 = each_below 4 P (p3, (p2, (p1, (p0, tt))))
 
 -- what holds of each list of four elements
 four_slots : (P : List ℕ → Type 0) → ((a b c d : ℕ) → P (a ∷ b ∷ c ∷ d ∷ [])) → (xs : List ℕ) → length xs ≡ 4 → P xs
-four_slots P p (a ∷ b ∷ c ∷ d ∷ []) h = p a b c d
-four_slots P p [] h = absurd (omega arith)
-four_slots P p (a ∷ []) h = absurd (omega arith)
-four_slots P p (a ∷ b ∷ []) h = absurd (omega arith)
-four_slots P p (a ∷ b ∷ c ∷ []) h = absurd (omega arith)
-four_slots P p (a ∷ b ∷ c ∷ d ∷ e ∷ xs) h = absurd (omega arith)
+four_slots P p xs h = subst P (sym (four_items xs h)) (p _ _ _ _)
 
 abbrev sum64 : List ℕ → List ℕ → List ℕ
 sum64 = zip2 (λ a b. (a + b) % 2 ^ 64)
@@ -65,8 +57,5 @@ slots_rotate k low high =
 -- what holds of each of sixteen places
 pub below_sixteen : (P : ℕ → Type 0) → P 0 → P 1 → P 2 → P 3 → P 4 → P 5 → P 6 → P 7
     → P 8 → P 9 → P 10 → P 11 → P 12 → P 13 → P 14 → P 15 → (k : ℕ) → k < 16 → P k
-below_sixteen P a0 a1 a2 a3 b0 b1 b2 b3 c0 c1 c2 c3 d0 d1 d2 d3 k h =
-    let place : 4 * (k / 4) + k % 4 ≡ k = omega arith in
-    subst P place (below_four (λ row. (col : ℕ) → col < 4 → P (4 * row + col))
-    (below_four _ a0 a1 a2 a3) (below_four _ b0 b1 b2 b3) (below_four _ c0 c1 c2 c3) (below_four _ d0 d1 d2 d3)
-    (k / 4) (omega arith) (k % 4) (omega arith))
+below_sixteen P a0 a1 a2 a3 b0 b1 b2 b3 c0 c1 c2 c3 d0 d1 d2 d3 =
+    each_below 16 P (d3, (d2, (d1, (d0, (c3, (c2, (c1, (c0, (b3, (b2, (b1, (b0, (a3, (a2, (a1, (a0, tt))))))))))))))))

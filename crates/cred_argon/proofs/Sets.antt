@@ -86,66 +86,54 @@ time_is s p =
     let parts : s * (p.column / s) + p.column % s ≡ p.column = div-add-mod p.column s in
     omega (arith, parts)
 
-finished_own : (s : ℕ) (p : Place) (l : ℕ) → 0 < s → p.column < 4 * s → (l == p.lane) ≡ true
-    → filter (is_finished s p) (lane_places s p.pass l) ≡ map (at_time s l) (range_with_len (first_of s p) (size_of s p true))
-finished_own s p l some inside same =
+-- a lane's own segment has no place behind its last one
+pub own_least : (own : Bool) (k : ℕ) → (if own then k else 0) ≤ k
+own_least true k = omega arith
+own_least false k = omega arith
+
+test_late : (g v : ℕ) (own : Bool) (c j k n : ℕ) → n < (if own then k else 0) → v ≡ g → c < j → test_of g v own c j ≡ true
+test_late g v true c j k n some same h = test_own g v c j same h
+test_late g v false c j k n some same h = absurd (omega (arith, some))
+
+test_after : (g v : ℕ) (own : Bool) (c j : ℕ) → g ≤ v → (own ≡ true → j ≤ c) → test_of g v own c j ≡ false
+test_after g v true c j h behind = test_behind g v true c j h (behind refl)
+test_after g v false c j h behind = test_other g v c j h
+
+finished_are : (s : ℕ) (p : Place) (l : ℕ) (own : Bool) → 0 < s → p.column < 4 * s → (l == p.lane) ≡ own
+    → filter (is_finished s p) (lane_places s p.pass l) ≡ map (at_time s l) (range_with_len (first_of s p) (size_of s p own))
+finished_are s p l own some inside same =
     let g = segment_of s p in
     let x = first_of s p in
-    let y = size_of s p true in
+    let y = size_of s p own in
     let z = (p.pass + 1) * (4 * s) - (x + y) in
     let stretch : (g - 3) * s + min 3 g * s ≡ g * s = three_segments g s in
     let time : g * s + p.column % s ≡ p.pass * (4 * s) + p.column = time_is s p in
     let rest : p.column % s < s = mod-lt p.column some in
+    let least : (if own then p.column % s else 0) ≤ p.column % s = own_least own (p.column % s) in
     let top : (p.pass + 1) * (4 * s) ≡ p.pass * (4 * s) + 4 * s = omega arith in
-    let total : (p.pass + 1) * (4 * s) ≡ x + y + z = omega (arith, stretch, time, top, inside) in
+    let total : (p.pass + 1) * (4 * s) ≡ x + y + z = omega (arith, stretch, time, least, top, inside) in
     rw (lane_places_are s p.pass l some, total) (filter_stretch (is_finished s p) (at_time s l) x y z
-    (λ n h. test_at s p l n true some same ∙ test_before g (n / s) true (n % (4 * s)) p.column (div_below n s (g - 3) some h))
-    (λ n h. test_at s p l (x + n) true some same ∙ elim (cases_lt n (min 3 g * s)) [
-      | inl early ↦ test_within g ((x + n) / s) true ((x + n) % (4 * s)) p.column
+    (λ n h. test_at s p l n own some same ∙ test_before g (n / s) own (n % (4 * s)) p.column (div_below n s (g - 3) some h))
+    (λ n h. test_at s p l (x + n) own some same ∙ elim (cases_lt n (min 3 g * s)) [
+      | inl early ↦ test_within g ((x + n) / s) own ((x + n) % (4 * s)) p.column
           (le-div (g - 3) (x + n) s some (omega arith)) (div_below (x + n) s g some (omega (arith, stretch, early)))
       | inr late ↦
           let e = n - min 3 g * s in
-          let below : e < s = omega (arith, h, late, rest) in
+          let below : e < s = omega (arith, h, late, least, rest) in
           let place_in : x + n ≡ g * s + e = omega (arith, stretch, late) in
           let place_of : x + n ≡ p.pass * (4 * s) + (p.column - p.column % s + e) = omega (arith, stretch, late, time, h) in
-          let column_below : p.column - p.column % s + e < 4 * s = omega (arith, h, late, inside, time) in
+          let column_below : p.column - p.column % s + e < 4 * s = omega (arith, h, late, least, inside, time) in
           let column_is : (x + n) % (4 * s) ≡ p.column - p.column % s + e = ap (λ t. t % (4 * s)) place_of ∙ mod-mul-add p.pass (4 * s) (p.column - p.column % s + e) column_below in
-          test_own g ((x + n) / s) ((x + n) % (4 * s)) p.column (ap (λ t. t / s) place_in ∙ div-mul-add g s e below) (rw column_is (omega (arith, h, late, time)))
+          test_late g ((x + n) / s) own ((x + n) % (4 * s)) p.column (p.column % s) e (omega (arith, h, late))
+          (ap (λ t. t / s) place_in ∙ div-mul-add g s e below) (rw column_is (omega (arith, h, late, least, time)))
     ])
-    (λ n h.
-    let place_of : x + y + n ≡ p.pass * (4 * s) + (p.column + n) = omega (arith, stretch, time) in
+    (λ n h. test_at s p l (x + y + n) own some same
+    ∙ test_after g ((x + y + n) / s) own ((x + y + n) % (4 * s)) p.column (le-div g (x + y + n) s some (omega (arith, stretch))) (λ is.
+    let whole : y ≡ min 3 g * s + p.column % s = rw is refl in
+    let place_of : x + y + n ≡ p.pass * (4 * s) + (p.column + n) = omega (arith, whole, stretch, time) in
     let column_below : p.column + n < 4 * s = omega (arith, total, top, place_of, h) in
     let column_is : (x + y + n) % (4 * s) ≡ p.column + n = ap (λ t. t % (4 * s)) place_of ∙ mod-mul-add p.pass (4 * s) (p.column + n) column_below in
-    test_at s p l (x + y + n) true some same
-    ∙ test_behind g ((x + y + n) / s) true ((x + y + n) % (4 * s)) p.column (le-div g (x + y + n) s some (omega (arith, stretch))) (rw column_is (omega arith))))
-
-finished_other : (s : ℕ) (p : Place) (l : ℕ) → 0 < s → p.column < 4 * s → (l == p.lane) ≡ false
-    → filter (is_finished s p) (lane_places s p.pass l) ≡ map (at_time s l) (range_with_len (first_of s p) (size_of s p false))
-finished_other s p l some inside same =
-    let g = segment_of s p in
-    let x = first_of s p in
-    let y = size_of s p false in
-    let z = (p.pass + 1) * (4 * s) - (x + y) in
-    let stretch : (g - 3) * s + min 3 g * s ≡ g * s = three_segments g s in
-    let time : g * s + p.column % s ≡ p.pass * (4 * s) + p.column = time_is s p in
-    let top : (p.pass + 1) * (4 * s) ≡ p.pass * (4 * s) + 4 * s = omega arith in
-    let total : (p.pass + 1) * (4 * s) ≡ x + y + z = omega (arith, stretch, time, top, inside) in
-    rw (lane_places_are s p.pass l some, total) (filter_stretch (is_finished s p) (at_time s l) x y z
-    (λ n h. test_at s p l n false some same ∙ test_before g (n / s) false (n % (4 * s)) p.column (div_below n s (g - 3) some h))
-    (λ n h. test_at s p l (x + n) false some same
-    ∙ test_within g ((x + n) / s) false ((x + n) % (4 * s)) p.column
-    (le-div (g - 3) (x + n) s some (omega arith)) (div_below (x + n) s g some (omega (arith, stretch, h))))
-    (λ n h. test_at s p l (x + y + n) false some same
-    ∙ test_other g ((x + y + n) / s) ((x + y + n) % (4 * s)) p.column (le-div g (x + y + n) s some (omega (arith, stretch)))))
-
-finished_are : (s : ℕ) (p : Place) (l : ℕ) → 0 < s → p.column < 4 * s
-    → filter (is_finished s p) (lane_places s p.pass l) ≡ map (at_time s l) (range_with_len (first_of s p) (size_of s p (l == p.lane)))
-finished_are s p l some inside = go (l == p.lane) refl
-  where
-    go : (own : Bool) → (l == p.lane) ≡ own
-        → filter (is_finished s p) (lane_places s p.pass l) ≡ map (at_time s l) (range_with_len (first_of s p) (size_of s p own))
-    go true same = finished_own s p l some inside same
-    go false same = finished_other s p l some inside same
+    rw column_is (omega arith))))
 
 less_last : (f : ℕ → Place) (a n : ℕ) (test : Bool)
     → (if test then without_last (map f (range_with_len a n)) else map f (range_with_len a n))
@@ -157,4 +145,4 @@ pub set_is : (s : ℕ) (p : Place) (l : ℕ) → 0 < s → p.column < 4 * s
     → reference_set s p l ≡ map (at_time s l) (range_with_len (first_of s p) (count_of s p (l == p.lane)))
 unfolding reference_set
 set_is s p l some inside =
-    rw (finished_are s p l some inside) (less_last (at_time s l) (first_of s p) (size_of s p (l == p.lane)) ((l == p.lane) || (p.column % s == 0)))
+    rw (finished_are s p l (l == p.lane) some inside refl) (less_last (at_time s l) (first_of s p) (size_of s p (l == p.lane)) ((l == p.lane) || (p.column % s == 0)))

@@ -1,9 +1,9 @@
 -- A slice before and after its lanes are worked.
-use Rattle.std.proofs.Common.{◌≡◌, ℕ, zero, suc, ◌<◌, ◌≤◌, ◌+◌, ◌-◌, ◌*◌, ◌/◌, ◌%◌, List, false, ◌==◌, slice_index_or, refl, arith}
+use Rattle.std.proofs.Common.{◌≡◌, ℕ, ◌<◌, ◌≤◌, ◌+◌, ◌-◌, ◌*◌, ◌/◌, ◌%◌, List, slice_index_or, arith}
 use Rattle.std.proofs.lemmas.Bool.Decides.{nat_tests}
 use Rattle.cred_argon.specs.{declared.block.Block.Block, declared.segment.Segment.Segment, declared.turn.Turn.Turn, declared.memory.Memory.Memory}
 use Rattle.cred_argon.specs.{Parameters.segment_len, Places.place, Cells.cell}
-use Rattle.cred_argon.specs.{Turns.number, Turns.first_offset, Turns.place_in, Turns.OwnHolds, SegmentWork.VecHolds}
+use Rattle.cred_argon.specs.{Turns.number, Turns.first_offset, Turns.OwnHolds, SegmentWork.VecHolds}
 use Rattle.cred_argon.specs.Segments.{SharedHolds, HoldsSegment}
 use Rattle.cred_argon.specs.Slices.{MemoryHolds}
 
@@ -16,25 +16,18 @@ pub own_begun : (h : List ℕ) (c : Turn) (l : ℕ) (blocks : List Block) → c.
     → (4 ≤ number c → HoldsSegment c.params h (number c - 4) l blocks)
     → OwnHolds h c l (first_offset c) blocks
 own_begun h c l blocks four begun before = record {
-  new = λ i e below. first (number c) refl i e below;
+  new = λ i e below.
+      let start : number c ≡ 0 = grind (arith, nat_tests, below) in
+      let two : i < 2 = grind (arith, nat_tests, below) in
+      let pass : c.pass ≡ 0 = omega (arith, start) in
+      let slice : c.slice ≡ 0 = omega (arith, start) in
+      let column : 0 * segment_len c.params + i ≡ i = omega arith in
+      rw (pass, slice, column) (begun start i e two);
   old = λ i e above below later.
       let pass : (number c - 4) / 4 ≡ c.pass - 1 = omega (arith, four, later) in
       let slice : (number c - 4) % 4 ≡ c.slice = omega (arith, four, later) in
       rw (pass, slice) at (before (omega (arith, later)) i e below);
 }
-  where
-    first : (n : ℕ) → number c ≡ n → (i : ℕ) (e : Block) → i < first_offset c
-        → (slice_index_or blocks i e).0 ≡ cell c.params h (place_in c l i)
-    first zero same i e below =
-        let two : i < 2 = rw same at below in
-        let pass : c.pass ≡ 0 = omega (arith, same) in
-        let slice : c.slice ≡ 0 = omega (arith, same) in
-        let column : 0 * segment_len c.params + i ≡ i = omega arith in
-        rw (pass, slice, column) (begun same i e two)
-    first (suc n) same i e below =
-        let later : (suc n == 0) ≡ false = grind (arith, nat_tests) in
-        let none : i < 0 = rw (same, later) at below in
-        absurd (omega (arith, none))
 
 pub own_begins : (h : List ℕ) (m : Memory) → m.shared.turn.slice < 4 → MemoryHolds h (number m.shared.turn) m
     → (l : ℕ) (d : Segment) → l < m.shared.turn.params.lanes

@@ -2,19 +2,16 @@
 use Rattle.std.proofs.Common.{◌≡◌, ◌≢◌, ℕ, ◌<◌, ◌≤◌, ◌+◌, ◌-◌, ◌*◌, ◌/◌, ◌%◌, ◌^◌, List, ◌++◌, length, slice_index_or, slice_set, Bool, true, false, Option, Some, None, if◌then◌else◌, slice_index, refl, ap, ap₂, sym, ◌∙◌, inl, inr, arith}
 use Rattle.std.proofs.{lemmas.Nat.div-mul-add, lemmas.Nat.mod-mul-add, lemmas.Bool.cases_eq, lemmas.Bool.Decides.nat_tests}
 use Rattle.std.proofs.lemmas.List.{get_or_append_left, get_or-append_right, set-append_right, get_or-set_same, get_or-set_other, length-append}
-use Rattle.cred_argon.specs.{declared.block.Block.Block, declared.place.Place.Place, declared.turn.Turn.Turn, declared.position.Reference.Reference}
+use Rattle.cred_argon.specs.{declared.block.Block.Block, declared.place.Place.Place, declared.turn.Turn.Turn, declared.position.Position.Position, declared.position.Reference.Reference}
 use Rattle.cred_argon.specs.{Times.IsBefore, Parameters.Parameters, Parameters.segment_len, Compress.compress, Compress.xor_words}
-use Rattle.cred_argon.specs.Places.{IsComputed, reference_place}
+use Rattle.cred_argon.specs.Places.{IsComputed, place_of, reference_place}
 use Rattle.cred_argon.specs.Cells.{is_dependent, address_block, previous, older, word_by, compression_at, is_first, is_fresh, cell_by, cell}
-use Rattle.cred_argon.specs.{Turns.place_in, Turns.DoneHolds, Turns.OwnHolds, declared.address.AddressBlock.AddressBlock}
+use Rattle.cred_argon.specs.{Turns.place_in, Turns.position_in, Turns.DoneHolds, Turns.OwnHolds, declared.address.AddressBlock.AddressBlock}
 use Rattle.cred_argon.specs.Addresses.{ServesOffset, word_from}
 use Rattle.cred_argon.proofs.{Picks.reference_before, CellLaw.cell_is, CellLaw.later_pass}
 
 not_first : (s lanes : ℕ) (p : Place) → IsComputed s lanes p → is_first p ≡ false
-not_first s lanes p computed = go p.pass refl
-  where
-    go : (r : ℕ) → p.pass ≡ r → is_first p ≡ false
-    go r same = grind (arith, nat_tests, computed.not_first)
+not_first s lanes p computed = grind (arith, nat_tests, computed.not_first)
 
 equation : (a : Parameters) (h : List ℕ) (p : Place) → 2 ≤ segment_len a → IsComputed (segment_len a) a.lanes p → (fresh : Bool)
     → is_fresh a.version p.pass ≡ fresh
@@ -25,7 +22,7 @@ equation a h p some computed fresh same =
     ∙ rw (not_first (segment_len a) a.lanes p computed, same) refl
 
 -- the word that the code reads is the one that names the reference
-pub word_is : (c : Turn) (h before : List ℕ) (addresses : Option AddressBlock) (l k : ℕ) → k < segment_len c.params
+word_is : (c : Turn) (h before : List ℕ) (addresses : Option AddressBlock) (l k : ℕ) → k < segment_len c.params
     → before ≡ cell c.params h (previous (segment_len c.params) (place_in c l k)) → ServesOffset c l k addresses
     → word_from addresses before (k % 128) ≡ word_by c.params (cell c.params h) (place_in c l k)
 word_is c h before addresses l k inside before_is serves =
@@ -40,32 +37,28 @@ word_is c h before addresses l k inside before_is serves =
     go None same = rw same (ap (λ (x : List ℕ). slice_index x 0) before_is)
     go (Some kept) same = rw same.0 (ap (λ (x : List ℕ). slice_index x (k % 128)) same.1)
 
--- G of the block before and the reference
-pub mixed_is : (a : Parameters) (h before other : List ℕ) (p : Place) (w : ℕ)
-    → before ≡ cell a h (previous (segment_len a) p) → w ≡ word_by a (cell a h) p
-    → other ≡ cell a h (reference_place (segment_len a) a.lanes p (w % 2 ^ 32) (w / 2 ^ 32))
-    → compress before other ≡ compression_at a (cell a h) p
-mixed_is a h before other p w before_is word other_is =
-    ap₂ compress before_is (other_is ∙ ap (λ (v : ℕ). cell a h (reference_place (segment_len a) a.lanes p (v % 2 ^ 32) (v / 2 ^ 32))) word)
-
--- the same of what the code computes at an offset: its blocks, its word and its reference
-pub offset_mixed_is : (c : Turn) (h before other : List ℕ) (addresses : Option AddressBlock) (l k w : ℕ) (there : Reference)
-    → 2 ≤ segment_len c.params → IsComputed (segment_len c.params) c.params.lanes (place_in c l k) → k < segment_len c.params
-    → before ≡ cell c.params h (previous (segment_len c.params) (place_in c l k)) → ServesOffset c l k addresses
-    → w ≡ word_from addresses before (k % 128)
-    → there.lane ≡ (reference_place (segment_len c.params) c.params.lanes (place_in c l k) (w % 2 ^ 32) (w / 2 ^ 32)).lane
-    → there.column ≡ (reference_place (segment_len c.params) c.params.lanes (place_in c l k) (w % 2 ^ 32) (w / 2 ^ 32)).column
-    → ((p : Place) → IsBefore (segment_len c.params) c.params.lanes (place_in c l k) p → p.lane ≡ there.lane → p.column ≡ there.column
+-- G of the block before and the reference, which the code computes at a position
+pub mixed_is : (c : Turn) (h before other : List ℕ) (addresses : Option AddressBlock) (at : Position) (k w : ℕ) (there : Reference)
+    → 2 ≤ segment_len c.params → IsComputed (segment_len c.params) c.params.lanes (place_in c at.lane k) → k < segment_len c.params
+    → at ≡ position_in c at.lane k → before ≡ cell c.params h (previous (segment_len c.params) (place_in c at.lane k))
+    → ServesOffset c at.lane k addresses → w ≡ word_from addresses before (at.offset % 128)
+    → there.lane ≡ (reference_place (segment_len c.params) c.params.lanes (place_of (segment_len c.params) at) (w % 2 ^ 32) (w / 2 ^ 32)).lane
+    → there.column ≡ (reference_place (segment_len c.params) c.params.lanes (place_of (segment_len c.params) at) (w % 2 ^ 32) (w / 2 ^ 32)).column
+    → ((p : Place) → IsBefore (segment_len c.params) c.params.lanes (place_in c at.lane k) p → p.lane ≡ there.lane → p.column ≡ there.column
     → other ≡ cell c.params h p)
-    → compress before other ≡ compression_at c.params (cell c.params h) (place_in c l k)
-offset_mixed_is c h before other addresses l k w there some computed inside before_is serves w_is lane column at =
+    → compress before other ≡ compression_at c.params (cell c.params h) (place_in c at.lane k)
+mixed_is c h before other addresses at k w there some computed inside here before_is serves w_is lane column cells =
     let a = c.params in
     let s = segment_len a in
-    let p = place_in c l k in
-    let word = w_is ∙ word_is c h before addresses l k inside before_is serves in
-    mixed_is a h before other p w before_is word
-    (at (reference_place s a.lanes p (w % 2 ^ 32) (w / 2 ^ 32)) (reference_before s a.lanes p (w % 2 ^ 32) (w / 2 ^ 32) some computed)
-    (sym lane) (sym column))
+    let p = place_in c at.lane k in
+    let place : place_of s at ≡ p = ap (place_of s) here in
+    let offset : at.offset ≡ k = ap (λ (q : Position). q.offset) here in
+    let word = (rw offset at w_is) ∙ word_is c h before addresses at.lane k inside before_is serves in
+    ap₂ compress before_is
+    (cells (reference_place s a.lanes p (w % 2 ^ 32) (w / 2 ^ 32)) (reference_before s a.lanes p (w % 2 ^ 32) (w / 2 ^ 32) some computed)
+    (sym (lane ∙ ap (λ q. (reference_place s a.lanes q (w % 2 ^ 32) (w / 2 ^ 32)).lane) place))
+    (sym (column ∙ ap (λ q. (reference_place s a.lanes q (w % 2 ^ 32) (w / 2 ^ 32)).column) place))
+    ∙ ap (λ (v : ℕ). cell a h (reference_place s a.lanes p (v % 2 ^ 32) (v / 2 ^ 32))) word)
 
 -- what replaces a block, or is added to it, makes the cell
 pub replaced_is : (a : Parameters) (h mixed out : List ℕ) (p : Place) → 2 ≤ segment_len a → IsComputed (segment_len a) a.lanes p

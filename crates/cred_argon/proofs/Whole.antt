@@ -1,6 +1,6 @@
 -- From vectors back to the block: what the rows and columns in vectors say of each word.
-use Rattle.std.proofs.Common.{◌≡◌, ℕ, ◌<◌, ◌≤◌, ◌+◌, ◌*◌, ◌/◌, ◌%◌, List, slice_index, length, map, arith, refl, sym, ap, ap₂, ◌∙◌, ◌-◌, ◌⊎◌, inl, inr, bit_xor}
-use Rattle.std.proofs.{lemmas.Bool.cases_lt, lemmas.List.FromFn.fill_by_all, lemmas.List.FromFn.get_or-map-range_with_len}
+use Rattle.std.proofs.Common.{◌≡◌, ℕ, ◌<◌, ◌≤◌, ◌+◌, ◌*◌, ◌/◌, ◌%◌, List, [], slice_index, slice_index_or, nat_lt, if◌then◌else◌, length, map, arith, refl, sym, ap, ap₂, ◌∙◌, ◌-◌, ◌⊎◌, inl, inr, bit_xor}
+use Rattle.std.proofs.{lemmas.Bool.cases_lt, lemmas.Bool.lt-ltb, lemmas.Bool.le-ltb, lemmas.List.FromFn.fill_by_all, lemmas.List.FromFn.get_or-map-range_with_len}
 use Rattle.std.specs.List.{range_with_len}
 use Rattle.cred_argon.specs.Compress.{permutation, row, column, rows, columns, xor_words, compress}
 use Rattle.cred_argon.specs.Quads.{slot_at, row_list, column_list, half_word, IsRows, IsHalf}
@@ -27,27 +27,46 @@ column_list_at : (j : ℕ) (x : List (List ℕ)) (k : ℕ) → k < 16
     → slice_index (column_list j x) k ≡ slot_at x (2 * (k / 2) + j % 2) (2 * (j / 2) + k % 2)
 column_list_at j x = below_sixteen _ refl refl refl refl refl refl refl refl refl refl refl refl refl refl refl refl
 
--- the words of four rows under P, from those of the rows
-pub rows_words : (r : List ℕ) (x z : List (List ℕ)) (first : ℕ) → first + 4 ≤ 8
-    → ((m : ℕ) → m < 16 → (e : ℕ) → e < 4 → slot_at x m e ≡ slice_index r (16 * first + 4 * m + e))
+-- the words of four rows under P, from those of the rows of the XOR of two blocks
+pub rows_words : (a b : List ℕ) (x z : List (List ℕ)) (first : ℕ) → first + 4 ≤ 8
+    → ((m : ℕ) → m < 16 → (e : ℕ) → e < 4
+    → slot_at x m e ≡ bit_xor (slice_index a (16 * first + 4 * m + e)) (slice_index b (16 * first + 4 * m + e)))
     → ((j : ℕ) → j < 4 → row_list j z ≡ permutation (row_list j x))
-    → IsRows (rows r) first z
-rows_words r x z first four held by_row m hm e he =
+    → IsRows (rows (xor_words a b)) first z
+rows_words a b x z first four held by_row m hm e he =
+    let r = xor_words a b in
     let j = m / 4 in
     let k = 4 * (m % 4) + e in
     let n = 16 * first + 4 * m + e in
     let below : j < 4 = omega arith in
     let row_is : row_list j x ≡ row r (first + j) =
     fill_by_all (λ (i : ℕ). slice_index r (16 * (first + j) + i)) (row_list j x) 16 0 refl (λ i h.
-    row_list_at j x i h ∙ held (4 * j + i / 4) (omega arith) (i % 4) (omega arith) ∙ ap (λ (t : ℕ). slice_index r t) (omega arith)) in
+    row_list_at j x i h ∙ held (4 * j + i / 4) (omega arith) (i % 4) (omega arith)
+    ∙ sym (xor_words_at a b (16 * first + 4 * (4 * j + i / 4) + i % 4) (omega arith)) ∙ ap (λ (t : ℕ). slice_index r t) (omega arith)) in
     let at_m : 4 * j + k / 4 ≡ m = omega arith in
     let at_e : k % 4 ≡ e = omega arith in
     let at_row : n / 16 ≡ first + j = omega arith in
     let at_place : n % 16 ≡ k = omega arith in
-    ap₂ (λ (a b : ℕ). slot_at z a b) (sym at_m) (sym at_e)
+    ap₂ (λ (k i : ℕ). slot_at z k i) (sym at_m) (sym at_e)
     ∙ sym (row_list_at j z k (omega arith))
     ∙ ap (λ (v : List ℕ). slice_index v k) (by_row j below ∙ ap permutation row_is)
     ∙ rw (rows_at r n (omega arith), at_row, at_place) refl
+
+-- half h of each row of a block, of which the rows before and from row 4 on are these vectors
+abbrev pub half_of : List (List ℕ) → List (List ℕ) → ℕ → List (List ℕ)
+half_of top low h =
+    map (λ m. slice_index_or (if nat_lt m 8 then top else low) (4 * (m % 8 / 2) + 2 * h + m % 2) []) (range_with_len 0 16)
+
+pub half_at : (v : List ℕ) (top low : List (List ℕ)) (h : ℕ) → h < 2 → IsRows v 0 top → IsRows v 4 low
+    → (m : ℕ) → m < 16 → (e : ℕ) → e < 4 → slot_at (half_of top low h) m e ≡ slice_index v (16 * (m / 2) + 8 * h + 4 * (m % 2) + e)
+half_at v top low h two is_top is_low m hm e he =
+    let k = 4 * (m % 8 / 2) + 2 * h + m % 2 in
+    ap (λ (x : List ℕ). slice_index x e)
+    (get_or-map-range_with_len (λ m. slice_index_or (if nat_lt m 8 then top else low) (4 * (m % 8 / 2) + 2 * h + m % 2) []) 0 16 m m [] hm (omega arith))
+    ∙ elim (cases_lt m 8) [
+      | inl front ↦ rw (lt-ltb m 8 front) (is_top k (omega arith) e he ∙ ap (λ (t : ℕ). slice_index v t) (omega arith))
+      | inr back ↦ rw (le-ltb m 8 back) (is_low k (omega arith) e he ∙ ap (λ (t : ℕ). slice_index v t) (omega arith))
+    ]
 
 -- the words of four columns under P, from those of the columns: half h has two vectors of each row
 pub columns_words : (v : List ℕ) (x q : List (List ℕ)) (h : ℕ) → h < 2
@@ -72,10 +91,6 @@ columns_words v x q h two held by_column i hi e he =
     ∙ ap (λ (u : List ℕ). slice_index u k) (by_column j below ∙ ap permutation column_is)
     ∙ rw (columns_at v n (omega arith), at_column, at_place) refl
 
--- the words of two blocks under exclusive or
-pub both_words : (x y : List ℕ) (n : ℕ) → n < 128 → bit_xor (slice_index x n) (slice_index y n) ≡ slice_index (xor_words x y) n
-both_words x y n h = sym (xor_words_at x y n h)
-
 -- a word of G, from those of the columns
 pub half_words : (x y : List ℕ) (q : List (List ℕ)) (h i e : ℕ) → h < 2 → i < 8 → e < 8
     → slot_at q (2 * i + e / 4) (e % 4) ≡ slice_index (columns (rows (xor_words x y))) (16 * i + 8 * h + e)
@@ -84,7 +99,7 @@ unfolding compress
 half_words x y q h i e hh hi he word =
     let r = xor_words x y in
     let n = 16 * i + 8 * h + e in
-    ap₂ bit_xor (both_words x y n (omega arith)) word ∙ sym (xor_words_at r (columns (rows r)) n (omega arith))
+    ap₂ bit_xor (sym (xor_words_at x y n (omega arith))) word ∙ sym (xor_words_at r (columns (rows r)) n (omega arith))
 
 -- a block whose words are those of G, or those of another block with G's added, is what G makes of
 -- it

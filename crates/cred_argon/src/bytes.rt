@@ -16,6 +16,7 @@ pub(crate) fn block_of_bytes(bytes: &[u8; 1024]) -> Block
 }
 
 /// The bytes of a block.
+#[tactic(auto, unfolding(cred_blake::specs::Words::bytes_of))]
 pub(crate) fn bytes_of_block(block: &Block) -> [u8; 1024]
     ensures { result ≡ bytes_of block.now.0 }
 {

@@ -139,7 +139,8 @@ def main():
             raise RuntimeError(f"kind {kind} gives {made.hex()}")
     print("mixed", *mixed(1, 2, 3, 4))
     print("permuted", *permuted(range(16)))
-    print("compress", *compress(range(128), [0] * 128))
+    block = struct.pack("<128Q", *compress(range(128), [0] * 128))
+    print("compress", *(block[i:i + 64].hex() for i in range(0, 1024, 64)))
     print("address", address_block(0, 1, 1, 32, 3, 2, 1)[0])
 
 

@@ -1,11 +1,6 @@
 use Rattle.std.proofs.{Common.rules, Common.◌∙◌, Common.arith, lemmas.Slice.overwrites}
-use Rattle.cred_blake.specs.Words.{bytes_of}
 use Rattle.cred_blake.proofs.WordBytes.{bytes_of_more}
 use Rattle.cred_argon.proofs.bytes.bytes_of_block.Goals as goal
-
-pub words-init : goal.words-init
-unfolding bytes_of
-words-init c = search rules
 
 pub words-preserved : goal.words-preserved
 words-preserved c =
