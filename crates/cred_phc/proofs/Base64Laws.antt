@@ -1,13 +1,13 @@
 -- Base64 by the strict engine with no padding: a text decodes to bytes exactly where it is their
 -- encoding.
 use Rattle.std.proofs.Common.{◌≡◌, ◌∙◌, ℕ, zero, suc, ◌+◌, ◌*◌, ◌/◌, ◌%◌, ◌<◌, ◌≤◌, ◌==◌, not, true, if◌then◌else◌, List, [], ◌∷◌, length, get_or, Some, None, Result, Ok, Err, arith, refl, ap, append-nil}
-use Rattle.std.proofs.lemmas.Bool.Decides.{nat_tests}
+use Rattle.std.proofs.{lemmas.Bool.Decides.nat_tests, lemmas.Option.cond_some}
 use Rattle.base64.specs.{declared.decode.DecodeError.DecodeError, Engines.standard_no_pad}
 use Rattle.base64.specs.{GeneralPurpose.IsBytes, GeneralPurpose.decode_of, GeneralPurpose.decoded_of, GeneralPurpose.engine_symbols, Rfc4648.encode_symbols}
 use Rattle.base64.proofs.{EngineFacts.decode_of_strict, EngineFacts.decode_of-encode_of, RoundTrip.length-encode_symbols}
 use Rattle.std.specs.{Cmp.first_so, Cmp.second_so, Result.result_ok}
 use Rattle.cred_base64.specs.Letters.{bytes_with}
-use Rattle.cred_phc.proofs.{CaseLaws.if_some, PieceLaws.lacks}
+use Rattle.cred_phc.proofs.PieceLaws.{lacks}
 use Rattle.cred_phc.specs.{Ranges.between, Base64.base64, Base64.unbase64, Base64.bytes_within, Base64.bytes_of}
 
 pub length-base64 : (bytes : List ℕ) → length (base64 bytes) ≡ (4 * length bytes + 2) / 3
@@ -54,7 +54,7 @@ lacks-base64 bytes =
 
 found_sized : (low high : ℕ) (r : Result (List ℕ) DecodeError) (bytes : List ℕ) → bytes_within low high r ≡ Some bytes → (r ≡ Ok bytes) × (between low high (length bytes) ≡ true)
 found_sized low high (Err e) bytes h = cc h
-found_sized low high (Ok b) bytes h = let is = if_some _ _ _ h in (ap Ok is.1, rw is.1 at is.0)
+found_sized low high (Ok b) bytes h = let is = cond_some _ _ _ h in (ap Ok is.1, rw is.1 at is.0)
 
 -- what letters stand for is written by these letters
 pub bytes_of_is : (low high : ℕ) (text bytes : List ℕ) → IsBytes text → bytes_of low high text ≡ Some bytes → text ≡ base64 bytes

@@ -82,10 +82,9 @@ version_step : {B : Type 0} (variant : Variant) (follow : Scheme × List (List �
     → fault_in ((version_read new old written named fields behind >>= (λ version. numbers_at (codes "m=") (codes "t=") (codes "p=") (argon_of version.0 variant) version.1)) >>= follow)
     ≡ version_judged new old written named (judges_of (NamesArgon2 variant) ++ last) fields behind
 version_step variant follow last h true old written named fields behind = argon_follows variant follow last h V13 behind
-version_step variant follow last h false false written named fields behind = refl
 version_step variant follow last h false true true named fields behind = argon_follows variant follow last h V10 behind
-version_step variant follow last h false true false true fields behind = refl
 version_step variant follow last h false true false false fields behind = argon_follows variant follow last h V10 fields
+version_step variant follow last h _ _ _ _ fields behind = refl
 
 argon_law : {B : Type 0} (old : Bool) (variant : Variant) (follow : Scheme × List (List ℕ) → Result B PhcError) (last : List Judge) → FollowsScheme follow last → (fields : List (List ℕ))
     → fault_in (argon_at old variant fields >>= follow) ≡ version_fault old (judges_of (NamesArgon2 variant) ++ last) fields

@@ -1,10 +1,10 @@
 -- What one field stands for, and the one text that stands for it.
-use Rattle.std.proofs.Common.{◌≡◌, ◌∙◌, ℕ, ◌^◌, ◌<◌, true, false, List, [], ◌∷◌, ◌++◌, length, take, drop, Option, Some, None, decimal, refl, sym, ap}
+use Rattle.std.proofs.Common.{◌≡◌, ◌∙◌, ℕ, ◌^◌, ◌<◌, Bool, true, false, if◌then◌else◌, List, [], ◌∷◌, ◌++◌, length, take, drop, Option, Some, None, decimal, refl, sym, ap}
 use Rattle.std.proofs.{lemmas.List.take-append-drop, lemmas.Slice.Eq.bytes_eq-Decides, Math.Seq.take-append_seam, Math.Seq.drop-append_seam}
 use Rattle.std.specs.{Char.is_ascii_digit, Str.bytes_eq}
 use Rattle.cred_phc.specs.{Fields.labelled_number, Fields.labelled_numbers, Fields.triple, Fields.numbers_of, Number.number_of, Pieces.pieces}
 use Rattle.cred_phc.specs.Text.{label, numbers_text}
-use Rattle.cred_phc.proofs.{CaseLaws.if_read, NumberLaws.number_of-decimal, NumberLaws.number_is, NumberLaws.lacks-decimal}
+use Rattle.cred_phc.proofs.NumberLaws.{number_of-decimal, number_is, lacks-decimal}
 use Rattle.cred_phc.proofs.PieceLaws.{lacks, lacks-append, pieces-join, join-pieces}
 
 pub same_bytes : (xs ys : List ℕ) → bytes_eq xs ys ≡ true → xs ≡ ys
@@ -15,6 +15,10 @@ bytes_eq_refl xs = (bytes_eq-Decides xs xs).1 refl
 
 labelled_number-label : (name : List ℕ) (n : ℕ) → n < 2 ^ 64 → labelled_number name (label name n) ≡ Some n
 labelled_number-label name n fits = rw (take-append_seam, drop-append_seam, bytes_eq_refl name) (number_of-decimal n fits)
+
+if_read : {A : Type 0} (b : Bool) (o : Option A) (x : A) → (if b then o else None) ≡ Some x → (b ≡ true) × (o ≡ Some x)
+if_read true o x e = (refl, e)
+if_read false o x e = cc e
 
 labelled_is : (name piece : List ℕ) (n : ℕ) → labelled_number name piece ≡ Some n → n < 2 ^ 64 → piece ≡ label name n
 labelled_is name piece n e fits =
@@ -35,19 +39,14 @@ numbers_of-text x y z a b c hx hy hz fa fb fc =
 triple_is : (p q r : Option ℕ) (n : ℕ × ℕ × ℕ) → triple p q r ≡ Some n → (p ≡ Some n.0) × (q ≡ Some n.1) × (r ≡ Some n.2)
 triple_is (Some a) (Some b) (Some c) n e =
     let same : ◌≡◌ {A = ℕ × ℕ × ℕ} (a, b, c) n = cc e in (ap (λ m. Some m.0) same, ap (λ m. Some m.1) same, ap (λ m. Some m.2) same)
-triple_is None q r n e = cc e
-triple_is (Some a) None r n e = cc e
-triple_is (Some a) (Some b) None n e = cc e
+triple_is _ _ _ n e = cc e
 
 numbers_from : (x y z : List ℕ) (parts : List (List ℕ)) (n : ℕ × ℕ × ℕ) → labelled_numbers x y z parts ≡ Some n
     → n.0 < 2 ^ 64 → n.1 < 2 ^ 64 → n.2 < 2 ^ 64 → parts ≡ label x n.0 ∷ label y n.1 ∷ label z n.2 ∷ []
 numbers_from x y z (a ∷ b ∷ c ∷ []) n e f0 f1 f2 =
     let is = triple_is (labelled_number x a) (labelled_number y b) (labelled_number z c) n e in
     rw (labelled_is x a n.0 is.0 f0, labelled_is y b n.1 is.1 f1, labelled_is z c n.2 is.2 f2) refl
-numbers_from x y z [] n e f0 f1 f2 = cc e
-numbers_from x y z (a ∷ []) n e f0 f1 f2 = cc e
-numbers_from x y z (a ∷ b ∷ []) n e f0 f1 f2 = cc e
-numbers_from x y z (a ∷ b ∷ c ∷ d ∷ more) n e f0 f1 f2 = cc e
+numbers_from x y z _ n e f0 f1 f2 = cc e
 
 -- a field that is read as three numbers is written so
 pub numbers_is : (x y z field : List ℕ) (n : ℕ × ℕ × ℕ) → numbers_of x y z field ≡ Some n

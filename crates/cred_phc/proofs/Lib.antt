@@ -1,5 +1,4 @@
 -- Lemmas: bytes, pieces, numbers and base64; fields and schemes; then whole records and faults.
-pub mod CaseLaws
 pub mod BytesLaws
 pub mod PieceLaws
 pub mod NumberLaws

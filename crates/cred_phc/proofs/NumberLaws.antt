@@ -1,17 +1,13 @@
 -- Decimal numbers, digit by digit.
-use Rattle.std.proofs.Common.{◌≡◌, ℕ, suc, zero, ◌+◌, ◌-◌, ◌*◌, ◌^◌, ◌<◌, ◌==◌, ◌&&◌, ◌||◌, not, nat_lt, min, if◌then◌else◌, lit<, Bool, true, false, List, [], ◌∷◌, length, take, get_or, Some, None, decimal, arith, refl, sym, ap, ◌∙◌, rules}
-use Rattle.std.proofs.{lemmas.Bool.Decides.nat_tests, lemmas.Int.Digits.digits_value_more}
+use Rattle.std.proofs.Common.{◌≡◌, ℕ, suc, zero, ◌+◌, ◌-◌, ◌*◌, ◌^◌, ◌<◌, ◌==◌, ◌&&◌, ◌||◌, not, nat_lt, min, if◌then◌else◌, lit<, Bool, true, false, List, length, take, get_or, Some, None, decimal, arith, refl, sym, ap, ◌∙◌, rules}
+use Rattle.std.proofs.{lemmas.Bool.Decides.nat_tests, lemmas.Int.Digits.digits_value_more, lemmas.Option.cond_some}
+use Rattle.std.proofs.lemmas.List.Sums.{AllPass-from_list_all, list_all-from_AllPass}
 use borrow.Author.Tests.{ltb-true}
 use Rattle.std.specs.{Char.is_ascii_digit, Char.digit_value, Cmp.first_so, Cmp.second_so, List.list_all, Str.Parse.digits_value}
 use Rattle.std.proofs.lemmas.Str.Parse.{IsNumeralModel, numerals_by_value}
 use Rattle.std.proofs.lemmas.Fmt.{digits_decimal, digits_value-decimal, decimal-digits_value, decimal_nonempty, first_decimal, decimal_digit}
 use Rattle.cred_phc.specs.Number.{saturation, is_numeral, number_of}
-use Rattle.cred_phc.proofs.{CaseLaws.both_true, CaseLaws.if_some, PieceLaws.lacks}
-
-digit_at : (ds : List ℕ) (i : ℕ) → list_all is_ascii_digit ds ≡ true → i < length ds → is_ascii_digit (get_or ds i 0) ≡ true
-digit_at [] i all within = absurd (omega arith)
-digit_at (d ∷ ds) zero all within = first_so _ _ all
-digit_at (d ∷ ds) (suc i) all within = digit_at ds i (second_so _ _ all) (omega arith)
+use Rattle.cred_phc.proofs.PieceLaws.{lacks}
 
 value_of_digit : (c : ℕ) → is_ascii_digit c ≡ true → digit_value c ≡ c - 48
 value_of_digit c h = grind (arith, nat_tests)
@@ -29,7 +25,7 @@ unlike d byte h k = grind (arith, nat_tests)
 pub push : (ds : List ℕ) (i : ℕ) → is_numeral ds ≡ true → i < length ds
     → saturation (digits_value 10 (take (i + 1) ds)) ≡ min (min (saturation (digits_value 10 (take i ds)) * 10) (2 ^ 64 - 1) + (get_or ds i 0 - 48)) (2 ^ 64 - 1)
 push ds i numeral within =
-    rw (digits_value_more 10 ds i within, value_of_digit _ (digit_at ds i (digits_of_numeral ds numeral) within))
+    rw (digits_value_more 10 ds i within, value_of_digit _ (AllPass-from_list_all is_ascii_digit ds (digits_of_numeral ds numeral) i 0 within))
     (cap_once (digits_value 10 (take i ds)) (get_or ds i 0 - 48))
 
 own : IsNumeralModel (λ ds. list_all is_ascii_digit ds ≡ true) (digits_value 10)
@@ -66,14 +62,13 @@ number_of-decimal n fits =
 pub number_is : (ds : List ℕ) (n : ℕ) → number_of ds ≡ Some n → n < 2 ^ 64 → ds ≡ decimal n
 unfolding number_of
 number_is ds n e fits =
-    let read = if_some _ _ n e in
+    let read = cond_some _ _ n e in
     let small : digits_value 10 ds < 2 ^ 64 = rw read.1 fits in
     sym (decimal-digits_value own ds (digits_of_numeral ds read.0) (numeral_some ds read.0) (numeral_first ds read.0) small) ∙ ap decimal read.1
 
 lacks_other : (byte : ℕ) (ds : List ℕ) → is_ascii_digit byte ≡ false → list_all is_ascii_digit ds ≡ true → lacks byte ds ≡ true
-lacks_other byte [] other digits = refl
-lacks_other byte (d ∷ ds) other digits =
-    both_true (not (d == byte)) (lacks byte ds) (unlike d byte (first_so _ (list_all is_ascii_digit ds) digits) other) (lacks_other byte ds other (second_so (is_ascii_digit d) _ digits))
+lacks_other byte ds other digits =
+    list_all-from_AllPass (λ b. not (b == byte)) ds (λ k d within. unlike (get_or ds k d) byte (AllPass-from_list_all is_ascii_digit ds digits k d within) other)
 
 pub lacks-decimal : (byte n : ℕ) → is_ascii_digit byte ≡ false → n < 2 ^ 64 → lacks byte (decimal n) ≡ true
 lacks-decimal byte n other fits = lacks_other byte (decimal n) other (digits_decimal own n fits)

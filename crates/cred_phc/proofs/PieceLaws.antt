@@ -1,13 +1,11 @@
 -- A text cut at a byte, and pieces joined by it.
-use Rattle.std.proofs.Common.{◌≡◌, ℕ, suc, zero, ◌+◌, ◌-◌, ◌≤◌, ◌==◌, Bool, true, false, cond, not, List, [], ◌∷◌, length, take, drop, ◌++◌, Some, None, arith, refl, sym, ap, ◌∙◌, eq-eqb}
+use Rattle.std.proofs.Common.{◌≡◌, ℕ, ◌+◌, ◌-◌, ◌≤◌, ◌==◌, Bool, true, false, cond, not, List, [], ◌∷◌, length, take, drop, ◌++◌, Some, None, arith, refl, sym, ap, ◌∙◌, eq-eqb}
 use borrow.Author.Tests.{ltb-true, ltb-false, not-true}
-use Rattle.std.proofs.lemmas.Grind.{common_steps}
-use Rattle.std.specs.Cmp.{first_so, second_so}
+use Rattle.std.proofs.{lemmas.Grind.common_steps, lemmas.Option.cond_some, lemmas.List.Sums.AllPass-from_list_all}
 use Rattle.std.specs.List.{position, position_or_len, slice_split, onto_first, join_with_byte, list_all, All}
 use Rattle.std.proofs.lemmas.List.Splits.{slice_split_first, slice_split_at, slice_split_none, join_with_byte-slice_split}
 use Rattle.std.proofs.lemmas.List.Folds.{list_all-append}
 use Rattle.cred_phc.specs.Pieces.{pieces}
-use Rattle.cred_phc.proofs.CaseLaws.{if_some, if_none}
 
 uncut_at : (b : Bool) (x n : ℕ) (xs : List ℕ) (parts : List (List ℕ)) → (length xs ≤ n → parts ≡ xs ∷ []) → length (x ∷ xs) ≤ cond (not b) (1 + n) 0
     → cond b ([] ∷ parts) (onto_first x parts) ≡ (x ∷ xs) ∷ []
@@ -25,8 +23,12 @@ unfolding pieces
 cut_first byte i text e =
     let p : ℕ → Bool = λ b. b == byte in
     let all : take (length text - (i + 1)) (drop (i + 1) text) ≡ drop (i + 1) text = grind (arith, common_steps) in
-    let is = if_some _ _ _ (sym e) in
+    let is = cond_some _ _ _ (sym e) in
     rw (all, ← is.1) (slice_split_first p text 0 (ltb-true _ _ is.0))
+
+if_none : {A : Type 0} (b : Bool) (v : A) → cond b (Some v) None ≡ None → b ≡ false
+if_none true v e = cc e
+if_none false v e = refl
 
 pub cut_none : (byte : ℕ) (text : List ℕ) → None ≡ position (λ b. b == byte) text → pieces byte text ≡ text ∷ []
 unfolding pieces
@@ -40,9 +42,7 @@ pub lacks-append : (byte : ℕ) (xs ys : List ℕ) → lacks byte xs ≡ true �
 lacks-append byte xs ys hx hy = rw (list_all-append, hx, hy) refl
 
 lacking : (byte : ℕ) (xs : List ℕ) → lacks byte xs ≡ true → All (λ x. (x == byte) ≡ false) xs
-lacking byte [] h k d within = absurd (omega arith)
-lacking byte (x ∷ xs) h zero d within = not-true _ (first_so _ _ h)
-lacking byte (x ∷ xs) h (suc k) d within = lacking byte xs (second_so _ _ h) k d (omega arith)
+lacking byte xs h k d within = not-true _ (AllPass-from_list_all (λ b. not (b == byte)) xs h k d within)
 
 abbrev pub AllLack : ℕ → List (List ℕ) → Type 0
 AllLack byte [] = Unit {0}

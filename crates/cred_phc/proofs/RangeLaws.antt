@@ -34,10 +34,7 @@ scrypt_taken ln r p r_few p_few r_some p_some some few below room =
     grind (arith, nat_tests, r_few, p_few, r_some, p_some, some, few, below, room)
 
 scrypt_costly : (ln r p : ℕ) → IsCostly ln r → false ≡ scrypt_fits ln r p
-scrypt_costly ln r p (inl h) = grind (arith, nat_tests, h)
-scrypt_costly ln r p (inr (inl h)) = grind (arith, nat_tests, h)
-scrypt_costly ln r p (inr (inr (inl h))) = grind (arith, nat_tests, h)
-scrypt_costly ln r p (inr (inr (inr h))) = grind (arith, nat_tests, h)
+scrypt_costly ln r p costly = grind (arith, nat_tests, costly)
 
 scrypt_cheap : (ln r p : ℕ) → r ≤ MAX_BLOCK_SIZE → p ≤ MAX_BLOCKS → 1 ≤ r → 1 ≤ p → (IsCostly ln r → ⊥) → true ≡ scrypt_fits ln r p
 scrypt_cheap ln r p r_few p_few r_some p_some cheap =

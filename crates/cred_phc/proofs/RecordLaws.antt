@@ -5,18 +5,18 @@ use Rattle.std.specs.{Cmp.second_so, List.join_with_byte, Option.ok_or}
 use Rattle.base64.specs.GeneralPurpose.{IsBytes}
 use Rattle.cred_phc.specs.declared.error.PhcError.{PhcError}
 use Rattle.cred_phc.specs.declared.error.PhcError.TheVariants.{Salt, Tag, TooLong, Version as WrongVersion}
-use Rattle.cred_phc.specs.{declared.scheme.Scheme.Scheme, declared.scheme.Scheme.TheVariants.Argon2, declared.scheme.Scheme.TheVariants.Scrypt}
+use Rattle.cred_phc.specs.{declared.scheme.Scheme.Scheme, declared.scheme.Scheme.TheVariants.Argon2}
 use Rattle.cred_phc.specs.{Names.variant_name, Names.version_text, Base64.base64, Base64.bytes_of, Pieces.pieces}
 use Rattle.cred_phc.specs.Ranges.{between, is_current, salt_low}
 use Rattle.cred_phc.specs.Reading.{next, end, scheme_at, setting_at, tag_at, fields_of, read_setting, read_record}
 use Rattle.cred_phc.specs.Text.{argon_numbers, scheme_fields, bare_fields, setting_text, record_text, bare_text, IsSettingText, IsRecordText}
 use Rattle.cred_phc.specs.Values.{SettingValue, setting_of, RecordValue, record_of, IsSetting, IsTag, IsRecord}
-use Rattle.cred_argon.specs.declared.kind.Version.TheVariants.{V10, V13}
+use Rattle.cred_argon.specs.declared.kind.Version.TheVariants.{V10}
 use Rattle.cred_phc.proofs.Base64Laws.{bytes_of_is, bytes_of-base64, lacks-base64, length-base64}
 use Rattle.cred_phc.proofs.PieceLaws.{AllLack, pieces-join_front, join-pieces}
 use Rattle.cred_phc.proofs.SchemeLaws.{IsFront, scheme_is, scheme_at-front, old_scheme_refused}
 use Rattle.cred_phc.proofs.StepLaws.{bind_ok, ok_or_ok, next_ok, ok_pair, err_choice, end_ok}
-use Rattle.cred_phc.proofs.TextLaws.{room, length-join, room-append, AllLack-append, scheme_fields_fit, front_fits, join_bytes, behind_bytes, first_bytes}
+use Rattle.cred_phc.proofs.TextLaws.{room, length-join, room-append, AllLack-append, scheme_fields_fit, front_fits, field_bytes}
 
 -- the fields of a scheme, and the letters of a salt
 SettingIs : Bool → List (List ℕ) → SettingValue → List (List ℕ) → Type 0
@@ -57,19 +57,13 @@ fields_is text fields e =
 letters_are : (text : List ℕ) (front : List (List ℕ)) (field : List ℕ) (back : List (List ℕ)) (low high : ℕ) (bytes : List ℕ) → IsBytes text
     → text ≡ join_with_byte 36 (front ++ field ∷ back) → bytes_of low high field ≡ Some bytes → text ≡ join_with_byte 36 (front ++ base64 bytes ∷ back)
 letters_are text front field back low high bytes is_bytes whole read =
-    let all = join_bytes 36 (front ++ field ∷ back) (subst IsBytes whole is_bytes) in
-    let letters = bytes_of_is low high field bytes (first_bytes field back (behind_bytes front (field ∷ back) all)) read in
+    let letters = bytes_of_is low high field bytes (field_bytes 36 front field back (subst IsBytes whole is_bytes)) read in
     whole ∙ ap (λ f. join_with_byte 36 (front ++ f ∷ back)) letters
 
 setting_text_is : (text : List ℕ) (v : SettingValue) (front : List (List ℕ)) → IsFront false v.scheme front → text ≡ join_with_byte 36 (front ++ base64 v.salt ∷ []) → IsSettingText text v
 unfolding setting_text IsFront
 setting_text_is text v front (inl h) whole = (h.0, whole ∙ ap (λ f. join_with_byte 36 (f ++ base64 v.salt ∷ [])) h.1)
 setting_text_is text v front (inr h) whole = cc (h.0)
-
--- the fields of a setting's text
-setting_whole : (text : List ℕ) (fields front rest : List (List ℕ)) (salt : List ℕ) → text ≡ join_with_byte 36 fields → fields ≡ front ++ salt ∷ rest → rest ≡ []
-    → text ≡ join_with_byte 36 (front ++ salt ∷ [])
-setting_whole text fields front rest salt joined cut last = joined ∙ ap (join_with_byte 36) (cut ∙ ap (λ r. front ++ salt ∷ r) last)
 
 -- what is read as a setting is its text
 pub found_setting : (text : List ℕ) (v : SettingValue) → IsBytes text → read_setting text ≡ Ok v → IsSettingText text v
@@ -80,15 +74,10 @@ found_setting text v is_bytes e =
     let done = bind_ok (end setting.0.1) _ v setting.2 in
     let same : setting.0.0 ≡ v = cc (done.2) in
     let is = setting_is false fields.0 setting.0.1 setting.0.0 setting.1 in
-    let whole = setting_whole text fields.0 is.0 setting.0.1 is.1 (fields_is text fields.0 fields.1) is.3 (end_ok setting.0.1 done.0 done.1) in
+    let last : fields.0 ≡ is.0 ++ is.1 ∷ [] = is.3 ∙ ap (λ r. is.0 ++ is.1 ∷ r) (end_ok setting.0.1 done.0 done.1) in
+    let whole = fields_is text fields.0 fields.1 ∙ ap (join_with_byte 36) last in
     let letters = letters_are text is.0 is.1 [] _ 48 setting.0.0.salt is_bytes whole is.4 in
     subst (λ w. IsSettingText text w) same (setting_text_is text setting.0.0 is.0 is.2 letters)
-
--- the fields of a record's text
-record_whole : (text : List ℕ) (fields front rest last : List (List ℕ)) (salt tag : List ℕ) → text ≡ join_with_byte 36 fields → fields ≡ front ++ salt ∷ rest → rest ≡ tag ∷ last → last ≡ []
-    → text ≡ join_with_byte 36 (front ++ salt ∷ tag ∷ [])
-record_whole text fields front rest last salt tag joined cut behind end =
-    joined ∙ ap (join_with_byte 36) (cut ∙ ap (λ r. front ++ salt ∷ r) (behind ∙ ap (λ l. tag ∷ l) end))
 
 -- both fields of letters
 record_letters : (text : List ℕ) (front : List (List ℕ)) (salt_field tag_field salt tag : List ℕ) (low : ℕ) → IsBytes text
@@ -117,7 +106,8 @@ found_record text v is_bytes e =
     let same : record_of setting.0.0 tag.0.0 ≡ v = cc (done.2) in
     let is = setting_is true fields.0 setting.0.1 setting.0.0 setting.1 in
     let last = tag_is setting.0.1 tag.0.1 tag.0.0 tag.1 in
-    let whole = record_whole text fields.0 is.0 setting.0.1 tag.0.1 is.1 last.0 (fields_is text fields.0 fields.1) is.3 last.1 (end_ok tag.0.1 done.0 done.1) in
+    let behind : setting.0.1 ≡ last.0 ∷ [] = last.1 ∙ ap (λ l. last.0 ∷ l) (end_ok tag.0.1 done.0 done.1) in
+    let whole = fields_is text fields.0 fields.1 ∙ ap (join_with_byte 36) (is.3 ∙ ap (λ r. is.0 ++ is.1 ∷ r) behind) in
     let letters = record_letters text is.0 is.1 last.0 setting.0.0.salt tag.0.0 _ is_bytes whole is.4 last.2 in
     subst (λ w. IsRecordText text w) same (record_text_is text (record_of setting.0.0 tag.0.0) is.0 is.2 letters)
 
@@ -196,8 +186,7 @@ old_differ : (scheme : Scheme) (salt tag : List ℕ) → is_current scheme ≡ f
     → join_with_byte 36 (scheme_fields scheme ++ salt ∷ tag ∷ []) ≡ join_with_byte 36 (bare_fields scheme ++ salt ∷ tag ∷ []) → ⊥
 old_differ (Argon2 V10 variant m t p) salt tag old same =
     longer (36 ∷ variant_name variant) (version_text V10) (join_with_byte 36 (argon_numbers m t p ∷ salt ∷ tag ∷ [])) same
-old_differ (Argon2 V13 variant m t p) salt tag old same = cc old
-old_differ (Scrypt ln r p) salt tag old same = cc old
+old_differ _ salt tag old same = cc old
 
 pub old_texts_differ : (v : RecordValue) → is_current v.setting.scheme ≡ false → record_text v ≡ bare_text v → ⊥
 unfolding record_text bare_text

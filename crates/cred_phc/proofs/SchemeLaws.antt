@@ -1,10 +1,8 @@
 -- The fields of a scheme, read and written.
-use Rattle.std.proofs.Common.{◌≡◌, ◌∙◌, ℕ, ◌*◌, ◌^◌, ◌<◌, ◌≤◌, ◌==◌, nat_le, nat_lt, Bool, true, false, ◌&&◌, ◌||◌, not, List, [], ◌∷◌, ◌++◌, length, take, Option, Some, Ok, Err, ◌⊎◌, inl, inr, codes, arith, refl, sym, ap}
-use borrow.Author.Tests.{leb-true, eqb-true, not-false}
-use Rattle.std.specs.{Cmp.first_so, Cmp.second_so, Str.bytes_eq, Option.ok_or}
-use Rattle.cred_argon.specs.declared.params.TheConstants.{MAX_LANES, MAX_MEMORY, MAX_PASSES}
+use Rattle.std.proofs.Common.{◌≡◌, ◌∙◌, ℕ, ◌^◌, ◌<◌, ◌==◌, Bool, true, false, ◌&&◌, ◌||◌, not, List, [], ◌∷◌, ◌++◌, length, take, Option, Some, Ok, Err, ◌⊎◌, inl, inr, codes, arith, refl, sym, ap, ap₂}
+use borrow.Author.Tests.{eqb-true, not-false}
+use Rattle.std.specs.{Cmp.second_so, Str.bytes_eq, Option.ok_or}
 use Rattle.cred_argon.specs.{declared.kind.Version.Version, declared.kind.Version.TheVariants.V10, declared.kind.Version.TheVariants.V13}
-use Rattle.cred_scrypt.specs.declared.params.TheConstants.{MAX_BLOCK_SIZE, MAX_BLOCKS, MAX_LN, MAX_ROWS}
 use Rattle.cred_phc.specs.declared.error.PhcError.TheVariants.{Shape, Version as WrongVersion, Params, Range, Scheme as NoScheme}
 use Rattle.cred_phc.specs.{declared.scheme.Scheme.Scheme, declared.scheme.Scheme.TheVariants.Argon2, declared.scheme.Scheme.TheVariants.Scrypt}
 use Rattle.cred_phc.specs.declared.scheme.Variant.{Variant}
@@ -12,10 +10,10 @@ use Rattle.cred_phc.specs.declared.scheme.Variant.TheVariants.{D, I, Id}
 use Rattle.cred_phc.specs.declared.scheme.Name.{Name}
 use Rattle.cred_phc.specs.declared.scheme.Name.TheVariants.{Argon2 as NamesArgon2, Scrypt as NamesScrypt}
 use Rattle.cred_phc.specs.{Fields.name_of, Fields.numbers_of, Names.variant_name}
-use Rattle.cred_phc.specs.Ranges.{between, argon_fits, scrypt_fits, scheme_fits, is_current}
+use Rattle.cred_phc.specs.Ranges.{argon_fits, scrypt_fits, scheme_fits, is_current}
 use Rattle.cred_phc.specs.Reading.{guard, next, argon_of, scrypt_of, version_of, version_at, numbers_at, argon_at, scrypt_at, named_at, scheme_at}
 use Rattle.cred_phc.specs.Text.{argon_numbers, scrypt_numbers, scheme_fields, bare_fields}
-use Rattle.cred_phc.proofs.CaseLaws.{both_true, left_true, right_true, if_some}
+use Rattle.std.proofs.{lemmas.Bool.and_from, lemmas.Bool.or_left, lemmas.Bool.or_right, lemmas.Bool.Decides.nat_tests, lemmas.Option.cond_some}
 use Rattle.cred_phc.proofs.StepLaws.{bind_ok, ok_or_ok, next_ok, guard_ok, ok_pair, some_choice, ok_choice, err_choice}
 use Rattle.cred_phc.proofs.FieldLaws.{same_bytes, numbers_of-text, numbers_is}
 
@@ -30,7 +28,7 @@ name_is field name e = elim (some_choice (bytes_eq field (codes "argon2d")) (Nam
     | inl h ↦ same_bytes _ _ h.0 ∙ ap name_text h.1
     | inr e ↦ elim (some_choice (bytes_eq field (codes "argon2id")) (NamesArgon2 Id) name _ e) [
       | inl h ↦ same_bytes _ _ h.0 ∙ ap name_text h.1
-      | inr e ↦ let h = if_some (bytes_eq field (codes "scrypt")) NamesScrypt name e in same_bytes _ _ h.0 ∙ ap name_text h.1
+      | inr e ↦ let h = cond_some (bytes_eq field (codes "scrypt")) NamesScrypt name e in same_bytes _ _ h.0 ∙ ap name_text h.1
     ]
   ]
 ]
@@ -85,35 +83,21 @@ numbers_at_is x y z scheme_of fields rest scheme e =
     let is = ok_pair made.0 scheme field.0.1 rest made.2 in
     (field.0.0, n.0, next_ok fields field.0 field.1 ∙ ap (λ r. field.0.0 ∷ r) is.1, ok_or_ok _ Params n.0 n.1, ok_or_ok _ Range made.0 made.1 ∙ ap Some is.0)
 
-between_high : (low high n : ℕ) → between low high n ≡ true → n ≤ high
-between_high low high n h = leb-true n high (second_so (nat_le low n) (nat_le n high) h)
-
 pub argon_small : (m t p : ℕ) → argon_fits m t p ≡ true → (m < 2 ^ 64) × (t < 2 ^ 64) × (p < 2 ^ 64)
-argon_small m t p h =
-    let front = first_so (between 1 MAX_LANES p && between 1 MAX_PASSES t) (between (8 * p) MAX_MEMORY m) h in
-    let m_high = between_high (8 * p) MAX_MEMORY m (second_so (between 1 MAX_LANES p && between 1 MAX_PASSES t) _ h) in
-    let t_high = between_high 1 MAX_PASSES t (second_so (between 1 MAX_LANES p) _ front) in
-    let p_high = between_high 1 MAX_LANES p (first_so _ (between 1 MAX_PASSES t) front) in
-    (omega arith, omega arith, omega arith)
+argon_small m t p h = (grind (arith, nat_tests), grind (arith, nat_tests), grind (arith, nat_tests))
 
 pub scrypt_small : (ln r p : ℕ) → scrypt_fits ln r p ≡ true → (ln < 2 ^ 64) × (r < 2 ^ 64) × (p < 2 ^ 64)
-scrypt_small ln r p h =
-    let three = first_so (between 1 MAX_LN ln && between 1 MAX_BLOCK_SIZE r && between 1 MAX_BLOCKS p) (nat_lt ln (16 * r)) (first_so _ (nat_le (r * 2 ^ ln) MAX_ROWS) h) in
-    let two = first_so (between 1 MAX_LN ln && between 1 MAX_BLOCK_SIZE r) (between 1 MAX_BLOCKS p) three in
-    let ln_high = between_high 1 MAX_LN ln (first_so _ (between 1 MAX_BLOCK_SIZE r) two) in
-    let r_high = between_high 1 MAX_BLOCK_SIZE r (second_so (between 1 MAX_LN ln) _ two) in
-    let p_high = between_high 1 MAX_BLOCKS p (second_so (between 1 MAX_LN ln && between 1 MAX_BLOCK_SIZE r) _ three) in
-    (omega arith, omega arith, omega arith)
+scrypt_small ln r p h = (grind (arith, nat_tests), grind (arith, nat_tests), grind (arith, nat_tests))
 
 argon_front : (old : Bool) (variant : Variant) (version : Version) (m t p : ℕ) (fields behind rest : List (List ℕ)) → VersionIs old fields version behind → behind ≡ argon_numbers m t p ∷ rest
     → (more : List (List ℕ)) × IsFront old (Argon2 version variant m t p) ([] ∷ variant_name variant ∷ more) × (fields ≡ more ++ rest)
 unfolding VersionIs IsFront
-argon_front old variant V13 m t p fields behind rest (inl h) e = (codes "v=19" ∷ argon_numbers m t p ∷ [], inl (right_true old, refl), h.1 ∙ ap (λ xs. codes "v=19" ∷ xs) e)
+argon_front old variant V13 m t p fields behind rest (inl h) e = (codes "v=19" ∷ argon_numbers m t p ∷ [], inl (or_right old true refl, refl), h.1 ∙ ap (λ xs. codes "v=19" ∷ xs) e)
 argon_front old variant V10 m t p fields behind rest (inl h) e = cc (h.0)
 argon_front old variant V13 m t p fields behind rest (inr (inl h)) e = cc (h.1)
 argon_front old variant V13 m t p fields behind rest (inr (inr h)) e = cc (h.1)
-argon_front old variant V10 m t p fields behind rest (inr (inl h)) e = (codes "v=16" ∷ argon_numbers m t p ∷ [], inl (left_true old false h.0, refl), h.2 ∙ ap (λ xs. codes "v=16" ∷ xs) e)
-argon_front old variant V10 m t p fields behind rest (inr (inr h)) e = (argon_numbers m t p ∷ [], inr (both_true old true h.0 refl, refl), h.2 ∙ e)
+argon_front old variant V10 m t p fields behind rest (inr (inl h)) e = (codes "v=16" ∷ argon_numbers m t p ∷ [], inl (or_left old false h.0, refl), h.2 ∙ ap (λ xs. codes "v=16" ∷ xs) e)
+argon_front old variant V10 m t p fields behind rest (inr (inr h)) e = (argon_numbers m t p ∷ [], inr (and_from old true h.0 refl, refl), h.2 ∙ e)
 
 argon_is : (old : Bool) (variant : Variant) (fields rest : List (List ℕ)) (scheme : Scheme) → argon_at old variant fields ≡ Ok (scheme, rest)
     → (more : List (List ℕ)) × IsFront old scheme ([] ∷ variant_name variant ∷ more) × (fields ≡ more ++ rest)
@@ -122,7 +106,7 @@ argon_is old variant fields rest scheme e =
     let version = bind_ok (version_at old fields) _ (scheme, rest) e in
     let numbers = numbers_at_is (codes "m=") (codes "t=") (codes "p=") (argon_of version.0.0 variant) version.0.1 rest scheme version.2 in
     let n = numbers.1 in
-    let made = if_some (argon_fits n.0 n.1 n.2) (Argon2 version.0.0 variant n.0 n.1 n.2) scheme numbers.4 in
+    let made = cond_some (argon_fits n.0 n.1 n.2) (Argon2 version.0.0 variant n.0 n.1 n.2) scheme numbers.4 in
     let small = argon_small n.0 n.1 n.2 made.0 in
     let written = numbers_is (codes "m=") (codes "t=") (codes "p=") numbers.0 n numbers.3 small.0 small.1 small.2 in
     let front = argon_front old variant version.0.0 n.0 n.1 n.2 fields version.0.1 rest (version_is old fields version.0.1 version.0.0 version.1) (numbers.2 ∙ ap (λ f. f ∷ rest) written) in
@@ -134,10 +118,10 @@ unfolding scrypt_at IsFront
 scrypt_is old fields rest scheme e =
     let numbers = numbers_at_is (codes "ln=") (codes "r=") (codes "p=") scrypt_of fields rest scheme e in
     let n = numbers.1 in
-    let made = if_some (scrypt_fits n.0 n.1 n.2) (Scrypt n.0 n.1 n.2) scheme numbers.4 in
+    let made = cond_some (scrypt_fits n.0 n.1 n.2) (Scrypt n.0 n.1 n.2) scheme numbers.4 in
     let small = scrypt_small n.0 n.1 n.2 made.0 in
     let written = numbers_is (codes "ln=") (codes "r=") (codes "p=") numbers.0 n numbers.3 small.0 small.1 small.2 in
-    rw (← made.1) (scrypt_numbers n.0 n.1 n.2 ∷ [], inl (right_true old, refl), numbers.2 ∙ ap (λ f. f ∷ rest) written)
+    rw (← made.1) (scrypt_numbers n.0 n.1 n.2 ∷ [], inl (or_right old true refl, refl), numbers.2 ∙ ap (λ f. f ∷ rest) written)
 
 named_is : (old : Bool) (name : Name) (fields rest : List (List ℕ)) (scheme : Scheme) → named_at old name fields ≡ Ok (scheme, rest)
     → (more : List (List ℕ)) × IsFront old scheme ([] ∷ name_text name ∷ more) × (fields ≡ more ++ rest)
@@ -147,10 +131,6 @@ named_is old NamesScrypt fields rest scheme e = scrypt_is old fields rest scheme
 empty_is : (xs : List ℕ) → (length xs == 0) ≡ true → xs ≡ []
 empty_is [] h = refl
 empty_is (x ∷ xs) h = absurd (omega (arith, eqb-true _ _ h))
-
-fields_joined : (fields second third more rest : List (List ℕ)) (front field name : List ℕ) → fields ≡ front ∷ second → front ≡ [] → second ≡ field ∷ third → field ≡ name → third ≡ more ++ rest
-    → fields ≡ [] ∷ name ∷ more ++ rest
-fields_joined fields second third more rest front field name first_is front_is second_is name_is third_is = rw (first_is, front_is, second_is, name_is, third_is) refl
 
 -- what is read as a scheme begins with its fields
 pub scheme_is : (old : Bool) (fields rest : List (List ℕ)) (scheme : Scheme) → scheme_at old fields ≡ Ok (scheme, rest)
@@ -164,7 +144,8 @@ scheme_is old fields rest scheme e =
     let named = named_is old name.0 field.0.1 rest scheme name.2 in
     let front_is = empty_is front.0.0 (guard_ok _ Shape bare.0 bare.1) in
     let name_is = name_is field.0.0 name.0 (ok_or_ok _ NoScheme name.0 name.1) in
-    let whole = fields_joined fields front.0.1 field.0.1 named.0 rest front.0.0 field.0.0 (name_text name.0) (next_ok fields front.0 front.1) front_is (next_ok front.0.1 field.0 field.1) name_is named.2 in
+    let behind : front.0.1 ≡ name_text name.0 ∷ named.0 ++ rest = next_ok front.0.1 field.0 field.1 ∙ ap₂ (λ f fs. f ∷ fs) name_is named.2 in
+    let whole = next_ok fields front.0 front.1 ∙ ap₂ (λ f fs. f ∷ fs) front_is behind in
     ([] ∷ name_text name.0 ∷ named.0, named.1, whole)
 
 numbers_at-text : (x y z field : List ℕ) (scheme_of : ℕ × ℕ × ℕ → Option Scheme) (n : ℕ × ℕ × ℕ) (scheme : Scheme) (rest : List (List ℕ))
@@ -195,29 +176,16 @@ scheme_at-name : (old : Bool) (name : Name) (field : List ℕ) (more : List (Lis
 unfolding scheme_at
 scheme_at-name old name field more e = rw e refl
 
-new_version : (old : Bool) (variant : Variant) (more : List (List ℕ)) → argon_at old variant (codes "v=19" ∷ more) ≡ numbers_at (codes "m=") (codes "t=") (codes "p=") (argon_of V13 variant) more
-unfolding argon_at version_at
-new_version old variant more = refl
-
-old_version : (variant : Variant) (more : List (List ℕ)) → argon_at true variant (codes "v=16" ∷ more) ≡ numbers_at (codes "m=") (codes "t=") (codes "p=") (argon_of V10 variant) more
-unfolding argon_at version_at
-old_version variant more = refl
-
-no_version : (variant : Variant) (m t p : ℕ) (more : List (List ℕ))
-    → argon_at true variant (argon_numbers m t p ∷ more) ≡ numbers_at (codes "m=") (codes "t=") (codes "p=") (argon_of V10 variant) (argon_numbers m t p ∷ more)
-unfolding argon_at version_at
-no_version variant m t p more = refl
-
 -- the fields of a scheme are read as it
 pub scheme_at-front : (old : Bool) (front rest : List (List ℕ)) (scheme : Scheme) → scheme_fits scheme ≡ true → IsFront old scheme front
     → scheme_at old (front ++ rest) ≡ Ok (scheme, rest)
-unfolding IsFront
+unfolding IsFront argon_at version_at
 scheme_at-front old front rest (Argon2 V13 variant m t p) fits (inl h) =
-    rw h.1 (scheme_at-name old (NamesArgon2 variant) (variant_name variant) _ (variant_named variant) ∙ new_version old variant _ ∙ argon_numbers_at V13 variant m t p rest fits)
+    rw h.1 (scheme_at-name old (NamesArgon2 variant) (variant_name variant) _ (variant_named variant) ∙ argon_numbers_at V13 variant m t p rest fits)
 scheme_at-front true front rest (Argon2 V10 variant m t p) fits (inl h) =
-    rw h.1 (scheme_at-name true (NamesArgon2 variant) (variant_name variant) _ (variant_named variant) ∙ old_version variant _ ∙ argon_numbers_at V10 variant m t p rest fits)
+    rw h.1 (scheme_at-name true (NamesArgon2 variant) (variant_name variant) _ (variant_named variant) ∙ argon_numbers_at V10 variant m t p rest fits)
 scheme_at-front true front rest (Argon2 V10 variant m t p) fits (inr h) =
-    rw h.1 (scheme_at-name true (NamesArgon2 variant) (variant_name variant) _ (variant_named variant) ∙ no_version variant m t p rest ∙ argon_numbers_at V10 variant m t p rest fits)
+    rw h.1 (scheme_at-name true (NamesArgon2 variant) (variant_name variant) _ (variant_named variant) ∙ argon_numbers_at V10 variant m t p rest fits)
 scheme_at-front false front rest (Argon2 V10 variant m t p) fits (inl h) = cc (h.0)
 scheme_at-front false front rest (Argon2 V10 variant m t p) fits (inr h) = cc (h.0)
 scheme_at-front old front rest (Argon2 V13 variant m t p) fits (inr h) = let no = second_so old false h.0 in cc no
@@ -225,12 +193,8 @@ scheme_at-front old front rest (Scrypt ln r p) fits (inl h) =
     rw h.1 (scheme_at-name old NamesScrypt (codes "scrypt") _ refl ∙ scrypt_numbers_at ln r p rest fits)
 scheme_at-front old front rest (Scrypt ln r p) fits (inr h) = let no = second_so old false h.0 in cc no
 
-old_refused : (variant : Variant) (more : List (List ℕ)) → argon_at false variant (codes "v=16" ∷ more) ≡ Err WrongVersion
-unfolding argon_at version_at
-old_refused variant more = refl
-
 -- where version 0x10 isn't allowed, it is refused
 pub old_scheme_refused : (scheme : Scheme) (rest : List (List ℕ)) → is_current scheme ≡ false → scheme_at false (scheme_fields scheme ++ rest) ≡ Err WrongVersion
-old_scheme_refused (Argon2 V10 variant m t p) rest old = scheme_at-name false (NamesArgon2 variant) (variant_name variant) _ (variant_named variant) ∙ old_refused variant _
-old_scheme_refused (Argon2 V13 variant m t p) rest old = cc old
-old_scheme_refused (Scrypt ln r p) rest old = cc old
+unfolding argon_at version_at
+old_scheme_refused (Argon2 V10 variant m t p) rest old = scheme_at-name false (NamesArgon2 variant) (variant_name variant) _ (variant_named variant)
+old_scheme_refused _ rest old = cc old

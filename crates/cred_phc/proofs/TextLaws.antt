@@ -81,29 +81,14 @@ unfolding IsFront
 front_fits old scheme front fits (inl h) = rw h.1 (scheme_fields_fit scheme fits)
 front_fits old scheme front fits (inr h) = rw h.1 (bare_fields_fit scheme fits)
 
-unfoldable pub AllBytes : List (List ℕ) → Type 0
-AllBytes [] = Unit {0}
-AllBytes (field ∷ fields) = IsBytes field × AllBytes fields
-
 back_bytes : (a b : List ℕ) → IsBytes (a ++ b) → IsBytes b
 back_bytes [] b h = h
 back_bytes (x ∷ a) b h = back_bytes a b (λ i. h (suc i))
 
--- the fields of a text of bytes
-pub join_bytes : (byte : ℕ) (fields : List (List ℕ)) → IsBytes (join_with_byte byte fields) → AllBytes fields
-unfolding AllBytes
-join_bytes byte [] h = tt
-join_bytes byte (field ∷ []) h = (h, tt)
-join_bytes byte (field ∷ next ∷ more) h = (
-  front_bytes field (byte ∷ join_with_byte byte (next ∷ more)) h,
-  join_bytes byte (next ∷ more) (λ i. back_bytes field (byte ∷ join_with_byte byte (next ∷ more)) h (suc i)),
-)
-
-pub behind_bytes : (front back : List (List ℕ)) → AllBytes (front ++ back) → AllBytes back
-unfolding AllBytes
-behind_bytes [] back h = h
-behind_bytes (field ∷ front) back h = behind_bytes front back h.1
-
-pub first_bytes : (field : List ℕ) (fields : List (List ℕ)) → AllBytes (field ∷ fields) → IsBytes field
-unfolding AllBytes
-first_bytes field fields h = h.0
+-- a field of a text of bytes
+pub field_bytes : (byte : ℕ) (front : List (List ℕ)) (field : List ℕ) (back : List (List ℕ)) → IsBytes (join_with_byte byte (front ++ field ∷ back)) → IsBytes field
+field_bytes byte [] field [] h = h
+field_bytes byte [] field (next ∷ back) h = front_bytes field (byte ∷ join_with_byte byte (next ∷ back)) h
+field_bytes byte (first ∷ []) field back h = field_bytes byte [] field back (λ i. back_bytes first (byte ∷ join_with_byte byte (field ∷ back)) h (suc i))
+field_bytes byte (first ∷ next ∷ front) field back h =
+    field_bytes byte (next ∷ front) field back (λ i. back_bytes first (byte ∷ join_with_byte byte (next ∷ front ++ field ∷ back)) h (suc i))

@@ -1,7 +1,7 @@
 //! Laws of `==` and of the definitions that contracts cite. A law about definitions is a
 //! function that does nothing.
 
-ghost use Rattle.std.specs.Prelude.{◌≡◌, ◌↔◌, codes, false, replicate, true, IsTrue, List, ℕ};
+ghost use Rattle.std.specs.Prelude.{◌≡◌, ◌↔◌, ◌++◌, codes, false, replicate, true, IsTrue, List, ℕ};
 ghost use Rattle.base64.specs.GeneralPurpose.{IsBytes};
 ghost use Rattle.cred_phc.specs.Faults.{record_fault, setting_fault};
 ghost use Rattle.cred_phc.specs.Ranges.{MAX_PASSWORD, MAX_SALT, MAX_TAG, MAX_TEXT, MIN_ARGON2_SALT, MIN_SCRYPT_SALT, MIN_TAG, is_current};
@@ -122,16 +122,17 @@ pub fn known_texts()
         ≡ codes
         "$argon2id$v=19$m=256,t=2,p=1$c29tZXNhbHQ$nf65EOgLrQMR/uIPnA4rEsF5h7TKyQwu9U1bMCHGi/4" }
     ensures argon2d { record_text argon2d_record
-        ≡ codes
-        "$argon2d$v=19$m=32,t=3,p=4$AgICAgICAgICAgICAgICAg$USs5G28RYpdTcdMJGXNClPho4745hPPBoTpNufq+Sss" }
+        ≡ codes "$argon2d$v=19$m=32,t=3,p=4$AgICAgICAgICAgICAgICAg$"
+        ++ codes "USs5G28RYpdTcdMJGXNClPho4745hPPBoTpNufq+Sss" }
     ensures old_argon2i { bare_text old_argon2i_record
         ≡ codes "$argon2i$m=256,t=2,p=1$c29tZXNhbHQ$/U3YPXYsSb3q9XxHvc0MLxur+GP960kN9j7emXX8zwY" }
     ensures written_old_argon2i { record_text old_argon2i_record
         ≡ codes
         "$argon2i$v=16$m=256,t=2,p=1$c29tZXNhbHQ$/U3YPXYsSb3q9XxHvc0MLxur+GP960kN9j7emXX8zwY" }
     ensures scrypt { record_text scrypt_record
-        ≡ codes
-        "$scrypt$ln=10,r=8,p=16$TmFDbA$/bq+HJ00cgB4VucZDQHp/nxq18vII3gw53N2Y0s3MWIurzDZLiKjiG/xCSedmDDaxyevuUqD7m2DYMvfoswGQA" }
+        ≡ codes "$scrypt$ln=10,r=8,p=16$TmFDbA$"
+        ++ codes
+        "/bq+HJ00cgB4VucZDQHp/nxq18vII3gw53N2Y0s3MWIurzDZLiKjiG/xCSedmDDaxyevuUqD7m2DYMvfoswGQA" }
     ensures setting { setting_text argon2id_record.setting
         ≡ codes "$argon2id$v=19$m=256,t=2,p=1$c29tZXNhbHQ" }
 {}

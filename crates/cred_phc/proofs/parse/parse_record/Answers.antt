@@ -4,16 +4,12 @@ use Rattle.cred_phc.proofs.RecordLaws.{both_of, found_record, only_record}
 use Rattle.cred_phc.proofs.FaultLaws.{record_fault_law, refused_with, no_fault}
 use Rattle.cred_phc.proofs.parse.parse_record.Goals as goal
 
-pub returns-clause-found : goal.returns-clause-found
-returns-clause-found c =
-    both_of IsRecord (λ v. IsRecordText c.args.text.now v) _ _ c.whole_record.ensures.exact c.whole_record.ensures.ranges
-    (λ v read. found_record c.args.text.now v (λ i. omega (arith, c.type_inv.text i)) read)
-
-pub returns-clause-only : goal.returns-clause-only
-returns-clause-only c = λ v h is. c.whole_record.ensures.exact ∙ only_record _ v h is
-
-pub returns-clause-fault : goal.returns-clause-fault
-returns-clause-fault c = refused_with _ _ _ c.whole_record.ensures.exact (record_fault_law c.args.text.now)
-
-pub returns-clause-none : goal.returns-clause-none
-returns-clause-none c = no_fault _ _ _ c.whole_record.ensures.exact (record_fault_law c.args.text.now)
+pub returns : goal.returns
+returns c = record {
+  found = both_of IsRecord (λ v. IsRecordText c.args.text.now v) _ _ c.whole_record.ensures.exact c.whole_record.ensures.ranges
+      (λ v read. found_record c.args.text.now v (λ i. omega (arith, c.type_inv.text i)) read);
+  only = λ v h is. c.whole_record.ensures.exact ∙ only_record _ v h is;
+  fault = refused_with _ _ _ c.whole_record.ensures.exact (record_fault_law c.args.text.now);
+  none = no_fault _ _ _ c.whole_record.ensures.exact (record_fault_law c.args.text.now);
+  exact = c.whole_record.ensures.exact;
+}
