@@ -1,12 +1,11 @@
 -- What a commit changes: what its work told, or nothing.
-use Rattle.std.proofs.Common.{◌≡◌, ℕ, List, Bool, true, false, cond, Option, Some, None, MatchOption, if◌then◌else◌, not, refl, sym, ap, ◌∙◌}
+use Rattle.std.proofs.Common.{◌≡◌, Bool, true, false, Option, Some, None, MatchOption, if◌then◌else◌, not, refl, ap, ◌∙◌}
+use Rattle.std.proofs.lemmas.Bool.{cond_both}
 use Rattle.std.specs.FinMap as map
-use Rattle.std.specs.{Ordering.is_eq, Cmp.Lexicographic.nat_list_cmp_total, declared.cmp.Ordering.Ordering}
-use Rattle.std.specs.declared.cmp.Ordering.TheVariants.{Less, Equal, Greater}
 use Rattle.cred_phc.specs.Values.{RecordValue}
 use Rattle.cred_book.specs.{Accounts.Accounts, Changes.change_with, Changes.change_of, Changes.judged_book}
 use Rattle.cred_book.specs.Commits.{commit_outcome, commit_outcome_at, commit_outcome_if, judgement, judgement_at, judgement_if}
-use Rattle.cred_book.specs.{Names.name_cmp, Works.Task, Works.name_of, Works.same, Works.same_scheme, Works.whole, Works.makes_change, Works.right}
+use Rattle.cred_book.specs.{Works.Task, Works.name_of, Works.same, Works.same_scheme, Works.whole, Works.makes_change, Works.right}
 use Rattle.cred_book.specs.{declared.reply.Reply.Reply, declared.request.Request.Request}
 use Rattle.cred_book.specs.declared.request.Request.TheVariants.{Enrol, Verify, Change as Replace, Upgrade, Remove}
 use Rattle.cred_book.proofs.{Equality.same-Decides, Rows.row_again}
@@ -17,29 +16,16 @@ Outcome = Reply × Option RecordValue
 abbrev IsStill : Option RecordValue → Outcome → Type 0
 IsStill now outcome = makes_change outcome.0 ≡ false → outcome.1 ≡ now
 
--- of one of two outcomes, and of one of three
-two : (now : Option RecordValue) (r : Bool) (a b : Outcome) → IsStill now a → IsStill now b → IsStill now (if r then a else b)
-two now true a b first second = first
-two now false a b first second = second
-
-three : (now : Option RecordValue) (r s : Bool) (a b d : Outcome) → IsStill now a → IsStill now b → IsStill now d → IsStill now (if not r then a else if s then b else d)
-three now true true a b d first second third = second
-three now true false a b d first second third = third
-three now false s a b d first second third = first
-
 -- where an operation makes no change, it leaves what stood
 pub whole_stays : (request : Request) (now : Option RecordValue) → IsStill now (whole request now)
 whole_stays (Enrol name pw setting) None = λ stays. absurd cc
-whole_stays (Enrol name pw setting) (Some stored) = λ stays. refl
-whole_stays (Verify name pw) None = λ stays. refl
-whole_stays (Verify name pw) (Some stored) = λ stays. refl
-whole_stays (Replace name pw new setting) None = λ stays. refl
-whole_stays (Replace name pw new setting) (Some stored) = two (Some stored) (right stored pw) _ _ (λ h. absurd cc) (λ h. refl)
-whole_stays (Upgrade name pw setting) None = λ stays. refl
+whole_stays (Replace name pw new setting) (Some stored) = cond_both (right stored pw) _ _ (IsStill (Some stored)) (λ _ h. absurd cc) (λ _ h. refl)
 whole_stays (Upgrade name pw setting) (Some stored) =
-    three (Some stored) (right stored pw) (same_scheme stored.setting.scheme setting.scheme) _ _ _ (λ h. refl) (λ h. refl) (λ h. absurd cc)
-whole_stays (Remove name pw) None = λ stays. refl
-whole_stays (Remove name pw) (Some stored) = two (Some stored) (right stored pw) _ _ (λ h. absurd cc) (λ h. refl)
+    cond_both (not (right stored pw)) _ _ (IsStill (Some stored)) (λ _ h. refl)
+    (λ _. cond_both (same_scheme stored.setting.scheme setting.scheme) _ _ (IsStill (Some stored)) (λ _ h. refl) (λ _ h. absurd cc))
+whole_stays (Remove name pw) (Some stored) = cond_both (right stored pw) _ _ (IsStill (Some stored)) (λ _ h. absurd cc) (λ _ h. refl)
+whole_stays (Verify name pw) (Some stored) = λ stays. refl
+whole_stays _ _ = λ stays. refl
 
 module _ (book : Accounts) (work : Task) where
   -- the answer and the book after it are those of the change that was told

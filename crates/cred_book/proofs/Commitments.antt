@@ -1,11 +1,10 @@
 -- A commit and a judgement, by what stands at the name.
-use Rattle.std.proofs.Common.{◌≡◌, ℕ, List, Bool, true, false, Option, Some, None, Result, Ok, Err, is_some, refl, sym, ap, ◌∙◌}
+use Rattle.std.proofs.Common.{◌≡◌, ℕ, List, Bool, true, false, Option, Some, None, Err, refl, sym, ap, ◌∙◌}
 use Rattle.std.specs.FinMap as map
-use Rattle.std.specs.Result.{is_ok}
 use Rattle.cred_phc.specs.Values.{RecordValue}
-use Rattle.cred_book.specs.{Accounts.Accounts, Calls.Loads, Calls.Shows, declared.error.BookError.BookError}
+use Rattle.cred_book.specs.{Accounts.Accounts, Calls.Shows, declared.error.BookError.BookError}
 use Rattle.cred_book.specs.declared.error.BookError.TheVariants as error
-use Rattle.cred_book.specs.Commits.{Sets, commit_outcome, commit_outcome_at, commit_outcome_if, judgement, judgement_at, judgement_if}
+use Rattle.cred_book.specs.Commits.{commit_outcome, commit_outcome_at, commit_outcome_if, judgement, judgement_at, judgement_if}
 use Rattle.cred_book.specs.{Works.Task, Works.name_of, Works.same, Works.whole, Works.makes_change, declared.reply.Reply.Reply}
 use Rattle.cred_book.specs.declared.reply.Reply.TheVariants as reply
 use Rattle.cred_book.proofs.{Changes.insert_again, Equality.same-Decides}
@@ -50,7 +49,4 @@ module _ (book : Accounts) (work : Task) (name : List ℕ) (is : name ≡ name_o
 -- what isn't shown isn't there
 pub not_shown : (book : Accounts) (name : List ℕ) (e : BookError) → Shows book name (Err e) → map.get book name ≡ None
 not_shown book name error.NoAccount h = h
-not_shown book name error.Exists h = absurd h
-not_shown book name error.Full h = absurd h
-not_shown book name error.Name h = absurd h
-not_shown book name error.Memory h = absurd h
+not_shown book name _ h = absurd h

@@ -20,8 +20,7 @@ second false b h = absurd h
 
 less : (o : Ordering) → T (is_lt o) → o ≡ Less
 less Less h = refl
-less Equal h = absurd h
-less Greater h = absurd h
+less _ h = absurd h
 
 -- whether x is another key than q
 abbrev pub other : {K : Type 0} → (K → K → Ordering) → K → K → Bool

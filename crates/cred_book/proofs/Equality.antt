@@ -11,19 +11,13 @@ use Rattle.cred_book.specs.Works.{same_version, same_variant, same_scheme, same_
 version : (a b : Version) → Decides (same_version a b) (a ≡ b)
 version V10 V10 = (λ _. refl, λ _. refl)
 version V13 V13 = (λ _. refl, λ _. refl)
-version V10 V13 = (λ h. cc, λ e. cc)
-version V13 V10 = (λ h. cc, λ e. cc)
+version _ _ = (λ h. cc, λ e. cc)
 
 variant : (a b : Variant) → Decides (same_variant a b) (a ≡ b)
 variant D D = (λ _. refl, λ _. refl)
 variant I I = (λ _. refl, λ _. refl)
 variant Id Id = (λ _. refl, λ _. refl)
-variant D I = (λ h. cc, λ e. cc)
-variant D Id = (λ h. cc, λ e. cc)
-variant I D = (λ h. cc, λ e. cc)
-variant I Id = (λ h. cc, λ e. cc)
-variant Id D = (λ h. cc, λ e. cc)
-variant Id I = (λ h. cc, λ e. cc)
+variant _ _ = (λ h. cc, λ e. cc)
 
 -- two tests of two parts
 both : {P Q R : Type 0} (x y : Bool) → Decides x P → Decides y Q → (P → Q → R) → (R → P) → (R → Q) → Decides (x && y) R
@@ -37,8 +31,7 @@ scheme (Argon2 v k m t p) (Argon2 v' k' m' t' p') =
 scheme (Scrypt ln r p) (Scrypt ln' r' p') =
     both _ _ (Decides-eqb ln ln') (both _ _ (Decides-eqb r r') (Decides-eqb p p') (λ e f. (e, f)) (λ h. h.0) (λ h. h.1))
     (λ (e : ln ≡ ln') (f : (r ≡ r') × (p ≡ p')). cc) (λ h. cc) (λ h. (cc, cc))
-scheme (Argon2 v k m t p) (Scrypt ln r p') = (λ h. cc, λ e. cc)
-scheme (Scrypt ln r p) (Argon2 v k m t p') = (λ h. cc, λ e. cc)
+scheme _ _ = (λ h. cc, λ e. cc)
 
 equal_parts : (a b : RecordValue) → a.setting.scheme ≡ b.setting.scheme → a.setting.salt ≡ b.setting.salt → a.tag ≡ b.tag → a ≡ b
 equal_parts a b scheme salt tag = ap (λ s. record_of (setting_of s a.setting.salt) a.tag) scheme ∙ ap (λ s. record_of (setting_of b.setting.scheme s) a.tag) salt ∙ ap (record_of b.setting) tag
@@ -51,6 +44,5 @@ record_decides a b =
 
 pub same-Decides : (a b : Option RecordValue) → Decides (same a b) (a ≡ b)
 same-Decides None None = (λ _. refl, λ _. refl)
-same-Decides None (Some b) = (λ h. cc, λ e. cc)
-same-Decides (Some a) None = (λ h. cc, λ e. cc)
 same-Decides (Some a) (Some b) = Decides-like (same_record a b) (λ e. ap Some e) (λ e. cc) (record_decides a b)
+same-Decides _ _ = (λ h. cc, λ e. cc)

@@ -1,13 +1,13 @@
 -- What entries in order say of their map, and what a write among a book's entries does to it.
 use Rattle.std.proofs.Common.{refl, ◌≡◌, ℕ, ◌<◌, ◌≤◌, List, [], ◌++◌, append-nil, length, get_or, set, Bool, cond, not, T, Option, Some, None, true, false, is_some, sym, ap, subst, ◌∙◌, arith}
-use Rattle.std.proofs.lemmas.{Bool.lt-ltb, Bool.le-ltb, Cmp.alike_right}
+use Rattle.std.proofs.lemmas.Cmp.{alike_right}
 use Rattle.std.specs.{List.insert, List.remove, Ordering.is_eq, Ordering.eq_by_cmp}
 use Rattle.std.specs.FinMap as map
 use Rattle.std.specs.FinMap.Entries.{find-where_key, is_sorted-put, is_sorted-where_key, put, where_key}
 use Rattle.std.specs.{Cmp.eq_by_cmp_equiv, Cmp.Lexicographic.nat_list_cmp_total}
 use Rattle.std.proofs.{lemmas.List.Edits.length-insert, lemmas.List.Edits.length-remove, Math.ListN.length-set}
 use Rattle.cred_phc.specs.Values.{RecordValue}
-use Rattle.cred_book.specs.{Accounts.Accounts, Accounts.IsKept, Accounts.most_accounts, Accounts.with_entry, Names.name_cmp, Places.IsPlaceOf, Places.IsGapFor}
+use Rattle.cred_book.specs.{Accounts.Accounts, Accounts.IsKept, Accounts.most_accounts, Names.name_cmp, Places.IsPlaceOf, Places.IsGapFor}
 use Rattle.cred_book.proofs.{Entries.at_place, Entries.find_gap, Entries.other, Entries.put_gap, Entries.remove_place, Rows.same_rows}
 
 abbrev pub Entries : Type 0
@@ -94,17 +94,6 @@ module _ (entries : Entries) (capacity : ℕ) (kept : IsKept entries capacity) (
       few = rw (length-insert entries i (name, now) gap.within) (omega (arith, len_of entries kept.sorted book view, few));
       room = fits;
     }
-
--- what a put does, by the name and the room
-module _ (book : Accounts) (name : List ℕ) (now : Option RecordValue) where
-  pub with_known : map.contains_key book name ≡ true → with_entry book name now ≡ map.insert book name now
-  with_known there = rw there refl
-
-  pub with_new : map.contains_key book name ≡ false → map.len book < most_accounts → with_entry book name now ≡ map.insert book name now
-  with_new absent room = rw (absent, lt-ltb (map.len book) most_accounts room) refl
-
-  pub with_none : map.contains_key book name ≡ false → most_accounts ≤ map.len book → with_entry book name now ≡ book
-  with_none absent full = rw (absent, le-ltb (map.len book) most_accounts full) refl
 
 -- ---- the entries of another map, copied in order
 

@@ -1,5 +1,5 @@
 -- A row that is put at a key or taken away, and what puts back the rows that were there.
-use Rattle.std.proofs.Common.{◌≡◌, List, ℕ, Bool, true, false, Option, Some, None, is_some, cond, Ordering, Less, Equal, Greater, is_eq, refl, sym, ap, ◌∙◌}
+use Rattle.std.proofs.Common.{◌≡◌, List, ℕ, Bool, true, false, Option, Some, None, is_some, cond, Ordering, Equal, is_eq, refl, sym, ap, ◌∙◌}
 use Rattle.std.specs.{Ordering.eq_by_cmp, Cmp.Lexicographic.nat_list_cmp_total}
 use Rattle.std.specs.FinMap as map
 use Rattle.cred_phc.specs.Values.{RecordValue}
@@ -22,9 +22,8 @@ module _ {V : Type 0} (rows : Rows V) (key : List ℕ) where
   get_row (Some row) q = map.get-insert nat_list_cmp_total rows key row q
 
   tied : (row : Option V) → map.get rows key ≡ row → (q : List ℕ) (r : Ordering) → name_cmp q key ≡ r → cond (is_eq r) row (map.get rows q) ≡ map.get rows q
-  tied row is q Less c = refl
   tied row is q Equal c = sym is ∙ map.get_tied nat_list_cmp_total rows q key c
-  tied row is q Greater c = refl
+  tied row is q _ c = refl
 
   -- what stands may be put there again
   pub row_again : (row : Option V) → map.get rows key ≡ row → with_row rows key row ≡ rows

@@ -1,5 +1,5 @@
 -- Of which account an answer tells, and what of a password counts.
-use Rattle.std.proofs.Common.{◌≡◌, ◌≢◌, ℕ, List, length, Bool, true, false, cond, Option, Some, None, IfSome, unwrap_or, Ordering, Less, Equal, Greater, is_eq, refl, ap, ◌∙◌}
+use Rattle.std.proofs.Common.{◌≡◌, ◌≢◌, ℕ, List, length, Bool, true, false, cond, Option, Some, None, IfSome, unwrap_or, Ordering, Equal, is_eq, refl, ap, ◌∙◌}
 use Rattle.std.specs.FinMap as map
 use Rattle.std.specs.{Cmp.Lexicographic.nat_list_cmp_total, Ordering.eq_by_cmp, Str.bytes_eq}
 use Rattle.cred_phc.specs.{Values.RecordValue, Values.SettingValue, Values.record_of}
@@ -19,9 +19,8 @@ unfolding seq
 told one other r same = told_at one other r (map.get one (name_of r)) ∙ ap (λ now. (seq_at other r now).0) same
 
 is_equal : (o : Ordering) → is_eq o ≡ true → o ≡ Equal
-is_equal Less e = absurd cc
 is_equal Equal e = refl
-is_equal Greater e = absurd cc
+is_equal _ e = absurd cc
 
 -- names that differ don't tie
 module _ (name key : List ℕ) (other : name ≢ key) where
@@ -56,15 +55,11 @@ module _ (other : List ℕ → List ℕ) where
   pub as_whole : (r : Request) (now : Option RecordValue) → IfSome now (λ stored. KeepsTags other stored.setting (length stored.tag)) → IfSome (made_setting r) (λ setting. KeepsTags other setting 32)
       → whole (with_passwords other r) now ≡ whole r now
   as_whole (Enrol name pw setting) None standing made = ap (λ new. (reply.Enrolled, Some new)) (as_new setting pw made)
-  as_whole (Enrol name pw setting) (Some stored) standing made = refl
-  as_whole (Verify name pw) None standing made = refl
   as_whole (Verify name pw) (Some stored) standing made = rw (as_right stored pw standing) refl
-  as_whole (Change name pw new setting) None standing made = refl
   as_whole (Change name pw new setting) (Some stored) standing made = rw (as_right stored pw standing, as_new setting new made) refl
-  as_whole (Upgrade name pw setting) None standing made = refl
   as_whole (Upgrade name pw setting) (Some stored) standing made = rw (as_right stored pw standing, as_new setting pw made) refl
-  as_whole (Remove name pw) None standing made = refl
   as_whole (Remove name pw) (Some stored) standing made = rw (as_right stored pw standing) refl
+  as_whole _ _ standing made = refl
 
   as_at : (book : Accounts) (r : Request) (now : Option (Option RecordValue)) → name_of (with_passwords other r) ≡ name_of r → IfSome (unwrap_or now None) (λ stored. KeepsTags other stored.setting (length stored.tag))
       → IfSome (made_setting r) (λ setting. KeepsTags other setting 32) → seq_at book (with_passwords other r) now ≡ seq_at book r now

@@ -1,8 +1,7 @@
 -- Conditional updates are whole operations, one after another.
-use Rattle.std.proofs.Common.{◌≡◌, ◌⊎◌, inl, inr, List, [], ◌∷◌, ℕ, Bool, true, false, Option, Some, None, if◌then◌else◌, cond, Ordering, Less, Equal, Greater, is_eq, refl, sym, ap, ◌∙◌}
+use Rattle.std.proofs.Common.{◌≡◌, ◌⊎◌, inl, inr, List, [], ◌∷◌, ℕ, Bool, true, false, Option, Some, None, if◌then◌else◌, cond, Ordering, Equal, is_eq, refl, sym, ap, ◌∙◌}
 use Rattle.std.specs.Prelude.{unwrap_or}
 use Rattle.std.specs.FinMap as map
-use Rattle.std.specs.Cmp.Lexicographic.{nat_list_cmp_total}
 use Rattle.cred_phc.specs.Values.{RecordValue}
 use Rattle.cred_book.specs.{Accounts.Accounts, Commits.commit_outcome, Commits.commit_outcome_at, Commits.commit_outcome_if, Names.name_cmp}
 use Rattle.cred_book.specs.Updates.{HasDone, IsConditional, IsExact, IsLog, IsWorked, Rows, Update, answer, operation_of, operations_done, outcome_at, outcome_on, refusal, replies_done, seq_after, seq_replies, standing, store_after, update_of, updated, with_row}
@@ -87,9 +86,7 @@ module _ {V R : Type 0} (update : Update V R) where
       → ((between.is_done ≡ true) × (between.operation.key ≡ update.operation.key)) ⊎ (standing (updated rows between) update ≡ standing rows update)
   passed rows between false order is cmp = inr (ap (λ s. standing s update) (left rows between is))
   passed rows between true Equal is cmp = inl (is, sym (same_names _ _ cmp))
-  passed rows between true Less is cmp =
-      inr (ap (λ done. standing (updated_if rows between done) update) is ∙ get_other rows between.operation.key between.after update.operation.key (ap is_eq cmp))
-  passed rows between true Greater is cmp =
+  passed rows between true _ is cmp =
       inr (ap (λ done. standing (updated_if rows between done) update) is ∙ get_other rows between.operation.key between.after update.operation.key (ap is_eq cmp))
 
   pub refused : (rows : Rows V) (between : List (Update V R)) → standing rows update ≡ update.copy → IsExact (store_after rows between) update → update.is_done ≡ false → HasDone update.operation.key between

@@ -54,6 +54,7 @@ pub fn an_answer_tells_of_one_account()
 /// setting of the existing record, and under that of the record that the request may make: then the
 /// request has the same answer and leaves the same record. So no answer and no record tells more of
 /// a password than such a tag does.
+#[tactic(auto, using(crate::proofs::Telling::as_whole))]
 pub fn a_password_counts_by_its_tags()
     ensures { (other : List ℕ → List ℕ) (request : Request) (now : Option RecordValue)
         → IfSome now (λ stored. KeepsTags other stored.setting (length stored.tag))

@@ -1,5 +1,8 @@
-use Rattle.std.proofs.Common.{◌∙◌, arith, sym}
-use Rattle.cred_book.proofs.Kept.{is_there, is_absent, set_there, kept_set, insert_there, kept_insert, len_of, with_known, with_new, with_none}
+use Rattle.std.proofs.Common.{arith, refl}
+use Rattle.std.proofs.lemmas.Bool.{lt-ltb, le-ltb}
+use Rattle.std.specs.FinMap as map
+use Rattle.cred_book.specs.Accounts.{most_accounts}
+use Rattle.cred_book.proofs.Kept.{is_there, is_absent, set_there, kept_set, insert_there, kept_insert, len_of}
 use Rattle.cred_book.proofs.book.Book.put.Goals as goal
 
 pub invariant_of-self : goal.invariant_of-self
@@ -19,15 +22,16 @@ pub returns-in-Ok : goal.returns-in-Ok
 returns-in-Ok c =
     let place = rw c.deref.ensures.value at c.in-Ok.ensures in
     let there = is_there _ _ c.self.invariant _ c.self.view_is _ _ place c.index_mut.result.now in
-    rw c.index_mut.ensures.value (set_there _ _ c.self.invariant _ c.self.view_is _ _ place c.index_mut.result.now _) ∙ sym (with_known _ _ _ there)
+    rw (there, c.index_mut.ensures.value) (set_there _ _ c.self.invariant _ c.self.view_is _ _ place c.index_mut.result.now _)
 
 pub returns-in-Ok-insert : goal.returns-in-Ok-insert
 returns-in-Ok-insert c =
     let gap = rw c.deref.ensures.value at c.in-Err.ensures in
     let absent = is_absent _ _ c.self.invariant _ c.self.view_is _ _ gap in
-    rw c.in-Ok-insert.ensures.items (insert_there _ _ c.self.invariant _ c.self.view_is _ _ gap _) ∙ sym (with_new _ _ _ absent c.if-not-is_full.ensures)
+    rw (absent, lt-ltb (map.len c.args.self.now) most_accounts c.if-not-is_full.ensures, c.in-Ok-insert.ensures.items)
+    (insert_there _ _ c.self.invariant _ c.self.view_is _ _ gap _)
 
 pub returns-else-not-is_full : goal.returns-else-not-is_full
 returns-else-not-is_full c =
     let gap = rw c.deref.ensures.value at c.in-Err.ensures in
-    sym (with_none _ _ _ (is_absent _ _ c.self.invariant _ c.self.view_is _ _ gap) c.if-not-is_full.ensures)
+    rw (is_absent _ _ c.self.invariant _ c.self.view_is _ _ gap, le-ltb (map.len c.args.self.now) most_accounts c.if-not-is_full.ensures) refl
