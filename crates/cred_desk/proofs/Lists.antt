@@ -1,21 +1,15 @@
 -- Beginnings of one list, and books after entries.
-use Rattle.std.proofs.Common.{◌≡◌, ℕ, ◌+◌, ◌<◌, List, [], ◌∷◌, ◌++◌, length, Bool, true, false, MatchBool, Option, Some, None, inl, inr, refl, ap, subst, arith, length-append, get_or, sym}
+use Rattle.std.proofs.Common.{◌≡◌, ℕ, ◌+◌, ◌<◌, List, [], ◌∷◌, ◌++◌, length, Bool, false, Option, Some, None, inl, inr, refl, ap, subst, arith, length-append, get_or, sym}
 use Rattle.std.proofs.{lemmas.Bool.cases_eq, lemmas.List.get_or_read}
 use mathlib.Core.List.{IsPrefix}
 use Rattle.cred_book.specs.Accounts.{Accounts}
 use Rattle.cred_desk.specs.{declared.entry.Entry.Entry, Commits.list_after, Commits.weight}
 use Rattle.cred_desk.specs.Histories.{put, after, IsAllowed, IsLegal, IsListed, IsMade}
 use Rattle.grow_log.specs.Beginnings.{IsLonger}
-use Rattle.grow_log.proofs.Prefixes.{prefix_whole}
 
 -- a longer list is no beginning of a shorter one
 pub longer_ends : (xs ys : List Entry) → IsLonger xs ys → IsPrefix ys xs → ⊥
 longer_ends xs ys longer p = omega (arith, longer.1, ap length (p.1), length-append ys p.0)
-
--- of two beginnings of one list, those that are as long as one another are one
-pub same_length : (begins : Bool) (xs ys : List Entry) → MatchBool begins (IsPrefix xs ys) (IsLonger ys xs) → length xs ≡ length ys → xs ≡ ys
-same_length true xs ys p len = prefix_whole xs ys p (omega (arith, len))
-same_length false xs ys longer len = absurd (omega (arith, longer.1, len))
 
 -- the book after one entry more
 pub after_snoc : (book : Accounts) (list : List Entry) (entry : Entry) → after book (list ++ entry ∷ []) ≡ put (after book list) entry

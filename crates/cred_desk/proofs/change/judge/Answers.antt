@@ -1,4 +1,4 @@
-use Rattle.std.proofs.Common.{rules, ◌≡◌, true, ap, sym, ◌∙◌}
+use Rattle.std.proofs.Common.{◌≡◌, true, ap, sym, ◌∙◌}
 use Rattle.cred_book.specs.Commits.{judgement}
 use Rattle.cred_desk.specs.Commits.{HavePasswords}
 use Rattle.cred_desk.proofs.Changes.{entry_made}
@@ -10,9 +10,3 @@ returns-clause-made c =
     let held : HavePasswords work.0 = rw (← c.request-request.ensures) c.hold_passwords.ensures in
     let change : (judgement c.args.book.now work).2 ≡ true = ap (λ j. j.2) (sym c.judge-reply.ensures) ∙ c.if-not-change.false in
     rw (c.name-name.ensures, c.request-request.ensures, c.from-now.ensures, ap (λ j. j.1) c.judge-reply.ensures) (entry_made c.args.book.now work held change)
-
-pub returns-then-not-change-clause-reply : goal.returns-then-not-change-clause-reply
-returns-then-not-change-clause-reply c = search rules
-
-pub returns-clause-entry : goal.returns-clause-entry
-returns-clause-entry c = search rules

@@ -1,12 +1,9 @@
-use Rattle.std.proofs.Common.{List, get_or, subst}
-use mathlib.Core.List.{IsPrefix}
-use Rattle.cred_desk.specs.declared.entry.Entry.{Entry}
 use Rattle.cred_desk.proofs.kept_desk.KeptDesk.close.Goals as goal
 
 pub returns-in-Ok-clause-known : goal.returns-in-Ok-clause-known
 returns-in-Ok-clause-known g c =
     let known = rw c.deref.ensures.value at c.in-Ok.ensures.known in
-    λ k s lt. subst (λ (l : List Entry). IsPrefix (get_or c.args.sessions.items k s).known l) c.end-left.ensures.rest (known k s lt)
+    λ k s lt. rw (← c.end-left.ensures.rest) (known k s lt)
 
 pub returns-in-Err-clause-all : goal.returns-in-Err-clause-all
 returns-in-Err-clause-all g c = rw c.deref.ensures.value at c.in-Err.ensures.all
