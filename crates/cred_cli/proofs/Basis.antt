@@ -10,14 +10,11 @@ use Rattle.cred_cli.proofs.{Prompts.IsCalled, Writes.taken_later}
 -- ---- what a writer took
 
 module _ {W : Type 0} (contents : W → Option (List ℕ)) where
-  pub takes_nothing : (writer : Watched W) → TakesAsContracted contents writer writer
-  takes_nothing writer = ([], sym (append-nil (taken_of writer)), Appends-nil (contents (inner_of writer)))
-
   pub takes_more : (old mid new : Watched W) → TakesAsContracted contents old mid → TakesAsContracted contents mid new → TakesAsContracted contents old new
   takes_more old mid new (front, taken, held) (bytes, later, more) = (front ++ bytes, taken_later _ _ _ _ _ taken later, Appends-trans _ _ _ _ _ held more)
 
   pub unwritten : (writer : Watched W) → IsWritten contents writer writer
-  unwritten writer = record { named = refl; takes = takes_nothing writer }
+  unwritten writer = record { named = refl; takes = ([], sym (append-nil (taken_of writer)), Appends-nil (contents (inner_of writer))) }
 
   pub written_on : (old mid new : Watched W) → IsWritten contents old mid → IsWritten contents mid new → IsWritten contents old new
   written_on old mid new written more = record { named = more.named ∙ written.named; takes = takes_more old mid new written.takes more.takes }
@@ -104,10 +101,6 @@ called_on remaining contents reader writer accounts run name (Transcript all) ca
 -- ---- a new reader, whatever it is
 
 module _ {R : Type 0} (remaining : R → Option (List ℕ)) (old new : Watched R) (rest all : List ℕ) (fresh : given_of old ≡ []) (cut : all ≡ given_of new ++ rest) where
-  -- all that it had
-  pub had_all : left_on (Transcript all) remaining old ≡ Some all
-  had_all = ap (λ xs. Some (drop (length xs) all)) fresh
-
   pub as_transcript_reading : reading_on (Transcript all) remaining old new ≡ transcript_reading rest new
   as_transcript_reading =
       let had : drop (length (given_of old)) all ≡ given_of new ++ rest = ap (λ xs. drop (length xs) all) fresh ∙ cut in
@@ -118,7 +111,7 @@ module _ {R : Type 0} (remaining : R → Option (List ℕ)) (old new : Watched R
   -- so what is told of it in that basis may be told of what it gave
   pub as_passed : (P : Reading → List ℕ → Type 0) → IfSome (left_on (Transcript all) remaining old) (P (reading_on (Transcript all) remaining old new)) → P (transcript_reading rest new) all
   as_passed P told =
-      let at_all : P (reading_on (Transcript all) remaining old new) all = subst (λ known. IfSome known (P (reading_on (Transcript all) remaining old new))) had_all told in
+      let at_all : P (reading_on (Transcript all) remaining old new) all = subst (λ known. IfSome known (P (reading_on (Transcript all) remaining old new))) (ap (λ xs. Some (drop (length xs) all)) fresh) told in
       subst (λ r. P r all) as_transcript_reading at_all
 
 -- what came is all, if nothing else may come

@@ -1,12 +1,12 @@
 -- Events within bounds.
-use Rattle.std.proofs.Common.{◌≡◌, ℕ, suc, List, [], ◌∷◌, ◌++◌, length, Some, Bool, true, false, if◌then◌else◌, option_map, refl, ap, ◌∙◌, slice_get, codes}
-use Rattle.std.proofs.{lemmas.List.length-map, lemmas.Option.slice_get-map}
+use Rattle.std.proofs.Common.{◌≡◌, ℕ, suc, List, [], ◌∷◌, ◌++◌, length, Some, true, false, if◌then◌else◌, option_map, refl, ap, ◌∙◌, slice_get, get_or, codes}
+use Rattle.std.proofs.{lemmas.Bool.cond_both, lemmas.List.Folds.map_fixed, lemmas.List.length-map, lemmas.Option.slice_get-map}
 use Rattle.std.specs.Fmt.{digits}
 use Rattle.cred_book.specs.{Accounts.Accounts, declared.request.Request.TheVariants.Verify}
 use Rattle.cred_cli.specs.{declared.costs.CostBounds.CostBounds, declared.event.Event.Event}
 use Rattle.cred_cli.specs.{declared.event.Event.TheVariants.Account, declared.event.Event.TheVariants.Begin, declared.event.Event.TheVariants.Bad, History.after, History.answer_at, History.answer_of, History.book_at, History.deed_of, History.deeds_before, History.names_at, History.open_after, History.open_at}
 use Rattle.cred_cli.specs.{declared.refusal.Refusal.Refusal, declared.refusal.Refusal.TheVariants.Costly, Costs.events_within, Costs.is_costly, Costs.no_bounds, Costs.within, Script.events_of, Service.events_by, Service.unended, declared.policy.Mode.TheVariants.Script, Texts.line_of}
-use Rattle.cred_cli.proofs.{Names.book_at-suc, Openings.open_at-suc, Unended.map_same, Unended.unended_same}
+use Rattle.cred_cli.proofs.{Names.book_at-suc, Openings.open_at-suc, Unended.unended_same}
 
 -- nothing is too costly without bounds
 cheap : (event : Event) → is_costly no_bounds event ≡ false
@@ -16,7 +16,7 @@ cheap _ = refl
 
 -- without bounds each line of a script comes to what it asks for
 pub unbounded : (bytes : List ℕ) → events_by Script no_bounds bytes ≡ events_of bytes
-unbounded bytes = unended_same (unended Script) bytes (events_within no_bounds bytes) (λ event. refl) ∙ map_same (within no_bounds) (λ event. ap (λ test. if test then Bad Costly else event) (cheap event)) (events_of bytes)
+unbounded bytes = unended_same (unended Script) bytes (events_within no_bounds bytes) (λ event. refl) ∙ map_fixed (within no_bounds) (events_of bytes) (λ k d low. ap (λ test. if test then Bad Costly else get_or (events_of bytes) k d) (cheap (get_or (events_of bytes) k d)))
 
 -- there are as many
 pub length-within : (most : CostBounds) (bytes : List ℕ) → length (events_within most bytes) ≡ length (events_of bytes)
@@ -30,11 +30,7 @@ within_at most bytes i event here = slice_get-map (within most) (events_of bytes
 
 -- brings nothing that asks for more
 pub brings_no_more : (most : CostBounds) (event : Event) → is_costly most (within most event) ≡ false
-brings_no_more most event = by_test (is_costly most event) refl
-  where
-    by_test : (test : Bool) → is_costly most event ≡ test → is_costly most (if test then Bad Costly else event) ≡ false
-    by_test true costly = refl
-    by_test false cheap = cheap
+brings_no_more most event = cond_both (is_costly most event) (Bad Costly) event (λ e. is_costly most e ≡ false) (λ costly. refl) (λ cheap. cheap)
 
 pub costly_refused : (most : CostBounds) (event : Event) → is_costly most event ≡ true → within most event ≡ Bad Costly
 costly_refused most event costly = ap (λ test. if test then Bad Costly else event) costly

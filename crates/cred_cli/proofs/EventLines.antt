@@ -1,5 +1,6 @@
 -- An event's line is its words and fields.
-use Rattle.std.proofs.Common.{◌≡◌, ℕ, List, [], ◌∷◌, Bool, true, false, if◌then◌else◌, nat_lt, length, None, Result, Ok, Err, refl, ap, subst, ◌∙◌, codes}
+use Rattle.std.proofs.Common.{◌≡◌, ℕ, List, [], ◌∷◌, if◌then◌else◌, nat_lt, length, None, Result, Ok, Err, refl, ap, subst, ◌∙◌, codes}
+use Rattle.std.proofs.lemmas.Bool.{cond_both}
 use Rattle.std.specs.{List.join_with_byte, Str.bytes_eq}
 use Rattle.cred_phc.specs.{Pieces.pieces, Reading.◌>>=◌, Values.SettingValue}
 use Rattle.cred_phc.proofs.{FieldLaws.same_bytes, PieceLaws.join-pieces}
@@ -18,11 +19,7 @@ same_ok x y e = cc e
 
 -- a line's word is this one, by which it was read, or another
 chosen : {A P : Type 0} (word this : List ℕ) (x y : Result A Refusal) (z : A) → (if bytes_eq word this then x else y) ≡ Ok z → (word ≡ this → x ≡ Ok z → P) → (y ≡ Ok z → P) → P
-chosen {A} {P} word this x y z e is other = by_test (bytes_eq word this) refl e
-  where
-    by_test : (b : Bool) → bytes_eq word this ≡ b → (if b then x else y) ≡ Ok z → P
-    by_test true test e = is (same_bytes word this test) e
-    by_test false test e = other e
+chosen {A} {P} word this x y z e is other = cond_both (bytes_eq word this) x y (λ r. r ≡ Ok z → P) (λ test e. is (same_bytes word this test) e) (λ test e. other e) e
 
 -- ---- the fields behind a word
 
@@ -86,11 +83,9 @@ begun_line : (k word : List ℕ) (fields : List (List ℕ)) (event : Event) (rea
 begun_line k word fields event (Ok request) is e =
     let key = bound (key_field k) _ event e in
     rw (← same_ok (Begin key.0 request) event key.2) (k, word ∷ fields, refl, key.1, request_line word fields request is)
-begun_line k word fields event (Err why) is e = refused (is_line why) e
-  where
-    refused : (b : Bool) → (if b then Err why else (key_field k >>= λ key. Err why)) ≡ Ok event → IsLineOf event (codes "begin" ∷ k ∷ word ∷ fields)
-    refused true e = cc e
-    refused false e = let key = bound (key_field k) _ event e in cc key.2
+begun_line k word fields event (Err why) is e =
+    cond_both (is_line why) (Err why) (key_field k >>= λ key. Err why) (λ r. r ≡ Ok event → IsLineOf event (codes "begin" ∷ k ∷ word ∷ fields)) (λ test e. cc e)
+    (λ test e. let key = bound (key_field k) _ event e in cc key.2) e
 
 begin_line : (fields : List (List ℕ)) (event : Event) → begin_event fields ≡ Ok event → IsLineOf event (codes "begin" ∷ fields)
 begin_line (k ∷ word ∷ fields) event e = begun_line k word fields event (request_of None word fields) refl e
@@ -109,12 +104,8 @@ pub event_line : (line : List ℕ) → (words : List (List ℕ)) × (line ≡ jo
 unfolding event_of
 event_line line =
     let words = pieces 32 line in
-    (words, join-pieces 32 line words refl, go (nat_lt longest_line (length line)))
+    (words, join-pieces 32 line words refl, cond_both (nat_lt longest_line (length line)) (Bad Long) (or_bad (event_of_pieces words)) (λ event. IsLineOf event words) (λ long. tt) (λ short. read (event_of_pieces words) refl))
   where
     read : (answer : Result Event Refusal) → event_of_pieces (pieces 32 line) ≡ answer → IsLineOf (or_bad answer) (pieces 32 line)
     read (Ok event) is = words_line (pieces 32 line) event is
     read (Err why) is = tt
-
-    go : (long : Bool) → IsLineOf (if long then Bad Long else or_bad (event_of_pieces (pieces 32 line))) (pieces 32 line)
-    go true = tt
-    go false = read (event_of_pieces (pieces 32 line)) refl

@@ -1,12 +1,12 @@
 -- What a byte more, or the end, makes of a script.
 use Rattle.std.proofs.Common.{◌≡◌, ℕ, suc, ◌<◌, List, [], ◌∷◌, ◌++◌, length, take, map, option_map, Some, refl, sym, ap, ◌∙◌, arith, slice_get, get_or, drop, append_assoc, take-append-drop, inl, inr}
-use Rattle.std.proofs.{Math.Seq.drop-cons, lemmas.Bool.cases_lt, lemmas.List.length-append, lemmas.List.length-map, lemmas.List.length-take, lemmas.List.take-append-le, lemmas.List.take_all}
+use Rattle.std.proofs.{Math.Seq.drop-cons, lemmas.Bool.cases_lt, lemmas.List.length-append, lemmas.List.length-map, lemmas.List.length-take, lemmas.List.nil_from_length, lemmas.List.take-append-le, lemmas.List.take_all, lemmas.Option.slice_get-map}
 use Rattle.cred_cli.specs.{Costs.events_within, Costs.within, Events.event_of, Events.most_kept, Feeding.unfinished_from, Script.lines_of, Script.line_ends, Service.events_by, Service.unended, declared.costs.CostBounds.CostBounds, declared.policy.Mode.Mode}
 use Rattle.cred_cli.proofs.{Bounds.length-within, Bounds.within_at, Unended.ends_sooner, Unended.length-unended, Unended.unended_at, Unended.unended_last, Lines.whole_from, Lines.lines_of-line_end, Lines.lines_of-ended, Lines.lines_of-unfinished, Lines.length-whole_from, Lines.event_of-kept}
 
-get_seam : (front : List (List ℕ)) (line : List ℕ) (more : List (List ℕ)) → slice_get (map event_of (front ++ line ∷ more)) (length front) ≡ Some (event_of line)
-get_seam [] line more = refl
-get_seam (l ∷ ls) line more = get_seam ls line more
+pub get_seam : {A : Type 0} (front : List A) (x : A) (more : List A) → slice_get (front ++ x ∷ more) (length front) ≡ Some x
+get_seam [] x more = refl
+get_seam (y ∷ ys) x more = get_seam ys x more
 
 -- the line at place i, of which not all need be kept
 event_at : (most : CostBounds) (all whole : List ℕ) (line : List ℕ) (more : List (List ℕ)) → lines_of all ≡ whole_from [] whole ++ line ∷ more →
@@ -14,7 +14,8 @@ event_at : (most : CostBounds) (all whole : List ℕ) (line : List ℕ) (more : 
 event_at most all whole line more cut = within_at most all (line_ends whole) (event_of (take most_kept line)) (
     ap (λ lines. slice_get (map event_of lines) (line_ends whole)) cut
     ∙ ap (slice_get (map event_of (whole_from [] whole ++ line ∷ more))) (sym (length-whole_from [] whole))
-    ∙ get_seam (whole_from [] whole) line more
+    ∙ slice_get-map event_of (whole_from [] whole ++ line ∷ more) (length (whole_from [] whole))
+    ∙ ap (option_map event_of) (get_seam (whole_from [] whole) line more)
     ∙ ap Some (sym (event_of-kept line))
     )
 
@@ -27,8 +28,7 @@ ended_event mode most all front rest cut =
 
 -- bytes, of which not all need be kept
 pub none_kept : (start line : List ℕ) → start ≡ take most_kept line → length start ≡ 0 → line ≡ []
-none_kept start [] kept none = refl
-none_kept start (c ∷ cs) kept none = absurd (omega (arith, none, ap length kept, length-take most_kept (c ∷ cs)))
+none_kept start line kept none = nil_from_length line (omega (arith, none, ap length kept, length-take most_kept line))
 
 pub some_kept : (start line : List ℕ) → start ≡ take most_kept line → 0 < length start → 0 < length line
 some_kept start line kept some = omega (arith, some, ap length kept, length-take most_kept line)

@@ -1,5 +1,6 @@
 -- What stands at a place of a history is told by the events before it.
 use Rattle.std.proofs.Common.{◌≡◌, ℕ, zero, suc, ◌<◌, List, ◌∷◌, [], Option, Some, None, refl, sym, ap, ◌∙◌, arith, slice_get, set, length, ◌≢◌}
+use Rattle.std.proofs.lemmas.{List.get_or-set_same, List.length-set, Option.slice_get-get_or}
 use Rattle.std.specs.FinMap as map
 use Rattle.cred_book.specs.{Accounts.Accounts, Works.Task, Works.name_of}
 use Rattle.cred_cli.specs.{declared.event.Event.Event, History.Deed, History.Opened, History.answer_at, History.answer_of, History.book_after, History.book_at, History.commit_deed, History.deed_of, History.deeds_before, History.is_stale, History.names_at, History.open_at, History.show_answer}
@@ -79,10 +80,8 @@ module _ (capacity : ℕ) (book : Accounts) (old new : List Event) where
 
 -- ---- one event is replaced
 
-pub set_here : (events : List Event) (i : ℕ) (event : Event) → i < length events → slice_get (set events i event) i ≡ Some event
-set_here [] i event within = absurd (omega (arith, within))
-set_here (e ∷ es) zero event within = refl
-set_here (e ∷ es) (suc i) event within = set_here es i event (omega (arith, within))
+pub set_here : {A : Type 0} (xs : List A) (i : ℕ) (x : A) → i < length xs → slice_get (set xs i x) i ≡ Some x
+set_here xs i x within = slice_get-get_or (set xs i x) i x (rw length-set within) ∙ ap Some (get_or-set_same xs i x x within)
 
 pub set_elsewhere : (events : List Event) (i j : ℕ) (event : Event) → j ≢ i → slice_get (set events i event) j ≡ slice_get events j
 set_elsewhere [] i j event apart = refl

@@ -1,6 +1,6 @@
 -- The names of a history are those of its book.
-use Rattle.std.proofs.Common.{◌≡◌, ℕ, zero, suc, ◌+◌, ◌≤◌, List, [], ◌∷◌, ◌++◌, length, take, inl, inr, Option, Some, None, Bool, true, false, if◌then◌else◌, cond, nat_lt, ◌||◌, is_some, slice_get, refl, sym, ap, ◌∙◌, arith}
-use Rattle.std.proofs.{lemmas.Bool.cases_lt, lemmas.List.length-append, lemmas.List.length-map, lemmas.List.take-append-le, lemmas.List.take_all, lemmas.Map.Text.is_eq-slice_cmp, lemmas.Slice.Eq.bytes_eq-Decides}
+use Rattle.std.proofs.Common.{◌≡◌, ℕ, zero, suc, ◌+◌, ◌≤◌, List, [], ◌∷◌, ◌++◌, length, take, inl, inr, Option, Some, None, Bool, true, false, if◌then◌else◌, cond, nat_lt, ◌||◌, is_some, slice_get, refl, sym, ap, subst, ◌∙◌, arith}
+use Rattle.std.proofs.{Math.Bool.or-false, Math.Bool.or_comm, lemmas.Bool.cases_lt, lemmas.Bool.cond_both, lemmas.List.Folds.list_any-append, lemmas.List.Sums.fold_push, lemmas.List.length-append, lemmas.List.length-map, lemmas.List.take-append-le, lemmas.List.take_all, lemmas.Map.Text.is_eq-slice_cmp, lemmas.Slice.Eq.bytes_eq-Decides}
 use Rattle.std.specs.{Cmp.Lexicographic.nat_list_cmp_total, List.list_any, Ordering.eq_by_cmp, Str.bytes_eq}
 use Rattle.cred_phc.specs.Values.{RecordValue}
 use Rattle.cred_book.specs.{Accounts.Accounts, Names.name_cmp, Works.name_of, Works.seq, Works.seq_at, Works.whole, declared.request.Request.Request}
@@ -18,13 +18,7 @@ any_agree p q same [] = refl
 any_agree p q same (x ∷ xs) = ap (λ b. b || list_any p xs) (same x) ∙ ap (λ b. q x || b) (any_agree p q same xs)
 
 pub any_more : (p : List ℕ → Bool) (xs : List (List ℕ)) (y : List ℕ) → list_any p (xs ++ y ∷ []) ≡ p y || list_any p xs
-any_more p [] y = refl
-any_more p (x ∷ xs) y = ap (λ b. p x || b) (any_more p xs y) ∙ turn (p x) (p y) (list_any p xs)
-  where
-    turn : (a b c : Bool) → a || (b || c) ≡ b || (a || c)
-    turn true true c = refl
-    turn true false c = refl
-    turn false b c = refl
+any_more p xs y = list_any-append p xs (y ∷ []) ∙ ap (λ b. list_any p xs || b) (or-false (p y)) ∙ or_comm (list_any p xs) (p y)
 
 at_first : (book : Accounts) → SameNames (map.keys book) book
 at_first book = record {
@@ -67,11 +61,8 @@ whole_done names book request same = by_entry (map.get book (name_of request)) r
 
 closed_one : (names : List (List ℕ)) (opening book : Accounts) (past : List (Option Deed)) (opened : Option Opened) → SameNames names book → SameNames names (after book (commit_deed opening past opened))
 closed_one names opening book past None same = same
-closed_one names opening book past (Some opened) same = by_case (is_stale opening past opened)
-  where
-    by_case : (b : Bool) → SameNames names (after book (if b then None else Some (Whole opened.request)))
-    by_case true = same
-    by_case false = whole_done names book opened.request same
+closed_one names opening book past (Some opened) same =
+    cond_both (is_stale opening past opened) None (Some (Whole opened.request)) (λ deed. SameNames names (after book deed)) (λ stale. same) (λ fresh. whole_done names book opened.request same)
 
 -- one event more
 next : (capacity : ℕ) (opening book : Accounts) (events : List Event) (i : ℕ) (past : List (Option Deed)) (event : Option Event) → SameNames (names_at capacity opening events i) book →
@@ -84,65 +75,46 @@ next capacity opening book events i past (Some (Account name)) same = by_case (i
     by_case true there c = same
     by_case false there true = admitted (names_at capacity opening events i) book name same there
     by_case false there false = same
-next capacity opening book events i past (Some (Load name stored)) same = by_case (is_among (names_at capacity opening events i) name) refl
-  where
-    by_case : (b : Bool) → is_among (names_at capacity opening events i) name ≡ b → SameNames (names_at capacity opening events i) (after book (if b then Some (Loading name stored) else None))
-    by_case true there = put (names_at capacity opening events i) book name (Some stored) same there
-    by_case false there = same
+next capacity opening book events i past (Some (Load name stored)) same =
+    let names = names_at capacity opening events i in
+    cond_both (is_among names name) (Some (Loading name stored)) None (λ deed. SameNames names (after book deed)) (put names book name (Some stored) same) (λ absent. same)
 next capacity opening book events i past _ same = same
 
 -- ---- the recursion on the place
-
-pub done-zero : (capacity : ℕ) (book : Accounts) (events : List Event) → deeds_before capacity book events 0 ≡ []
-unfolding deeds_before
-done-zero capacity book events = refl
-
-pub done-suc : (capacity : ℕ) (book : Accounts) (events : List Event) (i : ℕ) → deeds_before capacity book events (suc i) ≡ deeds_before capacity book events i ++ deed_of capacity book events i (deeds_before capacity book events i) (slice_get events i) ∷ []
-unfolding deeds_before
-done-suc capacity book events i = refl
-
-pub names_at-zero : (capacity : ℕ) (book : Accounts) (events : List Event) → names_at capacity book events 0 ≡ map.keys book
-unfolding names_at
-names_at-zero capacity book events = refl
 
 pub names_at-suc : (capacity : ℕ) (book : Accounts) (events : List Event) (i : ℕ) → names_at capacity book events (suc i) ≡ names_after capacity (names_at capacity book events i) (slice_get events i)
 unfolding names_at
 names_at-suc capacity book events i = refl
 
-book_after-none : (book : Accounts) → book_after book [] ≡ book
-unfolding book_after
-book_after-none book = refl
-
-book_after-more : (book : Accounts) (deeds : List (Option Deed)) (deed : Option Deed) → book_after book (deeds ++ deed ∷ []) ≡ after (book_after book deeds) deed
-unfolding book_after
-book_after-more book [] deed = refl
-book_after-more book (d ∷ ds) deed = book_after-more (after book d) ds deed
-
 pub book_at-zero : (capacity : ℕ) (book : Accounts) (events : List Event) → book_at capacity book events 0 ≡ book
-book_at-zero capacity book events = ap (book_after book) (done-zero capacity book events) ∙ book_after-none book
+unfolding deeds_before book_after
+book_at-zero capacity book events = refl
 
 pub book_at-suc : (capacity : ℕ) (book : Accounts) (events : List Event) (i : ℕ) → book_at capacity book events (suc i) ≡ after (book_at capacity book events i) (deed_of capacity book events i (deeds_before capacity book events i) (slice_get events i))
-book_at-suc capacity book events i = ap (book_after book) (done-suc capacity book events i) ∙ book_after-more book (deeds_before capacity book events i) (deed_of capacity book events i (deeds_before capacity book events i) (slice_get events i))
+unfolding deeds_before book_after
+book_at-suc capacity book events i = fold_push after book (deeds_before capacity book events i) _
 
 -- the names at each place are those of the book there
 pub same_names : (capacity : ℕ) (book : Accounts) (events : List Event) (i : ℕ) → SameNames (names_at capacity book events i) (book_at capacity book events i)
-same_names capacity book events zero = rw (names_at-zero capacity book events, book_at-zero capacity book events) (at_first book)
-same_names capacity book events (suc i) = rw (names_at-suc capacity book events i, book_at-suc capacity book events i) (next capacity book (book_at capacity book events i) events i (deeds_before capacity book events i) (slice_get events i) (same_names capacity book events i))
+unfolding names_at deeds_before book_after
+same_names capacity book events zero = at_first book
+same_names capacity book events (suc i) = subst (SameNames (names_at capacity book events (suc i))) (sym (book_at-suc capacity book events i)) (next capacity book (book_at capacity book events i) events i (deeds_before capacity book events i) (slice_get events i) (same_names capacity book events i))
 
 length-done : (capacity : ℕ) (book : Accounts) (events : List Event) (i : ℕ) → length (deeds_before capacity book events i) ≡ i
-length-done capacity book events zero = ap length (done-zero capacity book events)
-length-done capacity book events (suc i) = ap length (done-suc capacity book events i) ∙ length-append (deeds_before capacity book events i) _ ∙ omega (arith, length-done capacity book events i)
+unfolding deeds_before
+length-done capacity book events zero = refl
+length-done capacity book events (suc i) = length-append (deeds_before capacity book events i) _ ∙ omega (arith, length-done capacity book events i)
 
 -- a front of a history is the earlier history
 pub take_done : (capacity : ℕ) (book : Accounts) (events : List Event) (j i : ℕ) → j ≤ i → take j (deeds_before capacity book events i) ≡ deeds_before capacity book events j
-take_done capacity book events zero i le = sym (done-zero capacity book events)
+unfolding deeds_before
+take_done capacity book events zero i le = refl
 take_done capacity book events (suc j) zero le = absurd (omega (arith, le))
 take_done capacity book events (suc j) (suc i) le = elim (cases_lt i (suc j)) [
   | inl last ↦
       let same : j ≡ i = omega (arith, last, le) in
       rw same (take_all (suc i) (deeds_before capacity book events (suc i)) (omega (arith, length-done capacity book events (suc i))))
   | inr earlier ↦
-      ap (take (suc j)) (done-suc capacity book events i)
-      ∙ take-append-le (suc j) (deeds_before capacity book events i) _ (omega (arith, earlier, length-done capacity book events i))
+      take-append-le (suc j) (deeds_before capacity book events i) _ (omega (arith, earlier, length-done capacity book events i))
       ∙ take_done capacity book events (suc j) i earlier
 ]

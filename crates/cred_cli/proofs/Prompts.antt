@@ -120,5 +120,3 @@ pub length-prompt : (capacity : ℕ) (script : ScriptStart) (name : ℕ) (calls 
 length-prompt capacity script name [] prompt = omega arith
 length-prompt capacity script name (call ∷ earlier) (at, before, prompt) =
     omega (arith, fewer_calls capacity script name earlier call.left prompt before (left_within script.bytes at.front call.left at.came))
-
-pub ruleset prompt_laws = (length-prompt)

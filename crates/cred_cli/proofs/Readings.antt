@@ -3,14 +3,8 @@ use Rattle.std.proofs.Common.{◌≡◌, ℕ, ◌-◌, replicate, List, [], ◌+
 use Rattle.std.proofs.{KnownBytes.Appends-nil, lemmas.List.get_or-replicate, lemmas.List.length-replicate}
 use Rattle.std.specs.Io.KnownBytes.{Consumes, IsAtEnd, Keeps}
 use Rattle.cred_book.specs.{Accounts.Accounts, Works.Task}
-use Rattle.cred_cli.specs.{declared.progress.Progress.Progress, declared.event.Event.Event, Feeding.IsAt, Outcome.StandsAfter, Tickets.HoldTickets, Script.answers_before, Script.start_as, Service.events_by, declared.policy.Policy.Policy}
+use Rattle.cred_cli.specs.{declared.progress.Progress.Progress, declared.event.Event.Event, Feeding.IsAt, Outcome.StandsAfter, Script.answers_before, Script.start_as, Service.events_by, declared.policy.Policy.Policy}
 use Rattle.cred_cli.proofs.{Openings.open_at-zero, Names.book_at-zero, StarvedCommits.history_asked}
-
-no_tickets : (capacity : ℕ) (book : Accounts) (events : List Event) (slots : List (Option Task)) → slots ≡ replicate 64 None → HoldTickets capacity book events 0 slots
-no_tickets capacity book events slots empty = record {
-  size = rw empty (length-replicate {A = Option Task} 64 None);
-  each = λ key low high. rw (open_at-zero capacity book events key, empty, get_or-replicate {A = Option Task} 64 (key - 1) None None (omega (arith, low, high))) tt;
-}
 
 pub nothing_done : (capacity : ℕ) (book : Accounts) (events : List Event) (before : Option (List ℕ)) → StandsAfter capacity book events 0 before before book
 unfolding answers_before
@@ -27,7 +21,10 @@ opening policy capacity book all before slots progress empty start lines taken =
     record {
       history = history_asked policy.mode capacity book (events_by policy.mode policy.most all);
       stands = nothing_done capacity book (events_by policy.mode policy.most all) before;
-      tickets = no_tickets capacity book (events_by policy.mode policy.most all) slots empty;
+      tickets = record {
+        size = rw empty (length-replicate {A = Option Task} 64 None);
+        each = λ key low high. rw (open_at-zero capacity book (events_by policy.mode policy.most all) key, empty, get_or-replicate {A = Option Task} 64 (key - 1) None None (omega (arith, low, high))) tt;
+      };
     },
     λ i after. refl,
   );

@@ -1,7 +1,7 @@
 -- One event, done on the book that stands with the tickets that are open, is what the history says
 -- of its place.
 use Rattle.std.proofs.Common.{◌≡◌, ◌≢◌, ℕ, suc, ◌-◌, ◌≤◌, List, take, Option, Some, None, Bool, true, false, not, ◌&&◌, if◌then◌else◌, is_none, is_some, nat_lt, refl, sym, ap, ◌∙◌, slice_get, set, arith, inl, inr, eq-eqb}
-use Rattle.std.proofs.{Math.ListN.length-set, lemmas.Bool.ne_eqb, lemmas.Bool.Decides.eqb_tells, lemmas.List.get_or-set_same, lemmas.List.get_or-set_other}
+use Rattle.std.proofs.{Math.ListN.length-set, lemmas.Bool.cond_both, lemmas.Bool.ne_eqb, lemmas.Bool.Decides.eqb_tells, lemmas.List.get_or-set_same, lemmas.List.get_or-set_other}
 use Rattle.cred_phc.specs.Values.{RecordValue}
 use Rattle.cred_book.specs.{Accounts.Accounts, Commits.commit_outcome, Commits.commit_outcome_at, declared.reply.Reply.Reply, declared.request.Request.Request, declared.error.BookError.TheVariants.Exists, declared.error.BookError.TheVariants.Full, declared.error.BookError.TheVariants.NoAccount}
 use Rattle.cred_book.specs.Works.{Task, name_of, right, same, same_scheme, seq, seq_at, whole}
@@ -26,27 +26,16 @@ pub record IsStep (capacity : ℕ) (book : Accounts) (events : List Event) (i : 
 abbrev pub IsReplied : Reply × Option RecordValue → Type 0
 IsReplied outcome = reply_answer outcome.0 ≡ Replied outcome.0
 
-either : (b : Bool) (x y : Reply × Option RecordValue) → IsReplied x → IsReplied y → IsReplied (if b then x else y)
-either true x y h k = h
-either false x y h k = k
-
 pub whole_replies : (request : Request) (now : Option RecordValue) → IsReplied (whole request now)
-whole_replies (request.Verify name pw) (Some stored) = by_case (right stored pw)
-  where
-    by_case : (b : Bool) → reply_answer (if b then reply.Yes else reply.No) ≡ Replied (if b then reply.Yes else reply.No)
-    by_case true = refl
-    by_case false = refl
-whole_replies (request.Change name pw new setting) (Some stored) = either (right stored pw) _ _ refl refl
+whole_replies (request.Verify name pw) (Some stored) = cond_both (right stored pw) reply.Yes reply.No (λ r. reply_answer r ≡ Replied r) (λ e. refl) (λ e. refl)
+whole_replies (request.Change name pw new setting) (Some stored) = cond_both (right stored pw) _ _ IsReplied (λ e. refl) (λ e. refl)
 whole_replies (request.Upgrade name pw setting) (Some stored) =
-    either (not (right stored pw)) _ _ refl (either (same_scheme stored.setting.scheme setting.scheme) _ _ refl refl)
-whole_replies (request.Remove name pw) (Some stored) = either (right stored pw) _ _ refl refl
+    cond_both (not (right stored pw)) _ _ IsReplied (λ e. refl) (λ e. cond_both (same_scheme stored.setting.scheme setting.scheme) _ _ IsReplied (λ e. refl) (λ e. refl))
+whole_replies (request.Remove name pw) (Some stored) = cond_both (right stored pw) _ _ IsReplied (λ e. refl) (λ e. refl)
 whole_replies (request.Enrol name pw setting) (Some stored) = refl
 whole_replies _ _ = refl
 
 -- ---- slots
-
-other_place : (key k : ℕ) → 1 ≤ key → 1 ≤ k → key ≢ k → k - 1 ≢ key - 1
-other_place key k low low' apart e = apart (omega (arith, e, low, low'))
 
 module _ (capacity : ℕ) (book : Accounts) (events : List Event) (i : ℕ) (slots : List (Option Task)) (held : HoldTickets capacity book events i slots) (event : Event) (here : slice_get events i ≡ Some event) where
   open_next : (key : ℕ) → open_at capacity book events (suc i) key ≡ open_after (names_at capacity book events i) i key (open_at capacity book events i key) (Some event)
@@ -63,7 +52,7 @@ module _ (capacity : ℕ) (book : Accounts) (events : List Event) (i : ℕ) (slo
     size = rw length-set held.size;
     each = λ k k_low k_high. elim (eqb_tells key k) [
       | inl w ↦ rw (← w.1, get_or-set_same slots (key - 1) task None (omega (arith, held.size))) this
-      | inr w ↦ rw (others k w.1, get_or-set_other slots (key - 1) (k - 1) task None (other_place key k low k_low w.1)) (held.each k k_low k_high)
+      | inr w ↦ rw (others k w.1, get_or-set_other slots (key - 1) (k - 1) task None (λ e. w.1 (omega (arith, e, low, k_low)))) (held.each k k_low k_high)
     ];
   }
 
@@ -153,10 +142,6 @@ module _ (capacity : ℕ) (book : Accounts) (events : List Event) (i : ℕ) (slo
 
 -- ---- commits
 
-seq-at : (book : Accounts) (request : Request) (entry : Option (Option RecordValue)) → map.get book (name_of request) ≡ entry → seq book request ≡ seq_at book request entry
-unfolding seq
-seq-at book request entry found = ap (seq_at book request) found
-
 pub committing-at : (book : Accounts) (slots : List (Option Task)) (key : ℕ) (task : Option Task) → slot slots key ≡ task → commit_step book slots key ≡ commit_step_at book slots key task
 unfolding commit_step
 committing-at book slots key task is = ap (commit_step_at book slots key) is
@@ -205,7 +190,8 @@ module _ (capacity : ℕ) (book : Accounts) (events : List Event) (i : ℕ) (slo
     deed = ap (commit_deed book (deeds_before capacity book events i)) is
 
     seq_now : seq (book_at capacity book events i) opened.request ≡ seq_at (book_at capacity book events i) opened.request (Some now)
-    seq_now = seq-at (book_at capacity book events i) opened.request (Some now) found
+    unfolding seq
+    seq_now = ap (seq_at (book_at capacity book events i) opened.request) found
 
     commit_at : IsStep capacity book events i (commit_step_at (book_at capacity book events i) slots key (Some task))
     commit_at = by_case (same now task.1) refl

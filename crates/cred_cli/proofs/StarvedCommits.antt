@@ -1,6 +1,6 @@
 -- A commit that is starved, and the history that it leaves.
 use Rattle.std.proofs.Common.{◌≡◌, ℕ, suc, ◌≤◌, ◌<◌, List, Option, Some, None, Bool, not, refl, sym, ap, ◌∙◌, arith, slice_get, get_or, take, drop, set, length, inl, inr, ◌⊎◌, Result, Ok, Err, IfOk, OnOk, IfErr, IfSome, MatchResult, subst, codes, ◌++◌, ◌∷◌, [], append_assoc, append-nil}
-use Rattle.std.proofs.{Math.ListN.length-set, lemmas.Bool.cases_lt, lemmas.Option.slice_get_within}
+use Rattle.std.proofs.{Math.ListN.length-set, lemmas.Bool.cases_order, lemmas.Option.slice_get_within}
 use Rattle.std.specs.{Fmt.digits, Io.KnownBytes.Appends}
 use Rattle.cred_book.specs.{Accounts.Accounts, Works.Task, Works.name_of}
 use Rattle.cred_book.proofs.Equality.{same-Decides}
@@ -52,9 +52,15 @@ module _ (capacity : ℕ) (book : Accounts) (asked events : List Event) (i : ℕ
   set_served : IsServed capacity book asked events → (key : ℕ) → slice_get events i ≡ Some (Commit key) → NeedsHash capacity book events i key → IsServed capacity book asked (set events i starved)
   set_served served key here needs = record {
     size = length-set events i starved ∙ served.size;
-    each = λ j. elim (cases_lt j i) [
-      | inl before ↦ earlier j before (served.each j)
-      | inr after ↦ later j after
+    each = λ j. elim (cases_order j i) [
+      | inl this ↦
+          rw this (inr (record {
+            key = key;
+            commits = sym (behind i (omega arith)) ∙ here;
+            refused = set_here events i starved (slice_get_within events i _ here);
+            needs = needs_front capacity book events then_ i key (set_before events i starved) needs;
+          }))
+      | inr other ↦ elim other [ inl before ↦ earlier j before (served.each j) | inr after ↦ inl (set_behind j after) ]
     ];
   }
     where
@@ -69,19 +75,6 @@ module _ (capacity : ℕ) (book : Accounts) (asked events : List Event) (i : ℕ
         refused = set_before events i starved j before ∙ was.refused;
         needs = needs_front capacity book events then_ j was.key (λ k sooner. set_before events i starved k (omega (arith, sooner, before))) was.needs;
       })
-
-      later : (j : ℕ) → i ≤ j → (slice_get then_ j ≡ slice_get asked j) ⊎ IsStarved capacity book asked then_ j
-      later j after = elim (cases_lt i j) [
-        | inl behind_it ↦ inl (set_behind j behind_it)
-        | inr le ↦
-            let this : i ≡ j = omega (arith, after, le) in
-            rw (← this) (inr (record {
-              key = key;
-              commits = sym (behind i (omega arith)) ∙ here;
-              refused = set_here events i starved (slice_get_within events i _ here);
-              needs = needs_front capacity book events then_ i key (set_before events i starved) needs;
-            }))
-      ]
 
 starved_history : (mode : Mode) (capacity : ℕ) (book : Accounts) (asked events : List Event) (i : ℕ) → IsBehind i asked events → mode ≡ Service → IsHistory mode capacity book asked events →
     (key : ℕ) → slice_get events i ≡ Some (Commit key) → NeedsHash capacity book events i key → IsHistory mode capacity book asked (set events i starved)

@@ -1,11 +1,10 @@
 -- What a begin and a commit do, step by step.
-use Rattle.std.specs.Bool.{Decides}
-use Rattle.std.proofs.{Common.◌≡◌, Common.Bool, Common.ℕ, Common.◌-◌, Common.List, Common.Option, Common.Some, Common.None, Common.Ok, Common.true, Common.false, Common.is_some, Common.set, Common.get_or, Common.refl, Common.sym, Common.ap, Common.◌∙◌, lemmas.List.set-get_or, lemmas.List.set-set}
+use Rattle.std.proofs.{Common.◌≡◌, Common.ℕ, Common.◌-◌, Common.List, Common.Option, Common.Some, Common.None, Common.Ok, Common.true, Common.false, Common.is_some, Common.set, Common.refl, Common.sym, Common.ap, Common.◌∙◌, lemmas.Bool.false_from_ne_true, lemmas.List.set-get_or, lemmas.List.set-set}
 use Rattle.cred_phc.specs.Values.{RecordValue}
 use Rattle.cred_book.specs.{Accounts.Accounts, Commits.Begins, Commits.Commits, Commits.commit_outcome, Works.Task, Works.name_of, Works.same, declared.reply.Reply.Reply, declared.request.Request.Request}
 use Rattle.cred_cli.specs.{Answers.IsDone, Answers.line_bytes, History.Answer, History.Begun, History.Refused, Texts.line_of, Texts.reply_line, declared.answer.AnswerLine.AnswerLine}
 use Rattle.cred_cli.specs.{Steps.Step, Steps.stay, Steps.slot, Steps.begin_step, Steps.begin_step_at, Steps.commit_step, Steps.reply_answer, declared.refusal.Refusal.TheVariants.Book, declared.refusal.Refusal.TheVariants.Busy, declared.refusal.Refusal.TheVariants.Idle}
-use Rattle.cred_book.proofs.{Commitments.committed_found, Equality.same-Decides}
+use Rattle.cred_book.proofs.{Commitments.committed_found, Equality.same-Decides, Rows.no_some}
 use Rattle.cred_cli.proofs.Simulation.{begun-at, committing-at}
 use Rattle.std.specs.FinMap as map
 use Rattle.cred_book.specs.declared.error.BookError.TheVariants as error
@@ -24,30 +23,20 @@ opened (Some task) busy book slots key request entry = refl
 pub begun_busy : (book : Accounts) (slots : List (Option Task)) (key : ℕ) (request : Request) → is_some (slot slots key) ≡ true → begin_step book slots key request ≡ stay (Refused Busy) book slots
 begun_busy book slots key request busy = begun-at book slots key request (slot slots key) _ refl refl ∙ opened (slot slots key) busy book slots key request _
 
-not_open : (task : Option Task) → is_some task ≡ false → task ≡ None
-not_open None free = refl
-not_open (Some task) free = cc
-
 pub begun_absent : (book : Accounts) (slots : List (Option Task)) (key : ℕ) (request : Request) → is_some (slot slots key) ≡ false → map.get book (name_of request) ≡ None →
     begin_step book slots key request ≡ stay (Refused (Book error.NoAccount)) book slots
-begun_absent book slots key request free found = begun-at book slots key request None None (not_open _ free) found
-
-pub refused_with : {A B : Type 0} (a c : A) (b d : B) → ◌≡◌ {A = A × B} (a, b) (c, d) → b ≡ d
-refused_with {A} {B} a c b d same = ap {A = A × B} (λ p. p.1) same
+begun_absent book slots key request free found = begun-at book slots key request None None (no_some _ free) found
 
 pub begun_fresh : (book : Accounts) (slots : List (Option Task)) (key : ℕ) (request : Request) (ticket : Task) → is_some (slot slots key) ≡ false → Begins book request (Ok ticket) →
     begin_step book slots key request ≡ record { answer = Begun; book = book; slots = set slots (key - 1) (Some ticket) }
 begun_fresh book slots key request ticket free begins =
-    begun-at book slots key request None (Some ticket.1) (not_open _ free) begins.1 ∙ ap (λ r. record { answer = Begun; book = book; slots = set slots (key - 1) (Some (r, ticket.1)) }) (sym begins.0)
+    begun-at book slots key request None (Some ticket.1) (no_some _ free) begins.1 ∙ ap (λ r. record { answer = Begun; book = book; slots = set slots (key - 1) (Some (r, ticket.1)) }) (sym begins.0)
 
 -- ---- commits
 
-set_none : (slots : List (Option Task)) (i : ℕ) → get_or slots i None ≡ None → set slots i None ≡ slots
-set_none slots i none = ap (set slots i) (sym none) ∙ set-get_or slots i None
-
 pub commits_idle : (book : Accounts) (slots left : List (Option Task)) (key : ℕ) → None ≡ slot slots key → left ≡ set slots (key - 1) None → commit_step book slots key ≡ stay (Refused Idle) book left
 commits_idle book slots left key none closed =
-    committing-at book slots key None (sym none) ∙ ap (stay (Refused Idle) book) (sym (set_none slots (key - 1) (sym none)) ∙ sym closed)
+    committing-at book slots key None (sym none) ∙ ap (stay (Refused Idle) book) (sym (ap (set slots (key - 1)) none ∙ set-get_or slots (key - 1) None) ∙ sym closed)
 
 pub commits_done : (old new : Accounts) (slots left : List (Option Task)) (key : ℕ) (task work : Task) (reply : Reply) → Some task ≡ slot slots key → left ≡ set slots (key - 1) None → work ≡ task →
     Commits old new work (Ok reply) → commit_step old slots key ≡ record { answer = reply_answer reply; book = new; slots = left }
@@ -55,17 +44,10 @@ commits_done old new slots left key task work reply some closed is commits =
     let done : commit_outcome old task ≡ (reply, new) = ap (commit_outcome old) (sym is) ∙ sym commits in
     committing-at old slots key (Some task) (sym some) ∙ ap (λ c. record { answer = reply_answer c.0; book = c.1; slots = set slots (key - 1) None }) done ∙ ap (λ s. record { answer = reply_answer reply; book = new; slots = s }) (sym closed)
 
-pub false_true : false ≡ true → ⊥
-false_true e = cc
-
-is_false : {P : Type 0} (b : Bool) → Decides b P → (P → ⊥) → b ≡ false
-is_false true d never = absurd (never (d.0 refl))
-is_false false d never = refl
-
 pub commits_changed : (book : Accounts) (slots left : List (Option Task)) (key : ℕ) (task : Task) (now : Option RecordValue) → slot slots key ≡ Some task → left ≡ set slots (key - 1) None → map.get book (name_of task.0) ≡ Some now →
     (now ≡ task.1 → ⊥) → commit_step book slots key ≡ record { answer = reply_answer (reply.Changed now); book = book; slots = left }
 commits_changed book slots left key task now some closed found other =
-    let done : commit_outcome book task ≡ (reply.Changed now, book) = committed_found book task (name_of task.0) refl (Some now) found ∙ rw (is_false (same now task.1) (same-Decides now task.1) other) refl in
+    let done : commit_outcome book task ≡ (reply.Changed now, book) = committed_found book task (name_of task.0) refl (Some now) found ∙ rw (false_from_ne_true (same now task.1) (λ e. other ((same-Decides now task.1).0 e))) refl in
     committing-at book slots key (Some task) some ∙ ap (λ c. record { answer = reply_answer c.0; book = c.1; slots = set slots (key - 1) None }) done ∙ ap (λ s. record { answer = reply_answer (reply.Changed now); book = book; slots = s }) (sym closed)
 
 -- a ticket that is taken out and put back

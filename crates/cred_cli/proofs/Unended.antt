@@ -1,6 +1,6 @@
 -- Lines of which the last one may have no end.
 use Rattle.std.proofs.Common.{◌≡◌, ℕ, zero, suc, ◌+◌, ◌<◌, ◌≤◌, List, [], ◌∷◌, ◌++◌, length, take, drop, map, option_map, refl, ap, ◌∙◌, arith, slice_get, take-append-drop}
-use Rattle.std.proofs.lemmas.{List.length-append, List.length-drop, List.length-map, List.length-take, Option.slice_get-map}
+use Rattle.std.proofs.lemmas.{List.Folds.map_fixed, List.length-append, List.length-drop, List.length-map, List.length-take, Option.slice_get-map}
 use Rattle.cred_cli.specs.Script.{line_ends, with_unended}
 use Rattle.cred_cli.proofs.Lines.{line_ends-append}
 
@@ -21,10 +21,6 @@ module _ {A : Type 0} (f : A → A) where
   others_change (suc n) (x ∷ xs) zero le = absurd (omega (arith, le))
   others_change (suc n) (x ∷ xs) (suc i) le = others_change n xs i (omega (arith, le))
 
-  pub map_same : ((x : A) → f x ≡ x) → (xs : List A) → map f xs ≡ xs
-  map_same same [] = refl
-  map_same same (x ∷ xs) = rw (same x) (ap (λ ys. x ∷ ys) (map_same same xs))
-
   module _ (bytes : List ℕ) (xs : List A) where
     pub length-unended : length (with_unended f bytes xs) ≡ length xs
     unfolding with_unended
@@ -43,4 +39,4 @@ module _ {A : Type 0} (f : A → A) where
     -- which may come to the same
     pub unended_same : ((x : A) → f x ≡ x) → with_unended f bytes xs ≡ xs
     unfolding with_unended
-    unended_same same = ap (λ ys. take (line_ends bytes) xs ++ ys) (map_same same (drop (line_ends bytes) xs)) ∙ take-append-drop (line_ends bytes) xs
+    unended_same same = ap (λ ys. take (line_ends bytes) xs ++ ys) (map_fixed f (drop (line_ends bytes) xs) (λ k d low. same _)) ∙ take-append-drop (line_ends bytes) xs

@@ -75,7 +75,6 @@ pub fn line_is_its_events()
 /// The law that a prompt call on a reader found what was written before and then the answers to the
 /// whole lines of the bytes that had come, with the book after them, whatever these bytes are; and
 /// that there are no more prompt calls than bytes, and one.
-#[tactic(auto, using(crate::proofs::Prompts::prompt_laws))]
 pub fn prompt_calls_are_answered()
     ensures stands { (capacity : ℕ) (book accounts : Accounts) (front rest before now : List ℕ)
         (name : ℕ) (call : Call) → call.left ≡ Some rest → call.written ≡ Some now

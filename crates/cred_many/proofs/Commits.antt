@@ -5,7 +5,7 @@ use Rattle.cred_book.specs.{Accounts.Accounts, Commits.Commits, Commits.commit_o
 use Rattle.cred_book.proofs.Commitments.{committed_found}
 use Rattle.cred_cli.specs.Texts.{reply_line}
 use Rattle.cred_cli.proofs.Simulation.{whole_replies}
-use Rattle.cred_many.specs.{Asks.IsJobOf, Asks.hashed_for, Asks.is_reset, Scribe.is_change, Scribe.is_changed, declared.ask.Ask.TheVariants.Quick, declared.ask.Ask.TheVariants.Whole, declared.ask.Ask.TheVariants.Login, declared.ask.Ask.TheVariants.Reset, Served.done, Served.login_reply, Served.told_reply, declared.ask.Ask.Ask}
+use Rattle.cred_many.specs.{Asks.IsJobOf, Asks.hashed_for, Asks.is_reset, Scribe.is_change, Scribe.is_changed, declared.ask.Ask.TheVariants.Whole, declared.ask.Ask.TheVariants.Login, declared.ask.Ask.TheVariants.Reset, Served.done, Served.login_reply, Served.told_reply, declared.ask.Ask.Ask}
 use Rattle.cred_admin.specs.Commands.{reset_step}
 use Rattle.cred_book.specs.declared.request.Request.TheVariants as request
 use Rattle.std.specs.FinMap as map
@@ -46,12 +46,11 @@ module _ (book new : Accounts) (work : Task) (r : Reply) (is : Commits book new 
 
 pub done_whole : (ask : Ask) (capacity : ℕ) (book later : Accounts) (work : Task) (found : Reply) → hashed_for ask ≡ Some work.0 → is_reset ask ≡ false → Commits book later work (Ok found) → is_changed found ≡ false
     → (reply_line (told_reply ask found), later) ≡ done capacity book ask
-done_whole (Quick ask) capacity book later work found is kept commits is_not = absurd cc
 done_whole (Whole q) capacity book later work found is kept commits is_not =
     let same : work.0 ≡ q = cc in ap (λ o. (reply_line o.0, o.1)) (commits_whole book later work found commits is_not ∙ ap (seq book) same)
 done_whole (Login name pw setting) capacity book later work found is kept commits is_not =
     let same : work.0 ≡ request.Upgrade name pw setting = cc in ap (λ o. (reply_line (login_reply o.0), o.1)) (commits_whole book later work found commits is_not ∙ ap (seq book) same)
-done_whole (Reset name pw setting) capacity book later work found is kept commits is_not = absurd cc
+done_whole _ capacity book later work found is kept commits is_not = absurd cc
 
 pub done_reset : (ask : Ask) (capacity : ℕ) (book later : Accounts) (work : Task) (stored : RecordValue) (found : Reply) → IsJobOf ask work → is_reset ask ≡ true → Some stored ≡ (whole work.0 work.1).1
     → (found, later) ≡ reset_step book (name_of work.0) stored → (reply_line found, later) ≡ done capacity book ask
@@ -60,6 +59,4 @@ done_reset (Reset name pw setting) capacity book later work stored found job res
     let new : Some stored ≡ Some (new_record setting pw) = made ∙ ap (λ r. (whole r work.1).1) same ∙ ap (λ copy. (whole (request.Enrol name pw setting) copy).1) (job.1 refl) in
     let stored_is : stored ≡ new_record setting pw = cc in
     ap (λ o. (reply_line o.0, o.1)) (put ∙ ap (λ r. reset_step book (name_of r) stored) same ∙ ap (reset_step book name) stored_is)
-done_reset (Quick ask) capacity book later work stored found job reset made put = absurd cc
-done_reset (Whole q) capacity book later work stored found job reset made put = absurd cc
-done_reset (Login name pw setting) capacity book later work stored found job reset made put = absurd cc
+done_reset _ capacity book later work stored found job reset made put = absurd cc

@@ -1,12 +1,14 @@
 -- Changes of different accounts that are made together.
 use Rattle.std.proofs.Common.{◌≡◌, ℕ, ◌<◌, List, [], ◌∷◌, ◌++◌, length, get_or, Option, Some, None, IfSome, Result, Ok, Err, OnErr, OnOk, Bool, true, false, cond, refl, sym, ap, ◌∙◌, append_assoc, append-nil, arith, inl}
 use Rattle.std.proofs.{Math.Logic.∥∥₁_map, lemmas.List.length-append, lemmas.List.length-map, lemmas.List.map-append, lemmas.Option.IfSome_then, lemmas.List.Elements.All-get_or, lemmas.List.Elements.All-nil, lemmas.List.Elements.All-push}
-use Rattle.std.specs.{Cmp.Lexicographic.nat_list_cmp_total, List.All, Option.option_or, Ordering.eq_by_cmp, FinMap.get-empty, FinMap.get-entries, FinMap.get-from_entries, FinMap.get-insert, FinMap.same_map}
+use Rattle.std.specs.{Cmp.Lexicographic.nat_list_cmp_total, List.All, Option.option_or, Ordering.eq_by_cmp, FinMap.get-empty, FinMap.get-insert, FinMap.same_map}
 use Rattle.cred_phc.specs.Values.{RecordValue}
 use Rattle.cred_book.specs.{Accounts.Accounts, Changes.judged_book, Commits.Commits, Commits.judgement, Commits.judgement_at, Commits.judgement_if, Names.name_cmp, Works.Task, Works.name_of, Works.same, declared.reply.Reply.Reply}
 use Rattle.cred_book.proofs.Changes.{committed_as_judged}
 use Rattle.cred_cli.specs.Texts.{reply_line}
+use Rattle.cred_cli.proofs.Readings.{if_known}
 use Rattle.cred_file.specs.Edits.{joined, taken_in}
+use Rattle.cred_file.proofs.Joined.{deeper, get_joined}
 use Rattle.cred_many.specs.{Asks.Entry, Asks.hashed_for, Asks.is_reset, declared.fault.ServiceFault.ServiceFault, declared.open.Open.Open}
 use Rattle.cred_many.specs.{Scribe.AreClosed, Scribe.AreReplaced, Scribe.History, Scribe.IsConcluded, Scribe.IsGroup, Scribe.entries_of, Scribe.is_changed, Served.answers, Served.book_after, Served.done, Served.line_at, Served.most_together, Served.told_reply, Service.IsLine, Service.Service}
 use Rattle.cred_many.proofs.{Commits.done_whole, Commits.whole_unchanged, Seen.answers-append, Seen.book_after-append, Serving.served_on}
@@ -33,38 +35,21 @@ judged_unchanged book work is = judged_found work (fin.get book (name_of work.0)
 
 -- ---- records in place of others
 
-by_tie : (b : Bool) (v : Option RecordValue) (o p : Option (Option RecordValue)) → cond b (Some v) (option_or o p) ≡ option_or (cond b (Some v) o) p
-by_tie true v o p = refl
-by_tie false v o p = refl
-
-find_in_both : (q : List ℕ) (xs ys : List (List ℕ × Option RecordValue)) → fin.find name_cmp q (xs ++ ys) ≡ option_or (fin.find name_cmp q xs) (fin.find name_cmp q ys)
-find_in_both q [] ys = refl
-find_in_both q (x ∷ xs) ys = ap (cond (eq_by_cmp name_cmp q x.0) (Some x.1)) (find_in_both q xs ys) ∙ by_tie (eq_by_cmp name_cmp q x.0) x.1 _ _
-
-found_joined : (book more : Accounts) (q : List ℕ) → fin.get (joined book more) q ≡ option_or (fin.get more q) (fin.get book q)
-found_joined book more q =
-    get-from_entries nat_list_cmp_total (fin.entries more ++ fin.entries book) q ∙ find_in_both q (fin.entries more) (fin.entries book)
-    ∙ sym (ap (λ o. option_or o (fin.get book q)) (get-entries more q) ∙ ap (option_or (fin.find name_cmp q (fin.entries more))) (get-entries book q))
-
 pub replaced : (book changed later : Accounts) → later ≡ taken_in book fin.empty changed → AreReplaced book changed later
 replaced book changed later is q =
-    ap (λ (b : Accounts). fin.get b q) is ∙ found_joined (joined book fin.empty) changed q
-    ∙ ap (option_or (fin.get changed q)) (found_joined book fin.empty q ∙ ap (λ o. option_or o (fin.get book q)) (get-empty name_cmp q))
+    ap (λ (b : Accounts). fin.get b q) is ∙ get_joined (joined book fin.empty) changed q
+    ∙ ap (option_or (fin.get changed q)) (get_joined book fin.empty q ∙ ap (λ o. option_or o (fin.get book q)) (get-empty name_cmp q))
 
 -- ---- one change more
 
 pub none_together : (capacity : ℕ) (s : Service) (book : Accounts) → IsGroup capacity s book fin.empty [] []
 unfolding answers book_after
 none_together capacity s book = record {
-  came = none_came s.input;
+  came = if_known s.input _ (λ bytes known. All-nil (IsLine s bytes));
   few = omega arith;
   after = λ q. ap (λ o. option_or o (fin.get book q)) (sym (get-empty name_cmp q));
   text_is = refl;
 }
-  where
-    none_came : (input : Option (List ℕ)) → IfSome input (λ bytes. All (IsLine s bytes) [])
-    none_came None = tt
-    none_came (Some bytes) = All-nil (IsLine s bytes)
 
 module _ (capacity : ℕ) (s : Service) (book changed : Accounts) (list : List Entry) (text : List ℕ) (e : Entry) (work : Task) (found : Reply) (stored : Option RecordValue)
     (g : IsGroup capacity s book changed list text) (job : hashed_for e.ask ≡ Some work.0) (kept : is_reset e.ask ≡ false) (is : judgement book work ≡ (found, stored, true))
@@ -72,11 +57,10 @@ module _ (capacity : ℕ) (s : Service) (book changed : Accounts) (list : List E
   abbrev here : Accounts
   here = book_after capacity book list
 
-  same_here : fin.get here (name_of work.0) ≡ fin.get book (name_of work.0)
-  same_here = g.after (name_of work.0) ∙ ap (λ o. option_or o (fin.get book (name_of work.0))) first
-
   commits : Commits here (fin.insert here (name_of work.0) stored) work (Ok found)
-  commits = sym (committed_as_judged here work ∙ ap (λ j. (j.0, judged_book here work j)) (judged_alike book here work same_here ∙ is))
+  commits =
+      let same = g.after (name_of work.0) ∙ ap (λ o. option_or o (fin.get book (name_of work.0))) first in
+      sym (committed_as_judged here work ∙ ap (λ j. (j.0, judged_book here work j)) (judged_alike book here work same ∙ is))
 
   is_done : (reply_line (told_reply e.ask found), fin.insert here (name_of work.0) stored) ≡ done capacity here e.ask
   is_done = done_whole e.ask capacity here _ work found job kept commits (ap (λ j. is_changed j.0) (sym is) ∙ judged_unchanged book work (ap (λ j. j.2) is))
@@ -87,7 +71,7 @@ module _ (capacity : ℕ) (s : Service) (book changed : Accounts) (list : List E
       ap (λ (b : Accounts). fin.get b q) (book_after-append capacity book list (e ∷ []) ∙ sym (ap (λ o. o.1) is_done))
       ∙ get-insert nat_list_cmp_total here (name_of work.0) stored q
       ∙ ap (cond (eq_by_cmp name_cmp q (name_of work.0)) (Some stored)) (g.after q)
-      ∙ by_tie (eq_by_cmp name_cmp q (name_of work.0)) stored (fin.get changed q) (fin.get book q)
+      ∙ deeper (eq_by_cmp name_cmp q (name_of work.0)) stored (fin.get changed q) (fin.get book q)
       ∙ ap (λ o. option_or o (fin.get book q)) (sym (get-insert nat_list_cmp_total changed (name_of work.0) stored q))
 
   text_more : text ++ (e.tag ++ 32 ∷ reply_line (told_reply e.ask found)) ≡ answers capacity book (list ++ e ∷ [])

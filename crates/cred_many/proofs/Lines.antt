@@ -1,10 +1,10 @@
 -- The lines that a reader comes to are lines of its input.
 use Rattle.std.proofs.Common.{◌≡◌, ◌≢◌, ◌==◌, ℕ, zero, suc, ◌+◌, ◌<◌, ◌≤◌, List, [], ◌∷◌, ◌++◌, length, take, Option, Some, None, IfSome, true, false, nat_lt, option_map, slice_get, refl, sym, ap, ◌∙◌, arith, append_assoc, append-nil, inl, inr}
-use Rattle.std.proofs.{lemmas.Bool.cases_lt, lemmas.Bool.Decides.eqb_tells, lemmas.List.length-append, lemmas.List.length-take, lemmas.List.take_all, lemmas.Option.IfSome_then}
+use Rattle.std.proofs.{lemmas.Bool.cases_lt, lemmas.Bool.Decides.eqb_tells, lemmas.List.length-append, lemmas.List.length-take, lemmas.List.nil_from_length, lemmas.List.take_all, lemmas.Option.IfSome_then}
 use Rattle.std.specs.List.{filter}
 use Rattle.cred_phc.specs.{Pieces.pieces, Values.SettingValue}
 use Rattle.cred_cli.specs.{Events.longest_line, Events.most_kept, Events.most_pieces, Feeding.unfinished_from, Script.line_ends, Script.lines_of, declared.costs.CostBounds.CostBounds}
-use Rattle.cred_cli.proofs.{Feeds.none_kept, Feeds.some_kept, Feeds.take-kept, Readings.if_known, Unended.ends_sooner, Unended.unended_at, Unended.unended_last}
+use Rattle.cred_cli.proofs.{Feeds.get_seam, Feeds.none_kept, Feeds.some_kept, Feeds.take-kept, Readings.if_known, Unended.ends_sooner, Unended.unended_at, Unended.unended_last}
 use Rattle.cred_cli.proofs.Lines.{length-whole_from, line_ends-append, line_ends-end, line_ends-more, lines_of-ended, lines_of-line_end, lines_of-unfinished, longer, unfinished_from-end, unfinished_from-more, whole_from}
 use Rattle.cred_many.specs.{Asks.Tagged, Asks.entry_of, Asks.tag_of, Asks.tagged, Asks.tagged_by, Asks.tagged_of, Asks.untagged, Asks.within, Reading.ComesNext, Reading.IsCutLine, Reading.IsWholeLine, Reading.MovesOver, Reading.NothingIsLeft, Reading.Place, Reading.Splits}
 use Rattle.cred_many.specs.Service.{IsLine, Service, asked_from, cut_line, drawn_setting}
@@ -52,10 +52,6 @@ cut_came s input number came = IfSome_then input came (λ all here.
     unended_last (λ e. cut_line e.number) all (asked_from s 0 (lines_of all)) number here.2
     ∙ ap (option_map (λ e. cut_line e.number)) (asked_at s 0 (lines_of all) number here.0 here.1)
     ∙ ap (λ n. Some (cut_line n)) (omega arith))
-
-get_seam : (front : List (List ℕ)) (line : List ℕ) (more : List (List ℕ)) → slice_get (front ++ line ∷ more) (length front) ≡ Some line
-get_seam [] line more = refl
-get_seam (l ∷ ls) line more = get_seam ls line more
 
 come_at : (all : List ℕ) (n : ℕ) (line : List ℕ) (before more : List (List ℕ)) → lines_of all ≡ before ++ line ∷ more → n ≡ length before → slice_get (lines_of all) n ≡ Some line
 come_at all n line before more cut number = ap (λ lines. slice_get lines n) cut ∙ ap (slice_get (before ++ line ∷ more)) number ∙ get_seam before line more
@@ -118,19 +114,12 @@ end_taken input old new cleared next = λ all rest known at. record {
 -- ---- a line, read
 
 first_pieces_tell : (drawn : SettingValue) (line : List (List ℕ)) → tagged drawn (take most_pieces line) ≡ tagged drawn line
-first_pieces_tell drawn [] = refl
-first_pieces_tell drawn (a ∷ []) = refl
-first_pieces_tell drawn (a ∷ b ∷ []) = refl
-first_pieces_tell drawn (a ∷ b ∷ c ∷ []) = refl
-first_pieces_tell drawn (a ∷ b ∷ c ∷ d ∷ []) = refl
-first_pieces_tell drawn (a ∷ b ∷ c ∷ d ∷ e ∷ []) = refl
-first_pieces_tell drawn (a ∷ b ∷ c ∷ d ∷ e ∷ f ∷ []) = refl
-first_pieces_tell drawn (a ∷ b ∷ c ∷ d ∷ e ∷ f ∷ g ∷ []) = refl
 first_pieces_tell drawn (a ∷ b ∷ c ∷ d ∷ e ∷ f ∷ g ∷ h ∷ more) = many (tag_of a)
   where
     many : (t : Option (List ℕ)) → tagged_by drawn t (b ∷ c ∷ d ∷ e ∷ f ∷ g ∷ h ∷ []) ≡ tagged_by drawn t (b ∷ c ∷ d ∷ e ∷ f ∷ g ∷ h ∷ more)
     many None = refl
     many (Some tag) = refl
+first_pieces_tell drawn _ = refl
 
 pub short_read : (drawn : SettingValue) (line : List ℕ) (kept : List (List ℕ)) (t : Tagged) → nat_lt longest_line (length line) ≡ false → kept ≡ take most_pieces (pieces 32 line) → t ≡ tagged drawn kept → t ≡ tagged_of drawn line
 unfolding tagged_of
@@ -142,12 +131,8 @@ short_read drawn line kept t short first is = rw short (is ∙ ap (tagged drawn)
 ends_few_lines : (all : List ℕ) → line_ends all ≤ length (lines_of all)
 ends_few_lines all = elim (cases_lt 0 (length (unfinished_from [] all))) [
   | inl left ↦ let count = ap length (lines_of-unfinished all left) ∙ length-append (whole_from [] all) (unfinished_from [] all ∷ []) in omega (arith, count, length-whole_from [] all)
-  | inr none ↦ let count = ap length (lines_of-ended all (empty (unfinished_from [] all) none)) ∙ length-whole_from [] all in omega (arith, count)
+  | inr none ↦ let count = ap length (lines_of-ended all (nil_from_length (unfinished_from [] all) (omega (arith, none)))) ∙ length-whole_from [] all in omega (arith, count)
 ]
-  where
-    empty : (xs : List ℕ) → length xs ≤ 0 → xs ≡ []
-    empty [] none = refl
-    empty (x ∷ xs) none = absurd (omega (arith, none))
 
 -- so there are as many lines as were handed on
 pub many_lines : (input : Option (List ℕ)) (at : Place) (least : ℕ) → ((all : List ℕ) → input ≡ Some all → (rest : List ℕ) × Splits all at rest) → least ≤ at.number

@@ -25,10 +25,6 @@ unfolding spaced
 rest_none from zero = refl
 rest_none from (suc n) = refl
 
-rest_zero : (from : List ℕ) (es : Entries) → rest_of from 0 es ≡ []
-unfolding spaced
-rest_zero from es = refl
-
 module _ (from old now : List ℕ) (most : ℕ) (all rest : Entries) (left : ℕ) (goes : Goes from old most all now left rest) where
   -- a name that comes before is left out
   pub skipped : (e : List ℕ × Option RecordValue) (es : Entries) → rest ≡ e ∷ es → is_lt (name_cmp e.0 from) ≡ true → Goes from old most all now left es
@@ -47,4 +43,5 @@ module _ (from old now : List ℕ) (most : ℕ) (all rest : Entries) (left : ℕ
   all_written none = sym (append-nil now) ∙ ap (λ t. now ++ t) (sym (ap (rest_of from left) none ∙ rest_none from left)) ∙ goes
 
   pub enough : left ≡ 0 → now ≡ old ++ rest_of from most all
-  enough none = sym (append-nil now) ∙ ap (λ t. now ++ t) (sym (ap (λ k. rest_of from k rest) none ∙ rest_zero from rest)) ∙ goes
+  unfolding spaced
+  enough none = sym (append-nil now) ∙ ap (λ t. now ++ t) (sym (ap (λ k. rest_of from k rest) none)) ∙ goes

@@ -1,11 +1,12 @@
 -- How often a record was seen to change.
 use Rattle.std.proofs.Common.{◌≡◌, ℕ, suc, ◌+◌, ◌≤◌, List, [], ◌∷◌, ◌++◌, Option, Some, None, IfSome, subst, Bool, true, false, if◌then◌else◌, refl, sym, ap, ◌∙◌, append_assoc, arith, option_map, set, slice_get}
-use Rattle.std.proofs.{lemmas.List.get_or-set_same, lemmas.List.length-set, lemmas.List.map-set, lemmas.List.set-get_or, lemmas.Option.IfSome_then, lemmas.Option.get_or_from_slice_get, lemmas.Option.slice_get-get_or, lemmas.Option.slice_get-map, lemmas.Option.slice_get_within, lemmas.Slice.Eq.bytes_eq-Decides}
+use Rattle.std.proofs.{lemmas.Bool.cond_both, lemmas.List.length-set, lemmas.List.map-set, lemmas.List.set-get_or, lemmas.Option.IfSome_then, lemmas.Option.get_or_from_slice_get, lemmas.Option.slice_get-map, lemmas.Option.slice_get_within, lemmas.Slice.Eq.bytes_eq-Decides}
 use Rattle.std.proofs.lemmas.List.Elements.{All-append, All-drop, All-get_or, All-same, All-set, All-take, All-weaker}
 use Rattle.std.specs.{List.All, List.remove, Str.bytes_eq}
 use Rattle.cred_phc.specs.Values.{RecordValue}
 use Rattle.cred_book.specs.{Accounts.Accounts, Works.same}
 use Rattle.cred_book.proofs.Equality.{same-Decides}
+use Rattle.cred_cli.proofs.Fronts.{set_here}
 use Rattle.cred_many.specs.{declared.ask.Ask.Ask, declared.open.Open.Open, declared.open.Sight.Sight, declared.fault.ServiceFault.ServiceFault, Asks.Entry, Served.answers, Served.book_after, Served.change_from, Served.changes, Served.done, Served.line_at, Served.name_asked, Served.record_at, Served.tries}
 use Rattle.cred_many.specs.Scribe.{AreClosed, IsBusy, IsReady, Notes, SightHolds, counted, numbers}
 
@@ -56,9 +57,6 @@ answers-append capacity book (x ∷ xs) ys =
 at_place : {A : Type 0} (P : A → Type 0) (xs : List A) (i : ℕ) (x : A) → All P xs → slice_get xs i ≡ Some x → P x
 at_place P xs i x all is = subst P (get_or_from_slice_get xs i x x is) (All-get_or P xs i x (slice_get_within xs i x is) all)
 
-at_set : {A : Type 0} (xs : List A) (i : ℕ) (x y : A) → slice_get xs i ≡ Some x → slice_get (set xs i y) i ≡ Some y
-at_set xs i x y is = let within = slice_get_within xs i x is in slice_get-get_or (set xs i y) i y (rw length-set within) ∙ ap Some (get_or-set_same xs i y y within)
-
 numbers_set : (left : List Open) (place : ℕ) (x y : Open) → slice_get left place ≡ Some x → y.number ≡ x.number → numbers (set left place y) ≡ numbers left
 numbers_set left place x y is same =
     let there = slice_get-map (λ (o : Open). o.number) left place ∙ ap (option_map (λ (o : Open). o.number)) is in
@@ -88,12 +86,9 @@ module _ (capacity : ℕ) (opening : Accounts) (list : List Entry) where
       of : (o : Option Sight) → IfSome o (λ s. s.changes + change_from s.stored (record_at (book_after capacity opening list) s.name) ≤ changes capacity opening s.name list)
           → counted o name (record_at (book_after capacity opening list) name) ≤ changes capacity opening name list
       of None h = omega arith
-      of (Some s) h = by_name (bytes_eq s.name name) refl
-        where
-          by_name : (b : Bool) → bytes_eq s.name name ≡ b
-              → (if b then s.changes + change_from s.stored (record_at (book_after capacity opening list) name) else 0) ≤ changes capacity opening name list
-          by_name true is = rw ((bytes_eq-Decides s.name name).0 is) at h
-          by_name false is = omega arith
+      of (Some s) h =
+          cond_both (bytes_eq s.name name) (s.changes + change_from s.stored (record_at (book_after capacity opening list) name)) 0 (λ n. n ≤ changes capacity opening name list)
+          (λ is. rw ((bytes_eq-Decides s.name name).0 is) at h) (λ other. omega arith)
 
   -- a line that has seen often enough that its record changed
   pub worn : (left : List Open) (place : ℕ) (ask : Ask) → All Holds left → IsBusy left place ask → tries ≤ changes capacity opening (name_asked ask) list
@@ -128,7 +123,7 @@ pub looked_worn : (left rest : List Open) (place : ℕ) (name : List ℕ) (store
 looked_worn left rest place name stored count ask l is often = record {
   line = record { number = l.line.number; sight = Some (record { name = name; stored = stored; changes = count }) };
   sight = record { name = name; stored = stored; changes = count };
-  there = ap (λ r. slice_get r place) l.new_is ∙ at_set left place l.line _ l.there;
+  there = ap (λ r. slice_get r place) l.new_is ∙ set_here left place _ (slice_get_within left place l.line l.there);
   seen = refl;
   name_is = is;
   often = often;

@@ -7,7 +7,7 @@ use Rattle.std.specs.{Io.KnownBytes.Appends, List.All, List.range_with_len, List
 use Rattle.cred_phc.specs.Values.{RecordValue}
 use Rattle.cred_book.specs.Accounts.{Accounts}
 use Rattle.cred_cli.specs.{History.Refused, Script.lines_of, Texts.line_of}
-use Rattle.cred_cli.proofs.Unended.{length-unended}
+use Rattle.cred_cli.proofs.{Readings.if_known, Unended.length-unended}
 use Rattle.cred_many.specs.{Asks.Entry, Asks.entry, Asks.refused, Served.AreFor, Served.HasCause, Served.IsFor, Served.IsGivenUp, Served.IsWritten, Served.Moment, Served.NeedsMemory, Served.Stands, Served.StandsAtEnd, Served.answers, Served.book_after, Served.done, Served.entry_numbers, Served.line_at, Served.most_together, Served.record_at}
 use Rattle.cred_many.specs.{declared.ask.Ask.Ask, declared.fault.ServiceFault.ServiceFault, declared.open.Open.Open, Scribe.AreClosed, Scribe.History, Scribe.IsAnswered, Scribe.IsBusy, Scribe.IsConcluded, Scribe.IsReady, Scribe.Notes, Scribe.SightHolds, Scribe.numbers, Scribe.unseen}
 use Rattle.cred_many.specs.Service.{IsLine, Service, asked, asked_from, cut_line}
@@ -107,16 +107,12 @@ pub served_first : (capacity : ℕ) (s : Service) (now : Option (List ℕ)) (boo
 unfolding answers book_after
 served_first capacity s now book left none is same = rw none (record {
   list = [];
-  each = each s.input;
+  each = if_known s.input _ (λ bytes known i d within. absurd (omega (arith, within)));
   once = IsPermutation-refl [];
   seen = All-nil (SightHolds capacity s.opening []);
   book_is = is;
   text = record { bytes = 0; front = rw same (Appends-nil s.before); whole = λ _. refl; most = omega arith };
 })
-  where
-    each : (input : Option (List ℕ)) → IfSome input (λ bytes. AreFor capacity s bytes [])
-    each None = tt
-    each (Some bytes) = λ i d within. absurd (omega (arith, within))
 
 module _ (capacity : ℕ) (s : Service) (old now : Option (List ℕ)) (book later : Accounts) (es : List Entry) (left rest : List Open) (came : ℕ) (failed : Bool) (f : Option ServiceFault) where
   -- by a few lines, whether their answers were written whole or the writer failed
@@ -211,9 +207,6 @@ line_missing s input e came h behind = IfSome_then input h (λ bytes is all.
     let long = length-unended (λ e. cut_line e.number) bytes (asked_from s 0 (lines_of bytes)) ∙ length-asked s 0 (lines_of bytes) in
     absurd (omega (arith, all, many, long, behind)))
 
-pub missing_if : (input : Option (List ℕ)) (came : ℕ) (P : List ℕ → Type 0) → IfSome input P → ((bytes : List ℕ) → P bytes → came ≢ length (lines_of bytes)) → IfSome input (λ bytes. came ≢ length (lines_of bytes))
-missing_if input came P h other = IfSome_then input h other
-
 -- ---- the whole
 
 module _ (capacity : ℕ) (s : Service) (now : Option (List ℕ)) (book : Accounts) (left : List Open) (came : ℕ) (source writer keeper : Bool) where
@@ -225,14 +218,8 @@ module _ (capacity : ℕ) (s : Service) (now : Option (List ℕ)) (book : Accoun
 
   -- what ends the reading has its cause once it is told
   is_told : (why : Option ServiceFault) → HasCause s.input (told_at None) why → HasCause s.input (told_at why) why
-  is_told None cause = cause
   is_told (Some fault.Read) cause = cause
-  is_told (Some fault.Write) cause = cause
-  is_told (Some fault.Keeper) cause = cause
-  is_told (Some fault.TooLong) cause = cause
-  is_told (Some fault.Lost) cause = cause
-  is_told (Some fault.Memory) cause = cause
-  is_told (Some fault.Threads) cause = cause
+  is_told _ cause = cause
 
   -- what is told at the end is told already, or it ends the reading
   pub ended : (told why : Option ServiceFault) → (told ≡ None → numbers left ≡ []) → History capacity s now book told left came → HasCause s.input (told_at told) told → HasCause s.input (told_at told) why

@@ -1,6 +1,6 @@
-use Rattle.std.proofs.Common.{◌≡◌, refl, sym}
-use Rattle.cred_book.specs.declared.error.BookError.TheVariants.{NoAccount}
-use Rattle.cred_cli.proofs.StepLemmas.{stays_done, begun_busy, begun_absent, begun_fresh, refused_with}
+use Rattle.std.proofs.Common.{◌≡◌, ap, refl, sym}
+use Rattle.cred_book.specs.declared.{error.BookError.BookError, error.BookError.TheVariants.NoAccount, request.Request.Request}
+use Rattle.cred_cli.proofs.StepLemmas.{stays_done, begun_busy, begun_absent, begun_fresh}
 use Rattle.cred_cli.proofs.answer.begin.Goals as goal
 
 pub returns-then-is_open : goal.returns-then-is_open
@@ -11,5 +11,5 @@ returns-in-Ok g c = rw (begun_fresh _ _ _ _ _ (sym c.if-is_open.ensures) c.in-Ok
 
 pub returns-in-Err : goal.returns-in-Err
 returns-in-Err g c =
-    let absent : c.in-Err.refusal ≡ NoAccount = refused_with _ _ _ _ c.in-Err.ensures.0 in
+    let absent : c.in-Err.refusal ≡ NoAccount = ap (λ (p : Request × BookError). p.1) c.in-Err.ensures.0 in
     stays_done c.bad-in-Err.result _ _ _ _ (begun_absent _ _ _ _ (sym c.if-is_open.ensures) c.in-Err.ensures.1) (rw absent at c.bad-in-Err.ensures)

@@ -32,9 +32,8 @@ module _ (capacity : ℕ) (one other : Accounts) where
 
   disable_told : (name : List ℕ) (a : Found) → map.get one name ≡ a → map.get other name ≡ a
       → (done capacity one (Quick (Change (Disable name)))).0 ≡ (done capacity other (Quick (Change (Disable name)))).0
-  disable_told name None here there = rw (here, there) refl
   disable_told name (Some None) here there = rw (here, there) refl
-  disable_told name (Some (Some stored)) here there = rw (here, there) refl
+  disable_told name _ here there = rw (here, there) refl
 
   delete_told : (name : List ℕ) (a : Found) → map.get one name ≡ a → map.get other name ≡ a
       → (done capacity one (Quick (Change (Delete name)))).0 ≡ (done capacity other (Quick (Change (Delete name)))).0
@@ -50,9 +49,8 @@ module _ (capacity : ℕ) (one other : Accounts) where
   rename_told name new (Some stored) None false here there new_here new_there x y = rw (here, there, new_here, new_there, x, y) refl
 
   reset_told : (name : List ℕ) (made : RecordValue) (a : Found) → map.get one name ≡ a → map.get other name ≡ a → (reset_step one name made).0 ≡ (reset_step other name made).0
-  reset_told name made None here there = rw (here, there) refl
   reset_told name made (Some None) here there = rw (here, there) refl
-  reset_told name made (Some (Some stored)) here there = rw (here, there) refl
+  reset_told name made _ here there = rw (here, there) refl
 
   done_told : (ask : Ask) → AreAlikeFor capacity ask one other → (done capacity one ask).0 ≡ (done capacity other ask).0
   done_told (Quick (Account name)) (same, room) = account_told name (map.get other name) (nat_lt (map.len other) capacity) (same 0 [] (omega arith)) refl room refl
@@ -82,18 +80,16 @@ module _ (capacity : ℕ) (book : Accounts) (name : List ℕ) where
   load_kept key stored false ne is = rw is refl
 
   disabling_kept : (key : List ℕ) (a : Found) → name ≢ key → map.get (disabling_at book key a).1 name ≡ map.get book name
-  disabling_kept key None ne = refl
-  disabling_kept key (Some None) ne = refl
   disabling_kept key (Some (Some stored)) ne = get_beside name key ne book None
+  disabling_kept key _ ne = refl
 
   deletion_kept : (key : List ℕ) (a : Found) → name ≢ key → map.get (deletion_at book key a).1 name ≡ map.get book name
   deletion_kept key None ne = refl
   deletion_kept key (Some stored) ne = get_without name key ne book
 
   renaming_kept : (key new : List ℕ) (a : Found) (b : Bool) → name ≢ key → name ≢ new → map.get (renaming_at book key new a b).1 name ≡ map.get book name
-  renaming_kept key new None b ne other = refl
-  renaming_kept key new (Some stored) true ne other = refl
   renaming_kept key new (Some stored) false ne other = get_beside name new other (map.remove book key) stored ∙ get_without name key ne book
+  renaming_kept key new _ _ ne other = refl
 
   -- a change that may lack room
   change_kept : (room : Bool) (line full : List ℕ) (after : Accounts) → map.get after name ≡ map.get book name → map.get (cond {A = List ℕ × Accounts} room (full, book) (line, after)).1 name ≡ map.get book name
@@ -119,8 +115,5 @@ module _ (capacity : ℕ) (book : Accounts) (name : List ℕ) where
   done_kept (Login key pw setting) ne = kept book (request.Upgrade key pw setting) name (ne 0 [] (omega arith))
   done_kept (Reset key pw setting) ne = reset_kept key (new_record setting pw) (map.get book key) (ne 0 [] (omega arith))
 
-pub returns-clause-tells : goal.returns-clause-tells
-returns-clause-tells c = done_told
-
-pub returns-clause-keeps : goal.returns-clause-keeps
-returns-clause-keeps c = λ capacity book ask name. done_kept capacity book name ask
+pub returns : goal.returns
+returns c = record { tells = done_told; keeps = λ capacity book ask name. done_kept capacity book name ask }

@@ -87,23 +87,19 @@ returns-in-Err-clause-ended g c = λ basis fits script known at.
 
 pub returns-in-Ok-eq0-clause-logged : goal.returns-in-Ok-eq0-clause-logged
 returns-in-Ok-eq0-clause-logged g c =
-    let small : c.loop-call.reader.calls + 1 ≤ 2 ^ 64 - 1 = omega (arith, c.loop-call.invariant.calls) in
-    logged_on c.args.reader.now c.loop-call.reader c.read_beside.new.self _ small c.loop-call.invariant.logged c.read_beside.ensures.logged c.read_beside.ensures.named c.read_beside.ensures.calls
+    logged_on c.args.reader.now c.loop-call.reader c.read_beside.new.self _ (omega (arith, c.loop-call.invariant.calls)) c.loop-call.invariant.logged c.read_beside.ensures.logged c.read_beside.ensures.named c.read_beside.ensures.calls
 
 pub returns-in_err-lines-in-Ok-eq0-clause-logged : goal.returns-in_err-lines-in-Ok-eq0-clause-logged
 returns-in_err-lines-in-Ok-eq0-clause-logged g c =
-    let small : c.loop-call.reader.calls + 1 ≤ 2 ^ 64 - 1 = omega (arith, c.loop-call.invariant.calls) in
-    logged_on c.args.reader.now c.loop-call.reader c.read_beside.new.self _ small c.loop-call.invariant.logged c.read_beside.ensures.logged c.read_beside.ensures.named c.read_beside.ensures.calls
+    logged_on c.args.reader.now c.loop-call.reader c.read_beside.new.self _ (omega (arith, c.loop-call.invariant.calls)) c.loop-call.invariant.logged c.read_beside.ensures.logged c.read_beside.ensures.named c.read_beside.ensures.calls
 
 pub returns-in_err-take_bytes-in-Ok-clause-logged : goal.returns-in_err-take_bytes-in-Ok-clause-logged
 returns-in_err-take_bytes-in-Ok-clause-logged g c =
-    let small : c.loop-call.reader.calls + 1 ≤ 2 ^ 64 - 1 = omega (arith, c.loop-call.invariant.calls) in
-    logged_on c.args.reader.now c.loop-call.reader c.read_beside.new.self _ small c.loop-call.invariant.logged c.read_beside.ensures.logged c.read_beside.ensures.named c.read_beside.ensures.calls
+    logged_on c.args.reader.now c.loop-call.reader c.read_beside.new.self _ (omega (arith, c.loop-call.invariant.calls)) c.loop-call.invariant.logged c.read_beside.ensures.logged c.read_beside.ensures.named c.read_beside.ensures.calls
 
 pub returns-in-Err-clause-logged : goal.returns-in-Err-clause-logged
 returns-in-Err-clause-logged g c =
-    let small : c.loop-call.reader.calls + 1 ≤ 2 ^ 64 - 1 = omega (arith, c.loop-call.invariant.calls) in
-    logged_on c.args.reader.now c.loop-call.reader c.read_beside.new.self _ small c.loop-call.invariant.logged c.read_beside.ensures.logged c.read_beside.ensures.named c.read_beside.ensures.calls
+    logged_on c.args.reader.now c.loop-call.reader c.read_beside.new.self _ (omega (arith, c.loop-call.invariant.calls)) c.loop-call.invariant.logged c.read_beside.ensures.logged c.read_beside.ensures.named c.read_beside.ensures.calls
 
 pub loop-call-preserved : goal.loop-call-preserved
 loop-call-preserved g c =

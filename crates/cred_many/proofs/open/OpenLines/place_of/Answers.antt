@@ -1,18 +1,13 @@
-use Rattle.std.proofs.Common.{rules, ◌≡◌, ◌<◌, ◌≤◌, ◌+◌, ℕ, List, Some, get_or, length, option_map, slice_get, subst, sym, ap, ◌∙◌, arith, inl, inr}
-use Rattle.std.proofs.{lemmas.Bool.cases_lt, lemmas.List.length-map, lemmas.Option.slice_get-get_or, lemmas.Option.slice_get-map, lemmas.Option.slice_get_within}
+use Rattle.std.proofs.Common.{below_more, rules, ◌≡◌, ◌<◌, ◌≤◌, ◌+◌, ℕ, List, Some, get_or, length, option_map, slice_get, subst, sym, ap, ◌∙◌, arith}
+use Rattle.std.proofs.{lemmas.List.length-map, lemmas.Option.slice_get-get_or, lemmas.Option.slice_get-map, lemmas.Option.slice_get_within}
 use Rattle.cred_many.specs.{Scribe.IsPending, Scribe.numbers, declared.open.Open.Open}
 use Rattle.cred_many.proofs.open.OpenLines.place_of.Goals as goal
 
 module _ (left : List Open) (n i : ℕ) (before : (k : ℕ) → k < i → slice_get (numbers left) k ≡ Some n → ⊥) where
   one_more : (line : Open) → i < length left → line ≡ get_or left i line → (line.number ≡ n → ⊥) → (k : ℕ) → k < i + 1 → slice_get (numbers left) k ≡ Some n → ⊥
-  one_more line long is other k within found = elim (cases_lt k i) [
-    | inl here ↦ before k here found
-    | inr behind ↦
-        let last : k ≡ i = omega (arith, within, behind) in
-        let there : slice_get (numbers left) i ≡ Some line.number = slice_get-map (λ (o : Open). o.number) left i ∙ ap (option_map (λ (o : Open). o.number)) (slice_get-get_or left i line long ∙ ap Some (sym is)) in
-        let same : Some n ≡ Some line.number = sym found ∙ ap (slice_get (numbers left)) last ∙ there in
-        other cc
-  ]
+  one_more line long is other =
+      let there : slice_get (numbers left) i ≡ Some line.number = slice_get-map (λ (o : Open). o.number) left i ∙ ap (option_map (λ (o : Open). o.number)) (slice_get-get_or left i line long ∙ ap Some (sym is)) in
+      below_more (λ k. slice_get (numbers left) k ≡ Some n → ⊥) i before (λ found. let same : Some n ≡ Some line.number = sym found ∙ there in other cc)
 
   none : length left ≤ i → IsPending n (numbers left) → ⊥
   none long (place, there) =
