@@ -4,7 +4,7 @@
     python3 tools/wrong_bodies.py [--all] [CRATE..] [-- COMMAND..]
 
 A wrong body is crates/CRATE/wrong-bodies/NAME.edit. A line `fn: PATH` names the function that has to be refused. Pairs of lines `old: TEXT`,
-`new: TEXT` behind a line `file: PATH` change it: the old TEXT, one line, stands in the file once.
+`new: TEXT` change it: the old TEXT, one line, stands once in one file of the crate, or in the file that a line `file: PATH` before them names.
 
 Tried are those that the first table of docs/PLANTED.md names, and all of each crate that isn't as tools/wrong_bodies.sums has it: its files,
 its wrong bodies, and what can be cited of the crates below. With --all or a CRATE: all, or all of that crate. The sums file gets the line of

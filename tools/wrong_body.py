@@ -6,6 +6,12 @@ import re
 OF_NAMES = re.compile(r"has no field|is not in scope|has no `|was not admitted")
 
 
+def only_file(old, texts):
+    """The file that has an old text, if no other has it."""
+    files = [it for it, text in texts.items() if old in text]
+    return files[0] if len(files) == 1 else None
+
+
 class Edit:
     """A wrong body, as its file has it."""
 
@@ -14,7 +20,7 @@ class Edit:
         for word, text in re.findall(r"^(\w+): ?(.*)", path.read_text(), re.M):
             given[word] = text
             if word == "new":
-                self.pairs.append((given["file"].strip(), given["old"], text))
+                self.pairs.append((given.get("file", "").strip(), given["old"], text))
         self.function = given["fn"].strip()
 
     def __str__(self):
@@ -24,6 +30,7 @@ class Edit:
         """The texts of a crate's files with this edit in them, or None if it doesn't apply."""
         found = dict(texts)
         for file, old, new in self.pairs:
+            file = file or only_file(old, found)
             if found.get(file, "").count(old) != 1:
                 return None
             found[file] = found[file].replace(old, new)
@@ -31,7 +38,8 @@ class Edit:
 
     def is_local(self, texts):
         """Whether it changes its function alone, and so nothing of those that are planted beside it."""
-        heads = [re.findall(r"^\s*(?:pub(?:\(\w+\))? )?(?:const )?fn (\w+)|^\}", texts[file].partition(old)[0], re.M) for file, old, _ in self.pairs]
+        above = [texts[file or only_file(old, texts)].partition(old)[0] for file, old, _ in self.pairs]
+        heads = [re.findall(r"^\s*(?:pub(?:\(\w+\))? )?(?:const )?fn (\w+)|^\}", it, re.M) for it in above]
         return all(it and it[-1] == self.function.split("::")[-1] for it in heads)
 
     def judge(self, output):

@@ -40,11 +40,11 @@ fn two() { 2 }
 fn three() { one() + LIMIT }
 """
 EDITS = {
-    "one": "fn: one\nfile: src/lib.rt\nold: { 1 }\nnew: { wrong 1 }\n",
-    "one-otherwise": "fn: one\nfile: src/lib.rt\nold: { 1 }\nnew: { wrong 7 }\n",
+    "one": "fn: one\nold: { 1 }\nnew: { wrong 1 }\n",
+    "one-otherwise": "fn: one\nold: { 1 }\nnew: { wrong 7 }\n",
     "two": "fn: two\nfile: src/lib.rt\nold: { 2 }\nnew: { wrong 2 }\n",
-    "three": "fn: three\nfile: src/lib.rt\nold: one() + LIMIT\nnew: one() + wrong\n",
-    "limit": "fn: three\nfile: src/lib.rt\nold: LIMIT: u8 = 8\nnew: LIMIT: u8 = 9\n",
+    "three": "fn: three\nold: one() + LIMIT\nnew: one() + wrong\n",
+    "limit": "fn: three\nold: LIMIT: u8 = 8\nnew: LIMIT: u8 = 9\n",
 }
 PAGE = "| Wrong body | Where |\n|---|---|\n| one | `high/one` |\n\nOthers: `high/two`.\n"
 
@@ -58,6 +58,7 @@ class WrongBodies(Case):
         write_files(self.top, {"rt": RT, "kit/bin/rattle": RATTLE}, 0o755)
         self.write({"crates.txt": "low:\nhigh: low\n", "docs/PLANTED.md": PAGE})
         self.write({"crates/low/src/lib.rt": "fn low() { 0 }\n", "crates/high/src/lib.rt": SOURCE})
+        self.write({"crates/high/src/other.rt": "fn other() { 2 }\n"})
         self.write({f"crates/high/wrong-bodies/{name}.edit": text for name, text in EDITS.items()})
 
     def write(self, texts):
@@ -103,15 +104,16 @@ class WrongBodies(Case):
                 self.assertEqual(self.tried()[1], self.refused("one"))
 
     @each(
-        ("fn: two\nold: { 2 }\nnew: { 1 + 1 }\n", "it is proved with it"),
-        ("fn: two\nold: { 5 }\nnew: { wrong }\n", "its old text isn't in its file once"),
-        ("fn: two\nold: { 2 }\nnew: { 2 }\n", "or the new one is the same"),
+        ("file: src/lib.rt\nold: { 2 }\nnew: { 1 + 1 }\n", "it is proved with it"),
+        ("old: { 2 }\nnew: { wrong }\n", "its old text isn't in its file once"),
+        ("old: { 5 }\nnew: { wrong }\n", "its old text isn't in its file once"),
+        ("file: src/other.rt\nold: { 1 }\nnew: { wrong }\n", "its old text isn't in its file once"),
+        ("file: src/lib.rt\nold: { 2 }\nnew: { 2 }\n", "or the new one is the same"),
     )
     def test_not_refused(self, text, why):
-        """A body that is right, one that doesn't apply and one that changes nothing are named, and the
-        status is 1, at the next run too."""
-        text = text.replace("old:", "file: src/lib.rt\nold:")
-        self.write({"crates/high/wrong-bodies/two.edit": text})
+        """A body that is right, one whose text no file has or several have, and one that changes nothing
+        are named, and the status is 1, at the next run too."""
+        self.write({"crates/high/wrong-bodies/two.edit": f"fn: two\n{text}"})
         for _ in range(2):
             status, lines, _ = self.tried()
             said = "\n".join(lines)
