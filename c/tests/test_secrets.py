@@ -46,7 +46,7 @@ REGISTERS = {
 JUDGEMENTS = {
     "rigzumal_check": (1, "cred_check"),
     "rigzumal_check_threads": (1, "cred_check_end", "note_fault"),
-    "argon2_verify": (4, "cred_check_end", "note_fault", "number_of", "verify", "argon2_verify"),
+    "argon2_verify": (4, "cred_check_end", "note_fault", "number_of", "argon2_verify"),
     "rigzumal_step of a verify": (1, "cred_step"),
     "rigzumal_step of a change": (1, "cred_step"),
     "rigzumal_step of an upgrade": (1, "cred_step"),
