@@ -1,6 +1,7 @@
 """Tests of libargon2.so.1 beside Debian's, by itself and under its users."""
 
 import re
+import shutil
 import sys
 import unittest
 
@@ -31,6 +32,22 @@ class Libargon2(unittest.TestCase):
         said = [run(*words, "passlib.tests.test_handlers_argon2", env=env) for env in (OURS, {})]
         ran = [re.findall(r"Ran (\d+) tests?|\(skipped=(\d+)\)", it) for it in said]
         self.assertEqual(*ran)
+
+    def test_php(self):
+        """password_hash under each library, password_verify under the other."""
+        need_host()
+        need_original()
+        need("php")
+        if "libargon2" not in run("ldd", shutil.which("php")):
+            self.skipTest("php has no libargon2")
+        costs = "['memory_cost' => 1024, 'time_cost' => 2, 'threads' => 1]"
+        verify = "foreach (['a secret', 'A secret'] as $p) var_dump(password_verify($p, $argv[1]));"
+        for maker, reader in ((OURS, {}), ({}, OURS), (OURS, OURS)):
+            for kind in ("PASSWORD_ARGON2I", "PASSWORD_ARGON2ID"):
+                make = f"echo password_hash('a secret', {kind}, {costs});"
+                record = run("php", "-r", make, env=maker)
+                answers = run("php", "-r", verify, "--", record, env=reader).split()
+                self.assertEqual(answers, ["bool(true)", "bool(false)"], record)
 
     def test_cryptsetup(self):
         """A LUKS2 header made under each library is opened under the other."""
