@@ -26,6 +26,7 @@ import re
 import shutil
 import subprocess
 import sys
+import threading
 import tempfile
 import time
 
@@ -75,7 +76,7 @@ class Progress:
     """How far a build is, on standard error."""
 
     def __init__(self, names):
-        self.names, self.running, self.done = names, {}, {}
+        self.names, self.running, self.done, self.counting = names, {}, {}, threading.Lock()
         self.expected = {it: expected(it) for it in names}
         tell_each(EVERY, self.tell)
 
@@ -91,9 +92,11 @@ class Progress:
             yield
         finally:
             del self.running[name]
-        self.done[name] = time.monotonic() - began
-        (CRATES / name / "out/seconds").write_text(f"{self.done[name]:.0f}\n")
-        self.say(f"{name}: {what}, {self.done[name]:.0f} s")
+        seconds = time.monotonic() - began
+        (CRATES / name / "out/seconds").write_text(f"{seconds:.0f}\n")
+        with self.counting:
+            self.done[name] = seconds
+            self.say(f"{name}: {what}, {seconds:.0f} s")
 
     def rest(self):
         """Seconds until all are done, if each takes as long as expected at the pace of those that are done."""
