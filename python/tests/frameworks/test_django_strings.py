@@ -60,7 +60,7 @@ class Strings(unittest.TestCase):
                 self.assertLessEqual(made, 1)
 
     def test_records_of_other_programs(self):
-        """Of Argon2's reference program."""
+        """Of Argon2's reference program, and of Django 4.0's own tests."""
         front, hasher = "m=65536,t=2,p=1$c29tZXNhbHQ", Argon2PasswordHasher()
         for record in (
             f"argon2$argon2i${front}$9sTbSlTio3Biev89thdrlKKiCaYsjjYVJxGAL3swxpQ",
@@ -69,6 +69,11 @@ class Strings(unittest.TestCase):
         ):
             self.assertIs(hasher.verify("password", record), True)
             self.assertIs(hasher.verify("Password", record), False)
+        record = (
+            "scrypt$16384$seasalt$8$1$Qj3+9PPyRjSJIebHnG81TMjsqtaIGxNQG/aEB/NYafTJ7tibgfYz"
+            "71m0ldQESkXFRkdVCBhhY8mx7rQwite/Pw=="
+        )
+        self.assertTrue(ScryptPasswordHasher().verify("lètmein", record))
 
     def test_scrypt_as_hashlib(self):
         hasher = ScryptPasswordHasher()
