@@ -30,7 +30,7 @@ WALKS = {"cred_cli/proofs/past"}
 MOST = {
     "words in README.md": 650,
     "bytes in README.md": 5000,
-    "lines of over 100 columns in src/ and specs/": 27,
+    "lines of over 100 columns in src/ and specs/": 25,
     "lines that tools/english.txt finds": 165,
 }
 FOLDERS = "crates|c|python|rust|tests|docs|tools|bench|examples|man|bin|units|packaging|completions|proofs|specs|src"
