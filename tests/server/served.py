@@ -80,6 +80,12 @@ def until(fact: Callable[[], bool], said: str, seconds: float = 20.0) -> None:
         time.sleep(0.01)
 
 
+def cpu(pid: int) -> float:
+    """Seconds of processor time that a process took so far."""
+    fields = pathlib.Path(f"/proc/{pid}/stat").read_text().rpartition(")")[2].split()
+    return (int(fields[11]) + int(fields[12])) / os.sysconf("SC_CLK_TCK")
+
+
 def ran(*words: str) -> helpers.Ended:
     """How the program ends with these words."""
     return helpers.ended([PYTHON, SERVER, *words])

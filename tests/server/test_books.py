@@ -13,7 +13,7 @@ from typing import Any
 
 from machine import commands_on_page, shell
 from served import CHEAP, FAST_BOOK, SECRET, Case, Client, Service, field_of, need, ran, real_book
-from served import until
+from served import cpu, until
 from tests.helpers import run
 
 DEARER = "$argon2id$v=19$m=128,t=2,p=1"
@@ -84,12 +84,6 @@ admin begin 1 verify ada - -> denied
 admin frob ada -> denied
 """
 OPERATIONS = OPERATIONS.replace("RECORD", RECORD).replace("LONGEST", "A" * 342)
-
-
-def cpu(service: Service) -> float:
-    """Seconds of processor time that the book took so far."""
-    fields = pathlib.Path(f"/proc/{service.book_pid()}/stat").read_text().rpartition(")")[2].split()
-    return (int(fields[11]) + int(fields[12])) / os.sysconf("SC_CLK_TCK")
 
 
 def hashed(address: str) -> str:
@@ -260,9 +254,9 @@ class OverCredkeep(Case):
         service.client("admin").talk("account bob -> ok")
 
         def cost(row: str) -> float:
-            before = cpu(service)
+            before = cpu(service.book_pid())
             service.client().talk(f"{row}\n" * 12)
-            return cpu(service) - before
+            return cpu(service.book_pid()) - before
 
         ours = cost("verify ada {wrong} -> no")
         for row in (

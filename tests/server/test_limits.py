@@ -8,7 +8,7 @@ import signal
 import socket
 import time
 
-from served import FRESH, SECRET, WRONG, Case, Client, as_user, need_root, until
+from served import FRESH, SECRET, WRONG, Case, Client, as_user, cpu, need_root, until
 
 
 class Limits(Case):
@@ -44,6 +44,16 @@ class Limits(Case):
         self.assertEqual(sorted(client.lines(500)), sorted(ought))
         self.assertTrue(client.is_ended(), "it goes on")
 
+    def test_a_byte_out_of_band(self) -> None:
+        """A byte that wakes the server, and isn't there to be read, ends no connection."""
+        client = self.serving().client()
+        try:
+            client.socket.send(b"!", socket.MSG_OOB)
+        except OSError as fault:
+            self.skipTest(f"this system has none on a Unix socket: {fault.strerror}")
+        time.sleep(0.1)
+        client.talk("known ada -> noaccount")
+
     def test_in_flight(self) -> None:
         """A client has at most 32 lines running, and a user so many that are hashed; another user has a place."""
         for at_once, ought in (("100", 32), ("4", 4)):
@@ -60,6 +70,9 @@ class Limits(Case):
             with self.assertRaises(BlockingIOError):  # what it doesn't take isn't read
                 for _ in range(4000):
                     client.socket.send(b"a verify ada -\n" * 100)
+            begun = cpu(service.process.pid)
+            time.sleep(1)
+            self.assertLess(cpu(service.process.pid) - begun, 0.3, "it looks at it all the time")
             service.process.kill()
 
     def test_read_ahead(self) -> None:

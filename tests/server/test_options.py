@@ -33,7 +33,7 @@ MISTAKES = {
     f"{SOCKET} verify {SOCKET} verify x.db": "two sockets are called a",
     f"{SOCKET} verify --socket b /tmp/never-made 0660 - verify x.db": "called /tmp/never-made",
     "--socket a /tmp/never-made 0660 nosuchgroup verify x.db": "there is no group nosuchgroup",
-    "--socket a /none/at/s 0660 - verify x.db": "/none/at, for a socket: No such file or directory",
+    "--socket a /none/at/s 0660 - verify x.db": "/none/at: No such file or directory",
     f"--socket a /tmp/{'x' * 110} 0660 - verify x.db": "up to 107 bytes",
     f"{SOCKET} verify --audit /none/audit x.db": "/none/audit: No such file or directory",
     f"{SOCKET} verify --credkeep /none/credkeep x.db": "/none/credkeep: No such file",

@@ -167,7 +167,7 @@ class Seen(Case):
         with mock.patch.object(tries, "REMEMBERED", 2):
             counted = tries.Tally(Options())
             for name in "abac":
-                counted.count(verify, [name], "yes")
+                counted.count(verify, name, "", "yes")
         self.assertEqual([counted.answer(b"last", it)[:4] for it in "abc"], ["last", "none", "last"])
 
 

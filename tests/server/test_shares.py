@@ -83,12 +83,14 @@ class Floods(Case):
     async def door(self, service: Service) -> AsyncIterator[tuple[Door, contextlib.ExitStack]]:
         """A door of a service in this process, and what closes its clients in the end."""
         door = Door("a", str(self.room() / "s"), 0o600, "-", frozenset())
-        door.open(service)
+        door.listener = door.listening()
+        accepting = asyncio.ensure_future(door.accept(service, door.listener))
         with contextlib.ExitStack() as stack:
             yield door, stack
-            door.end()
-        while door.clients:
+            accepting.cancel()
+        while service.clients:
             await asyncio.sleep(0)
+        self.assertFalse(door.counts)
 
     async def all_let_in(self, door: Door) -> None:
         """Until nobody waits to be let in."""
@@ -108,7 +110,7 @@ class Floods(Case):
                     if is_flooded:
                         it.close()
                 await self.all_let_in(door)
-                self.assertEqual(len(door.clients), 0 if is_flooded else 100)
+                self.assertEqual(sum(door.counts.values()), 0 if is_flooded else 100)
                 for it in clients[100:]:
                     it.setblocking(False)
                 return sum(it.connect_ex(door.path) == 0 for it in clients[100:])
@@ -123,7 +125,9 @@ class Floods(Case):
         async def taken() -> str:
             nonlocal most
             lines, service = list[bytes](), Service(Options())
-            with mock.patch.object(service, "submit", lambda _, it: (lines.append(it) or b"", b"")):
+            with mock.patch.object(
+                service, "submit", lambda _, it: (lines.append(it) or b"", b"")
+            ):
                 async with self.door(service) as (door, stack):
                     for letter in letters:
                         client = stack.enter_context(Client(pathlib.Path(door.path)))
@@ -133,7 +137,11 @@ class Floods(Case):
                         most = max(most, len(lines) - before)
             return b"".join(lines).decode()
 
-        self.assertIn(2 * letters, asyncio.run(taken()))
+        text = asyncio.run(taken())
+        for letter in letters:
+            at = [place for place, it in enumerate(text) if it == letter]
+            self.assertLess(at[0], len(letters) + 2 * TURNS, "others had many turns before it")
+            self.assertTrue(all(b - a <= len(letters) for a, b in zip(at, at[1:])), text)
         self.assertLessEqual(most, TURNS)
 
     def test_services_of_root(self) -> None:
@@ -148,7 +156,7 @@ class Floods(Case):
                     await self.all_let_in(door)
                     process.kill()
                 share_of.assert_called_with(os.getuid(), process.pid)
-                return len(door.clients)
+                return sum(door.counts.values())
 
         with mock.patch.multiple(clients, CLIENTS=64, share_of=share_of):
             self.assertEqual(asyncio.run(let_in()), 49)

@@ -77,7 +77,9 @@ class Endings(Case):
                 with contextlib.suppress(OSError):
                     clients[0].send(f"b verify ada {SECRET}\n")
                 self.assertEqual([client.line() for client in clients], [b"a yes"] * 3)
-                self.assertTrue(all(client.is_ended() for client in [*clients, idle]), "it goes on")
+                self.assertTrue(
+                    all(client.is_ended() for client in [*clients, idle]), "it goes on"
+                )
                 self.assertEqual(service.process.wait(timeout=20), 0)
                 self.assertEqual(len(service.asked()), 5)
                 self.assertIn("end: status 0", service.log())
@@ -111,6 +113,23 @@ class Endings(Case):
             self.assertLess(time.monotonic() - begun, 15, f"{lines:.20}")
             self.assertNotIn("killed", service.log())
 
+    def test_an_end_amid_a_beat(self) -> None:
+        """A stop while the server itself waits for the book costs nobody an answer."""
+        for number, ought in ((signal.SIGCONT, b"noaccount"), (signal.SIGKILL, b"unavailable")):
+            service = self.serving("--idle", "1")
+            client, book = service.client(), service.book_pid()
+            os.kill(book, signal.SIGSTOP)
+            time.sleep(0.3)  # until the server asks it
+            client.send("a known ada\n" * 8)
+            time.sleep(0.3)
+            service.process.terminate()
+            time.sleep(0.3)
+            os.kill(book, number)
+            self.assertEqual(client.lines(8), [b"a " + ought] * 8)
+            status, log = service.ended()
+            self.assertEqual(status, 0 if number == signal.SIGCONT else 128 + 9)
+            self.assertNotIn("a fault", log)
+
     def test_a_book_that_goes_on(self) -> None:
         """Lines without an answer are dropped after 18 s. A book that still goes on is killed, 2 s later."""
         for is_stopped in (False, True):
@@ -121,18 +140,19 @@ class Endings(Case):
             if is_stopped:
                 os.kill(service.book_pid(), signal.SIGSTOP)
             begun = time.monotonic()
-            service.stop()
+            service.process.terminate()
+            status, log = service.ended()
             self.assertTrue(17 < time.monotonic() - begun < 35, "18 to 20 s")
-            self.assertIn("20 lines had no answer after 18 s", service.log())
-            killed = "the book is killed: it still runs after 20 s"
-            self.assertEqual(killed in service.log(), is_stopped)
+            self.assertIn("20 lines had no answer after 18 s", log)
+            is_killed = "the book is killed: it still runs after 20 s" in log
+            self.assertEqual((is_killed, status), (is_stopped, 128 + 9 if is_stopped else 0))
 
     def test_listening_fails(self) -> None:
         """What can't be listened at ends it with a cause, and the book in order."""
         need("systemd-socket-activate")
         for option, name, said in (
-            ("--datagram", "admin", "the socket login that systemd handed over is no stream"),
-            ("", "other", "systemd handed over no socket with the name admin"),
+            ("--datagram", "admin", "systemd handed over no stream socket with the name login"),
+            ("", "other", "systemd handed over no stream socket with the name admin"),
         ):
             room, kind = self.room(), socket.SOCK_DGRAM if option else socket.SOCK_STREAM
             words = f"systemd-socket-activate {option} --fdname=login:{name} -l {room}/a"

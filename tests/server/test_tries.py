@@ -161,7 +161,7 @@ class Limiters(Case):
         """Who failed fewer than so many times, and who has to wait."""
         few, many = list[str](), list[str]()
         for key, it in limiter.tries.items():
-            (few if it.count < limiter.most(key) else many).append(key)
+            (few if it.count < limiter.most else many).append(key)
         return few, many
 
     def test_others_dont_free_a_victim(self) -> None:
@@ -214,34 +214,34 @@ class Limiters(Case):
         self.tried(limiter, *["x"] * 3000)
         self.assertEqual(limiter.tries["x"].until, self.clock + 900)
 
-    def test_names_and_users(self) -> None:
-        """A try runs once neither its name nor its user has as many running as may fail there."""
-        limiter, begun = Limiter(2, 3), list[str]()
-        ends = {name: asyncio.Semaphore(0) for name in "abc"}
+    def test_tries_at_once(self) -> None:
+        """A try runs once fewer run at its key than may fail there; without a key it runs at once."""
+        limiter, begun = Limiter(2), list[str]()
+        ends = {name: asyncio.Semaphore(0) for name in ("a", "b", "")}
 
         async def judge(name: str) -> None:
             async def answer() -> bytes:
-                begun.append(name)
+                begun.append(name or "-")
                 await ends[name].acquire()
                 return b"no"
 
-            self.assertEqual(await limiter.judge(answer, name, "uid 1000"), b"no")
+            self.assertEqual(await limiter.judge(name, answer), b"no")
 
         async def run() -> None:
-            tasks = [asyncio.ensure_future(judge(it)) for it in "aaabc"]
-            for ended, ought in (("", "aab"), ("b", "aabc"), ("a", "aabca")):
+            tasks = [asyncio.ensure_future(judge(it)) for it in ("a", "a", "a", "b", "", "", "")]
+            for ended, ought in (("", "aab---"), ("b", "aab---"), ("a", "aab---a")):
                 if ended:
                     ends[ended].release()
                 for _ in range(6):
                     await asyncio.sleep(0)
                 self.assertEqual("".join(begun), ought)
-            self.assertEqual(limiter.running, {"a": 2, "c": 1, "uid 1000": 3})
-            self.tried(limiter, *["uid 1000"] * 3)
-            said = await limiter.judge(mock.Mock(), "d", "uid 1000")
-            self.assertEqual(said, b"later", "its user has to wait")
-            for name in "aac":
+            self.assertEqual(limiter.running, {"a": 2, "": 3})
+            self.tried(limiter, "a", "a")
+            self.assertEqual(await limiter.judge("a", mock.Mock()), b"later")
+            for name in ("a", "a", "", "", ""):
                 ends[name].release()
             await asyncio.gather(*tasks)
+            self.assertFalse(limiter.running)
 
         asyncio.run(run())
 

@@ -2,62 +2,107 @@
 
 import asyncio
 import time
-from collections import deque
+from collections import defaultdict, deque
 from collections.abc import Callable
-from unittest import mock
+from types import SimpleNamespace
+from typing import Any
+from unittest import IsolatedAsyncioTestCase, mock
 
 from served import Case
 from daemon.book import Places, Rounds
+from daemon.options import OPERATIONS, Options
+from daemon.service import Request, Service
 
 
-class Waiting(Case):
-    """Each line is a letter, and what was started is noted."""
+class Waiting(IsolatedAsyncioTestCase):
+    """Each place that somebody wants is a letter."""
 
     def setUp(self) -> None:
-        super().setUp()
-        self.started, self.users = "", dict[str, int]()
+        self.users, self.waiting = dict[str, int](), dict[str, asyncio.Future[None]]()
 
-    def start(self, line: str) -> None:
-        self.started += line
+    def take(self, places: Places, user: int, letters: str) -> str:
+        """What is taken as a user wants so many."""
+        for letter in letters:
+            self.users[letter], self.waiting[letter] = user, places.take(user)
+        return self.released(places, "")
 
-    def take(self, places: Places, user: int, client: str, lines: str) -> str:
-        """What is started as so many lines of a client come."""
-        for line in lines:
-            self.users[line] = user
-            places.submit(user, client, line)
-        return self.ended(places, "")
+    def released(self, places: Places, letters: str) -> str:
+        """What is taken once these are free."""
+        for letter in letters:
+            places.release(self.users[letter])
+        taken = [letter for letter, place in self.waiting.items() if place.done()]
+        self.waiting = {it: self.waiting[it] for it in self.waiting if it not in taken}
+        return "".join(taken)
 
-    def ended(self, places: Places, lines: str) -> str:
-        """What is started once these have ended."""
-        for line in lines:
-            places.release(self.users[line])
-        found, self.started = self.started, ""
-        return found
+    async def test_places(self) -> None:
+        """A user takes places while there are some, but for the last, and then as one comes back."""
+        places = Places(3)
+        self.assertEqual(self.take(places, 1, "abcd"), "ab")
+        self.assertEqual([self.released(places, it) for it in "abcd"], ["c", "d", "", ""])
+        self.assertEqual(self.take(places, 1, "efg"), "ef")
 
-    def test_places(self) -> None:
-        """A user's lines start while there are places, but for the last, and then as one comes back."""
-        places = Places(3, self.start)
-        self.assertEqual(self.take(places, 1, "one", "abcd"), "ab")
-        self.assertEqual([self.ended(places, it) for it in "abcd"], ["c", "d", "", ""])
-        self.assertEqual(self.take(places, 1, "one", "efg"), "ef")
+    async def test_the_last_place(self) -> None:
+        """A user who has none takes it at once, and whoever has fewest the next."""
+        places = Places(4)
+        self.assertEqual(self.take(places, 1, "abcdefg"), "abc")
+        self.assertEqual(self.take(places, 2, "xyz"), "x")
+        self.assertEqual(self.take(places, 3, "mn"), "")
+        self.assertEqual([self.released(places, it) for it in "abcxy"], ["m", "", "d", "y", "z"])
 
-    def test_the_last_place(self) -> None:
-        """A user of whom none runs has it at once, and whoever has fewest running the next."""
-        places = Places(4, self.start)
-        self.assertEqual(self.take(places, 1, "one", "abcdefg"), "abc")
-        self.assertEqual(self.take(places, 2, "two", "xyz"), "x")
-        self.assertEqual(self.take(places, 3, "three", "mn"), "")
-        self.assertEqual([self.ended(places, it) for it in "abcxy"], ["m", "", "d", "y", "z"])
-
-    def test_turns(self) -> None:
-        """Users take turns, then the clients of each; a client's lines come in their order."""
-        places, said = Places(1, self.start), "-"
-        self.assertEqual(self.take(places, 1, "one", "-"), "-")
-        for user, client, lines in ((2, "a", "ABC"), (2, "b", "mn"), (3, "c", "xy"), (4, "d", "!")):
-            self.take(places, user, client, lines)
-        while more := self.ended(places, said[-1]):
+    async def test_turns(self) -> None:
+        """Users take turns; each takes its places in their order."""
+        places, said = Places(1), "-"
+        self.assertEqual(self.take(places, 1, "-"), "-")
+        for user, letters in ((2, "ABC"), (3, "xy"), (4, "!")):
+            self.take(places, user, letters)
+        while more := self.released(places, said[-1]):
             said += more
-        self.assertEqual(said, "-Ax!myBnC")
+        self.assertEqual(said, "-Ax!ByC")
+
+    async def test_an_end(self) -> None:
+        """Whoever is cancelled as it waits takes no place."""
+        places = Places(3)
+        self.take(places, 1, "abcde")
+        for letter in "cd":
+            self.waiting.pop(letter).cancel()
+        self.assertEqual([self.released(places, it) for it in "ab"], ["e", ""])
+        self.assertEqual((places.free, places.taken[1]), (2, 1))
+
+    async def judged(self, service: Service, answer: bytes, *asked: tuple[str, int, int]) -> str:
+        """Which names are judged, in their order, as each client verifies one so many times."""
+        names = list[str]()
+
+        async def judge(request: Request) -> bytes:
+            names.append(request.words[1].decode())
+            await asyncio.sleep(0)
+            return answer
+
+        door, replies = SimpleNamespace(operations=OPERATIONS, name="login"), mock.AsyncMock()
+        with mock.patch.object(service.locks, "answer", judge):
+            for name, uid, count in asked:
+                client: Any = SimpleNamespace(door=door, uid=uid, user=uid, reply=replies)
+                client.running, client.is_gone, client.answered = 0, False, asyncio.Event()
+                client.queues = defaultdict(asyncio.Lock)
+                for _ in range(count):
+                    service.submit(client, f"a verify {name} -".encode())
+            await asyncio.gather(*service.tasks)
+        self.assertEqual(replies.await_count, sum(count for _, _, count in asked))
+        return " ".join(names)
+
+    async def test_clients_of_a_user(self) -> None:
+        """A line of each takes its turn, however many others wait before it."""
+        service = Service(Options())
+        service.hashes = Places(2)
+        said = await self.judged(service, b"yes", ("ann", 33, 9), ("bob", 33, 3), ("cat", 33, 1))
+        self.assertEqual(said, "ann ann bob cat ann bob ann bob" + " ann" * 5)
+
+    async def test_guesses_of_a_person(self) -> None:
+        """Of a person's guesses that come at once as many are judged as may fail, over all names."""
+        service = Service(Options(uid_tries=2))
+        service.hash_seconds = 0.0
+        asked = [(name, uid, 1) for uid in (1000, 33) for name in "abcdef"]
+        said = await self.judged(service, b"noaccount", *asked)
+        self.assertEqual(sorted(said.split()), sorted("ab" + "abcdef"))
 
 
 class Changes(Case):
@@ -70,21 +115,23 @@ class Changes(Case):
         self.at_book = deque["asyncio.Future[bytes]"]()
         self.enterContext(mock.patch.object(time, "monotonic", lambda: self.clock))
 
-    async def go(self, letter: str) -> bytes:
-        """What the book answers once it is let; then the change has gone."""
+    def ask(self, letter: str) -> "asyncio.Future[bytes]":
+        """In the book's place: what it answers once it is let; then the change has gone."""
         self.gone += letter
-        answer = asyncio.get_running_loop().create_future()
-        self.at_book.append(answer)
-        return await answer
+        self.at_book.append(asyncio.get_running_loop().create_future())
+        return self.at_book[-1]
+
+    def rounds(self) -> Rounds:
+        return Rounds(self, lambda: self.is_busy)  # type: ignore
 
     def begin(self, rounds: Rounds, letter: str) -> "asyncio.Future[bytes]":
-        return asyncio.ensure_future(rounds.change(lambda: self.go(letter), letter.islower()))
+        return asyncio.ensure_future(rounds.ask([letter], letter.islower()))  # type: ignore
 
     def played(self, *scene: tuple[str, int, int, str]) -> None:
         """Of each step: what comes, how many end after 20 ms, the rest behind these, what went."""
 
         async def run() -> None:
-            loop, rounds, tasks = asyncio.get_running_loop(), Rounds(lambda: self.is_busy), []
+            loop, rounds, tasks = asyncio.get_running_loop(), self.rounds(), []
             with mock.patch.object(loop, "call_later", lambda *it: self.rests.append(it)):
                 for come, ended, rest, ought in scene:
                     self.is_busy = self.is_busy and "-" not in come
@@ -130,7 +177,7 @@ class Changes(Case):
         """The end of a rest opens no gate within the round of a change that went meanwhile."""
 
         async def run() -> None:
-            loop, rounds = asyncio.get_running_loop(), Rounds(lambda: self.is_busy)
+            loop, rounds = asyncio.get_running_loop(), self.rounds()
 
             async def passes() -> None:
                 for _ in range(3):

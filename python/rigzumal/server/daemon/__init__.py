@@ -6,22 +6,19 @@ It imports nothing of the rest of rigzumal, so that bin/credkeep-server can run 
 import asyncio
 import logging
 import os
-import re
 import resource
 import signal
 import socket
 import sys
 import time
-from typing import Any
+from contextlib import suppress
 
-from .book import UNAVAILABLE
-from .journal import Problem, log, log_fault, notify
+from .journal import Problem, log, notify
 from .options import Options, parse
 from .service import Service
 from .tries import metrics
 
-# After a signal to end: until unread answers are dropped, lines are, and the book is killed.
-UNREAD_SECONDS, LINES_SECONDS, LAST_SECONDS = 0.5, 18.0, 20.0
+UNREAD_SECONDS, LINES_SECONDS, LAST_SECONDS = 0.5, 18.0, 20.0  # after a signal to end
 
 
 def main() -> int:
@@ -53,38 +50,38 @@ async def serve(options: Options) -> int:
         door.prepare()
     service = Service(options)
     loop = asyncio.get_running_loop()
-    loop.set_exception_handler(log_fault)
-    stop = loop.create_future()
+    text = "a fault: %s"  # without the exception's own text, which may quote a line
+    loop.set_exception_handler(lambda _, it: log.error(text, type(it.get("exception")).__name__))
+    words = options.book_words()  # in a session of its own: a terminal's signals are the server's
+    await loop.subprocess_exec(lambda: service.book, *words, stderr=None, start_new_session=True)
+    serving = asyncio.create_task(open_doors(service))
+    service.book.ended.add_done_callback(lambda _: serving.cancel())
     for number in (signal.SIGTERM, signal.SIGINT):
-        loop.add_signal_handler(number, stop.cancel)
-    own: Any = {"start_new_session": True}  # signals to a terminal are the server's
-    await loop.subprocess_exec(lambda: service.book, *options.book_words(), stderr=None, **own)
-    opening = loop.create_task(open_doors(service))
-    ends: list[asyncio.Future[Any]] = [opening, service.book.ended, stop]
-    await asyncio.wait(ends, return_when=asyncio.FIRST_COMPLETED)
-    status = await end(service)
-    if opening.done():
-        opening.result()  # or its exception
+        loop.add_signal_handler(number, serving.cancel)
+    try:
+        with suppress(asyncio.CancelledError):
+            await serving
+    finally:
+        status = await end(service)
     return status
 
 
 async def open_doors(service: Service) -> None:
     """Lets clients in once the book answers, and tells systemd for as long as it does."""
-    if await service.book.ask(b"show", b"-") == UNAVAILABLE:
-        return
-    for door in service.options.doors:
-        door.open(service)
+    await asyncio.shield(service.book.ask(b"show", b"-"))  # an answer that nobody cancels
+    doors = [(door, door.listening()) for door in service.options.doors]
+    service.accepting = [asyncio.create_task(door.accept(service, it)) for door, it in doors]
     log.info("start: %s", service.options.file)
     notify("READY=1")
-    # What a hash takes is measured some times: other work on the machine may slow one down.
-    asyncio.gather(*(service.log_in(b"verify", b"-", b"-") for _ in range(3)))
+    asyncio.gather(*(service.log_in(b"verify", b"-", b"-") for _ in range(3)))  # times hashes
     idle = service.options.idle or float("inf")
     usec = os.environ.get("WATCHDOG_USEC", "")
-    beat = int(usec) / 2e6 if re.fullmatch("[1-9][0-9]{0,18}", usec) else 30.0
-    while await service.book.ask(b"show", b"-") != UNAVAILABLE:
+    beat = float(usec) / 2e6 if usec.isdecimal() and float(usec) else 30.0
+    while await asyncio.shield(service.book.ask(b"show", b"-")):
         notify("WATCHDOG=1")
-        service.tally.limiter.drop_expired()
-        for it in service.clients():
+        service.tally.names.drop_expired()
+        service.tally.users.drop_expired()
+        for it in list(service.clients):
             is_waiting = it.running and not it.writing.locked()
             if it.active < time.monotonic() - idle and not is_waiting:
                 it.end(socket.SHUT_RDWR)
@@ -95,26 +92,23 @@ async def end(service: Service) -> int:
     """Ends the clients, each once it has its answers, then the book; returns its status."""
     began, seconds, book = time.monotonic(), 0.0, service.book
     notify("STOPPING=1")
-    for door in service.options.doors:
-        door.end()
-    for client in service.clients():
+    for task in service.accepting:
+        task.cancel()  # the paths stay: the sockets may be systemd's
+    for client in list(service.clients):
         client.end()
-    while (service.clients() or service.tasks) and seconds <= LINES_SECONDS:
+    while (service.clients or service.tasks) and seconds <= LINES_SECONDS:
         await asyncio.sleep(0.01)
         seconds = time.monotonic() - began
-        for client in service.clients():
+        for client in list(service.clients):
             if client.writing.locked() and seconds > UNREAD_SECONDS:
                 client.end(socket.SHUT_RDWR)
-    if count := sum(client.running for client in service.clients()):
+    if count := sum(client.running for client in service.clients):
         log.error("%d lines had no answer after %d s", count, seconds)
     book.stdin.close()
     await asyncio.wait([book.ended], timeout=LAST_SECONDS - seconds)
-    status = book.ended.result() if book.ended.done() else 0
     if not book.ended.done():
         log.error("the book is killed: it still runs after %d s", LAST_SECONDS)
         book.kill()
-        await book.ended
-    if book.strays:
-        log.error("the book wrote %d answers to no line", book.strays)
+    status = await book.ended
     log.info("end: status %d, %s", status, service.tally.stats())
     return status

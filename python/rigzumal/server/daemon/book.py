@@ -8,9 +8,11 @@ import re
 import signal
 import time
 from collections import Counter, OrderedDict, deque
-from collections.abc import Awaitable, Callable
+from collections.abc import Callable
 from contextlib import suppress
 from typing import Any, Hashable, Optional
+
+from .journal import log_seldom
 
 LONGEST_ANSWER = 65536  # bytes
 UNAVAILABLE = b"unavailable"
@@ -33,7 +35,7 @@ class Book(asyncio.SubprocessProtocol):
 
     def __init__(self) -> None:
         self.pending = dict[bytes, asyncio.Future[bytes]]()  # answers, by their tags
-        self.tags, self.strays, self.rest = itertools.count(1), 0, b""
+        self.tags, self.rest = itertools.count(1), b""
         self.ended: asyncio.Future[int] = asyncio.get_running_loop().create_future()
 
     def connection_made(self, process: Any) -> None:
@@ -51,8 +53,6 @@ class Book(asyncio.SubprocessProtocol):
 
     def pipe_data_received(self, _: int, data: bytes) -> None:
         """Hands over its answers, and kills it at one that has no end."""
-        if len(self.rest) > LONGEST_ANSWER:
-            return
         *lines, self.rest = (self.rest + data).split(b"\n")
         for line in lines:
             tag, _space, text = line.partition(b" ")
@@ -60,7 +60,7 @@ class Book(asyncio.SubprocessProtocol):
                 is_text = re.fullmatch(rb"[ -~]+", text)
                 answer.set_result(text if is_text else UNAVAILABLE)
             else:
-                self.strays += 1
+                log_seldom(self, "the book writes answers to no line")
         if len(self.rest) > LONGEST_ANSWER:
             self.kill()
 
@@ -82,81 +82,74 @@ def share_of(uid: int, pid: int) -> str:
     """The user whose share a process uses: its uid, or the service where that is root's."""
     found = None
     if uid == 0:
-        with suppress(OSError):  # the process has gone, or is hidden
-            with open(f"/proc/{pid}/cgroup", "rb", buffering=0) as file:
-                found = GROUP.search(file.read(4096))
+        with suppress(OSError), open(f"/proc/{pid}/cgroup", "rb", buffering=0) as file:
+            found = GROUP.search(file.read(4096))
     return f"uid {uid} in {found[1].decode(errors='replace')}" if found else f"uid {uid}"
 
 
 class Places:
-    """Places, and the items that wait for one: users take turns, then the clients of each.
+    """Places, for which users take turns: the one with the fewest has the next."""
 
-    The user with the fewest running items has the next. A flood leaves the last place free.
-    """
+    def __init__(self, count: int) -> None:
+        self.free, self.taken = count, Counter[Hashable]()
+        self.users = OrderedDict[Hashable, deque[asyncio.Future[None]]]()
 
-    def __init__(self, count: int, start: Callable[[Any], object]) -> None:
-        self.free, self.start, self.running = count, start, Counter[Hashable]()
-        self.users = OrderedDict[Hashable, OrderedDict[Hashable, deque[Any]]]()
+    def take(self, user: Hashable) -> asyncio.Future[None]:
+        """Waits for a place, which may be free now."""
+        place: asyncio.Future[None] = asyncio.get_running_loop().create_future()
+        if self.free > 1 and not self.users:
+            self.give(user, place)
+        else:
+            self.users.setdefault(user, deque()).append(place)
+            self.give_next()
+        return place
 
-    def submit(self, user: Hashable, client: Hashable, item: Any) -> None:
-        """Starts an item once it has a place, which may be now."""
-        clients = self.users.setdefault(user, OrderedDict())
-        clients.setdefault(client, deque()).append(item)
-        self.start_next()
+    def give(self, user: Hashable, place: asyncio.Future[None]) -> None:
+        if not place.cancelled():  # as the server ends
+            self.free -= 1
+            self.taken[user] += 1
+            place.set_result(None)
 
     def release(self, user: Hashable) -> None:
         self.free += 1
-        self.running[user] -= 1
-        self.start_next()
+        self.taken[user] -= 1
+        self.give_next()
 
-    def start_next(self) -> None:
+    def give_next(self) -> None:
         while self.free and self.users:
-            user = min(self.users, key=self.running.__getitem__)
-            if self.free == 1 and self.running[user]:
-                return
-            self.free -= 1
-            self.running[user] += 1
-            clients = self.users.pop(user)
-            client, items = clients.popitem(last=False)
-            item = items.popleft()
-            if items:
-                clients[client] = items  # whose next turn is behind the others'
-            if clients:
-                self.users[user] = clients
-            self.start(item)
+            user = min(self.users, key=self.taken.__getitem__)
+            if self.free == 1 and self.taken[user]:
+                return  # the last one is for another user
+            waiting = self.users.pop(user)
+            self.give(user, waiting.popleft())
+            if waiting:
+                self.users[user] = waiting  # whose next turn is behind the others'
 
 
 class Rounds:
-    """The book answers nobody while a change waits for the disk.
+    """Beside logins, changes go in rounds: all that hash, or one other; then a longer rest."""
 
-    Beside logins, changes go in rounds, and rest for longer than the round took. Changes that
-    hash are synced together, so all that wait go in one round. Each other change is a sync of
-    its own, and only begins a round. Without logins no change waits here.
-    """
-
-    def __init__(self, is_busy: Callable[[], bool]) -> None:
-        self.is_busy = is_busy  # whether somebody logs in
-        self.gate, self.running, self.began = asyncio.Event(), 0, 0.0
+    def __init__(self, book: Book, is_busy: Callable[[], bool]) -> None:
+        self.book, self.is_busy = book, is_busy  # whether somebody logs in
+        self.gate, self.running = asyncio.Event(), 0
         self.gate.set()
 
-    async def change(self, answer: Callable[[], Awaitable[bytes]], is_alone: bool) -> bytes:
+    async def ask(self, words: list[bytes], is_alone: bool) -> bytes:
         """The answer to a change, which goes now, or in the next round."""
-        is_due = self.gate.is_set()
-        while self.is_busy() and not is_due:
+        while self.is_busy() and not self.gate.is_set():
             await self.gate.wait()
-            is_due = self.gate.is_set() or not is_alone
+            if not is_alone:
+                break
         self.gate.clear()
-        self.began = self.began if self.running else time.monotonic()
-        self.running += 1
-        said = await answer()
+        began, self.running = time.monotonic(), self.running + 1
+        answer = await self.book.ask(*words)
         self.running -= 1
         if not self.running:
-            took = time.monotonic() - self.began if self.is_busy() else 0.0
-            loop, rest = asyncio.get_running_loop(), min(REST * took, LONGEST_REST)
-            loop.call_later(rest, self.open_gate)
-        return said
+            took = time.monotonic() - began if self.is_busy() else 0.0
+            rest = min(REST * took, LONGEST_REST)
+            asyncio.get_running_loop().call_later(rest, self.end_rest)
+        return answer
 
-    def open_gate(self) -> None:
-        """Lets the next round begin, unless one has begun, whose end will do so."""
-        if not self.running:
+    def end_rest(self) -> None:
+        if not self.running:  # else the end of that round begins another rest
             self.gate.set()

@@ -1,22 +1,22 @@
 """An htpasswd file, never written, whose users move into the book by right passwords."""
 
 import asyncio
-import ctypes
+import ctypes.util
 import hashlib
 import hmac
-import importlib
 import os
 import re
 import time
 from contextlib import suppress
 from weakref import WeakValueDictionary
 
+from passlib.hash import apr_md5_crypt
+
 from .book import UNAVAILABLE, decoded
-from .journal import Marks, Problem, log, log_seldom, status_of
-from .service import Request, Service
+from .journal import Marks, log, log_seldom, status_of
+from .service import LACKS, Request, Service
 
 NAME = re.compile(rb"[a-z0-9._-]{1,32}")  # of a book
-LACKS = (b"absent", b"noaccount")
 # Answered to a password if the book has a record.
 HAS = (b"yes", b"replaced", b"upgraded", b"kept", b"enrolled", b"exists")
 # What an operation that makes a name is answered if the file has the name.
@@ -30,15 +30,9 @@ BCRYPT, LONGEST_BCRYPT = (b"$2a$", b"$2b$", b"$2y$"), 72  # bytes: it ignores al
 # Without DES, to which the first eight letters of a password are all of it.
 CRYPT = (*BCRYPT, b"$1$", b"$5$", b"$6$", b"$7$", b"$gy$", b"$y$")
 APACHE = b"$apr1$"
-apache = importlib.import_module("passlib.hash").apr_md5_crypt  # has no types
-for library in ("libcrypt.so.1", "libcrypt.so.2", None):  # musl's libc has crypt(3)
-    with suppress(OSError, AttributeError):
-        crypt_r = ctypes.CDLL(library).crypt_r  # for many threads
-        crypt_r.argtypes = [ctypes.c_char_p, ctypes.c_char_p, ctypes.c_void_p]
-        crypt_r.restype = ctypes.c_char_p
-        break
-else:
-    raise Problem("--foreign needs crypt(3): libcrypt.so.1")
+crypt_r = ctypes.CDLL(ctypes.util.find_library("crypt")).crypt_r  # or musl's libc has it
+crypt_r.argtypes = [ctypes.c_char_p, ctypes.c_char_p, ctypes.c_void_p]
+crypt_r.restype = ctypes.c_char_p
 
 
 class Foreign:
@@ -56,11 +50,10 @@ class Foreign:
 
     def read(self) -> None:
         """Reads the file once it stands still: htpasswd empties it, and writes it again."""
-        version = version_of(self.path)
         for _ in range(LOOKS):
+            version = version_of(self.path)
             time.sleep(STILL)
-            before, version = version, version_of(self.path)
-            if before == version:
+            if version == version_of(self.path):
                 break
         records, stuck = dict[bytes, bytes](), list[str]()
         with open(self.path, "rb") as file:
@@ -160,8 +153,7 @@ def is_right(record: bytes, password: bytes) -> bool:
         return False
     if record.startswith(APACHE):
         with suppress(ValueError):  # a record that has no such form
-            return bool(apache.verify(password, record))
-        return False
+            return bool(apr_md5_crypt.verify(password, record))
     if record.startswith(CRYPT):
         data = ctypes.create_string_buffer(CRYPT_DATA)
         return hmac.compare_digest(crypt_r(password, record, data) or b"", record)

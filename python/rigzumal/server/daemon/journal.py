@@ -8,9 +8,8 @@ import re
 import socket
 import stat
 import time
-from collections.abc import Iterator
-from contextlib import contextmanager, suppress
-from typing import Any, Hashable, Optional
+from contextlib import suppress
+from typing import Hashable, Optional
 
 log = logging.getLogger("credkeep-server")
 SELDOM = 3600.0  # seconds
@@ -21,20 +20,6 @@ UNDOES = {b"unlock": b"lock", b"renew": b"expire"}  # a mark of these takes one 
 
 class Problem(Exception):
     """The reason why the server can't start, in a user's words."""
-
-
-@contextmanager
-def problems_at(path: str) -> Iterator[None]:
-    """Turns the system's refusal of a path into a problem."""
-    try:
-        yield
-    except OSError as fault:
-        raise Problem(f"{path}: {fault.strerror or fault}") from None
-
-
-def log_fault(_: object, context: dict[str, Any]) -> None:
-    """Names an exception that asyncio caught, without its text, which may quote a line."""
-    log.error("a fault: %s", type(context.get("exception")).__name__)
 
 
 def log_seldom(key: Hashable, text: str, *values: object) -> None:
@@ -53,10 +38,9 @@ def utc(seconds: Optional[float] = None) -> str:
 def notify(text: str) -> None:
     """Sends systemd a notice, if it wants them."""
     if path := os.environ.get("NOTIFY_SOCKET"):
-        to = "\0" + path[1:] if path[0] == "@" else path
         try:
             with socket.socket(socket.AF_UNIX, socket.SOCK_DGRAM) as it:
-                it.sendto(text.encode(), to)
+                it.sendto(text.encode(), re.sub("^@", "\0", path))
         except OSError as fault:
             log_seldom("systemd", "NOTIFY_SOCKET: %s", fault.strerror)
 
@@ -125,9 +109,8 @@ class Marks(Journal):
         super().__init__(path)
         self.pairs = set[tuple[bytes, bytes]]()
         with suppress(FileNotFoundError), open(path, "rb", opener=private) as file:
-            for it in map(MARKED.fullmatch, file.read().split(b"\n")):
-                if it:
-                    self.apply(it[1], it[2] or b"")
+            for it in filter(None, map(MARKED.fullmatch, file.read().split(b"\n"))):
+                self.apply(it[1], it[2] or b"")
 
     def apply(self, name: bytes, mark: bytes) -> None:
         if mark in UNDOES:

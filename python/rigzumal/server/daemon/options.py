@@ -7,7 +7,6 @@ import re
 from collections import Counter
 from collections.abc import Sequence
 from dataclasses import dataclass, field, fields
-from functools import partial
 from typing import Any, NoReturn
 
 from .clients import Door
@@ -15,7 +14,6 @@ from .journal import Problem
 
 VERSION = "0.2.0"
 BOOKS, SOCKETS = pathlib.Path("/var/lib/rigzumal"), pathlib.Path("/run/rigzumal")
-LONGEST_PATH = 107  # bytes of a socket's path: unix(7)
 MOST_AT_ONCE = 254  # of a user: credkeep takes 255
 
 
@@ -47,29 +45,18 @@ KINDS = {
 OPERATIONS = {word.encode(): it for key, it in KINDS.items() for word in key.split()}
 
 
-def number(word: str, most: int = 10**9 - 1) -> int:
+def number(word: str, most: int) -> int:
     if not re.fullmatch("[0-9]{1,9}", word) or int(word) > most:
         raise argparse.ArgumentTypeError(f"{word!r} is no number from 0 to {most}")
     return int(word)
 
 
-places = partial(number, most=MOST_AT_ONCE)
-seconds = partial(number, most=3600)
-
-
-def costs(word: str) -> str:
-    if "=" not in word.rpartition("$")[2]:
-        text = f"{word!r} isn't costs without a salt, such as "
-        raise argparse.ArgumentTypeError(text + "$argon2id$v=19$m=65536,t=3,p=4")
-    return word
-
-
-def option(text: str, metavar: str = "", default: object = "", kind: object = 0) -> Any:
+def option(text: str, metavar: str = "", default: object = "", most: int = 10**9 - 1) -> Any:
     """A field of Options that the command line sets; a flag if it has no value."""
     if not metavar:
         return field(default=False, metadata={"help": text, "action": "store_true"})
     text += f" ({default})" if default != "" else ""
-    kind = kind or (str if default == "" else number)
+    kind = str if isinstance(default, str) else lambda word: number(word, most)
     return field(default=default, metadata={"help": text, "metavar": metavar, "type": kind})
 
 
@@ -88,15 +75,15 @@ class Options:
     audit_tries: bool = option("log failed tries too")
     metrics: str = option("print the counts of an admin socket's server", "SOCKET")
     foreign: str = option("an old file, whose users move into the book", "HTPASSWD")
-    upgrade: str = option("new costs, to which a verify upgrades", "COSTS", "", costs)
+    upgrade: str = option("new costs, to which a verify upgrades", "COSTS")
     least_length: int = option("the least length of a new password", "N", 0)
     setting: str = option("for credkeep: the costs of new records", "TEXT")
-    at_once: int = option("hashes of a user at once; 0: processors", "N", 0, places)
+    at_once: int = option("hashes of a user at once; 0: processors", "N", 0, MOST_AT_ONCE)
     memory: str = option("for credkeep: memory for hashes, as 512M", "SIZE")
     most_memory: str = option("for credkeep: the bound of a record's memory", "SIZE")
     most_work: str = option("for credkeep: the bound of memory times passes", "N")
-    wait: int = option("for credkeep: the wait for FILE", "SECONDS", 30, seconds)
-    credkeep: str = option("another program than credkeep", "PROGRAM", "credkeep", str)
+    wait: int = option("for credkeep: the wait for FILE", "SECONDS", 30, 3600)
+    credkeep: str = option("another program than credkeep", "PROGRAM", "credkeep")
     mail_names: bool = option("names may be e-mail addresses")
     fold_local_part: bool = option("fold the part before the @ too")
 
@@ -126,20 +113,18 @@ def folder_of(file: str) -> pathlib.Path:
 def door(name: str, path: str, mode: str, group: str, operations: str) -> Door:
     if not re.fullmatch("0?[0-7]{3}", mode):
         raise Problem(f"the mode of the socket {name} is octal, such as 0660, not {mode!r}")
-    if len(os.fsencode(path)) > LONGEST_PATH:
-        raise Problem(f"{path}: a socket's path has up to {LONGEST_PATH} bytes")
+    if len(os.fsencode(path)) > 107:  # unix(7)
+        raise Problem(f"{path}: a socket's path has up to 107 bytes")
     allowed = frozenset(OPERATIONS if operations == "all" else os.fsencode(operations).split(b","))
     if unknown := allowed - OPERATIONS.keys():
         word, known = os.fsdecode(min(unknown)), ", ".join(map(os.fsdecode, OPERATIONS))
-        text = f"{word!r} is no operation; write all, or some of {known}"
-        raise Problem(f"the socket {name}: {text}")
+        raise Problem(f"the socket {name}: {word!r} is no operation; write all or some of {known}")
     return Door(name, os.path.abspath(path), int(mode, 8), group, allowed)
 
 
 def parser() -> Parser:
-    text = "Lets many clients of Unix sockets ask the kept book FILE."
+    text = "Lets many clients ask the kept book FILE. credkeep-server(8) tells more."
     made = Parser(usage="credkeep-server [OPTION].. FILE", description=text)
-    made.epilog = "credkeep-server(8) tells more."
     text = "the book, which `credkeep FILE init` makes"
     made.add_argument("file", metavar="FILE", nargs="?", default="", help=text)
     made.add_argument("--version", action="version", version=f"credkeep-server {VERSION}")
@@ -159,6 +144,8 @@ def parse(words: Sequence[str]) -> Options:
         return options
     if not options.file:
         raise Problem("FILE is missing; --help shows all options")
+    if options.upgrade and "=" not in options.upgrade.rpartition("$")[2]:
+        raise Problem("--upgrade takes costs without a salt: $argon2id$v=19$m=65536,t=3,p=4")
     options.setting = options.upgrade or options.setting
     folder = folder_of(options.file)
     given = options.socket or [

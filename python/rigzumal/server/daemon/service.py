@@ -8,7 +8,7 @@ import random
 import re
 import time
 from collections import deque
-from dataclasses import dataclass, field, replace
+from dataclasses import dataclass, replace
 from functools import partial
 from typing import Any
 
@@ -18,17 +18,15 @@ from .journal import UNDOES, Journal, Marks, log_seldom, utc
 from .options import OPERATIONS, Kind, Options
 from .tries import LATER, TRIED, Tally
 
-TAG = re.compile(rb"[a-z0-9]{1,20}")
-LONG, NONE = b"bad 16 long", b"bad 5 noaccount"
-KNOWN = {b"none": b"absent", NONE: b"noaccount"}  # what `known` says to these of `show`
-HASHED_ANEW = (b"absent", b"noaccount")  # took a hash of the costs of new records
+LONG = b"bad 16 long"
+KNOWN = {b"none": b"absent", b"bad 5 noaccount": b"noaccount"}  # its answers, by those of `show`
+LACKS = (b"absent", b"noaccount")  # behind a hash of the costs of new records
 TURNS = 8  # places for lines that are taken in a pass of the loop
 LOOKS, CHANGES = 16, 128  # places for lines that change nothing, and for quick changes
 SYNC = 0.01  # seconds that a change waits for the disk, more or less
 REFUSED = (b"noaccount", b"bad ", LATER)  # changes nothing; a name may be a password
 PEOPLE = range(1000, 60001)  # uids whose failed tries count: a service logs in many
-# What an administrator marks a name by, and the answer.
-MARKS = {b"lock": b"locked", b"unlock": b"unlocked", b"expire": b"expired"}
+MARKS = {b"lock": b"locked", b"unlock": b"unlocked", b"expire": b"expired"}  # and the answers
 
 
 @dataclass(eq=False)
@@ -39,7 +37,6 @@ class Request:
     tag: bytes
     words: list[bytes]  # the operation and its fields
     places: Places
-    came: float = field(default_factory=time.monotonic)
 
     @property
     def kind(self) -> Kind:
@@ -51,14 +48,13 @@ class Service:
 
     def __init__(self, options: Options) -> None:
         self.options, self.book, self.tally = options, Book(), Tally(options)
-        self.turns = Places(TURNS, lambda it: it.loop.call_soon(it.turn.set))
-        self.hashes = Places(options.workers(), self.dispatch)
-        self.changes = Places(CHANGES, self.dispatch)
-        self.looks = Places(LOOKS, self.dispatch)
-        self.logins, self.rounds = 0, Rounds(lambda: self.logins > 0)
+        self.turns, self.hashes = Places(TURNS), Places(options.workers())
+        self.changes, self.looks = Places(CHANGES), Places(LOOKS)
+        self.logins, self.rounds = 0, Rounds(self.book, lambda: self.logins > 0)
         self.hash_seconds = 1.0  # what a hash takes if nothing else waits
         self.login_seconds = deque[float](maxlen=16)  # what the last logins took
-        self.tasks = set[asyncio.Task[None]]()
+        self.clients = dict[Client, asyncio.Task[None]]()
+        self.accepting, self.tasks = list[asyncio.Task[None]](), set[asyncio.Task[None]]()
         self.audit = Journal(options.audit)
         if options.audit:
             self.audit.append(b"")  # which fails now if it can't be written
@@ -70,13 +66,10 @@ class Service:
             self.answer = Foreign(self, options.foreign).answer
         self.locks = Locks(self)
 
-    def clients(self) -> list[Client]:
-        return [client for door in self.options.doors for client in door.clients]
-
     def submit(self, client: Client, line: bytes) -> tuple[bytes, bytes]:
-        """Has a line answered once it had a place, or returns its tag and an answer."""
+        """Begins to process a line, or returns its tag and an answer."""
         tag, *words = line.split(b" ")
-        is_tag, is_long = TAG.fullmatch(tag), len(line) > LONGEST
+        is_tag, is_long = re.fullmatch(rb"[a-z0-9]{1,20}", tag), len(line) > LONGEST
         if is_long or not is_tag:
             return tag if is_tag else b"*", LONG if is_long else b"bad 11 line"
         words += [b"", b""][len(words) :]  # an operation, and one field at least
@@ -85,10 +78,11 @@ class Service:
         client.running += 1
         kind = OPERATIONS[words[0]]
         is_quick = kind.changes and self.hash_seconds <= SYNC
-        # A line waits for a hash, for the disk, or for neither.
-        places = self.changes if kind.changes else self.looks
+        places = self.changes if kind.changes else self.looks  # for the disk, or for neither
         places = self.hashes if kind.hashes and not is_quick else places
-        places.submit(client.user, client, Request(client, tag, words, places))
+        task = asyncio.ensure_future(self.process(Request(client, tag, words, places)))
+        self.tasks.add(task)
+        task.add_done_callback(self.tasks.discard)
         return tag, b""
 
     def own_answer(self, client: Client, words: list[bytes]) -> bytes:
@@ -105,7 +99,7 @@ class Service:
         if sum(map(len, words)) + len(words) > LONGEST:  # with names that became longer
             return LONG
         if words[0] == b"locks":
-            return self.locks.shown().encode()
+            return self.locks.shown()
         if kind.is_own:
             return self.tally.answer(words[0], words[1].decode(errors="replace")).encode()
         password = decoded(words[kind.new]) if 0 < kind.new < len(words) else None
@@ -116,8 +110,7 @@ class Service:
     def in_book(self, name: bytes) -> bytes:
         """The book's form of a name; "@", which is no name, for a refused one."""
         local, at, domain = name.rpartition(b"@")
-        is_hashed = re.fullmatch(rb"e\.[a-z2-7]{30}", name)
-        if not self.options.mail_names or not (at or is_hashed):
+        if not self.options.mail_names or not (at or re.fullmatch(rb"e\.[a-z2-7]{30}", name)):
             return name
         is_whole = local and domain and not re.search(rb"[\0-\x20\x7f]", name)
         if not is_whole or len(name) > 254:
@@ -126,33 +119,32 @@ class Service:
         digest = hashlib.blake2b(local + b"@" + domain.lower(), digest_size=20).digest()
         return b"e." + base64.b32encode(digest)[:30].lower()
 
-    def dispatch(self, request: Request) -> None:
-        task = asyncio.ensure_future(self.process(request))
-        self.tasks.add(task)
-        task.add_done_callback(self.tasks.discard)
-
     async def process(self, request: Request) -> None:
         """Has a request answered, unless its client has gone and it changes nothing."""
-        client, kind, answer = request.client, request.kind, b""
-        # At what a failed try counts: the name, and the user if it is a person.
-        keys = [request.words[1].decode(errors="replace"), f"uid {client.uid}"]
-        keys = keys if client.uid in PEOPLE else keys[:1]
-        self.tally.waited += time.monotonic() - request.came
+        client, kind, tally, answer = request.client, request.kind, self.tally, b""
+        name = request.words[1].decode(errors="replace")
+        user = f"uid={client.uid}" if client.uid in PEOPLE else ""
+        came = time.monotonic()
+        async with client.queues[request.places]:  # one of its lines waits at a time
+            await request.places.take(client.user)
+        tally.waited += time.monotonic() - came
         try:
             if kind.changes or not client.is_gone:
                 answering = partial(self.locks.answer, request)
-                answer = await self.tally.limiter.judge(answering, *(keys if kind.tries else ()))
+                judging = partial(tally.names.judge, name, answering)
+                answer = await (tally.users.judge(user, judging) if kind.tries else answering())
         finally:
             request.places.release(client.user)
-        is_shown = request.words[0] == b"disable" and b":" in answer  # with its record
-        noted = b"disabled" if is_shown else answer
-        self.tally.count(kind, keys, noted.decode())
+        noted = b"disabled" if b":" in answer else answer  # not the record that a `disable` shows
+        tally.count(kind, name, user, noted.decode())
         if answer == LATER:
             # After the time of a hash: names that the book lacks take that too.
             await asyncio.sleep(random.choice(self.login_seconds or [self.hash_seconds]))
         if kind.changes and not await self.note(request, noted):
             answer = UNAVAILABLE  # nobody says that a change was made that isn't noted
-        await client.answer(request.tag, answer)
+        await client.reply(request.tag, answer)
+        client.running -= 1
+        client.answered.set()
         if not kind.changes:
             await self.note(request, noted)  # a slow disk holds up no login
         if answer == b"yes" and self.options.upgrade and request.words[0] == b"verify":
@@ -165,10 +157,9 @@ class Service:
             return b"yes" if answer[:1] == b"$" else KNOWN.get(answer, answer)
         if request.kind.tries and not request.kind.changes:
             return await self.log_in(*request.words)
-        asking = partial(self.book.ask, *request.words)
-        if request.places is not self.changes:
-            return await asking()
-        return await self.rounds.change(asking, is_alone=not request.kind.hashes)
+        if request.places is self.changes:
+            return await self.rounds.ask(request.words, is_alone=not request.kind.hashes)
+        return await self.book.ask(*request.words)
 
     async def log_in(self, *words: bytes) -> bytes:
         """The answer to a login; the quickest tells the time of a hash of new costs."""
@@ -177,9 +168,9 @@ class Service:
         answer = await self.book.ask(*words)
         self.logins -= 1
         seconds = time.monotonic() - began
-        if answer in (b"yes", b"no", *HASHED_ANEW):
+        if answer in (b"yes", b"no", *LACKS):
             self.login_seconds.append(seconds)
-        if answer in HASHED_ANEW:
+        if answer in LACKS:
             self.hash_seconds = min(seconds, 1.01 * self.hash_seconds)
         return answer
 
@@ -223,9 +214,9 @@ class Locks(Marks):
         super().__init__(f"{service.options.file}-locks")
         self.service = service
 
-    def shown(self) -> str:
-        said = [f"{name.decode()}:{MARKS[it].decode()}" for name, it in sorted(self.pairs)]
-        return " ".join(["locks", *said])
+    def shown(self) -> bytes:
+        said = [b"%b:%b" % (name, MARKS[mark]) for name, mark in sorted(self.pairs)]
+        return b" ".join([b"locks", *said])
 
     async def answer(self, request: Request) -> bytes:
         """The answer to a request: a wrong password's for a locked name."""
@@ -262,7 +253,7 @@ class Locks(Marks):
     async def rename(self, request: Request) -> bytes:
         """Renames an account; the new name has its marks before it has the record."""
         name, new = request.words[1], request.words[-1]
-        is_free = await self.service.book.ask(b"show", new) == NONE
+        is_free = await self.service.book.ask(b"show", new) == b"bad 5 noaccount"
         for mark in UNDOES.values():
             if is_free and self.has(name, mark) and not await self.put(new, mark):
                 return UNAVAILABLE

@@ -1,22 +1,22 @@
 """Failed tries and how long the next has to wait, and what is counted."""
 
 import asyncio
+import math
 import re
 import socket
 import time
 from collections import Counter, OrderedDict
-from collections.abc import Awaitable, Callable, Iterator, Sequence
+from collections.abc import Awaitable, Callable, Iterator
 from dataclasses import dataclass
 
-from .journal import Problem, log, log_seldom, problems_at, utc
+from .journal import Problem, log, log_seldom, utc
 from .options import Kind, Options, folder_of
 
 LATER = b"later"  # for this try it is too early
 REMEMBERED = 65536  # names and users
 LONGEST_WAIT, FORGOTTEN = 900.0, 3600.0  # seconds
 MOST_SHOWN, LONGEST_STATS = 1000, 4096  # names in an answer, letters of one
-# What the answers to a try are counted as.
-TRIED = dict.fromkeys("yes expired replaced upgraded kept removed".split(), "yes")
+TRIED = dict.fromkeys("yes expired replaced upgraded kept removed".split(), "yes")  # of tries
 TRIED |= {"no": "no", "wrong": "no", "absent": "absent", "noaccount": "noaccount"}
 CHANGED = "ok enrolled replaced upgraded removed disabled deleted renamed".split()
 CHANGED += "locked unlocked expired".split()
@@ -32,8 +32,7 @@ METRICS = {
     "waits": ("waits", "Names that have to wait after failed tries."),
     "waited_seconds_total": ("waited", "Seconds that lines waited for their turn."),
 }
-# What `stats` tells, in this order.
-COUNTED = [*" ".join(counts for counts, _ in METRICS.values()).split(), "book"]
+COUNTED = [*" ".join(counts for counts, _ in METRICS.values()).split(), "book"]  # by `stats`
 
 
 @dataclass
@@ -43,51 +42,37 @@ class Tries:
 
 
 class Limiter:
-    """Failed tries at each of many names, and of each of many users: "uid 1000".
+    """Failed tries at each of many names or users."""
 
-    From `most` on, each failed try doubles the wait for the next. No more tries run at once than
-    may fail until then. The memory is bounded: expired tries go first, then the keys that needn't
-    wait, the oldest first.
-    """
-
-    def __init__(self, most: int, most_of_user: int = 0) -> None:
-        self.limits = most, most_of_user  # or 0 for no limit
+    def __init__(self, most: int) -> None:
+        self.most = most or math.inf  # failed ones until the next has to wait
         self.tries = OrderedDict[str, Tries]()  # by their last failed try
         self.running, self.ended = Counter[str](), asyncio.Event()
 
-    def most(self, key: str) -> int:
-        return self.limits[" " in key]
-
-    def rest(self, *keys: str) -> float:
+    def rest(self, key: str) -> float:
         """For how many seconds more the next try has to wait."""
-        found = (self.tries[key].until for key in keys if key in self.tries)
-        return max(0.0, max(found, default=0.0) - time.monotonic())
+        return max(0.0, self.tries.get(key, Tries()).until - time.monotonic())
 
-    async def judge(self, answer: Callable[[], Awaitable[bytes]], *keys: str) -> bytes:
-        """An answer to a try, which waits while as many run as may fail; or LATER."""
-        while not self.rest(*keys):
-            if any(map(self.is_full, keys)):
-                self.ended.clear()
-                await self.ended.wait()
-                continue
-            self.running.update(keys)
-            try:
-                return await answer()
-            finally:
-                self.running -= Counter(keys)
-                self.ended.set()
+    async def judge(self, key: str, answer: Callable[[], Awaitable[bytes]]) -> bytes:
+        """An answer to a try, which waits while as many run as may fail at a key; or LATER."""
+        while not self.rest(key):
+            failed = self.tries.get(key, Tries()).count
+            if not key or self.running[key] < max(1, self.most - failed):
+                self.running[key] += 1
+                try:
+                    return await answer()
+                finally:
+                    self.running[key] -= 1
+                    if not self.running[key]:
+                        del self.running[key]
+                    self.ended.set()
+            self.ended.clear()
+            await self.ended.wait()
         return LATER
 
-    def is_full(self, key: str) -> bool:
-        """Whether as many run as may fail, and one at least."""
-        found, most = self.tries.get(key), self.most(key)
-        may_fail = max(1, most - found.count if found else most)
-        return most > 0 and self.running[key] >= may_fail
-
     def fail(self, key: str) -> None:
-        now, most = time.monotonic(), self.most(key)
-        if most == 0:
-            return
+        self.drop_expired()
+        now, most = time.monotonic(), self.most
         tries = self.tries.pop(key, Tries())
         tries.count = 1 if now >= tries.until + FORGOTTEN else tries.count + 1
         tries.until = now
@@ -96,10 +81,8 @@ class Limiter:
         if tries.count == most:
             log.info("%s has to wait after %d failed tries", key, most)
         self.tries[key] = tries
-        if len(self.tries) > REMEMBERED:
-            self.drop_expired()
-        if len(self.tries) > REMEMBERED:
-            few = (it for it in self.tries if self.tries[it].count < self.most(it))
+        if len(self.tries) > REMEMBERED:  # those that needn't wait go first, the oldest first
+            few = (it for it in self.tries if self.tries[it].count < most)
             del self.tries[next(few, next(iter(self.tries)))]
 
     def drop_expired(self) -> None:
@@ -111,40 +94,37 @@ class Limiter:
     def forgive(self, key: str, why: str) -> bool:
         """Forgets the tries of a key; false if there are none."""
         tries = self.tries.pop(key, None)
-        if tries and tries.count >= self.most(key):
+        if tries and tries.count >= self.most:
             log.info("%s has to wait no more: %s", key, why)
-        return tries is not None
+        return bool(tries and tries.count)
 
     def lower(self, key: str) -> None:
         """Takes one failed try back."""
         if tries := self.tries.get(key):
-            if tries.count <= self.most(key):
-                self.forgive(key, "right passwords")
+            if tries.count == self.most:
+                log.info("%s has to wait no more: right passwords", key)
                 tries.until = time.monotonic()
-                if tries.count > 1:
-                    self.tries[key] = tries
-            tries.count -= 1
+            tries.count = max(0, tries.count - 1)
 
     def waits(self) -> Iterator[str]:
-        """Who has to wait: KEY:FAILED:SECONDS, a user as uid=1000, which is no name."""
+        """Who has to wait: KEY:FAILED:SECONDS."""
         now = time.monotonic()
         for key, tries in self.tries.items():
             if tries.until > now:
-                yield f"{key.replace(' ', '=')}:{tries.count}:{tries.until - now:.0f}"
+                yield f"{key}:{tries.count}:{tries.until - now:.0f}"
 
 
 class Tally:
     """The answers of a server since its start, counted."""
 
     def __init__(self, options: Options) -> None:
-        self.limiter = Limiter(options.tries, options.uid_tries)
+        self.names, self.users = Limiter(options.tries), Limiter(options.uid_tries)  # as uid=1000
         self.book, self.doors = folder_of(options.file).name, options.doors
         self.counts, self.waited = Counter[str](), 0.0
         self.logins = OrderedDict[str, float]()
 
-    def count(self, kind: Kind, keys: Sequence[str], answer: str) -> None:
+    def count(self, kind: Kind, name: str, user: str, answer: str) -> None:
         """Counts an answer, and the failed try that it may be, at its name and its user."""
-        name, *users = keys
         self.counts["later"] += answer == "later"
         self.counts["changes"] += kind.changes and answer in CHANGED
         if answer == "bad 4 memory":
@@ -152,35 +132,36 @@ class Tally:
             log_seldom(answer, "no memory for a hash: see --memory, and the machine's")
         if not kind.tries:
             if kind.hashes and answer in CHANGED:
-                self.limiter.forgive(name, "a new password")
+                self.names.forgive(name, "a new password")
         elif tried := TRIED.get(answer):
             self.counts[tried] += 1
             if tried == "yes":
-                self.limiter.forgive(name, "a right password")
-                for user in users:
-                    self.limiter.lower(user)
+                self.names.forgive(name, "a right password")
+                self.users.lower(user)
                 self.logins[name] = time.time()
                 self.logins.move_to_end(name)
                 if len(self.logins) > REMEMBERED:
                     self.logins.popitem(last=False)
-            # Where the book lacks the name nothing can be guessed.
-            for key in {"yes": (), "noaccount": users}.get(tried, keys):
-                self.limiter.fail(key)
+            elif user:
+                self.users.fail(user)
+            if tried in ("no", "absent"):  # where the book lacks the name nothing can be guessed
+                self.names.fail(name)
 
     def stats(self) -> str:
         now: dict[str, object] = {**self.counts, "waited": f"{self.waited:.3f}"}
-        now["clients"] = sum(len(door.clients) for door in self.doors)
-        now["waits"] = sum("=" not in it for it in self.limiter.waits())
+        now["clients"] = sum(sum(door.counts.values()) for door in self.doors)
+        now["waits"] = len([*self.names.waits()])
         now["book"] = re.sub("[^A-Za-z0-9_.-]", "_", self.book)
         return " ".join(["stats", *(f"{it}={now.get(it, 0)}" for it in COUNTED)])
 
     def answer(self, operation: bytes, name: str) -> str:
         """What the server itself knows; `last` is the time of a right password."""
         if operation == b"waits":
-            return " ".join(["waits", *[*self.limiter.waits()][:MOST_SHOWN]])
+            waits = [*self.names.waits(), *self.users.waits()]
+            return " ".join(["waits", *waits[:MOST_SHOWN]])
         if operation == b"forgive":
-            key, why = name.replace("uid=", "uid ", 1), "an administrator forgave it"
-            return "forgiven" if self.limiter.forgive(key, why) else "none"
+            limiter = self.users if "=" in name else self.names
+            return "forgiven" if limiter.forgive(name, "an administrator forgave it") else "none"
         if operation == b"last":
             return f"last {utc(self.logins[name])}" if name in self.logins else "none"
         return self.stats()
@@ -188,11 +169,14 @@ class Tally:
 
 def metrics(path: str) -> str:
     """What the server at an admin socket counts, in Prometheus' text format."""
-    with problems_at(path), socket.socket(socket.AF_UNIX) as it:
-        it.settimeout(10)
-        it.connect(path)
-        it.sendall(b"1 stats\n")
-        answer = it.makefile(errors="replace").readline(LONGEST_STATS)
+    try:
+        with socket.socket(socket.AF_UNIX) as it:
+            it.settimeout(10)
+            it.connect(path)
+            it.sendall(b"1 stats\n")
+            answer = it.makefile(errors="replace").readline(LONGEST_STATS)
+    except OSError as fault:
+        raise Problem(f"{path}: {fault.strerror or fault}") from None
     found = dict(re.findall(r" (\w+)=([\w.-]+)", answer))
     if found.keys() != set(COUNTED):
         raise Problem(f"{path}: its clients may not ask for stats")
@@ -201,7 +185,6 @@ def metrics(path: str) -> str:
         kind = "counter" if name.endswith("_total") else "gauge"
         lines += [f"# HELP credkeep_{name} {said}", f"# TYPE credkeep_{name} {kind}"]
         for count in counts.split():
-            label = f',answer="{count}"' if " " in counts else ""
-            label = f'book="{found["book"]}"{label}'
-            lines.append(f"credkeep_{name}{{{label}}} {found[count]}")
+            answered = f',answer="{count}"' if " " in counts else ""
+            lines.append(f'credkeep_{name}{{book="{found["book"]}"{answered}}} {found[count]}')
     return "\n".join([*lines, ""])

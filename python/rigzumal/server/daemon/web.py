@@ -8,20 +8,15 @@ from typing import Any, Optional
 
 import h11
 
-from .clients import Client
+from .clients import READ, Client
 
-MOST_HEAD = 8192  # bytes of a request
 # A right password that must be changed is `expired`; what is in none of these is 503.
 STATUSES = {b"yes": 200, b"expired": 403, b"denied": 403, b"later": 429}
 # Also of a name or a password that no book has, or a line that is too long: 401.
 NOBODY = (b"no", b"absent", b"bad 3 ", b"bad 13 ", b"bad 16 ")
-HEADERS = {
-    401: [("WWW-Authenticate", 'Basic realm="book", charset="UTF-8"')],
-    405: [("Allow", "GET, HEAD")],
-}
+CHALLENGE = ("WWW-Authenticate", 'Basic realm="book", charset="UTF-8"')
+HEADERS = {401: [CHALLENGE], 405: [("Allow", "GET, HEAD")]}
 BASIC = re.compile(rb"basic +([A-Za-z0-9+/]+={0,2})", re.I)
-METHODS = (b"GET", b"HEAD")
-NAME = re.compile(rb"[!-~\x80-\xff]+")
 
 
 def credentials(headers: Sequence[tuple[bytes, bytes]]) -> Optional[bytes]:
@@ -33,7 +28,7 @@ def credentials(headers: Sequence[tuple[bytes, bytes]]) -> Optional[bytes]:
     except ValueError:
         return None
     name, colon, password = text.partition(b":")
-    if not colon or not NAME.fullmatch(name):
+    if not colon or not re.fullmatch(rb"[!-~\x80-\xff]+", name):
         return None
     return name + b" " + (base64.b64encode(password).rstrip(b"=") or b"-")
 
@@ -45,23 +40,21 @@ class WebClient(Client):
 
     def __init__(self, *words: Any) -> None:
         super().__init__(*words)
-        self.http: Any = h11.Connection(h11.SERVER, max_incomplete_event_size=MOST_HEAD)
+        self.http: Any = h11.Connection(h11.SERVER, max_incomplete_event_size=8192)  # bytes
 
     async def read(self) -> None:
         try:
-            while more := await self.receive():
+            while not self.is_ending and (more := await self.loop.sock_recv(self.socket, READ)):
                 self.http.receive_data(more)
-                while not self.is_ending and isinstance(
-                    request := self.http.next_event(), h11.Request
-                ):
+                while not self.is_ending and isinstance(it := self.http.next_event(), h11.Request):
                     is_whole = isinstance(self.http.next_event(), h11.EndOfMessage)
-                    await self.take(request, is_whole)
+                    await self.take(it, is_whole)
                     await self.has_fewer(1)
         except h11.RemoteProtocolError as fault:
             await self.respond(fault.error_status_hint)
 
     async def take(self, request: Any, is_whole: bool) -> None:
-        fields, is_read = credentials(request.headers), request.method in METHODS
+        fields, is_read = credentials(request.headers), request.method in (b"GET", b"HEAD")
         if fields and is_whole and is_read:
             self.name = fields.split(b" ")[0]
             return await self.submit(b"1 verify " + fields)
@@ -76,7 +69,8 @@ class WebClient(Client):
         headers = [("Content-Length", "0"), *HEADERS.get(status, ())]
         if status == 429:
             name = self.service.in_book(self.name).decode(errors="replace")
-            seconds = self.service.tally.limiter.rest(name, f"uid {self.uid}")
+            tally, user = self.service.tally, f"uid={self.uid}"
+            seconds = max(tally.names.rest(name), tally.users.rest(user))
             headers.append(("Retry-After", str(max(1, math.ceil(seconds)))))
         head = h11.Response(status_code=status, headers=headers)
         await self.write(self.http.send(head) + self.http.send(h11.EndOfMessage()))
