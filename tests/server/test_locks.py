@@ -132,12 +132,15 @@ class Locks(Case):
         service.talk("admin locks -> locks ada:locked\nlogin verify ada {secret} -> no")
 
     def test_of_an_old_file(self) -> None:
-        """A user whom an old htpasswd file has can be locked too."""
+        """A user whom an old htpasswd file has can be locked too; who may not take their name unlocks nobody."""
         folder = self.room()
         (folder / "old").write_text("eve:{SHA}5en6G6MezRroT3XKqkdPOmY/BfQ=\n")
         self.over("--foreign", f"{folder}/old", folder=folder).talk(
             """
             admin lock eve -> locked
+            admin expire ada -> expired
+            admin rename ada eve -> exists
+            admin locks -> locks ada:expired eve:locked
             login verify eve {secret} -> no
             login change eve {secret} {fresh} -> wrong
             login known eve -> absent

@@ -253,7 +253,8 @@ class Locks(Marks):
     async def rename(self, request: Request) -> bytes:
         """Renames an account; the new name has its marks before it has the record."""
         name, new = request.words[1], request.words[-1]
-        is_free = await self.service.book.ask(b"show", new) == b"bad 5 noaccount"
+        known = await self.service.answer(replace(request, words=[b"known", new]))
+        is_free = known == b"noaccount"
         for mark in UNDOES.values():
             if is_free and self.has(name, mark) and not await self.put(new, mark):
                 return UNAVAILABLE
