@@ -21,10 +21,10 @@ from walk import packages
 CGROUPS = pathlib.Path("/sys/fs/cgroup")
 MIRROR = "http://deb.debian.org/debian"
 EMPTY = "systemd,systemd-sysv,dbus"
-INCLUDED = f"python3,libpam-runtime,pamtester,adduser,{EMPTY}"
+INCLUDED = f"python3,python3-passlib,libpam-runtime,pamtester,adduser,{EMPTY}"
 
 # What runs inside, as docs/SERVERS.md tells it, and then with kills and restarts; then PAM, and the packages' end.
-INSIDE = """import contextlib, os, pathlib, pty, signal, socket, subprocess, sys, time
+INSIDE = """import contextlib, crypt, os, pathlib, pty, shutil, signal, socket, subprocess, sys, time
 
 UNIT = "credkeep-server@users.service"
 SOCKETS = ["credkeep-server@users.socket", "credkeep-server-admin@users.socket"]
@@ -113,6 +113,15 @@ run("systemctl", "restart", UNIT)
 time.sleep(8)
 default.write_text(options)
 ask("login", "verify ada ZnJlc2g")
+old = pathlib.Path("/var/lib/rigzumal/old")
+old.write_text(f"bob:{crypt.crypt('secret', crypt.METHOD_SHA512)}\\neve:{crypt.crypt('secret', '$y$j9T$')}\\n")
+shutil.chown(old, "rigzumal")
+default.write_text(options.replace("=", f"=--audit /var/log/rigzumal/users.audit --foreign {old} ", 1))
+run("systemctl", "restart", UNIT)
+ask("login", "verify bob Z3Vlc3M", "verify bob c2VjcmV0", "verify eve c2VjcmV0")
+print("audited", pathlib.Path("/var/log/rigzumal/users.audit").read_text().count('"answer": "yes"'))
+default.write_text(options)
+run("systemctl", "restart", UNIT)
 run("runuser", "-u", "rigzumal", "--", "credkeep", "/var/lib/rigzumal/users.db", "backup", "/var/lib/rigzumal/copy.db")
 ask("admin", "reset ada c2VjcmV0")
 logins = subprocess.Popen(["/usr/bin/python3", "/logins.py"])
@@ -184,6 +193,12 @@ restarts 8
 login verify 1 yes
 systemctl restart 1
 login verify 1 yes
+systemctl restart 0
+login verify 1 no
+login verify 1 yes
+login verify 1 yes
+audited 2
+systemctl restart 0
 runuser -u 0
 admin reset 1 replaced
 sh /restore.sh 0
@@ -204,12 +219,12 @@ Current password: New password: Retype new password: pamtester: authentication t
 Password: pamtester: successfully authenticated
 credkeep-server --metrics 0
 ended success
-1 account, 0 changes in the log
+3 accounts, 0 changes in the log
 credkeep-server: denied at login to uid 0: enrol
 credkeep-server: end: status 137, stats yes=1 no=0
 dpkg --purge 0
 chosen 0 0 0
-left /etc/default/credkeep-server-users /var/lib/rigzumal users.db
+left /etc/default/credkeep-server-users /var/lib/rigzumal /var/log/rigzumal old old.moved users.db
 done"""
 
 
