@@ -1,7 +1,7 @@
 -- What the statements that change an account do to the table, at Ok and over a crash.
-use Rattle.std.proofs.Common.{◌≡◌, ◌⊎◌, inl, inr, ℕ, ℤ, List, [], ◌∷◌, ◌++◌, map, filter, flat_map, Bool, true, false, cond, ◌&&◌, ◌||◌, Some, None, Option, is_some, unwrap_or, IsTrue, Ok, Err, Result, refl, sym, ap, subst, subst₂, ◌∙◌}
+use Rattle.std.proofs.Common.{◌≡◌, ◌⊎◌, inl, inr, ℕ, ℤ, List, [], ◌∷◌, ◌++◌, map, filter, flat_map, Bool, true, false, cond, ◌&&◌, Some, None, Option, is_some, unwrap_or, IsTrue, Ok, Err, Result, refl, sym, ap, subst, ◌∙◌}
 use Rattle.std.proofs.lemmas.Bool.{and_parts, cond_both, not-true}
-use Rattle.std.specs.{List.list_any, List.list_all, List.Sorted.IsPermutation, Ordering.is_eq, Ordering.eq_by_cmp, Cmp.eq_by_cmp_equiv}
+use Rattle.std.specs.{List.list_all, List.Sorted.IsPermutation, Ordering.is_eq, Ordering.eq_by_cmp, Cmp.eq_by_cmp_equiv}
 use Rattle.std.specs.Cmp.Lexicographic.{nat_list_cmp_total}
 use Rattle.std.specs.FinMap as fin
 use Rattle.sqlite.specs.declared.types.Value.{Value}
@@ -13,13 +13,13 @@ use Rattle.sqlite.specs.{Edit.Edit, Edit.edit_of, Edit.edited, Cast.cast, Rowids
 use Rattle.sqlite.specs.{Rows.Written, Tree.Trees, Effect.Database, Table.Table}
 use Rattle.sqlite_sql.specs.Ops.{unary, binary, is_true, from_truth}
 use Rattle.sqlite_rules.specs.{Edit.taken_by, Edit.put_all, Edit.next_rowid, Edit.is_taken, Edit.are_fresh, Cast.cast_row, Calls.ids_of, Action.works}
-use Rattle.sqlite_trees.specs.Tree.{has_rowid, put_row, without_rowid}
+use Rattle.sqlite_trees.specs.Tree.{put_row, without_rowid}
 use Rattle.sqlite.proofs.Callers.{one_step, one_permutation}
 use Rattle.cred_phc.specs.Values.{RecordValue}
 use Rattle.cred_book.specs.{Accounts.Accounts, Names.is_name, Names.name_cmp}
 use Rattle.sqlite_schema.specs.declared.schema.Keys.{Keys}
 use Rattle.cred_file.specs.{Schema.account, Schema.book_schema, Edits.renamed}
-use Rattle.cred_file.specs.Table.{Line, Says, Tells, entry_of, has_name, StandsFor}
+use Rattle.cred_file.specs.Table.{Line, Says, Tells, has_name, StandsFor}
 use Rattle.std.specs.FinMap.{get-remove}
 use Rattle.cred_book.proofs.Rows.{row_over}
 use Rattle.cred_file.proofs.Shuffled.{row_of, stands_put, stands_without}

@@ -1,9 +1,9 @@
 -- A copy of a book, as its accounts are entered into an empty one.
-use Rattle.std.proofs.Common.{◌≡◌, ◌⊎◌, inl, inr, ◌≤◌, None, subst, sym, ◌∙◌}
+use Rattle.std.proofs.Common.{◌≡◌, ◌⊎◌, inl, inr, subst, ◌∙◌}
 use Rattle.std.specs.FinMap as fin
-use Rattle.sqlite.specs.{Held.Held, Held.state, State.State, State.HasCleanDisk, Store.Ghosts}
-use Rattle.cred_book.specs.Accounts.{Accounts, register_capacity}
-use Rattle.cred_file.specs.{Copies.MayCopy, Keeps.HoldsBook, Keeps.IsTableOf, Keeps.Keeps, Keeps.LeavesOnly}
+use Rattle.sqlite.specs.{State.State}
+use Rattle.cred_book.specs.Accounts.{Accounts}
+use Rattle.cred_file.specs.{Copies.MayCopy, Keeps.HoldsBook, Keeps.LeavesOnly}
 
 -- a crash leaves an empty book, or all of it
 pub may_copy : (old new : State) (first after copy : Accounts) → first ≡ fin.empty → after ≡ copy → LeavesOnly new (λ b. (b ≡ first) ⊎ (b ≡ after)) → MayCopy old new copy

@@ -1,5 +1,5 @@
 -- What CREATE TABLE does to an empty database.
-use Rattle.std.proofs.Common.{◌≡◌, ◌⊎◌, inl, inr, ℕ, List, [], false, if◌then◌else◌, Option, None, Ok, refl, sym, ap, subst, ◌∙◌}
+use Rattle.std.proofs.Common.{◌≡◌, ◌⊎◌, inl, inr, ℕ, [], false, if◌then◌else◌, Option, None, Ok, refl, sym, ap, subst, ◌∙◌}
 use Rattle.std.specs.FinMap as fin
 use Rattle.sqlite.specs.{Command.TheVariants.CreateTable, Change.created, Change.next_tree, Does.Tally, Does.Does, Does.lacks_sequence, Effect.Database}
 use Rattle.sqlite.specs.State.{State, HasCleanDisk, Survives, CommitsBy, MayWrite, Writes, Executes, mode_of}

@@ -1,5 +1,5 @@
 -- The accounts of two books, as those of one are added to the other and taken out again.
-use Rattle.std.proofs.Common.{◌≡◌, ◌⊎◌, inl, inr, ◌+◌, ◌≤◌, ℕ, List, [], ◌∷◌, ◌++◌, length, Bool, true, false, cond, ◌||◌, T, Option, Some, None, is_some, refl, sym, ap, subst, ◌∙◌, arith}
+use Rattle.std.proofs.Common.{◌≡◌, ◌⊎◌, inl, inr, ◌+◌, ◌≤◌, ℕ, List, [], ◌∷◌, ◌++◌, length, Bool, true, false, cond, T, Option, Some, None, is_some, refl, sym, ap, subst, ◌∙◌, arith}
 use Rattle.std.proofs.lemmas.Bool.{cond_both}
 use lib.Ieee.Fits.{and_l, and_r}
 use Rattle.std.specs.{Option.option_or, Ordering.eq_by_cmp, Ordering.is_eq, Ordering.is_lt, declared.cmp.Ordering.Ordering}
@@ -7,7 +7,7 @@ use Rattle.std.specs.declared.cmp.Ordering.TheVariants.{Less, Equal, Greater}
 use Rattle.std.specs.Cmp.{Equal-is, eq_by_cmp_equiv}
 use Rattle.std.specs.FinMap as fin
 use Rattle.std.specs.FinMap.Entries.{below_all}
-use Rattle.std.specs.FinMap.{get-empty, get-entries, get-from_entries, get-insert, get-remove, len-empty, len-entries, len-insert}
+use Rattle.std.specs.FinMap.{get-empty, get-entries, get-from_entries, get-insert, get-remove, len-entries, len-insert}
 use Rattle.std.specs.Cmp.Lexicographic.{nat_list_cmp_total}
 use Rattle.sqlite.specs.State.{State, HasCleanDisk}
 use Rattle.cred_phc.specs.Values.{RecordValue}

@@ -1,5 +1,5 @@
 -- What a row that is left out says of all rows.
-use Rattle.std.proofs.Common.{◌≡◌, inl, inr, ℕ, ℤ, List, [], ◌∷◌, ◌++◌, append_assoc, length, filter, get_or, Bool, true, false, cond, not, Some, None, Option, ◌||◌, ◌&&◌, refl, sym, ap, subst, subst₂, ◌∙◌, ◌≤◌, ◌+◌, arith, length-append}
+use Rattle.std.proofs.Common.{◌≡◌, inl, inr, ℤ, List, [], ◌∷◌, ◌++◌, append_assoc, length, filter, get_or, Bool, true, false, cond, not, Some, None, Option, ◌||◌, ◌&&◌, refl, sym, ap, subst, subst₂, ◌∙◌, ◌≤◌, ◌+◌, arith, length-append}
 use Rattle.std.proofs.{lemmas.Bool.and_from, lemmas.Bool.or_left, lemmas.Bool.or_parts, lemmas.Bool.or_right, lemmas.List.get_or_at}
 use Rattle.std.proofs.{lemmas.List.Elements.filter-append, lemmas.List.Folds.list_any-append}
 use Rattle.std.specs.{List.list_any, Ordering.int_cmp, Ordering.is_eq, Ordering.is_lt, Ordering.ordering_reverse, Cmp.eq_by_cmp_equiv, Cmp.int_cmp_total, declared.cmp.Ordering.Ordering}
@@ -10,7 +10,7 @@ use Rattle.sqlite_value.proofs.OrderLemmas.{value_cmp_total, value_cmp-Int}
 use Rattle.cred_book.specs.Accounts.{Accounts}
 use Rattle.cred_file.specs.declared.fault.OpenFault.{OpenFault}
 use Rattle.cred_file.specs.declared.fault.OpenFault.TheVariants as fault
-use Rattle.cred_file.specs.Table.{Line, Says, has_id, has_name}
+use Rattle.cred_file.specs.Table.{Line, has_id, has_name}
 use Rattle.cred_file.specs.Opening.{is_no_name, is_no_record, is_repeated, AreAtFault}
 use Rattle.cred_file.specs.Drafts.{EndsAt, IsDraftOf, IsNotAdded, is_past}
 use Rattle.cred_file.proofs.{NoFault.as_lines, NoFault.as_many, NoFault.namesakes, NoFault.repeats, Selected.IsRising, TableLemmas.any_known, TableLemmas.any_rows, TableLemmas.id_symm}

@@ -1,5 +1,5 @@
 -- Nothing is wrong with the rows of a table that stands for a book.
-use Rattle.std.proofs.Common.{◌≡◌, inl, inr, suc, ◌+◌, ◌≤◌, arith, List, [], ◌∷◌, length, map, cond, is_some, Bool, true, false, not, ◌&&◌, ◌||◌, Option, Some, None, refl, sym, ap, subst, ◌∙◌}
+use Rattle.std.proofs.Common.{◌≡◌, inl, inr, ◌+◌, ◌≤◌, arith, List, [], ◌∷◌, length, map, cond, Bool, true, false, not, ◌&&◌, ◌||◌, Option, Some, None, refl, sym, ap, subst, ◌∙◌}
 use Rattle.std.proofs.lemmas.{Bool.and_right, Bool.or_from, Bool.or_parts, Bool.true≢false, List.Folds.list_any_none}
 use Rattle.std.specs.FinMap as fin
 use Rattle.std.specs.FinMap.{len-empty, len-insert}

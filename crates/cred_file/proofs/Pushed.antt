@@ -4,11 +4,11 @@ use Rattle.std.proofs.lemmas.{Bool.or_from, List.Folds.list_any-append, List.Sor
 use Rattle.std.specs.{List.list_any, Ordering.is_eq, Ordering.is_lt, Ordering.int_cmp, Cmp.int_cmp_total, declared.cmp.Ordering.Ordering}
 use Rattle.std.specs.declared.cmp.Ordering.TheVariants.{Less, Equal, Greater}
 use Rattle.std.specs.FinMap as fin
-use Rattle.sqlite.specs.{declared.types.Value.TheVariants.Int, Order.Row, Order.column, Order.value_cmp}
+use Rattle.sqlite.specs.{declared.types.Value.TheVariants.Int, Order.Row, Order.value_cmp}
 use Rattle.sqlite_trees.specs.Tree.{has_rowid}
 use Rattle.sqlite_value.proofs.OrderLemmas.{value_cmp-Int}
 use Rattle.cred_book.specs.Accounts.{Accounts}
-use Rattle.cred_file.specs.Table.{Line, StandsFor}
+use Rattle.cred_file.specs.Table.{StandsFor}
 use Rattle.cred_file.specs.Drafts.{IsDraftOf, IsAdded, is_past}
 use Rattle.cred_file.proofs.Shuffled.{shuffled, stands_more}
 

@@ -6,7 +6,7 @@ use Rattle.sqlite.specs.{declared.types.Value.TheVariants.Null, Order.Row, Order
 use Rattle.sqlite_trees.proofs.ListLemmas.{map-map}
 use Rattle.sqlite_value.proofs.OrderLemmas.{then-Equal}
 use Rattle.sqlite.specs.{Effect.Database, Effect.IsDatabase, State.State, State.Shown, State.IsUnchanged, State.CommitsShowing, State.Survives}
-use Rattle.sqlite.proofs.Callers.{IsPlain, reads_as, never_commits}
+use Rattle.sqlite.proofs.Callers.{reads_as, never_commits}
 use Rattle.cred_book.specs.Accounts.{Accounts}
 use Rattle.cred_file.specs.{Schema.IsBookSchema, Table.StandsFor, Keeps.IsTableOf, Opening.rows_text, Opening.IsAsBefore}
 use Rattle.cred_file.proofs.{Texts.all_rows, Texts.rows_is, Texts.rows_listed, Texts.rows_plain, Keeping.IsSettled, Keeping.holds, Shuffled.shown}

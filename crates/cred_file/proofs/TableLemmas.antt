@@ -1,5 +1,5 @@
 -- What the lines of a table say of its rows and of the book.
-use Rattle.std.proofs.Common.{◌≡◌, ℕ, ℤ, List, [], ◌∷◌, map, Bool, true, false, ◌||◌, Option, Some, None, is_some, refl, sym, ap, ◌∙◌}
+use Rattle.std.proofs.Common.{◌≡◌, ℕ, ℤ, List, [], ◌∷◌, map, Bool, true, ◌||◌, Option, Some, None, is_some, refl, sym, ap, ◌∙◌}
 use Rattle.std.specs.{List.AllZip, List.list_any, Ordering.is_eq, Ordering.eq_by_cmp, Cmp.Equal-is, Cmp.eq_by_cmp_equiv, Cmp.Lexicographic.nat_list_cmp_total}
 use Rattle.std.specs.FinMap as fin
 use Rattle.std.specs.FinMap.{get-from_entries}

@@ -2,7 +2,7 @@
 use Rattle.std.specs.Prelude.{◌≡◌, ◌⊎◌, ℕ, ℤ, ◌<◌, ◌≤◌, ◌==◌, Bool, true, false, not, ◌&&◌, List, [], length, codes, Option, Some, None, Result, Ok, Err, ⊤}
 use Rattle.std.specs.{List.filter, List.list_any, Ordering.is_eq}
 use Rattle.sqlite.specs.declared.types.Value.{Value}
-use Rattle.sqlite.specs.declared.types.Value.TheVariants.{Null, Int, Real, Text, Blob}
+use Rattle.sqlite.specs.declared.types.Value.TheVariants.{Null, Text}
 use Rattle.sqlite.specs.{declared.error.Error.Error, declared.error.Error.TheVariants.SqliteFailure, declared.error.ErrorCode.TheVariants.DatabaseCorrupt}
 use Rattle.sqlite.specs.{Order.Row, Order.column, Order.value_cmp, State.State, State.FailsToQuery}
 use Rattle.sqlite_trees.specs.{Tree.has_rowid, View.is_int}

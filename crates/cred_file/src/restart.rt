@@ -30,7 +30,8 @@ pub fn crash_and_open<S: Alter + Reopen + Drop>(
 }
 
 /// Crashes the machine, and opens the book that its disk holds then; `None` as for
-/// `crash_and_open`.
+/// `crash_and_open`. A store whose disk always returned what was written must come from the store's
+/// own `open` or `create`, as a closed book's does.
 pub fn reopen<S: Alter + Reopen + Drop>(
     alloc: Global,
     mut store: S,

@@ -1,6 +1,6 @@
 -- What an order makes of a kept book.
 use Rattle.std.specs.Io.KnownBytes.{Appends, Keeps}
-use Rattle.std.specs.Prelude.{◌≡◌, ℕ, ◌≤◌, Bool, true, false, List, length, Option, Some, None, IfErr, IfSome, Result, Ok, Err}
+use Rattle.std.specs.Prelude.{◌≡◌, ℕ, ◌≤◌, Bool, true, false, length, Option, Some, None, IfErr, IfSome, Result, Ok, Err}
 use Rattle.cred_book.specs.Accounts.{register_capacity}
 use Rattle.cred_admin.specs.{Commands.Obeys, Edits.DisablesShown, Edits.Edits}
 use Rattle.cred_admin.specs.{Listing.Prints, Listing.Tells, Listing.json_at, Listing.line_text, Listing.shown_at, Seen.Seen, Seen.seen}

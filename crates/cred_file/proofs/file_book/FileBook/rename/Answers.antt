@@ -1,4 +1,4 @@
-use Rattle.std.proofs.Common.{◌≡◌, ◌<◌, is_some, sym, ap, ◌∙◌, subst}
+use Rattle.std.proofs.Common.{◌≡◌, ◌<◌, is_some, ap, ◌∙◌, subst}
 use Rattle.std.specs.FinMap as fin
 use Rattle.cred_book.specs.Accounts.{Accounts, register_capacity}
 use Rattle.cred_book.proofs.Rows.{remove_again}
