@@ -1,5 +1,5 @@
 -- What an import makes of its text.
-use Rattle.std.specs.List.{ends_with, starts_with}
+use Rattle.std.specs.List.{ends_with, list_any, starts_with}
 use Rattle.std.specs.Prelude.{◌≡◌, ℕ, ◌+◌, ◌-◌, ◌<◌, Bool, true, false, ◌||◌, ◌==◌, if◌then◌else◌, List, [], ◌∷◌, ◌++◌, length, take, drop, codes, Option, None, Some, IfSome, Result, Ok, Err, nat_eq, ⊤}
 use Rattle.cred_phc.specs.{Errors.error_number as fault_number, Errors.error_word as fault_word, Pieces.pieces, Reading.read_record, Values.RecordValue}
 use Rattle.cred_phc.specs.declared.error.PhcError.{PhcError}
@@ -69,14 +69,31 @@ said_with name (Err e) = Err e
 abbrev pub is_locked : List ℕ → Bool
 is_locked text = starts_with nat_eq text (33 ∷ []) || starts_with nat_eq text (42 ∷ [])
 
--- the name is judged before the record
-abbrev pub said_as : Result (List ℕ) BookError → List ℕ → Result Said LineFault
-said_as (Ok name) text = if is_locked text then Ok (Locked name) else said_with name (stored_at text)
-said_as (Err e) text = Err (Book e)
+-- An item of Dovecot's extra fields with which a right password lets its user in nowhere (nologin,
+-- noauthenticate), or only from some networks (allow_nets, allow_real_nets). It counts with any
+-- value, and without one.
+abbrev pub bars : List ℕ → Bool
+bars item = starts_with nat_eq item (codes "nologin")
+    || (starts_with nat_eq item (codes "noauthenticate")
+    || starts_with nat_eq item (codes "allow_"))
 
--- the first two fields count
+-- items have a space (byte 32) between them
+abbrev pub has_bar : List ℕ → Bool
+has_bar field = list_any bars (pieces 32 field)
+
+-- the fields behind the record
+abbrev pub is_barred : List (List ℕ) → Bool
+is_barred others = list_any has_bar others
+
+-- the name is judged before the record
+abbrev pub said_as : Result (List ℕ) BookError → Bool → List ℕ → Result Said LineFault
+said_as (Ok name) barred text =
+    if barred || is_locked text then Ok (Locked name) else said_with name (stored_at text)
+said_as (Err e) barred text = Err (Book e)
+
+-- the first two fields count, and those behind them if they bar the user
 abbrev pub said_in : List (List ℕ) → Result Said LineFault
-said_in (name ∷ text ∷ others) = said_as (made_name name) text
+said_in (name ∷ text ∷ others) = said_as (made_name name) (is_barred others) text
 said_in _ = Err Line
 
 -- it is empty, or begins with # (byte 35)

@@ -1,11 +1,12 @@
 //! A line of a passwd-file: `NAME:RECORD`, or `NAME:` if it has no record.
 //!
 //! Additions of other programs are left out: a carriage return at the end, further fields,
-//! and in front of the record Dovecot's scheme in braces or Django's word `argon2`. An empty line
-//! and one that begins with `#` say nothing.
+//! and in front of the record Dovecot's scheme in braces or Django's word `argon2`. But a line with
+//! `nologin` or another field of Dovecot's that bars its user is locked. An empty line and one that
+//! begins with `#` say nothing.
 
-ghost use Rattle.std.specs.Prelude.{◌≡◌};
-ghost use Rattle.cred_admin.specs.Import.{behind_braces, behind_word, is_locked, is_remark, line_number, line_word, record_part, said_as, said_of, stored_at, without_return};
+ghost use Rattle.std.specs.{Prelude.◌≡◌, List.list_any};
+ghost use Rattle.cred_admin.specs.Import.{bars, behind_braces, behind_word, has_bar, is_barred, is_locked, is_remark, line_number, line_word, record_part, said_as, said_of, stored_at, without_return};
 ghost use Rattle.cred_book.specs.Names.{made_name};
 ghost use Rattle.cred_phc.specs.Pieces.{pieces};
 
@@ -21,7 +22,7 @@ pub enum LineFault {
     Text(PhcError),
     /// The name is no name, or the book refuses it.
     Book(BookError),
-    /// The record is locked.
+    /// The record is locked, or a field of Dovecot's bars its user.
     Locked,
     /// The record needs more memory or work than the bound.
     Costly,
@@ -62,12 +63,12 @@ pub(crate) enum Said {
     Nothing,
     /// An account, with this record or none.
     Account { name: Name, stored: Option<Record> },
-    /// An account whose record is locked.
+    /// An account whose record is locked, or whose user is barred.
     Locked { name: Name },
 }
 
 /// Reads a line, which is cut at every colon: the first field is the name, and the second one has
-/// the record. The name is judged before the record.
+/// the record. The name is judged before the record. The others count only if they bar the user.
 #[tactic(auto, unfolding(crate::specs::Import::said_of))]
 pub(crate) fn said_of(line: &[u8]) -> Result<Said, LineFault>
     ensures { result ≡ said_of line.now }
@@ -78,7 +79,7 @@ pub(crate) fn said_of(line: &[u8]) -> Result<Said, LineFault>
     }
     let mut fields = Pieces::new(line, b':');
     match (fields.next(), fields.next()) {
-        (Some(name), Some(text)) => said_as(name, text),
+        (Some(name), Some(text)) => said_as(name, is_barred(fields), text),
         _ => Err(LineFault::Line),
     }
 }
@@ -90,11 +91,11 @@ fn is_remark(line: &[u8]) -> bool
     line.is_empty() || line.starts_with(b"#")
 }
 
-fn said_as(name: &[u8], text: &[u8]) -> Result<Said, LineFault>
-    ensures { result ≡ said_as (made_name name.now) text.now }
+fn said_as(name: &[u8], barred: bool, text: &[u8]) -> Result<Said, LineFault>
+    ensures { result ≡ said_as (made_name name.now) barred text.now }
 {
     let name = Name::new(name).map_err(|refusal| LineFault::Book(refusal))?;
-    if is_locked(text) {
+    if barred || is_locked(text) {
         return Ok(Said::Locked { name });
     }
     let stored = stored_at(text)?;
@@ -106,6 +107,40 @@ fn is_locked(text: &[u8]) -> bool
     ensures { result ≡ is_locked text.now }
 {
     text.starts_with(b"!") || text.starts_with(b"*")
+}
+
+/// Whether one of the fields behind the record bars the user.
+fn is_barred(fields: Pieces<'_>) -> bool
+    ensures { result ≡ is_barred fields.entry }
+{
+    let mut fields = fields;
+    while let Some(field) = fields.next() {
+        if has_bar(field) {
+            return true;
+        }
+    }
+    false
+}
+
+/// Whether a field has an item that bars the user; a space ends an item.
+fn has_bar(field: &[u8]) -> bool
+    ensures { result ≡ has_bar field.now }
+{
+    let mut items = Pieces::new(field, b' ');
+    while let Some(item) = items.next() {
+        if bars(item) {
+            return true;
+        }
+    }
+    false
+}
+
+/// Whether an item of Dovecot's extra fields lets its user in nowhere, or only from some networks.
+fn bars(item: &[u8]) -> bool
+    ensures { result ≡ bars item.now }
+{
+    item.starts_with(b"nologin")
+        || (item.starts_with(b"noauthenticate") || item.starts_with(b"allow_"))
 }
 
 fn stored_at(text: &[u8]) -> Result<Option<Record>, LineFault>

@@ -149,7 +149,10 @@ fn tell_why<F: Write>(faults: &mut F, why: LineFault) -> io::Result<()> {
             "its first field is no name: {NAME_RULE}"
         ),
         LineFault::Book(refusal) => write!(faults, "{refusal}"),
-        LineFault::Locked => write!(faults, "its record is locked: --disable-locked drops it"),
+        LineFault::Locked => write!(
+            faults,
+            "its record is locked, by !, * or a field as nologin: --disable-locked drops it"
+        ),
         LineFault::Costly => write!(
             faults,
             "its record asks for more than --most-memory or --most-work"

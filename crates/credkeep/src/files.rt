@@ -8,7 +8,8 @@ use crate::sidecar::{
     EMPTY_LOG, JOURNAL, LOG, has_changes_in_log, hold, if_there, len_of, len_of_log,
     look_at_its_log, real_path, sidecar,
 };
-use cred_admin::Status;
+use cred_admin::{Detail, Line, Status};
+use cred_keep::Order;
 use credkeep_words::{FileFault, Remarks};
 use sqlite::{Connection, Error, ErrorCode, FileFrom, FileStore, Start, Wary};
 use std::fs::{File, Metadata, OpenOptions};
@@ -23,6 +24,9 @@ pub(crate) type Database = Connection<FileStore<FileFrom<Wary>>>;
 
 /// The file may be read and written by its owner alone. Its log gets the same mode.
 pub(crate) const OWNER_ALONE: u32 = 0o600;
+
+/// The end of the name of the file in which a server keeps the locks of names.
+const LOCKS: &str = "-locks";
 
 /// The permissions of others in a mode.
 const OTHERS: u32 = 0o077;
@@ -118,6 +122,28 @@ pub(crate) fn look(host: &HostRuntime, file: &str, remarks: Remarks) -> Result<(
             host.stderr(),
             "credkeep: warning: {file}: another user owns it, or others can read or write it"
         );
+    }
+    Ok(())
+}
+
+/// Refuses to export a book beside which a server keeps locks: the records of locked names would be
+/// good ones wherever the lines go.
+pub(crate) fn look_before_export(
+    host: &HostRuntime,
+    file: &str,
+    order: &Order,
+) -> Result<(), Status> {
+    match order {
+        Order::List {
+            line: Line::Passwd(Detail::Record),
+        } => accept(host, file, look_at_locks(host, file)),
+        _ => Ok(()),
+    }
+}
+
+fn look_at_locks(rt: &HostRuntime, path: &str) -> Result<(), FileFault> {
+    if has_bytes(rt, path, LOCKS)? {
+        return Err(FileFault::Locks);
     }
     Ok(())
 }

@@ -5,7 +5,9 @@ ghost use Rattle.std.specs.Prelude.{◌≡◌, false};
 use crate::copies::{NEW, back_up, restore, verify};
 use crate::draft::{Draft, OldLog};
 use crate::fault::accept;
-use crate::files::{Beginning, DamagedLog, close, fold, look, look_before_init, open_database};
+use crate::files::{
+    Beginning, DamagedLog, close, fold, look, look_before_export, look_before_init, open_database,
+};
 use crate::tagged::{Tagged, serve_tagged};
 use cred_admin::Status;
 use cred_cli::{Tools, Watched};
@@ -71,6 +73,7 @@ fn answer<T: Threads + Wait + Sync + Copy + Send + 'static>(
                 workers: *workers,
             };
             look(host, request.file, request.remarks)?;
+            look_before_export(host, request.file, order)?;
             let lines = read_passwords(host, request.file, order, *echo)?;
             on_file(host, &tools, request, order, lines)
         }

@@ -21,6 +21,8 @@ pub enum FileFault {
     Same,
     /// A log with changes lies there: of a book in use, or of a file that is gone.
     OldLog,
+    /// A server's locks lie beside it, which an export doesn't look at.
+    Locks,
     /// The number of changes before the damage, and of those that are lost.
     DamagedLog { before: u64, lost: u64 },
     /// The file can be read and written, but a sync of it failed.
@@ -67,6 +69,10 @@ impl fmt::Display for FileFault {
             FileFault::OldLog => f.write_str(
                 "a log with changes lies beside it, at its name with -wal: it is in use, or it was \
                  removed without its log; restore puts a copy there, and takes the log away",
+            ),
+            FileFault::Locks => f.write_str(
+                "its server keeps locks of names, at its name with -locks, and an export would give \
+                 their records away: export a copy without them, as credkeep(1) shows",
             ),
             FileFault::DamagedLog { before, lost } => write!(
                 f,

@@ -1,8 +1,8 @@
 #!/usr/bin/env python3
-"""Argon2 in plain Python, from the text of RFC 9106. It makes the standard's three tags, and then prints the vectors of
-the compression function that proofs/Vectors.antt of cred_argon holds: four words mixed, the permutation of
-sixteen words, and G of two blocks; and, at the parameters of section 5.3, the first
-word of an address block.
+"""Argon2 in plain Python, from the text of RFC 9106. It makes the standard's three tags, and then
+prints the vectors of the compression function that proofs/Vectors.antt of cred_argon holds: four
+words mixed, the permutation of sixteen words, and G of two blocks; and, at the parameters of
+section 5.3, the first word of an address block.
 
     python3 vectors/compress.py
 """
@@ -34,8 +34,16 @@ def mixed(a, b, c, d):
 
 def permuted(v):
     v = list(v)
-    for a, b, c, d in ((0, 4, 8, 12), (1, 5, 9, 13), (2, 6, 10, 14), (3, 7, 11, 15),
-                       (0, 5, 10, 15), (1, 6, 11, 12), (2, 7, 8, 13), (3, 4, 9, 14)):
+    for a, b, c, d in (
+        (0, 4, 8, 12),
+        (1, 5, 9, 13),
+        (2, 6, 10, 14),
+        (3, 7, 11, 15),
+        (0, 5, 10, 15),
+        (1, 6, 11, 12),
+        (2, 7, 8, 13),
+        (3, 4, 9, 14),
+    ):
         v[a], v[b], v[c], v[d] = mixed(v[a], v[b], v[c], v[d])
     return v
 
@@ -44,7 +52,7 @@ def compress(x, y):
     r = [a ^ b for a, b in zip(x, y)]
     z = list(r)
     for row in range(8):
-        z[16 * row:16 * row + 16] = permuted(z[16 * row:16 * row + 16])
+        z[16 * row : 16 * row + 16] = permuted(z[16 * row : 16 * row + 16])
     for column in range(8):
         at = [16 * (k // 2) + 2 * column + k % 2 for k in range(16)]
         for place, word in zip(at, permuted([z[i] for i in at])):
@@ -140,7 +148,7 @@ def main():
     print("mixed", *mixed(1, 2, 3, 4))
     print("permuted", *permuted(range(16)))
     block = struct.pack("<128Q", *compress(range(128), [0] * 128))
-    print("compress", *(block[i:i + 64].hex() for i in range(0, 1024, 64)))
+    print("compress", *(block[i : i + 64].hex() for i in range(0, 1024, 64)))
     print("address", address_block(0, 1, 1, 32, 3, 2, 1)[0])
 
 

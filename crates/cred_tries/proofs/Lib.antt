@@ -1,0 +1,9 @@
+-- Lemmas on the entries of a tree, on times and waits, and on histories.
+pub mod Counted
+pub mod Kept
+pub mod Limited
+pub mod Seldom
+pub mod Stretched
+pub mod Times
+pub mod Traced
+pub mod Waits

@@ -1,0 +1,43 @@
+//! A clock that never goes back, over one that may.
+
+ghost use Rattle.std.specs.Prelude.{◌≡◌};
+ghost use Rattle.cred_tries.specs.Clocks.{after_reading, moment};
+
+/// The seconds by which another clock has gone forward. None pass while it is set back.
+#[derive(Clone, Copy, Debug)]
+pub(crate) struct SteadyClock {
+    /// The last reading of the other clock.
+    reading: u64,
+    /// How far it went forward until that reading.
+    passed: u64,
+}
+
+impl SteadyClock {
+    /// No time has passed.
+    pub(crate) const fn new() -> SteadyClock
+        ensures { result ≡ record { reading = 0; passed = 0 } }
+    {
+        SteadyClock {
+            reading: 0,
+            passed: 0,
+        }
+    }
+
+    /// The moment at which the other clock reads `now`.
+    pub(crate) fn moment(self, now: u64) -> u64
+        ensures { result ≡ moment self now }
+    {
+        let forward = now.saturating_sub(self.reading);
+        self.passed.saturating_add(forward)
+    }
+
+    /// The clock after that reading.
+    pub(crate) fn after(self, now: u64) -> SteadyClock
+        ensures { result ≡ after_reading self now }
+    {
+        SteadyClock {
+            reading: now,
+            passed: self.moment(now),
+        }
+    }
+}

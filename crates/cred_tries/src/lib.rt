@@ -1,0 +1,19 @@
+//! A limiter of failed tries: it says how often the password of each account may be tried, over
+//! readings of a clock that its caller hands in.
+//!
+//! [`Limiter::begin`] asks for a [`Try`] at a name, which [`Limiter::end`] uses up. Contracts see a
+//! limiter as the counts of its names. The law [`each_name_is_limited`] says how many tries fail at
+//! each, whatever is asked.
+#![tactic(auto)]
+
+mod clock;
+mod count;
+mod counts;
+mod laws;
+mod limiter;
+mod turn;
+
+pub use count::MOST_TRIES;
+pub use laws::{each_name_is_limited, time_goes_forward};
+pub use limiter::Limiter;
+pub use turn::{Ending, Try, Turn};

@@ -1,0 +1,123 @@
+//! The limiter of tries at all names.
+
+ghost use Rattle.std.specs.Prelude.{◌≡◌, ◌≤◌, ◌<◌, IfErr, IfOk};
+ghost use Rattle.std.specs.FinMap as map;
+ghost use Rattle.cred_tries.specs.Counts.{most_tries};
+ghost use Rattle.cred_tries.specs.Limits.{after_end, begin_outcome, count_at, forgive_outcome, new_limits};
+
+use crate::clock::SteadyClock;
+use crate::count::{Count, Place};
+use crate::counts::Counts;
+use crate::turn::{Ending, Try, Turn};
+use cred_book::Name;
+use std::alloc::{AllocError, Global};
+use std::marker::Model;
+
+/// How often each account may be tried, by its name.
+///
+/// Behind as many failures in a row as the limit says, the next try at a name waits 1 s, then 2,
+/// 4 .. 512 and 900 s. A right answer and [`Limiter::forgive`] clear the failures, and so does a
+/// day without another. Each try that runs may fail, and counts as if it had.
+///
+/// A limiter keeps a name only while tries run there or failures count, and [`Limiter::begin`]
+/// alone allocates memory. Its caller begins no try at a name that has no account: no guess can be
+/// right there.
+#[derive(Drop)]
+pub struct Limiter {
+    limit: u64,
+    clock: SteadyClock,
+    counts: Counts,
+}
+
+impl Model for Limiter {
+    ghost use Rattle.cred_tries.specs.Limits.{IsLimit, Limits, limits_code};
+
+    ghost Value = { Limits };
+
+    ghost coded = { limits_code };
+
+    ghost view = { λ l. record {
+      limit = l.limit;
+      clock = l.clock;
+      counts = l.counts;
+    } };
+
+    ghost invariant = { λ l. IsLimit l.limit };
+}
+
+impl Limiter {
+    /// A limiter by which so many tries may fail at a name until the next has to wait, 1 to 86.
+    pub fn new(alloc: Global, limit: u64) -> Limiter
+        requires some { 0 < limit }
+        requires few { limit ≤ most_tries }
+        ensures { result ≡ new_limits limit }
+    {
+        Limiter {
+            limit,
+            clock: SteadyClock::new(),
+            counts: Counts::new(alloc),
+        }
+    }
+
+    /// Asks for a try at a name, at a reading of the clock in seconds.
+    ///
+    /// Errors: no memory, only where nothing is counted at the name; then nothing changes.
+    pub fn begin(&mut self, name: &Name, now: u64) -> Result<Turn, AllocError>
+        ensures asked { IfOk result
+            (λ turn. (turn, self.new) ≡ begin_outcome self.old name.now now) }
+        ensures memory { IfErr result (λ _. self.new ≡ self.old) }
+        ensures absent { IfErr result (λ _. map.get self.old.counts name.now ≡ None) }
+    {
+        let moment = self.clock.moment(now);
+        let count = self.count(name);
+        let turn = match count.place(self.limit, moment) {
+            Place::Free => {
+                let begun = count.begun(self.limit, moment);
+                self.counts.insert(*name, begun)?;
+                Turn::Begun(Try { name: *name })
+            }
+            Place::Taken => Turn::Waits,
+            Place::Early(seconds) => Turn::Later(seconds),
+        };
+        self.clock = self.clock.after(now);
+        Ok(turn)
+    }
+
+    /// Ends a try, at a reading of the clock in seconds. One of another limiter ends here only
+    /// where one of this limiter runs at its name, in its place.
+    pub fn end(&mut self, one: Try, now: u64, how: Ending)
+        ensures { self.new ≡ after_end self.old one now how }
+    {
+        let Try { name } = one;
+        let moment = self.clock.moment(now);
+        if let Some(count) = self.counts.get(&name) {
+            let ended = count.ended(self.limit, moment, how);
+            self.counts.put(&name, ended);
+        }
+        self.clock = self.clock.after(now);
+    }
+
+    /// Forgives the failures at a name: tries wait no more. Tries that run go on. Answers whether
+    /// any failures were counted.
+    pub fn forgive(&mut self, name: &Name) -> bool
+        ensures { (result, self.new) ≡ forgive_outcome self.old name.now }
+    {
+        match self.counts.get(name) {
+            Some(count) => {
+                self.counts.put(name, count.forgiven());
+                count.has_failed()
+            }
+            None => false,
+        }
+    }
+
+    /// The count of a name.
+    fn count(&self, name: &Name) -> Count
+        ensures { result ≡ count_at self.now name.now }
+    {
+        match self.counts.get(name) {
+            Some(count) => count,
+            None => Count::new(),
+        }
+    }
+}

@@ -1,0 +1,53 @@
+//! Tries: how they begin, and how they end.
+
+ghost use Rattle.std.specs.Prelude.{◌≡◌};
+
+use cred_book::Name;
+use std::marker::Model;
+
+/// A try at a name that has begun.
+///
+/// It can't be copied, and is not `Drop`: [`Limiter::end`](crate::Limiter::end) alone uses it up.
+#[derive(Debug)]
+pub struct Try {
+    pub(crate) name: Name,
+}
+
+impl Model for Try {
+    ghost use Rattle.std.specs.Prelude.{List, ℕ};
+
+    ghost Value = { List ℕ };
+
+    ghost view = { λ t. t.name };
+}
+
+impl Try {
+    /// The name at which it began.
+    pub fn name(&self) -> Name
+        ensures { result ≡ self.now }
+    {
+        self.name
+    }
+}
+
+/// The answer to one who asks for a try.
+#[derive(Debug)]
+pub enum Turn {
+    /// It has begun.
+    Begun(Try),
+    /// As many tries run at the name as may fail there: it may begin once one of them has ended.
+    Waits,
+    /// It is too early by this many seconds, 1 to 900.
+    Later(u64),
+}
+
+/// How a try ended.
+#[derive(Clone, Copy, Debug, PartialEq, Eq)]
+pub enum Ending {
+    /// The password was right.
+    Right,
+    /// The password was wrong.
+    Wrong,
+    /// The password wasn't judged: a hash found no memory, or the account is gone.
+    Unjudged,
+}
