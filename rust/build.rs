@@ -5,10 +5,19 @@ use std::env;
 use std::path::{Path, PathBuf};
 use std::process::Command;
 
+/// The linker may know folders that this program doesn't, so it goes on.
+const MISSING: &str = "no librigzumal was found: `make -C c` in the repository builds it";
+
+/// Where `make -C c` builds it, seen from this crate.
+const BESIDE: &str = "../c/out";
+
 fn main() {
     println!("cargo:rerun-if-env-changed=RIGZUMAL_LIB_DIR");
     println!("cargo:rerun-if-changed=build.rs");
     let Some(folder) = named().or_else(built_beside).or_else(by_pkg_config) else {
+        println!("cargo:warning={MISSING}");
+        // looks again at the next build, as it does wherever such a file is missing
+        println!("cargo:rerun-if-changed={BESIDE}/librigzumal.a");
         println!("cargo:rustc-link-lib=dylib=rigzumal");
         return;
     };
@@ -27,7 +36,7 @@ fn named() -> Option<PathBuf> {
 }
 
 fn built_beside() -> Option<PathBuf> {
-    let folder = Path::new(&env::var_os("CARGO_MANIFEST_DIR")?).join("../c/out");
+    let folder = Path::new(&env::var_os("CARGO_MANIFEST_DIR")?).join(BESIDE);
     folder.join("librigzumal.a").exists().then_some(folder)
 }
 

@@ -45,7 +45,8 @@
  * - No call is made in a signal handler, nor in the child of a process of several threads that
  *   forked and has not called exec. A child that is forked in a handler and goes on with its
  *   parent's call answers right, or ends by abort.
- * - No call is left by longjmp: its memory, with what is in it, would stay mapped for ever.
+ * - No call is left by longjmp or by asynchronous cancellation: its memory, with what is in it,
+ *   would stay mapped for ever.
  *
  * The ABI: in librigzumal.so.1 no call, structure or number of this header changes. Calls and
  * faults are only added; treat an unknown fault as a refusal. An incompatible change gets another
@@ -296,7 +297,7 @@ int rigzumal_argon2(void *tag, size_t tag_size, const struct rigzumal_argon2 *nu
                     size_t associated_size) RIGZUMAL_CHECK_ANSWER;
 
 /* Writes a record of these parts into text, as rigzumal_record does, without a hash.
- * Faults: NO_KIND, NO_VERSION; RANGE to TAG; MEMORY; NO_ROOM. */
+ * Faults: NULL_SALT; NO_KIND, NO_VERSION; RANGE to TAG, which a null tag is; MEMORY; NO_ROOM. */
 int rigzumal_argon2_write(char *text, size_t text_size, const struct rigzumal_argon2 *numbers,
                           const void *salt, size_t salt_size, const void *tag,
                           size_t tag_size) RIGZUMAL_CHECK_ANSWER;

@@ -180,7 +180,13 @@ static bool read_answer(int fd, char answer[MOST_ANSWER], long deadline) {
     return false;
 }
 
-static int result_of(const struct operation *operation, const char *answer) {
+/* Tells the user why a new password isn't taken. */
+static int refused(pam_handle_t *pamh, const char *why) {
+    pam_error(pamh, "%s", why);
+    return PAM_AUTHTOK_ERR;
+}
+
+static int result_of(pam_handle_t *pamh, const struct operation *operation, const char *answer) {
     if (strncmp(answer, "1 ", 2) != 0)
         return PAM_AUTHINFO_UNAVAIL;
     answer += 2;
@@ -193,7 +199,9 @@ static int result_of(const struct operation *operation, const char *answer) {
     if (strcmp(answer, "expired") == 0)
         return operation->expired;
     if (strcmp(answer, "short") == 0)
-        return PAM_AUTHTOK_ERR;
+        return refused(pamh, "The new password is too short.");
+    if (strcmp(answer, "same") == 0)
+        return refused(pamh, "The new password is the old one.");
     if (strcmp(answer, "noaccount") == 0 || strcmp(answer, "bad 3 name") == 0)
         return PAM_USER_UNKNOWN;
     return strcmp(answer, "later") == 0 ? PAM_MAXTRIES : PAM_AUTHINFO_UNAVAIL;
@@ -241,14 +249,15 @@ static bool has_answer(int fd, const struct question *question, const struct ope
 }
 
 /* What the answer to a question means, which is asked again while the server has no room. */
-static int answer_to(const struct question *question, const struct operation *operation) {
+static int answer_to(pam_handle_t *pamh, const struct question *question,
+                     const struct operation *operation) {
     char answer[MOST_ANSWER];
     long deadline = milliseconds() + question->seconds * 1000, pause = FIRST_PAUSE;
     for (int fd; (fd = connection(question->socket, deadline)) >= 0;) {
         bool is_answered = has_answer(fd, question, operation, answer, deadline);
         close(fd);
         if (!is_answered || strcmp(answer, NO_ROOM) != 0)
-            return is_answered ? result_of(operation, answer) : PAM_AUTHINFO_UNAVAIL;
+            return is_answered ? result_of(pamh, operation, answer) : PAM_AUTHINFO_UNAVAIL;
         long next = milliseconds() + pause;
         is_ready(-1, 0, next < deadline ? next : deadline); /* no file: it only waits */
         pause = pause < LONGEST_PAUSE ? 2 * pause : pause;
@@ -258,10 +267,8 @@ static int answer_to(const struct question *question, const struct operation *op
 
 static int ask(pam_handle_t *pamh, const struct question *question,
                const struct operation *operation) {
-    int result = is_name(question) ? answer_to(question, operation) : PAM_USER_UNKNOWN;
+    int result = is_name(question) ? answer_to(pamh, question, operation) : PAM_USER_UNKNOWN;
     log_result(pamh, question, operation, result);
-    if (result == PAM_AUTHTOK_ERR)
-        pam_error(pamh, "The new password is too short.");
     return result;
 }
 

@@ -13,12 +13,14 @@
 #define _GNU_SOURCE
 #include "heap.h"
 
+#include "process.h"
+
+#include <errno.h>
 #include <stdatomic.h>
 #include <stdint.h>
 #include <stdlib.h>
 #include <string.h>
 #include <sys/mman.h>
-#include <unistd.h>
 
 enum { KIB = 1024, MIB = 1024 * KIB };
 #define LEAST_LARGE ((size_t)64 * KIB)
@@ -193,14 +195,15 @@ size_t heap_keep(size_t size) {
     return before;
 }
 
-/* The environment's bound, in bytes; what is no number is passed over. */
+/* The environment's bound, in bytes; what is no number of 64 bits is passed over. */
 __attribute__((constructor)) static void read_bound(void) {
     const char *text = secure_getenv("RIGZUMAL_KEEP");
     if (text == NULL || *text < '0' || *text > '9')
         return;
     char *end;
+    errno = 0;
     unsigned long long size = strtoull(text, &end, 10);
-    if (*end == '\0')
+    if (*end == '\0' && errno == 0)
         heap_keep(size);
 }
 
@@ -219,9 +222,9 @@ struct block {
 static _Thread_local struct {
     struct block *blocks;
     size_t count, room;
-    pid_t process; /* that took the first of them */
-    area area;     /* the one that blocks are cut from, or 0 */
-    size_t used;   /* how many of its bytes are cut off */
+    uint64_t process; /* that took the first of them */
+    area area;        /* the one that blocks are cut from, or 0 */
+    size_t used;      /* how many of its bytes are cut off */
 } taken;
 
 static bool has_room_for_block(void) {
@@ -302,7 +305,7 @@ struct tried rattle_alloc(size_t size, size_t align) {
         struct block block = new_block(size == 0 ? align : size);
         if (block.start != NULL) {
             if (taken.count == 0)
-                taken.process = getpid();
+                taken.process = process_number();
             taken.blocks[taken.count++] = block;
             return (struct tried){true, block.start};
         }
@@ -322,23 +325,13 @@ static struct block struck_out(const void *start) {
     return block;
 }
 
-void heap_end_child_of(pid_t process) {
-    static const char said[] = "rigzumal: a forked child went on with its parent's call\n";
-    if (getpid() == process)
-        return;
-    if (write(STDERR_FILENO, said, sizeof said - 1) < 0) {
-        /* it ends all the same */
-    }
-    abort();
-}
-
 /* Gives back a block that is cleared, and no longer in the table. One of an area was zero all along
  * in a child, whose call would end with a wrong answer. */
 static void give_back(struct block block) {
     if (block.area == 0) {
         free(block.start);
     } else {
-        heap_end_child_of(taken.process);
+        process_end_child_of(taken.process);
         give_area_block(block);
     }
     free_empty_table();

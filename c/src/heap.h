@@ -4,7 +4,6 @@
 
 #include <stdbool.h>
 #include <stddef.h>
-#include <sys/types.h>
 
 /* What the proved code calls. An answer that isn't ok has a pointer that isn't null all the same.
  */
@@ -23,11 +22,6 @@ void *heap_take_zeros(size_t size);
 
 /* Gives them back, on the thread that took them, when all are zero again. */
 void heap_give_zeros(void *start);
-
-/* Ends this process with a word on standard error if it isn't that one but a child of it, forked in
- * a signal handler, that went on with its call: it has neither the call's memory nor its threads.
- */
-void heap_end_child_of(pid_t process);
 
 /* Gives the kept areas back to the system: how many bytes they have. */
 size_t heap_trim(void);

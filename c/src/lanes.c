@@ -8,6 +8,7 @@
 #include "lanes.h"
 
 #include "heap.h"
+#include "process.h"
 #include "secrets.h"
 
 #include <pthread.h>
@@ -34,7 +35,7 @@ enum { HIDDEN_STACK = (CLEARED_STACK + PAGE - 1) / PAGE * PAGE + PAGE };
 
 struct run {
     const struct task *task;
-    pid_t process;
+    uint64_t process; /* that began it */
     struct argon2_block *slices[SLICES];
     size_t segment_size, slice_size; /* in blocks */
     uint64_t segments;               /* how many there are to be worked */
@@ -51,7 +52,7 @@ static sigset_t block_signals(const struct run *run) {
     sigset_t all, before;
     sigfillset(&all);
     pthread_sigmask(SIG_SETMASK, &all, &before);
-    heap_end_child_of(run->process);
+    process_end_child_of(run->process);
     return before;
 }
 
@@ -257,7 +258,7 @@ uint8_t lanes_work(const struct task *task, uint32_t threads) {
         return fault;
     size_t slice_size = size / SLICES / sizeof(struct argon2_block);
     struct run run = {.task = task,
-                      .process = getpid(),
+                      .process = process_number(),
                       .segment_size = slice_size / task->numbers.argon2.lanes,
                       .slice_size = slice_size,
                       .segments = (uint64_t)SLICES * task->numbers.argon2.passes *

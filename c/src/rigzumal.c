@@ -74,6 +74,12 @@ int rigzumal_step(char *text, size_t text_size, uint32_t *reply, uint32_t operat
 
 int rigzumal_argon2_write(char *text, size_t text_size, const struct rigzumal_argon2 *numbers,
                           const void *salt, size_t salt_size, const void *tag, size_t tag_size) {
+    struct rigzumal_inputs inputs = {.salt = salt, .salt_size = salt_size};
+    int fault = null_fault(&inputs);
+    if (fault != RIGZUMAL_OK)
+        return fault;
+    if (tag == NULL)
+        tag_size = 0; /* so it is a fault */
     size_t written = 0;
     uint8_t answer = CALL(cred_write, numbers, BYTES(salt, salt_size), BYTES(tag, tag_size),
                           ROOM(text, text_size), &written);

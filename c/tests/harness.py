@@ -6,7 +6,6 @@ import pathlib
 import re
 import shutil
 import sys
-import unittest
 
 HERE = pathlib.Path(__file__).resolve().parent
 TOP = HERE.parent
@@ -14,7 +13,8 @@ sys.path.insert(0, str(TOP.parent))
 
 from tests import helpers
 from tests.helpers import ARCH, EMULATOR, IS_NATIVE, TRIPLET, need, runnable
-from tests.helpers import files_below, need_module, need_root  # noqa: F401 (for the tests)
+from tests.helpers import files_below, need_module, need_root  # noqa: F401
+from tests.needs import lacking, need_file, need_native  # noqa: F401 (for the tests)
 
 COMPILER = os.environ.get("CC", "cc" if IS_NATIVE else f"{TRIPLET}-gcc")
 # Whether programs of this machine can load the library.
@@ -55,12 +55,12 @@ run = functools.partial(helpers.run, at=TOP)
 def need_host():
     """Skips a test of what is for this machine's processor and C library alone."""
     if not IS_HOST:
-        raise unittest.SkipTest(f"{OUT} is for another processor or C library")
+        raise lacking("a processor and a C library of this machine")
 
 
 def need_glibc():
     if "musl" in COMPILER:
-        raise unittest.SkipTest("musl has nothing of the kind")
+        raise lacking("a glibc")
 
 
 def toolchain():
@@ -69,8 +69,7 @@ def toolchain():
 
 
 def need_original():
-    if not ORIGINAL.exists():
-        raise unittest.SkipTest(f"{ORIGINAL} is not there")
+    need_file(ORIGINAL)
 
 
 def wraps(sources):
@@ -96,8 +95,7 @@ def python(*words, env=None, at=TOP):
         need_host()
         return helpers.run(sys.executable, *words, env=env, at=at)
     need(EMULATOR[0])
-    if not (ROOT / "usr/bin/python3").exists():
-        raise unittest.SkipTest(f"{ROOT} is not there: tests/arm64/root.sh makes it")
+    need_file(ROOT / "usr/bin/python3")  # which tests/arm64/root.sh makes
     line = (EMULATOR[0], "-L", ROOT, ROOT / "usr/bin/python3", *words)
     return helpers.run(*line, env={**(env or {}), "PYTHONHOME": str(ROOT / "usr")}, at=at)
 
@@ -121,10 +119,10 @@ def run_sanitized(*words):
 def need_build(build):
     """Skips a test of a build that the toolchain couldn't make, or that this processor lacks."""
     if " cred_check\n" not in run("nm", OUT / f"{build}.o"):
-        raise unittest.SkipTest(f"the toolchain made no {build}")
+        raise lacking("a toolchain that makes that build")
     features = pathlib.Path("/proc/cpuinfo").read_text().split()
     if build == "v4" and not AVX512 <= {*features}:
-        raise unittest.SkipTest(f"this processor has no {build}")
+        raise lacking("a processor with that build")
 
 
 def sources_for(build):

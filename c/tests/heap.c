@@ -9,6 +9,13 @@
 #include <signal.h>
 #include <unistd.h>
 
+/* In PID namespaces of their own a child and its parent may both be the first process. */
+static bool are_all_first;
+
+WRAP(pid_t, getpid, void) {
+    return are_all_first ? 1 : __real_getpid();
+}
+
 static struct block {
     unsigned char *start;
     size_t size;
@@ -203,6 +210,16 @@ static void test_mappings(void) {
     }
 }
 
+/* The same of a child that is the first process of a namespace, as its parent is. */
+static void test_first_processes(void) {
+    are_all_first = HAS_ADVICE;
+    unsigned char *start = take_block(AREA);
+    memset(start, 0x66, AREA);
+    check_child(start, AREA);
+    rattle_dealloc(start);
+    are_all_first = false;
+}
+
 /* Takes so many blocks of a size, writes to them and gives them back: so many are kept then. */
 static void keep_blocks(int count, size_t size, int kept) {
     unsigned char *taken[160];
@@ -347,6 +364,7 @@ int main(void) {
     test_many_blocks();
     if (HAS_ADVICE)
         test_mappings();
+    test_first_processes();
     test_kept_areas();
     test_replaced_areas();
     test_grown_areas();

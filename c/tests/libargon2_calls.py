@@ -118,8 +118,8 @@ def zeros(size):
 
 
 def places(it):
-    """Where the inputs lie in an arena, one behind another, and where what is written does: over any
-    of them, or behind them."""
+    """Where the inputs lie in an arena, one behind another, and where what is written does: over
+    any of them, or behind them."""
     sizes = {"p": len(it.password), "s": len(it.salt), "x": len(it.secret), "a": len(it.associated)}
     at, found = 64, {}
     for name, size in sizes.items():
@@ -155,7 +155,8 @@ def context_at(it, arena, callbacks):
 
 
 def by_context(lib, it, name, *given):
-    """A call of a context, with all that it wrote, into the inputs too, and what its callbacks saw."""
+    """A call of a context, with all that it wrote, into the inputs too, and what its callbacks
+    saw."""
     arena = ctypes.create_string_buffer(b"\x5a" * ARENA, ARENA)
     callbacks = Callbacks(it.callbacks == "gives")
     context = context_at(it, arena, callbacks)

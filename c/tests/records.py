@@ -61,6 +61,8 @@ class Records(unittest.TestCase):
             (N.TEXT_SIZE, b"somesalt", b"tag", 2, N.TAG),
             (N.TEXT_SIZE, b"somesalt", b"tags", 0, N.RANGE),
             (40, b"somesalt", b"tags", 2, N.NO_ROOM),
+            (N.TEXT_SIZE, (None, 16), b"tags", 2, N.NULL_SALT),
+            (N.TEXT_SIZE, b"somesalt", (None, 32), 2, N.TAG),
         ):
             given = (numbers(2, 19, 256, passes, 1), salt, tag)
             self.assertEqual(written_text("argon2_write", room, *given), (fault, ""))

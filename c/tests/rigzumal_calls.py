@@ -16,9 +16,9 @@ UNTOUCHED = b"\x5a"
 LIBRARY = ctypes.CDLL(os.environ["LIBRARY"])
 LIBRARY.rigzumal_strerror.restype = LIBRARY.rigzumal_word.restype = ctypes.c_char_p
 
-# By the argon2 program, of the password "password" (printf password | argon2 somesalt -id -t 2 -k 256
-# -p 1 -l 32 -e; with -p 4 -l 24; with -i; with -i -v 10, without the version, as programs wrote it
-# then); by passlib, of another one.
+# By the argon2 program, of the password "password" (printf password | argon2 somesalt -id -t 2 -k
+# 256 -p 1 -l 32 -e; with -p 4 -l 24; with -i; with -i -v 10, without the version, as programs wrote
+# it then); by passlib, of another one.
 RECORD = "$argon2id$v=19$m=256,t=2,p=1$c29tZXNhbHQ$nf65EOgLrQMR/uIPnA4rEsF5h7TKyQwu9U1bMCHGi/4"
 RECORD_OF_LANES = "$argon2id$v=19$m=256,t=2,p=4$c29tZXNhbHQ$O71Gv0rP/8cqejNQA/lwVH32qlqGxXH5"
 RECORD_OF_I = "$argon2i$v=19$m=256,t=2,p=1$c29tZXNhbHQ$iekCn0Y3spW+sCcFanM2xBT63UP2sghkUoHLIUpWRS8"

@@ -23,7 +23,8 @@ STATES = {"sse": 1, "avx": 2, "k0 to k7": 5, "zmm0 to zmm15": 6, "zmm16 to zmm31
 
 
 def processor(*flags, kept=None):
-    """The test of which build is chosen, in a system that keeps some registers, as XCR0 has them."""
+    """The test of which build is chosen, in a system that keeps some registers, as XCR0 has
+    them."""
     system = [] if kept is None else [f'-DREAD_KEPT_REGISTERS="mov ${kept}, %0; mov $0, %1"']
     return built("processor", ["-O2", "-static", *flags, *system], WITHOUT_BUILDS)
 
@@ -32,7 +33,9 @@ class Calls(unittest.TestCase):
     def test_layout(self):
         """clang-format leaves the sources as they are, those of the PAM module too."""
         need("clang-format")
-        run("clang-format", "--dry-run", "-Werror", *TOP.rglob("*.[ch]"))
+        folders = ("include", "programs", "src", "tests", "pam/tests")
+        sources = [it for folder in folders for it in (TOP / folder).rglob("*.[ch]")]
+        run("clang-format", "--dry-run", "-Werror", *sources, *TOP.glob("pam/*.c"))
 
     def test_calls_of_each_build(self):
         """Each call as on processors of each level, under the sanitizers."""
@@ -56,8 +59,8 @@ class Calls(unittest.TestCase):
             self.assertEqual(chosen, "v2", f"a system that keeps the registers {kept}")
 
     def test_processors_with_avx512(self):
-        """The newest build is chosen where every feature of its level is there, the system keeps its
-        registers, and the toolchain could make it."""
+        """The newest build is chosen where every feature of its level is there, the system keeps
+        its registers, and the toolchain could make it."""
         need_host()
         every, lacking = 0xE7, "-Itests/x86_64/lacking"
         program = processor(lacking, kept=every)

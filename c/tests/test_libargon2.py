@@ -6,7 +6,8 @@ import sys
 import unittest
 
 from harness import HERE, IS_NATIVE, ORIGINAL, OURS, OUT, ROOM
-from harness import need, need_host, need_module, need_original, python, run, run_sanitized
+from harness import lacking, need, need_host, need_module, need_original, python, run
+from harness import run_sanitized
 
 # Fewer under qemu-user, which gives no memory of threads back.
 TURNS = () if IS_NATIVE else ("10",)
@@ -39,7 +40,7 @@ class Libargon2(unittest.TestCase):
         need_original()
         need("php")
         if "libargon2" not in run("ldd", shutil.which("php")):
-            self.skipTest("php has no libargon2")
+            raise lacking("a PHP with libargon2")
         costs = "['memory_cost' => 1024, 'time_cost' => 2, 'threads' => 1]"
         verify = "foreach (['a secret', 'A secret'] as $p) var_dump(password_verify($p, $argv[1]));"
         for maker, reader in ((OURS, {}), ({}, OURS), (OURS, OURS)):
@@ -57,7 +58,7 @@ class Libargon2(unittest.TestCase):
         try:
             run("cryptsetup", "benchmark", "--pbkdf", "argon2id")
         except AssertionError as refused:
-            self.skipTest(f"cryptsetup does not run here: {refused}")
+            raise lacking("a cryptsetup that runs") from refused
         costs = "--type luks2 --pbkdf argon2id --pbkdf-memory 4096 --pbkdf-parallel 2"
         made = f"cryptsetup -q luksFormat {costs} --pbkdf-force-iterations 4".split()
         for number, (maker, reader) in enumerate(((OURS, {}), ({}, OURS))):

@@ -88,8 +88,8 @@ class Package(unittest.TestCase):
         self.check_program(moved, "lib", "--define-prefix")
 
     def test_cmake(self):
-        """A program built by CMake over what `make install` put there, with either library, after the
-        folder was moved; and which versions are found."""
+        """A program built by CMake over what `make install` put there, with either library, after
+        the folder was moved; and which versions are found."""
         need_host()
         need("cmake")
         prefix, room = ROOM / "installed for CMake", ROOM / "cmake"
@@ -117,7 +117,9 @@ class Package(unittest.TestCase):
         for name in ("crates", "crates.txt", "tools", "VERSION"):
             (room / name).symlink_to(TOP.parent / name)
         out = room / "c" / OUT.relative_to(TOP)
-        for at, name in enumerate(("proved.sum", "v1.a", "v2.a", "v3.a", "v4.a")):
+        (out / "taken").unlink(missing_ok=True)  # where rt is missing
+        names = ("build_v4.sum", "proved.sum", "v1.a", "v2.a", "v3.a", "v4.a")
+        for at, name in enumerate(names):
             os.utime(out / name, (at, at))  # older than all sources
 
         def made(*words):
@@ -135,12 +137,14 @@ class Package(unittest.TestCase):
         with (room / "c/Makefile").open("a") as makefile:
             makefile.write("# changed\n")
         self.assertIn(COMPILER, made())
-        summed = set(re.findall(r"  \.\./(.*)", (out / "proved.sum").read_text()))
-        wanted = {"crates.txt", "tools/build_v4.py"}
-        for name in ("cred_c", *all_below("cred_c")):
+        below = ["cred_c", *all_below("cred_c")]
+        wanted = set()
+        for name in below:
             files = [it for it in files_below(CRATES / name) if not it.startswith("out/")]
             wanted |= {f"crates/{name}/{it}" for it in files if it.endswith((".rt", ".antt"))}
-        self.assertEqual(summed, wanted)
+        text = (out / "proved.sum").read_text()
+        self.assertEqual({*re.findall(r"^[0-9a-f]{64}  (.*)", text, re.M)}, wanted)
+        self.assertEqual({*re.findall(r"^# (\w+)[ :]", text, re.M)}, {*below})
         (out / "proved.sum").write_text("of other sources")
         run("make", "RT=false", at=room / "c", status=2)
 

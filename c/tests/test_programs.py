@@ -7,24 +7,26 @@ import unittest
 
 from harness import COMPILER, HERE, IS_NATIVE, JOBS, LIBARGON2, OUT, RACES, ROOM
 from harness import SANITIZED, SOURCES, VALGRIND, WARNINGS, WITHOUT_BUILDS, built, need, need_glibc
-from harness import need_host, need_root, python, run, run_sanitized, toolchain
+from harness import lacking, need_file, need_host, need_native, need_root, python, run
+from harness import run_sanitized, toolchain
 
 
 FAST = ["-O2"]
 # Over stand-ins for what is proved.
 LANES = ["src/lanes.c", *WITHOUT_BUILDS]
+HEAP = ["src/heap.c", "src/process.c"]
 ALL = LIBARGON2 + SOURCES
 
 # A program, its flags, what is linked to it, and its words.
 PROGRAMS = (
-    ("heap", SANITIZED, ["src/heap.c"]),
-    ("areas", ["-O1"], []),
+    ("heap", SANITIZED, HEAP),
+    ("areas", ["-O1"], ["src/process.c"]),
     ("refused", [*SANITIZED, *JOBS], ALL),
     ("lanes", FAST, LANES, "150", "marks"),
     ("lanes", SANITIZED, LANES, "60"),
     ("lanes", RACES, LANES, "60"),
-    ("forked_lanes", [*FAST, "-DTHREAD_LOCAL=1"], [*LANES, "src/heap.c"]),
-    ("forked_lanes", [*FAST, "-DTHREAD_LOCAL=57344"], [*LANES, "src/heap.c"]),
+    ("forked_lanes", [*FAST, "-DTHREAD_LOCAL=1"], [*LANES, *HEAP]),
+    ("forked_lanes", [*FAST, "-DTHREAD_LOCAL=57344"], [*LANES, *HEAP]),
     ("calls", [*RACES, *JOBS], ALL),
     ("interrupted", FAST, SOURCES),
     ("interrupted", SANITIZED, SOURCES),
@@ -36,10 +38,12 @@ MIB = 1024 * 1024
 KEPT = """
 import ctypes, sys
 library, size = ctypes.CDLL(sys.argv[1]), ctypes.c_size_t
-for costs in ("scrypt$ln=14", "scrypt$ln=15", "scrypt$ln=16", "argon2id$v=19$m=81920", "scrypt$ln=17"):
+scrypts = [f"scrypt$ln={it}" for it in (14, 15, 16, 17)]
+for costs in (*scrypts[:3], "argon2id$v=19$m=81920", scrypts[3]):
     costs = f"${costs},{'t=1' if 'argon2' in costs else 'r=8'},p=1$c29tZXNhbHQ".encode()
     text = ctypes.create_string_buffer(513)
-    assert not library.rigzumal_record(text, size(513), size(32), costs, None, size(0), b"x", size(1))
+    given = (size(32), costs, None, size(0), b"x", size(1))
+    assert not library.rigzumal_record(text, size(513), *given)
     print(library.rigzumal_trim() >> 20, end=" ")
 """
 # The same after a record of one MiB, which an area is kept of.
@@ -77,17 +81,19 @@ class Programs(unittest.TestCase):
         for name, flags, linked, *words in PROGRAMS:
             with self.subTest(name, flags=flags):
                 if name == "forked_lanes" and not IS_NATIVE:
-                    self.skipTest("it looks at what madvise asked for")
+                    need_host()
                 run(built(name, flags, linked), *words)
 
     def test_program_calls(self):
-        """What the programs for ARM64 call of C, and of the toolchain those for x86-64: the same."""
+        """What programs that a C compiler links call of C, and of the toolchain those of rt: the
+        same."""
         need_glibc()
         of_toolchain = [toolchain() / f"c/lib{it}_c.a" for it in ("os", "libc")]
-        for sources in (["programs/arm64.c"], of_toolchain):
+        for sources in (["programs/calls.c"], of_toolchain):
             with self.subTest(sources):
-                if sources is of_toolchain and not (IS_NATIVE and sources[0].exists()):
-                    self.skipTest("no toolchain for this processor")
+                if sources is of_toolchain:
+                    need_native()
+                    need_file(sources[0])
                 flags = ["-fPIC", "-shared", "-Wl,--whole-archive", *sources]
                 run(COMPILER, *WARNINGS, *flags, "-Wl,--no-whole-archive", "-o", ROOM / "calls.so")
                 env = {"LIBRARY": str(ROOM / "calls.so")}
@@ -113,6 +119,8 @@ class Programs(unittest.TestCase):
             ("16M", "16 32 64 60 64"),  # no number, and passed over
             ("0x8000000", "16 32 64 60 64"),
             ("-1", "16 32 64 60 64"),
+            ("18446744073709551616", "16 32 64 60 64"),  # 2^64
+            ("99999999999999999999999", "16 32 64 60 64"),
             ("", "16 32 64 60 64"),
         ):
             env = {} if bound is None else {"RIGZUMAL_KEEP": bound}
@@ -124,7 +132,7 @@ class Programs(unittest.TestCase):
         need_root()
         need_host()
         if os.statvfs(ROOM).f_flag & os.ST_NOSUID:
-            self.skipTest(f"{ROOM} has no set-user-ID programs")
+            raise lacking("set-user-ID programs in the temporary folder")
         source, program = ROOM / "one_kept.c", ROOM / "one_kept"
         source.write_text(ONE_KEPT)
         run(COMPILER, "-Iinclude", source, OUT / "librigzumal.a", "-o", program)

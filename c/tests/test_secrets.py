@@ -1,17 +1,17 @@
 """Tests of what is left of secrets after a call, and of what depends on them."""
 
 import hashlib
-import pathlib
 import re
 import struct
 import unittest
 
 from harness import ARCH, BUILDS, IN_THREADS, IS_NATIVE, LIBARGON2, WITHOUT_BUILDS
-from harness import built, need, need_glibc, need_host, run, sources_for
+from harness import built, need, need_file, need_glibc, need_host, run, sources_for
 
 
 # Which functions may branch on secrets or read at addresses that depend on them, in each call of
-# tests/jobs.c for tags of a kind: Argon2id's second half and scrypt's table do by their definitions.
+# tests/jobs.c for tags of a kind: Argon2id's second half and scrypt's table do by their
+# definitions.
 SECRET_CALLS = {
     ("rigzumal_argon2, small", "i"): [],
     ("rigzumal_argon2, small", "old"): [],
@@ -42,7 +42,8 @@ REGISTERS = {
 
 # Calls that judge a tag, right or wrong in its first byte or its last: how often they look at the
 # verdict, the one place of the one jump by it, which those of C may do without, and who in C looks
-# at its number, where the proved code has made it without a jump: it is all that C sees of the tags.
+# at its number, where the proved code has made it without a jump: it is all that C sees of the
+# tags.
 JUDGEMENTS = {
     "rigzumal_check": (1, "cred_check"),
     "rigzumal_check_threads": (1, "cred_check_end", "note_fault"),
@@ -128,7 +129,7 @@ class Secrets(unittest.TestCase):
         """The same on a processor without narrow forms, and where the system keeps fewer: none that
         isn't kept is used."""
         if not IS_NATIVE:
-            self.skipTest("these are of x86-64")
+            need_host()
         lacking = ["-Itests/x86_64/lacking", '-DCLEAR_NARROW(n)="ud2\\n\\t"']
         run(built("registers", ["-O2", *lacking], WITHOUT_BUILDS))
         for kept in (0x7, 0x3):  # a system without AVX-512, and without AVX
@@ -149,7 +150,6 @@ class Secrets(unittest.TestCase):
         """No branch and no address depends on a secret, but where that is by design."""
         need("valgrind")
         need_host()
-        if not pathlib.Path("/usr/include/valgrind/memcheck.h").exists():
-            self.skipTest("valgrind/memcheck.h is not there")
+        need_file("/usr/include/valgrind/memcheck.h")
         for build in BUILDS[:3]:  # valgrind knows nothing of AVX-512
             check_leaks(built("secrets", [*JOBS, IN_THREADS], sources_for(build)))

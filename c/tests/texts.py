@@ -180,7 +180,8 @@ class Texts(unittest.TestCase):
             self.assertEqual(found, wanted, (record, costs, salt_size, tag_size))
 
     def test_words(self):
-        """Each fault has its own word, its name in the header, and its meaning says what is wrong."""
+        """Each fault has its own word, its name in the header, and its meaning says what is
+        wrong."""
         faults = re.search(r"enum rigzumal_fault {(.*?)};", HEADER, re.S)[1]
         names = re.findall(r"RIGZUMAL_(\w+?)(?:_FAULT)? = (\d+)", faults)
         self.assertEqual([int(number) for _, number in names], list(range(len(MEANINGS))))

@@ -5,6 +5,7 @@
 #include "lanes.h"
 
 #include "heap.h"
+#include "process.h"
 #include "stand_ins.h"
 
 #include <errno.h>
@@ -115,9 +116,13 @@ void *heap_take_zeros(size_t size) {
     return taken;
 }
 
+uint64_t process_number(void) {
+    return (uint64_t)getpid();
+}
+
 /* It is asked while nobody can fork any more before the wait. */
-void heap_end_child_of(pid_t process) {
-    CHECK(process == getpid());
+void process_end_child_of(uint64_t number) {
+    CHECK(number == process_number());
     check_all_are_blocked();
     count(&now.child_looks);
 }

@@ -1,6 +1,6 @@
 """The calls that take their inputs by name, with threads beside those without, which answer and
-write the same: over random numbers and inputs, now and then bad, and with threads refused at random.
-A record is that of its tag, with salts and tags of every size."""
+write the same: over random numbers and inputs, now and then bad, and with threads refused at
+random. A record is that of its tag, with salts and tags of every size."""
 
 import ctypes
 import platform
@@ -86,9 +86,10 @@ class WithThreads(unittest.TestCase):
                 self.compare_calls(costs, *sizes, given)
         self.assertGreater(started.value - before, SETS)
 
-    @unittest.skipUnless(IS_FAST, "qemu-user takes too long")
+    @unittest.skipUnless(IS_FAST, "needs the processor x86_64")
     def test_large_numbers(self):
-        """More passes than eight bits count, and segments of more blocks than sixteen bits count."""
+        """More passes than eight bits count, and segments of more blocks than sixteen bits
+        count."""
         for costs in (
             *((2, 0x13, 16, 257, 2), (1, 0x10, 40, 300, 3), (0, 0x13, 16, 1025, 2)),
             *((2, 0x13, 8 * 65536 + 24, 1, 2), (2, 0x13, 255 * 8, 2, 255)),

@@ -1,5 +1,5 @@
-"""Tests of the crate for Rust, after `make -C c`: what cargo, clippy and rustfmt say. They need those
-of Rust 1.70 or later, as Debian 13 has them."""
+"""Tests of the crate for Rust, after `make -C c`: what cargo, clippy and rustfmt say. They need
+those of Rust 1.70 or later, as Debian 13 has them."""
 
 import pathlib
 import re
@@ -71,7 +71,8 @@ class Crate(unittest.TestCase):
             self.fail(said)
 
     def test_the_library_that_is_named_is_linked(self):
-        """The folder that RIGZUMAL_LIB_DIR names comes first; it has the shared library alone here."""
+        """The folder that RIGZUMAL_LIB_DIR names comes first; it has the shared library alone
+        here."""
         need("cargo", "ldd")
         folder, target = ROOM / "named", ROOM / "cargo-of-named"
         self.copy_shared_library(folder)
@@ -98,6 +99,17 @@ class Crate(unittest.TestCase):
         env = {"PKG_CONFIG_PATH": str(ROOM), "CARGO_TARGET_DIR": str(target)}
         self.check_linked(program_of("vectors", env=env, at=crate), folder)
 
+    def test_a_missing_library(self):
+        """Where none is found the build says how to build one, and links it once it is built."""
+        need("cargo")
+        crate, built = ROOM / "alone/rust", ROOM / "alone/c/out"
+        shutil.copytree(CRATE, crate, ignore=shutil.ignore_patterns("target"))
+        env = {"CARGO_TARGET_DIR": str(ROOM / "cargo-alone"), "PKG_CONFIG_LIBDIR": str(ROOM)}
+        self.assertIn("`make -C c` in the repository builds it", cargo("build", env=env, at=crate))
+        built.mkdir(parents=True)
+        shutil.copy(LIBRARIES / "librigzumal.a", built)
+        run(program_of("vectors", env=env, at=crate))
+
     def test_secrets_are_cleared_when_optimised(self):
         """In what cargo builds for a release, where the compiler drops writes that nobody reads."""
         need("cargo")
@@ -118,7 +130,8 @@ class Crate(unittest.TestCase):
         cargo("build", at=room)
 
     def test_rust_layout(self):
-        """rustfmt leaves the crate as it is, clippy and rustdoc say nothing, and no line is long."""
+        """rustfmt leaves the crate as it is, clippy and rustdoc say nothing, and no line is
+        long."""
         need("cargo", "cargo-clippy", "cargo-fmt")
         cargo("fmt", "--check")
         for targets in (["--all-targets"], ["--no-default-features"]):

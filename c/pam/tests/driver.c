@@ -102,7 +102,7 @@ void pam_syslog(const pam_handle_t *pamh, int priority, const char *format, ...)
 static char *answer(const char *name) {
     if (name != NULL)
         return strdup(name);
-    char line[2048];
+    char line[8192]; /* two digits a byte */
     if (fgets(line, sizeof line, stdin) == NULL)
         return NULL;
     char *text = calloc(1, sizeof line);

@@ -7,6 +7,8 @@ import time
 
 from driven import PLAIN, ROOM, Case, Pam, Question
 from driven import answers, asked, line_of, peer, sends
+from tests.helpers import each
+from tests.hostile_fields import NAMES, PASSWORDS, text_of
 
 YES, NO_ROOM = b"1 yes\n", b"* unavailable\n"
 VERIFY, KNOWN = line_of("verify", "ada", b"secret"), line_of("known", "ada")
@@ -15,15 +17,14 @@ VERIFY, KNOWN = line_of("verify", "ada", b"secret"), line_of("known", "ada")
 EDITS = [(at, 0, new) for at in range(7) for new in (b" ", b"\0", b"1")]
 EDITS += [(at, 1, new) for at in range(6) for new in (b"", b"Y")]
 NO_ANSWERS = {YES[:at] + new + YES[at + cut :] for at, cut, new in EDITS} - {YES}
-LINES = b"|1|1 |yes|1 no yes|2 yes|1 yes\r|1 yes\0no|1 YES|1 yes\n1 yes|1 no\n1 yes|2 no\n1 yes|1 replaced"
+LINES = b"|1|1 |yes|1 no yes|2 yes|1 yes\r|1 yes\0no|1 YES"
+LINES += b"|1 yes\n1 yes|1 no\n1 yes|2 no\n1 yes|1 replaced"
 LINES += b"|1 unavailable|* denied|1 denied|1 bad 14 busy|1 n|1 none|1 noyes"
 NO_ANSWERS |= {line + b"\n" for line in LINES.split(b"|")}
 NO_ANSWERS |= {b"1 " + b"y" * 62, b"1 " + b"y" * 61 + b"\n", b"1 yes" + b" " * 70 + b"\n", b""}
 NO_ANSWERS |= {b"x" * 1000000, bytes(range(256)), b"\xff" * 63 + b"\n"}
 
 GOOD_NAMES = ("a", "ada", "a-z0.9_x", "x" * 32)
-BAD_NAMES = (" ", "a b", "ada yes", "ada\nverify", "ada\n", "\nada", "ada\t", "ada\r", "Ada")
-BAD_NAMES += ("x" * 33, "\u00e4da", "ada\x7f", "a/b")
 MAIL = ("ada@example.org", "Ada.L+x@Example.ORG", "\u00e4@example.org", "a@b@c")
 MAIL += ("x" * 240 + "@" + "y" * 13,)
 BAD_MAIL = ("@", "@b", "a@", "a @b", "a@b ", "a@b\n", "a\n@b", "a@b\nc@d", "a\t@b", "a\x7f@b")
@@ -89,8 +90,9 @@ class Answers(Case):
                 self.assertEqual(is_said, ought == Pam.AUTH_ERR, said.logs)
 
     def test_names(self) -> None:
-        """A name that can be no book's is never sent; it is unknown, and the password is asked for."""
-        for name in (*GOOD_NAMES, *BAD_NAMES, *MAIL, *BAD_MAIL):
+        """A name that a book may have is sent, and an address with `mail_names` alone; another one
+        is unknown, and the password is asked for."""
+        for name in (*GOOD_NAMES, *MAIL, *BAD_MAIL):
             for options in ("", "mail_names"):
                 if name in GOOD_NAMES or (name in MAIL and options):
                     line = line_of("verify", name, b"secret")
@@ -98,8 +100,32 @@ class Answers(Case):
                 else:
                     said = self.check(YES, Pam.USER_UNKNOWN, user=name, options=options)
                 self.assertEqual(len(said.prompts), 1, name)
-        for task in ("account", "change"):
-            self.check(YES, Pam.USER_UNKNOWN, task=task, user="a b")
+
+    @each("", "mail_names")
+    def test_hostile_names(self, options: str) -> None:
+        """A hostile name is unknown, no line has it, and the next login is let in. PAM's texts have
+        no NUL byte."""
+        for what, name in NAMES.items():
+            if b"\0" in name or (what == "@" and options):
+                continue
+            for task in ("authenticate", "account", "change"):
+                with self.subTest(what, task=task):
+                    given = {"task": task, "user": text_of(name), "options": options}
+                    said = self.check(YES, Pam.USER_UNKNOWN, **given)
+                    self.assertEqual(len(said.prompts), task == "authenticate")
+                    self.check(YES, Pam.SUCCESS, VERIFY, options=options)
+
+    def test_hostile_passwords(self) -> None:
+        """A hostile password is one field of the line; one that no record has is never sent."""
+        for what, password in PASSWORDS.items():
+            if b"\0" in password:
+                continue
+            with self.subTest(what):
+                is_sent = 0 < len(password) <= 256
+                line = line_of("verify", "ada", password) if is_sent else KNOWN
+                answer = b"1 no\n" if is_sent else YES
+                self.check(answer, Pam.AUTH_ERR, line, answers=[password])
+                self.check(YES, Pam.SUCCESS, VERIFY)
 
     def test_in_pieces(self) -> None:
         """Lines and answers in single bytes, each call interrupted once: nothing changes."""
@@ -127,7 +153,8 @@ class Answers(Case):
         self.assertTrue(0.9 < said.seconds < most, f"{said.seconds} s")
 
     def test_deadlines(self) -> None:
-        """A peer that says nothing, drips, or doesn't take the connection costs the timeout, once."""
+        """A peer that says nothing, drips, or doesn't take the connection costs the timeout,
+        once."""
 
         def nothing(line: bytes, client: socket.socket) -> None:
             time.sleep(8)
@@ -168,7 +195,8 @@ class Answers(Case):
         self.assertLess(said.seconds, 30)
 
     def test_no_room(self) -> None:
-        """A server that has no room is asked again, ever less often, until it has some or time is up."""
+        """A server that has no room is asked again, ever less often, until it has some or time is
+        up."""
 
         def has_room(line: bytes, client: socket.socket) -> None:
             client.sendall(YES if len(it.lines) == 4 else NO_ROOM)
@@ -217,7 +245,8 @@ class Answers(Case):
         it.server_close()
 
     def test_falls_through(self) -> None:
-        """A stack goes on to the next module if the server is down, and stops at a wrong password."""
+        """A stack goes on to the next module if the server is down, and stops at a wrong
+        password."""
         service = "auth [success=done authinfo_unavail=ignore default=die] {module}\n"
         service += "auth required pam_permit.so\n"
         said = asked(Question(service=service), ROOM / "nothing-here")

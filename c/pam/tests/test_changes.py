@@ -21,17 +21,32 @@ def changed(
         return said, [line for line in it.lines if not line.startswith(b"1 known ")]
 
 
+LONG = "socket=/" + "x" * 107  # a letter more than a socket's path may have
+BAD_OPTIONS = (
+    "frob",
+    "socket",
+    "socket=",
+    "socket=run/x",
+    LONG,
+    "timeout=",
+    "timeout=0",
+    "timeout=601",
+    "timeout=5x",
+    "timeout=-1",
+    "nullokk",
+)
+GOOD_OPTIONS = ("timeout=1", "timeout=600", "debug", "nullok", "mail_names", "try_first_pass")
+
+
 class Changes(Case):
     def test_options(self) -> None:
         """A word that isn't an option, or a value out of range, is refused and named."""
-        long = "socket=/" + "x" * 107
-        bad = "frob socket timeout= timeout=0 timeout=601 timeout=5x timeout=-1 nullokk socket="
-        for word in (*bad.split(), "socket=run/x", long):
+        for word in BAD_OPTIONS:
             said = self.check(YES, Pam.SERVICE_ERR, options=word)
             self.assertEqual((said.prompts, said.logs), ([], [f"bad option: {word}"]))
-        for word in "timeout=1 timeout=600 debug nullok mail_names try_first_pass".split():
+        for word in GOOD_OPTIONS:
             self.check(YES, Pam.SUCCESS, VERIFY, options=word)
-        self.check(YES, Pam.AUTHINFO_UNAVAIL, options=long[:-1])
+        self.check(YES, Pam.AUTHINFO_UNAVAIL, options=LONG[:-1])
 
     def test_first_passwords(self) -> None:
         """use_first_pass, try_first_pass and use_authtok, as pam_unix has them."""
@@ -55,7 +70,8 @@ class Changes(Case):
             said, lines = said_at(YES, Question(tasks=task, answers=()))
             self.assertNotIn(said.codes[0], (Pam.SUCCESS, Pam.AUTHINFO_UNAVAIL, Pam.TRY_AGAIN))
             self.assertEqual([it for it in lines if b"known" not in it], [], task)
-        # pam_get_authtok(3) makes a fault of a conversation that isn't over; pam_get_user(3) doesn't.
+        # pam_get_authtok(3) makes a fault of a conversation that isn't over; pam_get_user(3)
+        # doesn't.
         for user, code, prompt in (
             ("-", Pam.INCOMPLETE, "login:"),
             ("ada", Pam.AUTHTOK_ERR, "Password: "),
@@ -100,7 +116,8 @@ class Changes(Case):
             self.assertEqual((said.codes, sent[1:]), ([Pam.SUCCESS], [line]))
 
     def test_expired_passwords(self) -> None:
-        """Where the book's needn't be changed the new one is asked for, and is for the next module."""
+        """Where the book's needn't be changed the new one is asked for, and is for the next
+        module."""
         service = "password [ignore={} default=die] {{module}}\npassword required pam_{}.so\n"
         prompts = ["New password: ", "Retype new password: "]
         for answer in (YES, b"1 absent\n", b"1 noaccount\n", b"1 unavailable\n"):
@@ -131,11 +148,12 @@ class Changes(Case):
                 self.assertEqual(said.codes, [ought], task)
                 self.assertEqual(it.lines, [*known, VERIFY, *known, change])
 
-    def test_a_short_password(self) -> None:
+    def test_refused_passwords(self) -> None:
         """The user is told why the server refuses a new password."""
-        said, sent = changed(FRESH, change=b"short")
-        self.assertEqual((said.codes, len(sent)), ([Pam.AUTHTOK_ERR], 2))
-        self.assertIn("The new password is too short.", said.prompts)
+        for answer, why in ((b"short", "too short"), (b"same", "the old one")):
+            said, sent = changed(FRESH, change=answer)
+            self.assertEqual((said.codes, len(sent)), ([Pam.AUTHTOK_ERR], 2))
+            self.assertIn(f"The new password is {why}.", said.prompts)
 
     def test_names_of_another_module(self) -> None:
         """At a name that the book lacks no old password is asked for; the new one is, for a module

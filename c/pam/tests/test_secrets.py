@@ -1,4 +1,5 @@
-"""Tests of the PAM module: what it leaves in memory and in the log, threads, and how it is built."""
+"""Tests of the PAM module: what it leaves in memory and in the log, threads, and how it is
+built."""
 
 import base64
 import functools

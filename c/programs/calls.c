@@ -1,6 +1,6 @@
-/* What the proved programs call of the toolchain's part in C, which is there for x86-64 alone. No
- * proof says that these meet their contracts, in rattle/libc/src/heap.rt and rattle/os/src/c.rt
- * beside the page that `rt doc` names. */
+/* What the proved programs call of C, for those that a C compiler links: the toolchain's part in C
+ * is there for x86-64 alone, and isn't published. No proof says that these meet their contracts, in
+ * rattle/libc/src/heap.rt and rattle/os/src/c.rt beside the page that `rt doc` names. */
 #define _GNU_SOURCE
 #include <errno.h>
 #include <fcntl.h>

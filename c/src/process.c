@@ -1,0 +1,46 @@
+/* The number of a process has two halves. The lower one is the system's. By itself it won't do: a
+ * child has its parent's if each is the first of a PID namespace. The upper one stands in a page
+ * that the system gives to a child as zeros; where it does no such thing the half is 0. */
+#define _GNU_SOURCE
+#include "process.h"
+
+#include <stdatomic.h>
+#include <stdlib.h>
+#include <sys/mman.h>
+#include <unistd.h>
+
+enum { LARGEST_PAGE = 64 * 1024 }; /* of any system */
+
+static unsigned char room[2 * LARGEST_PAGE]; /* that page is in it, wherever it begins */
+static _Atomic(uint32_t) *wiped;             /* its start: 0 before the first call */
+static _Atomic(uint32_t) latest;             /* what was given last; a child has it too */
+
+__attribute__((constructor)) static void have_page_wiped(void) {
+    void *page = room + (LARGEST_PAGE - (uintptr_t)room % LARGEST_PAGE) % LARGEST_PAGE;
+    if (madvise(page, LARGEST_PAGE, MADV_WIPEONFORK) == 0)
+        wiped = page;
+}
+
+static uint32_t wiped_number(void) {
+    if (wiped == NULL)
+        return 0;
+    uint32_t number = atomic_load(wiped);
+    if (number != 0)
+        return number;
+    uint32_t next = atomic_fetch_add(&latest, 1) + 1;
+    return atomic_compare_exchange_strong(wiped, &number, next) ? next : number;
+}
+
+uint64_t process_number(void) {
+    return (uint64_t)wiped_number() << 32 | (uint32_t)getpid();
+}
+
+void process_end_child_of(uint64_t number) {
+    static const char said[] = "rigzumal: a forked child went on with its parent's call\n";
+    if (process_number() == number)
+        return;
+    if (write(STDERR_FILENO, said, sizeof said - 1) < 0) {
+        /* it ends all the same */
+    }
+    abort();
+}

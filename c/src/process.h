@@ -1,0 +1,12 @@
+/* Which process this is: a child that goes on with its parent's call is told by it. */
+#pragma once
+
+#include <stdint.h>
+
+/* The number of this process, which no child of it has, nor a child of a child. */
+uint64_t process_number(void);
+
+/* Ends this process with a word on standard error if another number was its own as the call began:
+ * it is a child, forked in a signal handler, that went on with its parent's call, and has neither
+ * the call's memory nor its threads. */
+void process_end_child_of(uint64_t number);
