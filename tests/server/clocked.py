@@ -1,4 +1,5 @@
-"""bin/credkeep-server with a clock of the tests for failed tries: the file that CLOCK names has its seconds."""
+"""bin/credkeep-server with a clock of the tests, for failed tries and the dates of an old file: the
+file that CLOCK names has its seconds."""
 
 import os
 import pathlib
@@ -8,12 +9,13 @@ import types
 
 sys.path.insert(0, str(pathlib.Path(__file__).parents[2] / "python/rigzumal/server"))
 import daemon  # noqa: E402
-from daemon import tries  # noqa: E402
+from daemon import aging, tries  # noqa: E402
 
 CLOCK = pathlib.Path(os.environ["CLOCK"])
 tries.time = types.SimpleNamespace(  # type: ignore
     time=time.time, monotonic=lambda: float(CLOCK.read_text())
 )
+aging.time = types.SimpleNamespace(time=lambda: float(CLOCK.read_text()))  # type: ignore
 
 if __name__ == "__main__":
     sys.exit(daemon.main())

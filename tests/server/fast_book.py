@@ -9,7 +9,7 @@ it only appends to, a line for each change. In the environment BOOK_FAULTS has w
     late            each answer comes after 0 to 0.05 s, so in any order
     slow=S          each answer that would cost a hash comes after S seconds
     garbage         between answers it writes lines that are none
-    dies=N          it ends with status 5 once it has N answers, amid another, whose line end is missing
+    dies=N          it ends with status 5 once it has N answers, amid another without its line end
     killed=N        the same, by a signal
     mute=WORD       lines with this operation are never answered
     endless         before each answer to a verify it writes a line of 4 MiB
@@ -64,7 +64,8 @@ def tag_of(password: bytes, salt: str) -> str:
 
 
 class Book:
-    """Names, and a record or an empty text at each; a change is in the file before it is answered."""
+    """Names, and a record or an empty text at each; a change is in the file before it is
+    answered."""
 
     def __init__(self, path: str, costs: str) -> None:
         self.costs, self.records = costs, dict[str, str]()

@@ -1,4 +1,5 @@
-"""A machine of its own for Debian's programs: namespaces, layers over its folders, the PAM module, a server."""
+"""A machine of its own for Debian's programs: namespaces, layers over its folders, the PAM module,
+a server."""
 
 import functools
 import os
@@ -25,7 +26,7 @@ def on_page(path: str) -> str:
     form = rf"```\n# (?:[^\n]+, )?{re.escape(path)}(?:, [^\n]+)?\n(.*?)```"
     found = re.search(form, PAGE.read_text(), re.S)
     assert found, f"{path} isn't on the page"
-    assert len(found[1].splitlines()) <= 30, f"{path} has over thirty lines"
+    assert len(found[1].splitlines()) <= 36, f"{path} has over 36 lines"
     return found[1]
 
 

@@ -10,16 +10,16 @@ import subprocess
 import sys
 import time
 import unittest
-from collections.abc import Callable
+from collections.abc import Callable, Iterator
 from dataclasses import dataclass, field
 from typing import Any, Optional
 
 HERE = pathlib.Path(__file__).resolve().parent
 TOP = HERE.parent.parent
 sys.path.insert(0, str(TOP))
-os.environ["PATH"] += ":/usr/sbin:/usr/lib/dovecot"
-from tests import helpers  # noqa: E402
+from tests import helpers, hostile_fields  # noqa: E402
 from tests.helpers import need, need_root, program  # noqa: E402, F401 (for the tests)
+from tests.needs import lacking  # noqa: E402
 
 FAST_BOOK = HERE / "fast_book.py"
 CHEAP = "$argon2id$v=19$m=64,t=1,p=1"
@@ -47,6 +47,21 @@ class Case(helpers.Case):
         self.addCleanup(service.end)
         return service.wait_until_started() if waits else service
 
+    @contextlib.contextmanager
+    def tapped(self) -> Iterator[pathlib.Path]:
+        """An administrator's socket for hostile fields: no line comes there but a login's, and the
+        record of ada, whose password is `secret`, stays."""
+        costs = ("--setting", CHEAP, "--tries", "0")
+        service = self.serving(*costs, program=chosen_book()).enrol(ada="secret")
+        admin = service.client("admin")
+        record = admin.ask("show ada")
+        with hostile_fields.Tap(self.room() / "tap", service.path("admin")) as tap:
+            yield tap.path
+        self.assertTrue(tap.sent)
+        self.assertEqual(tap.other_lines(), [])
+        self.assertEqual(admin.ask("show ada"), record)
+        service.talk("login verify ada {secret} -> yes")
+
 
 def same(is_: object, ought: object, said: str = "") -> None:
     if is_ != ought:
@@ -58,7 +73,7 @@ def real_book() -> pathlib.Path:
     try:
         return pathlib.Path(program("credkeep"))
     except FileNotFoundError as fault:
-        raise unittest.SkipTest(str(fault)) from None
+        raise lacking(f"the file {str(fault).partition(': ')[0]}") from None
 
 
 def chosen_book() -> pathlib.Path:
@@ -179,7 +194,8 @@ class Client(contextlib.AbstractContextManager["Client"]):
 
 @dataclass
 class Given:
-    """How a server is started: over a fast book, with sockets in a folder, if nothing else is said."""
+    """How a server is started: over a fast book, with sockets in a folder, if nothing else is
+    said."""
 
     folder: pathlib.Path
     options: tuple[str, ...] = ()

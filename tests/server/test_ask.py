@@ -1,20 +1,26 @@
-"""Tests of bin/credkeep-ask: when it asks at the terminal, what it shows there, and what credkeep gets of it.
+"""Tests of bin/credkeep-ask: when it asks at the terminal, what it shows there, and what credkeep
+gets of it.
 
-A script stands in for credkeep: it notes the words and the input that it is given. The server has the tests' own book.
+A script stands in for credkeep: it notes the words and the input that it is given. The server has
+the tests' own book.
 """
 
+import pathlib
 import re
 import shlex
 import signal
+import subprocess
 from collections.abc import Sequence
 
 from served import TOP, Case
 from tests.helpers import Ended, Peer, Shown, at_a_terminal, ended
+from tests.hostile_fields import NAMES, PASSWORDS, text_of
 
 ASK = TOP / "bin/credkeep-ask"
 SIGNALS = (signal.SIGHUP, signal.SIGINT, signal.SIGQUIT, signal.SIGTERM)
 
-# Each word is noted with a bar behind it. `show` says what is in the environment; everything else reads its input and ends with 7.
+# Each word is noted with a bar behind it. `show` says what is in the environment; everything else
+# reads its input and ends with 7.
 STAND_IN = """#!/bin/sh
 printf '%s|' "$@" >> "$ROOM/words"
 echo >> "$ROOM/words"
@@ -42,7 +48,8 @@ Typed = Sequence["bytes | int"]  # a line at each prompt, or a signal
 
 class CredkeepAsk(Case):
     def setUp(self) -> None:
-        """A folder with the stand-in, and with no other program: a password would be in its words."""
+        """A folder with the stand-in, and with no other program: a password would be in its
+        words."""
         super().setUp()
         self.folder = self.room()
         (self.folder / "credkeep").write_text(STAND_IN)
@@ -74,7 +81,8 @@ class CredkeepAsk(Case):
         self.assertEqual((self.noted("words"), self.noted("given")), (f"{SHOW}\n", ""))
 
     def test_asked(self) -> None:
-        """Each operation asks for the passwords that it reads, the account's present one first, and hands them on by a pipe."""
+        """Each operation asks for the passwords that it reads, the account's present one first, and
+        hands them on by a pipe."""
         for operation, account, typed, given in (
             ("check", RECORD, ONE, "old\n"),
             ("upgrade", RECORD, ONE, "old\n"),
@@ -119,7 +127,8 @@ class CredkeepAsk(Case):
             self.nothing_was_given(shown, status)
 
     def test_words(self) -> None:
-        """Its words come as they are to credkeep, which is first asked for the account with the same wait."""
+        """Its words come as they are to credkeep, which is first asked for the account with the
+        same wait."""
         for given, shown in (
             ("--wait|5|a b.db|check|ada", "5|a b.db|show|ada"),
             ("--wait=6|a.db|check|ada", "6|a.db|show|ada"),
@@ -131,7 +140,8 @@ class CredkeepAsk(Case):
             self.assertEqual(self.noted("words"), f"--wait|{shown}|\n{given}|\n")
 
     def test_other_words(self) -> None:
-        """What reads no password is credkeep's alone, and so is a call for help or without a name."""
+        """What reads no password is credkeep's alone, and so is a call for help or without a
+        name."""
         for words in (
             *("a.db|list", "a.db|check|--help", "a.db|-h|add|ada", "a.db|show|ada"),
             *("a.db|check", "a.db|add", "a.db", ""),
@@ -266,10 +276,11 @@ class AskServer(Case):
             words = [str(ASK), "--server", admin, "load", "ada"]
             self.assertEqual(ended(words, f"{text}\n"), (0, "ok\n", ""))
             service.talk("login verify ada {secret} -> yes")
-        for text in ("", "\n", "secret\n", "bob:$x\n"):
-            status, written, faults = ended(words, text)
-            self.assertEqual((status, written), (6, ""))
-            self.assertEqual(faults, "credkeep-ask: standard input has no record\n")
+        none = [b"", b"\n", b"secret\n", b"bob:$x\n", b"$x y\n", b"$x\xff\n", b"$" + b"x" * 1100]
+        for given in none:
+            done = subprocess.run(words, input=given, capture_output=True)
+            self.assertEqual((done.returncode, done.stdout), (6, b""))
+            self.assertEqual(done.stderr, b"credkeep-ask: standard input has no record\n")
 
     def test_many_names(self) -> None:
         """A list has all names once, whatever its parts are."""
@@ -279,8 +290,47 @@ class AskServer(Case):
         admin.lines(len(names))
         self.assertEqual(self.asked([str(service.path("admin")), "list"]), (" ".join(names), 0))
 
+    def check(self, path: pathlib.Path, name: bytes, *typed: bytes) -> tuple[str, int]:
+        """What `check` says of a name, and the status."""
+        return self.asked([str(path), "check", text_of(name)], [it + b"\n" for it in typed])
+
+    def test_hostile_fields(self) -> None:
+        """A hostile name is refused before a password is asked for, and a hostile password is wrong
+        or refused. No program's word has a NUL byte, and no line at a terminal a line end."""
+        with self.tapped() as path:
+            for what, name in NAMES.items():
+                if b"\0" not in name:
+                    with self.subTest(name=what):
+                        said, status = self.check(path, name)
+                        self.assertRegex(said, "^credkeep-ask: (a name has|known is refused: name)")
+                        self.assertEqual(status, 1)
+                        self.assertEqual(self.check(path, b"ada", b"secret"), ("yes", 0))
+            for what, password in PASSWORDS.items():
+                if not {*b"\r\n"} & {*password}:
+                    with self.subTest(password=what):
+                        is_possible = 0 < len(password) <= 256
+                        said, status = self.check(path, b"ada", password)
+                        self.assertEqual(status, 4 if is_possible else 6, said)
+                        self.assertRegex(said, "^no$" if is_possible else "the password (is|has)")
+                        self.assertEqual(self.check(path, b"ada", b"secret"), ("yes", 0))
+
+    def test_hostile_names_of_an_administrator(self) -> None:
+        """No command takes them."""
+        service = self.serving().enrol(ada="secret")
+        admin, record = str(service.path("admin")), service.client("admin").ask("show ada")
+        names = {what: text_of(it) for what, it in NAMES.items() if b"\0" not in it}
+        for what, name in names.items():
+            for words in (("add", name), ("delete", name), ("rename", "ada", name)):
+                with self.subTest(what, command=words[0]):
+                    status, said, faults = ended([str(ASK), "--server", admin, *words])
+                    self.assertEqual((status, said), (1, ""))
+                    self.assertRegex(faults, r"^credkeep-ask: (a name has|\w+ is refused: name)")
+        service.client("admin").talk("list - 9 -> names ada")
+        self.assertEqual(service.client("admin").ask("show ada"), record)
+
     def test_mistakes(self) -> None:
-        """Words that aren't meant, and a server that isn't reached, before a password is asked for."""
+        """Words that aren't meant, and a server that isn't reached, before a password is asked
+        for."""
         for words, said in MISTAKES.items():
             shown, status = self.asked(shlex.split(words))
             self.assertIn(said, shown, words)

@@ -1,10 +1,10 @@
-"""Tests of bin/credkeep-server over credkeep itself, from whose answers the other tests' book mustn't differ.
+"""Tests of bin/credkeep-server over credkeep itself, from whose answers the other tests' book
+mustn't differ.
 
 They need the built credkeep, or one named by CREDKEEP.
 """
 
 import contextlib
-import os
 import pathlib
 import random
 import socket
@@ -14,10 +14,22 @@ from typing import Any
 from machine import commands_on_page, shell
 from served import CHEAP, FAST_BOOK, SECRET, Case, Client, Service, field_of, need, ran, real_book
 from served import cpu, until
+from daemon.costs import USUAL
 from tests.helpers import run
 
 DEARER = "$argon2id$v=19$m=128,t=2,p=1"
 RECORD = "$argon2id$v=19$m=8,t=1,p=1$c29tZXNhbHQ$AAAAAAAAAAAAAAAAAAAAAA"
+# By costs of a line, with new records of CHEAP: whether they are within the bounds.
+LINES_COSTS = {
+    "$argon2id$v=19$m=1024,t=1,p=1": True,
+    "$argon2id$v=19$m=1025,t=1,p=1": False,
+    "$argon2id$v=19$m=2097152,t=1,p=1": False,
+    "$argon2id$v=19$m=512,t=2,p=1": True,
+    "$argon2id$v=19$m=512,t=3,p=1": False,
+    "$argon2id$v=19$m=8,t=4294967295,p=1": False,
+    "$scrypt$ln=9,r=8,p=1": True,
+    "$scrypt$ln=9,r=9,p=1": False,
+}
 SLOW = "$argon2id$v=19$m=16384,t=3,p=1"
 # Lines at a socket, and their answers.
 OPERATIONS = """
@@ -118,7 +130,8 @@ class OverCredkeep(Case):
         self.assertEqual(self.listed(service.folder), ["eve"])
 
     def test_mail_names(self) -> None:
-        """--mail-names: each operation by name, under the name that coreutils make of the address."""
+        """--mail-names: each operation by name, under the name that coreutils make of the
+        address."""
         need("b2sum", "base32", "xxd")
         service = self.over("--mail-names")
         login, admin = service.both()
@@ -178,7 +191,8 @@ class OverCredkeep(Case):
         plain.talk(f"account ada@example.org -> bad 3 name\naccount {hashed('a@b')} -> ok")
 
     def test_upgrades(self) -> None:
-        """--upgrade: a right verify of other costs is upgraded after its answer, and nothing else."""
+        """--upgrade: a right verify of other costs is upgraded after its answer, and nothing
+        else."""
         folder = self.room()
         self.over(folder=folder).enrol(ada="secret", bob="secret", cid="secret").stop()
         audit = folder / "audit"
@@ -208,8 +222,75 @@ class OverCredkeep(Case):
         time.sleep(0.2)
         self.assertIn(" upgraded=0 ", service.client("admin").ask("stats"))
 
+    def test_costs_of_lines(self) -> None:
+        """A line's setting or record may need 16 times what new ones do, and needs a socket that
+        may load."""
+        service = self.over("--tries", "0").enrol(ada="secret")
+        admin, login = service.client("admin"), service.client()
+        for costs, is_taken in LINES_COSTS.items():
+            setting = f"{costs}$c29tZXNhbHQ"
+            change = f"change ada {SECRET} {SECRET} {setting}"
+            self.assertEqual(login.ask(change), "denied")
+            for line, said in (
+                (change, "replaced"),
+                (f"reset ada {SECRET} {setting}", "replaced"),
+                (f"load ada {RECORD}", "ok"),
+                (f"load ada {setting}${'A' * 22}", "ok"),
+                (f"reset ada {SECRET}", "replaced"),
+                (f"upgrade ada {SECRET} {setting}", "upgraded"),
+                ("disable ada", "disabled"),
+                (f"enrol ada {SECRET} {setting}", "enrolled"),
+            ):
+                with self.subTest(line):
+                    is_costly = setting in line and not is_taken
+                    self.assertEqual(admin.ask(line), "bad 18 costly" if is_costly else said)
+            admin.ask(f"reset ada {SECRET}")
+        login.talk("verify ada {secret} -> yes")
+
+    def test_dearer_records(self) -> None:
+        """A record of a time with other costs is judged and replaced, though no line may bring it
+        now."""
+        room = self.room()
+        self.over(folder=room).enrol(ada="secret", bob="secret").stop()
+        dear = "$argon2id$v=19$m=4096,t=2,p=1"
+        book = (real_book(), room / "users.db")
+        run(*book, "reset", "ada", "--setting", dear, given="secret\n")
+        service = self.over(folder=room)
+        admin, login = service.client("admin"), service.client()
+        record = admin.ask("show ada")
+        self.assertTrue(record.startswith(f"{dear}$"), record)
+        login.talk("verify ada {wrong} -> no\nverify ada {secret} -> yes\nknown ada -> yes")
+        admin.talk(f"load bob {record} -> bad 18 costly\nrename ada ann -> renamed")
+        login.talk("change ann {secret} {fresh} -> replaced")
+        self.assertTrue(admin.ask("show ann").startswith(f"{CHEAP}$"))
+        service.stop()
+        for options, said in (
+            ("--most-memory 4M", "bad 18 costly"),
+            ("--most-work 8M", "bad 18 costly"),
+            ("--most-memory 4M --most-work 8M", "ok"),
+        ):
+            service = self.over(*options.split(), folder=room)
+            service.talk(f"admin load bob {record} -> {said}")
+            service.stop()
+
+    def test_costs_if_none_are_given(self) -> None:
+        """The bounds are those of credkeep's own costs of new records."""
+        service = self.serving(program=real_book())
+        service.talk("admin account ada -> ok\nadmin enrol ada {secret} -> enrolled")
+        self.assertTrue(service.client("admin").ask("show ada").startswith(f"{USUAL}$"))
+        tag = "A" * 22
+        for costs, said in (
+            ("m=1048576,t=1,p=1", "ok"),
+            ("m=1048577,t=1,p=1", "bad 18 costly"),
+            ("m=1024,t=3072,p=1", "ok"),
+            ("m=1024,t=3073,p=1", "bad 18 costly"),
+        ):
+            line = f"load ada $argon2id$v=19${costs}$c29tZXNhbHQ${tag}"
+            self.assertEqual(service.client("admin").ask(line), said)
+
     def test_long_lines(self) -> None:
-        """A line of 960 bytes is taken; a longer one, of any size, is refused under its tag, and its client goes on."""
+        """A line of 960 bytes is taken; a longer one, of any size, is refused under its tag, and
+        its client goes on."""
         service = self.over()
         client, admin = service.both()
         for size in (959, 960, 961, 4096, 4097, 1 << 20):
@@ -249,7 +330,8 @@ class OverCredkeep(Case):
         self.assertTrue(service.log().isascii(), "noise in the log")
 
     def test_unknown_names(self) -> None:
-        """A name that isn't there, and one without a record, cost the processor what a wrong password costs."""
+        """A name that isn't there, and one without a record, cost the processor what a wrong
+        password costs."""
         service = self.over("--tries", "0", costs=SLOW).enrol(ada="secret")
         service.client("admin").talk("account bob -> ok")
 
@@ -268,7 +350,8 @@ class OverCredkeep(Case):
         self.assertLess(cost("known zoe -> noaccount"), 0.3 * ours, "known costs a hash")
 
     def test_options_that_cant_be_met(self) -> None:
-        """Costs that credkeep doesn't take, and memory for no hash of theirs, end the start, with its text and a status."""
+        """Costs that credkeep doesn't take, and memory for no hash of theirs, end the start, with
+        its text and a status."""
         start, more = "--upgrade $argon2id$", "--memory: a hash under --setting needs more:"
         for words, said in (
             *((f"{start}{it}", "--setting: ") for it in ("v=19$m=64", "m=64,t=1,p=1")),
@@ -286,7 +369,8 @@ class OverCredkeep(Case):
             self.assertNotRegex(log, "start:|Traceback")
 
     def test_busy_file(self) -> None:
-        """While another process has the file, the server waits for it; then it says why it can't start."""
+        """While another process has the file, the server waits for it; then it says why it can't
+        start."""
         room = self.room()
         self.over(folder=room)
         words = f"--credkeep {real_book()} --wait 1 --socket a {room}/second 0600 - all"

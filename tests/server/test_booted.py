@@ -1,8 +1,8 @@
 """The packages in a Debian of their own: its systemd is the first process, and PAM asks the book.
 
-It needs root, the built programs, and debootstrap with Debian's mirror, or the bases of earlier runs, which
-are copied: in BOOT minbase with what INCLUDED says, in EMPTY with what EMPTY says. The machine's own files,
-processes, network and settings stay as they are.
+It needs root, the built programs, and debootstrap with Debian's mirror, or the bases of earlier
+runs, which are copied: in BOOT minbase with what INCLUDED says, in EMPTY with what EMPTY says. The
+machine's own files, processes, network and settings stay as they are.
 """
 
 import os
@@ -10,12 +10,12 @@ import pathlib
 import shlex
 import shutil
 import subprocess
-import unittest
 from typing import Any
 
 from machine import commands_on_page, shell
 from served import CHEAP, TOP, Case, need, need_root, real_book, same
 from tests.helpers import BUSY, at_a_terminal
+from tests.needs import lacking, need_file
 from walk import packages
 
 CGROUPS = pathlib.Path("/sys/fs/cgroup")
@@ -23,139 +23,8 @@ MIRROR = "http://deb.debian.org/debian"
 EMPTY = "systemd,systemd-sysv,dbus"
 INCLUDED = f"python3,python3-passlib,libpam-runtime,pamtester,adduser,{EMPTY}"
 
-# What runs inside, as docs/SERVERS.md tells it, and then with kills and restarts; then PAM, and the packages' end.
-INSIDE = """import contextlib, crypt, os, pathlib, pty, shutil, signal, socket, subprocess, sys, time
-
-UNIT = "credkeep-server@users.service"
-SOCKETS = ["credkeep-server@users.socket", "credkeep-server-admin@users.socket"]
-KINDS = ("auth", "account", "password")
-
-
-def run(*words, typed=""):
-    done = subprocess.run(words, input=typed, stdout=subprocess.PIPE, stderr=subprocess.STDOUT, text=True)
-    print(*words[:2], done.returncode, done.stdout if done.returncode else "", flush=True)
-    return done.stdout.strip()
-
-
-def ask(name, *lines):
-    with socket.socket(socket.AF_UNIX) as it:
-        it.settimeout(60)
-        it.connect(f"/run/rigzumal/users/{name}.sock")
-        for line in lines:
-            it.sendall(b"1 " + line.encode() + b"\\n")
-            print(name, line.split()[0], it.recv(200).decode().strip(), flush=True)
-
-
-def typed(path, *answers):
-    pid, terminal = pty.fork()
-    if pid == 0:
-        os.execvp("sh", ["sh", path])
-    said, rest = b"", [*answers]
-    with contextlib.suppress(OSError):
-        while more := os.read(terminal, 1000):
-            said += more
-            if rest and said.endswith(b": "):
-                os.write(terminal, rest.pop(0).encode() + b"\\n")
-    print("typed", os.waitstatus_to_exitcode(os.waitpid(pid, 0)[1]), said.split()[-1].decode(), flush=True)
-
-
-def shown(name):
-    return run("systemctl", "show", "-p", name, "--value", UNIT)
-
-
-def killed(pid):
-    os.kill(int(pid), signal.SIGKILL)
-    end = time.monotonic() + 60
-    while shown("MainPID") == main or shown("ActiveState") != "active":
-        if time.monotonic() > end:
-            sys.exit("never active again")
-        time.sleep(0.2)
-    print("restarts", shown("NRestarts"))
-
-
-def book():
-    return pathlib.Path(f"/proc/{main}/task/{main}/children").read_text().split()[0]
-
-
-def chosen():
-    texts = [pathlib.Path(f"/etc/pam.d/common-{it}").read_text() for it in KINDS]
-    print("chosen", *(it.count("pam_rigzumal") for it in texts), flush=True)
-
-
-def pam(tasks, *typed):
-    print(run("pamtester", "both", "ada", *tasks.split(), typed="".join(f"{it}\\n" for it in typed)))
-
-
-run("sh", "-c", "DEBIAN_FRONTEND=noninteractive dpkg -i /*.deb && rm /*.deb")
-print(run("stat", "-c", "%a %U %G", "/var/lib/rigzumal"))
-run("runuser", "-u", "rigzumal", "--", "credkeep", "/var/lib/rigzumal/users.db", "init")
-run("systemctl", "enable", "--now", *SOCKETS, UNIT)
-print("active", shown("ActiveState"))
-print(run("stat", "-c", "%n %a %U %G", "/run/rigzumal/users/login.sock", "/run/rigzumal/users/admin.sock"))
-typed("/add.sh", "secret", "secret")
-ask("login", "verify ada c2VjcmV0", "verify ada Z3Vlc3M", "enrol ada c2VjcmV0", "change ada c2VjcmV0 ZnJlc2g")
-run("systemctl", "restart", UNIT)
-ask("login", "verify ada ZnJlc2g")
-main = shown("MainPID")
-killed(book())
-ask("login", "verify ada ZnJlc2g")
-main = shown("MainPID")
-killed(main)
-ask("login", "verify ada ZnJlc2g")
-for _ in range(6):  # more often than systemd's own limit, within its ten seconds
-    main = shown("MainPID")
-    killed(book())
-ask("login", "verify ada ZnJlc2g")
-default = pathlib.Path("/etc/default/credkeep-server-users")
-options = default.read_text()
-default.write_text("CREDKEEP_SERVER_OPTIONS=--nonsense\\n")
-run("systemctl", "restart", UNIT)
-time.sleep(8)
-default.write_text(options)
-ask("login", "verify ada ZnJlc2g")
-old = pathlib.Path("/var/lib/rigzumal/old")
-old.write_text(f"bob:{crypt.crypt('secret', crypt.METHOD_SHA512)}\\neve:{crypt.crypt('secret', '$y$j9T$')}\\n")
-shutil.chown(old, "rigzumal")
-default.write_text(options.replace("=", f"=--audit /var/log/rigzumal/users.audit --foreign {old} ", 1))
-run("systemctl", "restart", UNIT)
-ask("login", "verify bob Z3Vlc3M", "verify bob c2VjcmV0", "verify eve c2VjcmV0")
-print("audited", pathlib.Path("/var/log/rigzumal/users.audit").read_text().count('"answer": "yes"'))
-default.write_text(options)
-run("systemctl", "restart", UNIT)
-run("runuser", "-u", "rigzumal", "--", "credkeep", "/var/lib/rigzumal/users.db", "backup", "/var/lib/rigzumal/copy.db")
-ask("admin", "reset ada c2VjcmV0")
-logins = subprocess.Popen(["/usr/bin/python3", "/logins.py"])
-run("sh", "/restore.sh")
-logins.kill()
-logins.wait()
-ask("login", "verify ada ZnJlc2g")
-os.unlink("/var/lib/rigzumal/copy.db")
-status = pathlib.Path(f"/proc/{shown('MainPID')}/status").read_text()
-print(*sorted(line.replace("\\t", " ") for line in status.splitlines() if line.startswith(("NoNewPrivs", "Seccomp:", "CapBnd"))), sep="\\n")
-run("systemctl", "stop", UNIT)
-ask("login", "verify ada ZnJlc2g")
-print("by its socket", shown("ActiveState"))
-chosen()
-run("useradd", "ada")
-run("pam-auth-update", "--enable", "rigzumal")
-chosen()
-pathlib.Path("/etc/pam.d/both").write_text("".join(f"{it} include common-{it}\\n" for it in KINDS))
-pam("authenticate acct_mgmt", "fresh")
-pam("authenticate", "guess")
-pam("chauthtok", "fresh", "fresh word 1", "fresh word 1")
-pam("authenticate", "fresh word 1")
-run("credkeep-server", "--metrics", "/run/rigzumal/users/admin.sock")
-run("systemctl", "stop", *SOCKETS, UNIT)
-print("ended", shown("Result"))
-print(run("runuser", "-u", "rigzumal", "--", "credkeep", "/var/lib/rigzumal/users.db", "verify"))
-print(run("journalctl", "--no-pager", "-o", "cat", "-u", UNIT))
-run("dpkg", "--purge", "libpam-rigzumal", "rigzumal-tools")
-chosen()
-named = "( -name *rigzumal* -o -name *credkeep-server* ) -not -path /proc/* -not -path /var/lib/dpkg/*"
-found = run("find", "/etc", "/lib", "/usr", "/var", *named.split())
-print("left", *sorted(found.split()), *sorted(os.listdir("/var/lib/rigzumal")))
-print("done")
-"""
+# What runs inside.
+INSIDE = (pathlib.Path(__file__).parent / "inside_booted.py").read_text()
 
 # Who logs in all the time, as far as there is a server.
 LOGINS = """import contextlib, socket, time
@@ -230,9 +99,7 @@ done"""
 
 def debs() -> list[pathlib.Path]:
     need("dpkg-deb", "dpkg-shlibdeps", "strip")
-    for name in ("credbook", "credkeep"):
-        if not (TOP / f"crates/{name}/out/{name}").exists():
-            raise unittest.SkipTest(f"{name} isn't built")
+    need_file(*(TOP / f"crates/{name}/out/{name}" for name in ("credbook", "credkeep")))
     shell(f"make -s -C {TOP}/c/pam all deb CPU=")
     found = sorted((TOP / "c/pam/out").glob("*.deb"))
     same([it.name.partition("_")[0] for it in found], ["libpam-rigzumal", "rigzumal-tools"])
@@ -248,7 +115,8 @@ def base(room: pathlib.Path, included: str) -> None:
         words += f" --variant=minbase --include={included} bookworm {room} {MIRROR}"
         done = subprocess.run(words.split(), capture_output=True, text=True, timeout=1200)
         if done.returncode:
-            raise unittest.SkipTest(f"debootstrap can't: {(done.stdout + done.stderr)[-400:]}")
+            print(done.stdout[-400:], done.stderr[-400:])
+            raise lacking("a Debian that debootstrap fetches")
     room.chmod(0o755)
 
 
@@ -263,7 +131,8 @@ def not_booted(room: pathlib.Path, line: str) -> list[str]:
 
 
 def booted(room: pathlib.Path, command: str, *options: str) -> str:
-    """What a command says in the Debian in a folder, which boots, and powers itself off behind it."""
+    """What a command says in the Debian in a folder, which boots, and powers itself off behind
+    it."""
     wanted = room / "etc/systemd/system/multi-user.target.wants"
     wanted.mkdir(exist_ok=True)
     (wanted.parent / "inside.service").write_text(UNIT.format(command=command))
@@ -308,8 +177,9 @@ class Booted(Case):
         return room
 
     def test_under_systemd(self) -> None:
-        """The units start, hand over their sockets, are restarted after kills, and end in order, in their whole sandbox.
-        The profile that PAM is given lets the book's users in, and is gone with the packages; the book stays.
+        """The units start, hand over their sockets, are restarted after kills, and end in order, in
+        their whole sandbox. The profile that PAM is given lets the book's users in, and is gone
+        with the packages; the book stays.
         """
         room = self.debian(INCLUDED)
         for deb in debs():
@@ -331,7 +201,8 @@ class Booted(Case):
         self.assertNotRegex(said.rpartition("in the log")[2], "c2VjcmV0|ada", "it is logged")
 
     def test_a_new_user(self) -> None:
-        """The page from an empty Debian, in which not even Python is, to a login by nginx, Dovecot and sshd (walk.py)."""
+        """The page from an empty Debian, in which not even Python is, to a login by nginx, Dovecot
+        and sshd (walk.py)."""
         room = self.debian(EMPTY)
         debs()
         shell(shlex.join(not_booted(room, "apt-get update")))

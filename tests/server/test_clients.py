@@ -1,6 +1,6 @@
-"""Tests of rigzumal.server, for threads and for asyncio, and of the PHP client in docs/SERVERS.md.
+"""Tests of rigzumal.server, for threads and for asyncio.
 
-They need the library in c/out, or named by RIGZUMAL_LIBRARY; the last one needs php.
+They need the library in c/out, or named by RIGZUMAL_LIBRARY.
 """
 
 import asyncio
@@ -8,77 +8,16 @@ import concurrent.futures
 import importlib
 import os
 import pathlib
-import re
 import socket
-import sys
 import threading
 import time
-import unittest
-from collections.abc import Callable, Coroutine, Iterator
 from typing import Any
 from unittest import mock
 
-from machine import PAGE
-from served import TOP, Case, need
-from tests.helpers import Peer, run
+from client_case import ClientCase
 
 
-def block(language: str) -> str:
-    """The one block of the page in a language."""
-    (found,) = re.findall(rf"```{language}\n(.*?)```", PAGE.read_text(), re.S)
-    assert len(found.splitlines()) <= 30
-    return str(found)
-
-
-class Clients(Case):
-    def setUp(self) -> None:
-        super().setUp()
-        sys.path.insert(0, str(TOP / "python"))
-        try:
-            self.server: Any = importlib.import_module("rigzumal.server")
-            self.aio: Any = importlib.import_module("rigzumal.server.aio")
-        except ImportError as fault:
-            raise unittest.SkipTest(str(fault).partition(":")[0]) from None
-
-    def peer(self, answer: bytes, then: str = "") -> pathlib.Path:
-        """A socket at which a line gets these bytes; then it is closed, or waits, or drips."""
-
-        def reply(line: bytes, client: socket.socket) -> None:
-            client.sendall(answer)
-            for _ in range(60 if then == "drips" else 0):
-                client.sendall(b"x")
-                time.sleep(0.2)
-            client.recv(1 if then == "waits" else 0)
-
-        return self.enterContext(Peer(self.room() / "s", reply)).path
-
-    def calls(self, path: object, **options: float) -> Iterator[Callable[..., Any]]:
-        """One of each client: called with a method's name and its arguments, it calls that."""
-        plain = self.server.Client(path, **options)
-        yield lambda name, *given: getattr(plain, name)(*given)
-
-        async def awaited(name: str, *given: object) -> Any:
-            async with self.aio.Client(path, **options) as client:
-                return await getattr(client, name)(*given)
-
-        yield lambda name, *given: asyncio.run(awaited(name, *given))
-
-    def run_with(self, path: object, used: Callable[[Any], Coroutine[Any, Any, None]]) -> None:
-        """Runs a coroutine function with an asyncio client."""
-
-        async def run() -> None:
-            async with self.aio.Client(path) as client:
-                await used(client)
-
-        asyncio.run(run())
-
-    def is_unavailable(self, call: Callable[..., Any], *given: object) -> float:
-        """How many seconds a call took to raise Unavailable."""
-        begun = time.monotonic()
-        with self.assertRaises(self.server.Unavailable):
-            call(*(given or ("verify", "ada", "x")))
-        return time.monotonic() - begun
-
+class Clients(ClientCase):
     def test_all_calls(self) -> None:
         """Each call, sync and asyncio, says what the book does."""
         R, odd = self.server.Reply, "p\u00e4ss w\u00f6rd"
@@ -159,38 +98,6 @@ class Clients(Case):
         asked = importlib.import_module("rigzumal.server._client").Question
         self.assertNotRegex(repr(asked("verify", ("ada",), ("secret",))), "c2Vj|secret")
 
-    def test_what_a_form_passes_on(self) -> None:
-        """Names and passwords that no book can have are an answer, and never an exception."""
-        R, long = self.server.Reply, [size * "x" for size in (33, 254, 255, 2000)]
-        rows: list[tuple[Any, ...]] = []
-        for name in ("a b", "Ada", "", "a\nb", "\ud800", "\u00e4", "\0", *long):
-            rows += [(R.NO, "verify", name, "secret"), (R.NO_ACCOUNT, "known", name)]
-            rows += [(R.NO_ACCOUNT, "change", name, "secret", "fresh")]
-        for password in ("x" * 257, "x" * 100_000, "\ud800", b"\0" * 257):
-            rows += [(R.NO, "verify", "ada", password), (R.WRONG, "change", "ada", password, "x")]
-        service = self.serving().enrol(ada="secret")
-        for call in self.calls(service.path()):
-            for ought, *asked in rows:
-                self.assertIs(call(*asked), ought, f"{asked}")
-
-    def test_long_names_beside_others(self) -> None:
-        """Whatever one task asks for, the others that share its connection are answered."""
-        R, service = self.server.Reply, self.serving("--mail-names")
-        service.enrol(ada="secret")
-
-        async def used(book: Any) -> None:
-            async def honest() -> None:
-                for _ in range(50):
-                    self.assertIs(await book.verify("ada", "secret"), R.YES)
-
-            async def visitor() -> None:
-                for size in (200, 940, 1000, 5000) * 10:
-                    self.assertIs(await book.verify("x" * size, "y" * 256), R.NO)
-
-            await asyncio.gather(*(honest() for _ in range(8)), visitor())
-
-        self.run_with(service.path(), used)
-
     def test_replies_are_no_truth(self) -> None:
         """`if client.verify(..):` fails, whatever the answer; comparisons don't."""
         for reply in self.server.Reply:
@@ -200,7 +107,8 @@ class Clients(Case):
             self.assertIn(reply, {reply})
 
     def test_peers_that_say_nothing_right(self) -> None:
-        """Garbage, half an answer, another tag, what has no end: Unavailable, at once or after the call's whole time."""
+        """Garbage, half an answer, another tag, what has no end: Unavailable, at once or after the
+        call's whole time."""
         answers = [b"", b"yes\n", b"1 yes", b"2 yes\n", b"1 yess\n", b"1 ye\n", b"1 no yes\n"]
         answers += [b"1 \xffyes\n", b"x" * 200000, b"* bad 16 long\n", b"1 unavailable\n"]
         scenes = [(answer, "", 60.0, 0.0, 30) for answer in (*answers, b"\n", b"1\n")]
@@ -332,41 +240,3 @@ class Clients(Case):
                 await client.verify("ada", "secret")
 
         self.run_with(service.path(), used)
-
-    def test_python_sample(self) -> None:
-        """The Python of docs/SERVERS.md, as it is printed there."""
-        service, sample = self.serving("--tries", "2"), dict[str, Any]()
-        service.enrol(ada="secret")
-        exec(block("python").replace("Client()", f"Client({str(service.path())!r})"), sample)
-        may_log_in = sample["may_log_in"]
-        for name, password, ought in (
-            ("ada", "secret", True),
-            ("zoe", "x", False),
-            ("a b", "x" * 300, False),
-            ("ada", "guess", False),
-            ("ada", "guess", False),
-        ):
-            self.assertIs(may_log_in(name, password), ought)
-        self.assertRaises(self.server.Later, may_log_in, "ada", "secret")
-        service.stop()
-        self.assertRaises(self.server.Unavailable, may_log_in, "ada", "secret")
-
-
-# What the PHP function answers to each, in its own words.
-PHP_ROWS = """
-foreach ([['ada', 'secret'], ['ada', 'guess'], ['zoe', 'secret'], ['ada', ''], ["a b", 'secret'],
-          ['Ada', 'x'], ['ada', str_repeat('x', 257)]] as [$name, $password])
-    echo var_export(book_verify($name, $password, $path), true), "\\n";
-echo var_export(book_verify('ada', 'secret', 'unix:///nonexistent'), true), "\\n";
-"""
-
-
-class OtherLanguages(Case):
-    def test_php_client(self) -> None:
-        """The PHP function of docs/SERVERS.md, as it is printed there."""
-        need("php")
-        service, script = self.serving("--tries", "3"), self.room() / "client.php"
-        service.enrol(ada="secret")
-        script.write_text(f"{block('php')}\n$path = 'unix://{service.path()}';\n{PHP_ROWS}")
-        said = run("php", "-d", "error_reporting=E_ALL", script)
-        self.assertEqual(said.split(), "true false false false false false false NULL".split())

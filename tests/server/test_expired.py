@@ -1,4 +1,5 @@
-"""A password in /etc/shadow that must be changed is changed at the login, beside the book, by Debian's own su, login and sshd."""
+"""A password in /etc/shadow that must be changed is changed at the login, beside the book, by
+Debian's own su, login and sshd."""
 
 import pathlib
 import shutil
@@ -10,7 +11,8 @@ from tests.helpers import at_a_terminal
 # How an administrator or time has it that a password must be changed.
 EXPIRED = {
     "expired": "passwd -q -e eve",
-    "the first one": "userdel eve && useradd -m eve && echo eve:unixword | chpasswd && chage -d 0 eve",
+    "the first one": "userdel eve && useradd -m eve && echo eve:unixword | chpasswd"
+    " && chage -d 0 eve",
     "too old": "chage -d 2020-01-01 -M 30 eve",
 }
 SU = "setpriv --reuid 4711 --regid 4711 --clear-groups su {} -c".split()
@@ -41,7 +43,12 @@ class Expired(Case):
         self.assertEqual((shown.status, shown.text.split()[-1:]), (0, [user.encode()]), said)
 
     def check_stack(self, server: Service) -> None:
-        """Local users change theirs, also without a server, and the book's if an administrator demands it."""
+        """Local users change theirs, also without a server, and the book's if an administrator
+        demands it."""
+        server.talk("admin expire ada -> expired")
+        shown = at_a_terminal([it.format("ada") for it in LOGINS["su"]], [b"secret\n"] * 4)
+        self.assertNotEqual(shown.status, 0)
+        self.assertIn(b"The new password is the old one.", shown.text)
         for program in LOGINS:
             server.talk("admin expire ada -> expired")
             self.check(program, "ada", "secret", "secret", "Fresh words", "Fresh words")
@@ -82,7 +89,8 @@ class Expired(Case):
 
     @in_namespaces
     def test_login_and_the_pages_sshd(self, room: pathlib.Path) -> None:
-        """login, and sshd by the page's own file, where the book alone decides; a locked user is refused."""
+        """login, and sshd by the page's own file, where the book alone decides; a locked user is
+        refused."""
         need("login")
         server = self.begin(room)
         install(*(f"/etc/pam.d/common-{it}" for it in ("auth", "account", "password")))

@@ -10,26 +10,11 @@ import random
 import threading
 from typing import Any
 
-from served import CHEAP, SECRET, WRONG, Case, Service, chosen_book, need, need_module, until
+from foreign_case import MAKERS, ForeignCase, made_by
+from served import CHEAP, SECRET, WRONG, chosen_book, need, until
 from tests.helpers import run
 
 SALT = bytes(range(8))
-# Who makes a record of each scheme that nginx takes.
-MAKERS = {
-    "apr1": "htpasswd -nim u",
-    "openssl": "openssl passwd -apr1 -stdin",
-    "sha1": "htpasswd -nis u",
-    "bcrypt": "htpasswd -niB u",
-    **{
-        it: f"mkpasswd -s -m {it}"
-        for it in "bcrypt-a yescrypt gost-yescrypt scrypt sha512crypt sha256crypt md5crypt".split()
-    },
-}
-
-
-def made_by(command: str, password: str) -> str:
-    """A record, as another program makes it."""
-    return run(*command.split(), given=f"{password}\n").strip().rpartition(":")[2]
 
 
 def salted_sha1(password: bytes, salt: bytes = SALT) -> str:
@@ -37,26 +22,7 @@ def salted_sha1(password: bytes, salt: bytes = SALT) -> str:
     return "{SSHA}" + base64.b64encode(hashlib.sha1(password + salt).digest() + salt).decode()
 
 
-class Foreign(Case):
-    def setUp(self) -> None:
-        super().setUp()
-        need("htpasswd")
-        need_module("passlib.hash")
-        self.folder = self.room()
-        self.file, self.moved = self.folder / "htpasswd", self.folder / "htpasswd.moved"
-        self.file.write_text("# of the old site\n")
-        self.file.chmod(0o640)
-
-    def add(self, name: str, option: str, password: str = "secret") -> None:
-        run("htpasswd", "-b", option, self.file, name, password)
-
-    def over(self, *options: str, **fields: Any) -> Service:
-        return self.serving("--foreign", str(self.file), *options, **fields)
-
-    def gone(self) -> list[str]:
-        """Who counts no more in the file, by the disk."""
-        return sorted(it.split(" ")[0] for it in self.moved.read_text().splitlines())
-
+class Foreign(ForeignCase):
     def test_schemes(self) -> None:
         """Right and wrong passwords under each scheme's records, as other programs make them."""
         need("openssl", "mkpasswd")
@@ -77,7 +43,8 @@ class Foreign(Case):
                     self.assertEqual(said, [not is_cut, False, False, False], record)
 
     def test_moved_by_a_right_password(self) -> None:
-        """Wrong, then right; from then on the book decides, also of a new server; the file stays as it was."""
+        """Wrong, then right; from then on the book decides, also of a new server; the file stays as
+        it was."""
         for name, option in {"bcrypt": "-B", "apr1": "-m", "sha1": "-s"}.items():
             self.add(name, option)
         need("mkpasswd")
@@ -120,7 +87,8 @@ class Foreign(Case):
         self.assertEqual(self.gone(), ["ada", "bob"])
 
     def test_moved_halfway(self) -> None:
-        """A name that the book has without a record, as after a kill amid the move, is judged by the file."""
+        """A name that the book has without a record, as after a kill amid the move, is judged by
+        the file."""
         self.add("ada", "-s")
         folder = self.room()
         first = self.serving(folder=folder)
@@ -134,7 +102,8 @@ class Foreign(Case):
         service.talk("login verify ada {secret} -> absent\nlogin known ada -> absent")
 
     def test_ended_before_they_move(self) -> None:
-        """disable, delete and reset of a user whom the file alone has; the second and third of a name that the book has too."""
+        """disable, delete and reset of a user whom the file alone has; the second and third of a
+        name that the book has too."""
         for name in ("ada", "bob", "cid", "dan", "eve"):
             self.add(name, "-s")
         folder = self.room()
@@ -159,7 +128,8 @@ class Foreign(Case):
         self.assertEqual(self.gone(), ["ada", "bob", "cid", "dan", "eve"])
 
     def test_a_file_that_comes_back(self) -> None:
-        """Who was disabled, removed, renamed or deleted while the file was away doesn't get in by it later."""
+        """Who was disabled, removed, renamed or deleted while the file was away doesn't get in by
+        it later."""
         names = ("ada", "bob", "cid", "dan")
         for name in names:
             self.add(name, "-s")
@@ -205,7 +175,8 @@ class Foreign(Case):
             kept.talk(f"verify {name} {{secret}} -> yes")
 
     def test_disabled_amid_a_login(self) -> None:
-        """A right login that is being judged by the file as its user is disabled doesn't bring the user back."""
+        """A right login that is being judged by the file as its user is disabled doesn't bring the
+        user back."""
         self.file.write_text(f"ada:{made_by('htpasswd -niBC 10 u', 'secret')}\n")
         service = self.over("--tries", "0")
         login, admin = service.both()
@@ -216,7 +187,8 @@ class Foreign(Case):
         login.talk("verify ada {secret} -> absent\nknown ada -> absent")
 
     def test_removed_amid_a_login(self) -> None:
-        """Whoever leaves the file while a right login is being judged is refused, and doesn't move."""
+        """Whoever leaves the file while a right login is being judged is refused, and doesn't
+        move."""
         self.file.write_text(f"ada:{made_by('htpasswd -niBC 13 u', 'secret')}\n")
         service = self.over()
         login, admin = service.both()
@@ -228,7 +200,8 @@ class Foreign(Case):
         self.assertEqual(self.gone(), [])
 
     def test_a_book_that_refuses(self) -> None:
-        """Whoever the book can't take stays in the file: a password of over 256 bytes, or want of memory."""
+        """Whoever the book can't take stays in the file: a password of over 256 bytes, or want of
+        memory."""
         self.add("ada", "-s")
         service = self.over(faults="refuses=enrol")
         service.talk("login verify ada {secret} -> bad 4 memory\nlogin known ada -> yes")
@@ -244,7 +217,8 @@ class Foreign(Case):
         self.assertNotIn("hunter2", log)
 
     def test_a_torn_line(self) -> None:
-        """A name that a power cut tore in .moved, or whose line follows it, isn't taken for another's."""
+        """A name that a power cut tore in .moved, or whose line follows it, isn't taken for
+        another's."""
         for name in ("ad", "ada", "bob"):
             self.add(name, "-s")
         self.moved.write_text("bob 2026-11-28T05:00:00Z\nada 2026-11-28T05:0")
@@ -256,7 +230,8 @@ class Foreign(Case):
         service.talk("login known ad -> yes")
 
     def test_what_stays(self) -> None:
-        """What nobody may have logged in by isn't moved: no record, plain text, DES, of another user, of nobody."""
+        """What nobody may have logged in by isn't moved: no record, plain text, DES, of another
+        user, of nobody."""
         self.file.write_text(f"ada:\nbob:{SECRET}\ncid:secret\ndan:!\neli\n:x\nfay:rl0uE2bX6fF1g\n")
         before = self.file.read_text()
         client = self.over("--tries", "0").client()
@@ -267,7 +242,8 @@ class Foreign(Case):
         self.assertEqual(self.file.read_text(), before)
 
     def test_names_are_taken(self) -> None:
-        """Nobody signs up as, or is renamed to, a user of the file; one in the book is the book's."""
+        """Nobody signs up as, or is renamed to, a user of the file; one in the book is the
+        book's."""
         self.add("ada", "-s")
         self.add("bob", "-s", "old")
         service = self.over()
@@ -310,7 +286,8 @@ class Foreign(Case):
         self.assertRegex(self.gone()[0], "^e[.][a-z2-7]{30}$")
 
     def test_audited(self) -> None:
-        """The move is two changes of the client's in the audit log; no record and no password is in it."""
+        """The move is two changes of the client's in the audit log; no record and no password is in
+        it."""
         self.add("ada", "-s")
         path = self.folder / "audit"
         service = self.over("--audit", str(path))
@@ -322,7 +299,8 @@ class Foreign(Case):
         self.assertNotRegex(path.read_text(), f"{SECRET}|secret|SHA")
 
     def test_no_room(self) -> None:
-        """While .moved can't be written users log in, and nobody is said to be disabled; the log says so once."""
+        """While .moved can't be written users log in, and nobody is said to be disabled; the log
+        says so once."""
         need("prlimit")
         self.add("ada", "-s")
         self.moved.write_text("bob 2026-11-28T05:00:00Z\n" * 80)

@@ -9,6 +9,7 @@ import socket
 import time
 
 from served import FRESH, SECRET, WRONG, Case, Client, as_user, cpu, need_root, until
+from tests.needs import lacking
 
 
 class Limits(Case):
@@ -29,7 +30,8 @@ class Limits(Case):
         self.assertEqual(len(service.asked()), asked + 2)
 
     def test_pieces_and_many_in_one(self) -> None:
-        """Bytes may come one by one, and many lines at once; a client that ends sending gets its answers."""
+        """Bytes may come one by one, and many lines at once; a client that ends sending gets its
+        answers."""
         service = self.serving("--tries", "0", faults="late").enrol(ada="secret")
         client = service.client()
         for letter in f"a verify ada {SECRET}\n":
@@ -50,12 +52,13 @@ class Limits(Case):
         try:
             client.socket.send(b"!", socket.MSG_OOB)
         except OSError as fault:
-            self.skipTest(f"this system has none on a Unix socket: {fault.strerror}")
+            raise lacking("bytes out of band at Unix sockets") from fault
         time.sleep(0.1)
         client.talk("known ada -> noaccount")
 
     def test_in_flight(self) -> None:
-        """A client has at most 32 lines running, and a user so many that are hashed; another user has a place."""
+        """A client has at most 32 lines running, and a user so many that are hashed; another user
+        has a place."""
         for at_once, ought in (("100", 32), ("4", 4)):
             service = self.serving("--at-once", at_once, "--tries", "0", faults="mute=verify")
             client = service.client()
@@ -110,9 +113,16 @@ class Limits(Case):
             self.assertEqual(client.line(), b"a yes")
         self.assertLess(service.asked().count("verify late -"), 5)
         self.assertEqual(service.stats()["clients"], clients)
+        for client in [service.client() for _ in range(20)]:  # with more than are run at once
+            client.send("a verify left -\n" * 60)
+            client.close()
+        service.client().talk("verify ada {fresh} -> yes")
+        until(lambda: service.stats()["clients"] == clients + 1, "the end of their lines")
+        self.assertLess(service.asked().count("verify left -"), 5)
 
     def test_changes_together(self) -> None:
-        """Where a change mostly waits for the disk, many are at the book at once, and leave room for others."""
+        """Where a change mostly waits for the disk, many are at the book at once, and leave room
+        for others."""
         service = self.serving("--at-once", "4", "--tries", "0", faults="mute=change")
         service.enrol(ada="secret")
         client = service.client()
@@ -154,7 +164,8 @@ class Limits(Case):
         service.process.kill()
 
     def test_shares_of_users(self) -> None:
-        """A uid has half of the connections that others leave; who comes then is told, and it is logged once."""
+        """A uid has half of the connections that others leave; who comes then is told, and it is
+        logged once."""
         need_root()
         room = self.room()
         sockets = f"--socket a {room}/s 0666 - known --socket b {room}/t 0600 - all"
@@ -189,7 +200,8 @@ class Limits(Case):
         self.assertEqual(service.log().count(text), 1)
 
     def test_idle_clients(self) -> None:
-        """After the idle time a client is closed, also in the midst of a line; one that asks isn't."""
+        """After the idle time a client is closed, also in the midst of a line; one that asks
+        isn't."""
         service = self.serving("--idle", "3")
         silent, half, drips, busy = [service.client() for _ in range(4)]
         half.send("a verify ada")
@@ -210,7 +222,8 @@ class Limits(Case):
         self.assertEqual(waits.line(), b"a noaccount", "0 is no limit")
 
     def test_slow_readers(self) -> None:
-        """Who doesn't read its answers is held back, and costs others nothing; then it is closed."""
+        """Who doesn't read its answers is held back, and costs others nothing; then it is
+        closed."""
         service = self.serving("--idle", "2", "--at-once", "2")
         for number in range(100):
             service.enrol(**{f"{'n' * 30}{number:02}": ""})

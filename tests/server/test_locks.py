@@ -34,15 +34,22 @@ login verify ada {secret} -> expired
 login verify ada {wrong} -> no
 admin login ada {secret} -> expired
 login change ada {wrong} {fresh} -> wrong
+login change ada {secret} {secret} -> same
+login change ada {wrong} {wrong} -> same
+login known ada -> expired
+login verify ada {secret} -> expired
 login change ada {secret} {fresh} -> replaced
 login known ada -> yes
 login verify ada {fresh} -> yes
+login change ada {fresh} {fresh} -> replaced
 admin expire ada -> expired
+admin change ada {fresh} {fresh} -> same
 admin lock ada -> locked
 admin locks -> locks ada:expired ada:locked
 login verify ada {fresh} -> no
 login known ada -> absent
 login change ada {fresh} {secret} -> wrong
+login change ada {fresh} {fresh} -> wrong
 admin reset ada {secret} -> replaced
 admin locks -> locks ada:locked
 admin unlock ada -> unlocked
@@ -65,7 +72,8 @@ class Locks(Case):
         self.assertEqual(tried, [], "the book is asked for no change")
 
     def test_as_many_hashes(self) -> None:
-        """A right password at a locked name costs a hash, as a wrong one does, and counts as a failed try."""
+        """A right password at a locked name costs a hash, as a wrong one does, and counts as a
+        failed try."""
         service = self.serving("--tries", "3", clocked=True, faults="slow=0.2").enrol(ada="secret")
         service.talk("admin lock ada -> locked")
         login, seconds = service.client(), list[float]()
@@ -132,7 +140,8 @@ class Locks(Case):
         service.talk("admin locks -> locks ada:locked\nlogin verify ada {secret} -> no")
 
     def test_of_an_old_file(self) -> None:
-        """A user whom an old htpasswd file has can be locked too; who may not take their name unlocks nobody."""
+        """A user whom an old htpasswd file has can be locked too; who may not take their name
+        unlocks nobody."""
         folder = self.room()
         (folder / "old").write_text("eve:{SHA}5en6G6MezRroT3XKqkdPOmY/BfQ=\n")
         self.over("--foreign", f"{folder}/old", folder=folder).talk(

@@ -1,8 +1,9 @@
-"""Debian's own programs, unchanged, log users of the machine in by the book, as docs/SERVERS.md tells them to.
+"""Debian's own programs, unchanged, log users of the machine in by the book, as docs/SERVERS.md
+tells them to.
 
-Nothing of the machine is changed, and no process is left. The files that a program reads are written
-from the page, word for word. credkeep itself is asked where it is built, and the fast book otherwise,
-or by BOOK=fast.
+Nothing of the machine is changed, and no process is left. The files that a program reads are
+written from the page, word for word. credkeep itself is asked where it is built, and the fast book
+otherwise, or by BOOK=fast.
 """
 
 import contextlib
@@ -73,7 +74,8 @@ class Logins(Case):
 
     @in_namespaces
     def test_stack(self, room: pathlib.Path) -> None:
-        """The stack before pam_unix: by the book where it has the name, otherwise by /etc/shadow."""
+        """The stack before pam_unix: by the book where it has the name, otherwise by
+        /etc/shadow."""
         need("pamtester")
         server, both = started(room), "authenticate acct_mgmt"
         install_stack()
@@ -93,7 +95,8 @@ class Logins(Case):
 
     @in_namespaces
     def test_local_users(self, room: pathlib.Path) -> None:
-        """Who isn't in the book and types the right password is let in each time, and logged as no failed try."""
+        """Who isn't in the book and types the right password is let in each time, and logged as no
+        failed try."""
         need("pamtester")
         started(room)
         install_stack()
@@ -123,7 +126,8 @@ class Logins(Case):
 
     @in_namespaces
     def test_passwords_of_local_users(self, room: pathlib.Path) -> None:
-        """root's passwd, chpasswd and adduser set a local user's password; one in the book changes by the old one."""
+        """root's passwd, chpasswd and adduser set a local user's password; one in the book changes
+        by the old one."""
         need("passwd", "chpasswd", "adduser", "pamtester")
         server = started(room)
         install_stack("/etc/pam.d/common-password")
@@ -150,7 +154,8 @@ class Logins(Case):
 
     @in_namespaces
     def test_su(self, room: pathlib.Path) -> None:
-        """su, by a user who can't reach the socket: the book's password; /etc/shadow's while it is down."""
+        """su, by a user who can't reach the socket: the book's password; /etc/shadow's while it is
+        down."""
         need("su", "setpriv")
         server = started(room)
         install_stack()
@@ -199,7 +204,8 @@ class Logins(Case):
 
     @in_namespaces
     def test_fail2ban(self, room: pathlib.Path) -> None:
-        """fail2ban takes the page's jail, whose filter finds the address of each kind of failed try."""
+        """fail2ban takes the page's jail, whose filter finds the address of each kind of failed
+        try."""
         need("pamtester", "fail2ban-client", "fail2ban-regex")
         started(room)
         install("/etc/pam.d/book", "/etc/fail2ban/jail.d/book.conf")

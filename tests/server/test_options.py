@@ -1,4 +1,5 @@
-"""Tests of bin/credkeep-server: what its own mistakes say, and what the book gets of its options."""
+"""Tests of bin/credkeep-server: what its own mistakes say, and what the book gets of its
+options."""
 
 import contextlib
 import os
@@ -8,6 +9,8 @@ import shlex
 import signal
 
 from served import FAST_BOOK, TOP, Case, Service, ran, until
+
+from daemon.options import parse
 
 # In place of credkeep: notes its words, and ends.
 NOTES = '#!/bin/sh\nprintf "%s\\n" "$@" > "$NOTED"\nexit 3\n'
@@ -38,6 +41,10 @@ MISTAKES = {
     f"{SOCKET} verify --audit /none/audit x.db": "/none/audit: No such file or directory",
     f"{SOCKET} verify --credkeep /none/credkeep x.db": "/none/credkeep: No such file",
 }
+NO_SOCKETS = "127.0.0.1:8080 8080 :80 0.0.0.0:80 localhost:80 [::1]:80 x.sock"
+for word in NO_SOCKETS.split():
+    said = f"--http needs the path of a Unix socket, and no port: not '{word}'"
+    MISTAKES[f"--http {word} x.db"] = said
 
 
 def has_book(service: Service) -> bool:
@@ -49,7 +56,8 @@ def has_book(service: Service) -> bool:
 
 class Mistakes(Case):
     def test_options(self) -> None:
-        """Options that can't be meant are refused before anything starts, in a user's words, with status 1."""
+        """Options that can't be meant are refused before anything starts, in a user's words, with
+        status 1."""
         for words, said in MISTAKES.items():
             status, text, faults = ran(*shlex.split(words))
             self.assertEqual((status, text), (1, ""), f"{words}: {faults}")
@@ -60,7 +68,8 @@ class Mistakes(Case):
         pathlib.Path("/tmp/never-made.lock").unlink()
 
     def test_help(self) -> None:
-        """--help has a text for each option, within 100 columns, and --version the library's version."""
+        """--help has a text for each option, within 100 columns, and --version the library's
+        version."""
         status, text, faults = ran("--help")
         self.assertEqual((status, faults), (0, ""))
         page = (TOP / "man/credkeep-server.8").read_text().replace("\\-", "-")
@@ -84,7 +93,8 @@ class Mistakes(Case):
             self.assertEqual(self.serving(option, f"{room}/old", **given).ended(), (1, said))
 
     def test_a_second_server(self) -> None:
-        """While the first one's book is still opening, a second one neither takes its sockets nor waits."""
+        """While the first one's book is still opening, a second one neither takes its sockets nor
+        waits."""
         folder = self.room()
         first = self.serving(folder=folder, faults="opens=3", waits=False)
         until(lambda: has_book(first), "the first begins")
@@ -101,7 +111,8 @@ class Mistakes(Case):
         first.client().talk("known ada -> noaccount")
 
     def test_words_of_the_book(self) -> None:
-        """The book gets each option that is given, and no other but a place more; new costs go before the setting.
+        """The book gets each option that is given, and no other but a place more; new costs go
+        before the setting.
 
         This one ends at once: no client is let in, and the status says so."""
         room, own = self.room(), len(os.sched_getaffinity(0)) + 1
@@ -110,18 +121,18 @@ class Mistakes(Case):
         book.write_text(NOTES)
         book.chmod(0o755)
         (room / "users.db").touch()
+        usual = "--most-memory 1048576 --most-work 3145728"
         for options, wait, at_once, handed in (
-            ("", 30, own, ""),
-            ("--wait 7 --at-once 3", 7, 4, ""),
-            ("--at-once 254", 30, 255, ""),
+            ("", 30, own, usual),
+            ("--wait 7 --at-once 3", 7, 4, usual),
+            ("--at-once 254", 30, 255, usual),
             (limits, 30, own, limits),
-            ("--memory 64M", 30, own, "--memory 64M"),
-            *((it, 30, own, it) for it in ["--memory 16M --setting $scrypt$ln=14,r=8,p=2"]),
-            ("--memory none", 30, own, "--memory none"),
+            ("--memory 64M", 30, own, f"--memory 64M {usual}"),
+            ("--memory none", 30, own, f"--memory none {usual}"),
             ("--setting $one", 30, own, "--setting $one"),
             ("--upgrade $two$c=2", 30, own, "--setting $two$c=2"),
             ("--upgrade $two$c=2 --setting $one", 30, own, "--setting $two$c=2"),
-            ("--idle 5 --tries 4 --uid-tries 3 --mail-names --fold-local-part", 30, own, ""),
+            ("--idle 5 --tries 4 --uid-tries 3 --mail-names --fold-local-part", 30, own, usual),
         ):
             given = {"program": book, "folder": room, "environment": {"NOTED": str(noted)}}
             status, log = self.serving(*options.split(), waits=False, **given).ended()
@@ -130,3 +141,32 @@ class Mistakes(Case):
             ought = f"--wait {wait} {room}/users.db serve --tagged --at-once {at_once} {handed}"
             self.assertEqual(noted.read_text().splitlines(), ought.split(), options)
             noted.unlink()
+
+    def test_bounds(self) -> None:
+        """A line's record may need sixteen times the memory and the work of new ones, or what an
+        option says.
+
+        Memory and work are those of ERRORS.md: m KiB, and m t; 128 r p 2^ln bytes, and twice that.
+        """
+        for options, memory, work in (
+            ("", 16 * 65536, 16 * 65536 * 3),
+            ("--setting $argon2id$v=19$m=65536,t=3,p=4", 16 * 65536, 16 * 65536 * 3),
+            ("--setting $argon2id$v=19$m=19456,t=2,p=1", 16 * 19456, 16 * 19456 * 2),
+            ("--setting $argon2i$v=19$m=8,t=1,p=1$c29tZXNhbHQ", 16 * 8, 16 * 8),
+            ("--setting $argon2d$v=19$m=2097152,t=1,p=255", 16 * 2097152, 16 * 2097152),
+            ("--setting $argon2id$v=19$m=2097152,t=200,p=1", 16 * 2097152, "6400G"),
+            ("--setting $scrypt$ln=17,r=8,p=1", 16 * 128 * 1024, 16 * 256 * 1024),
+            ("--setting $scrypt$ln=14,r=8,p=5", 16 * 80 * 1024, 16 * 160 * 1024),
+            ("--setting $scrypt$ln=1,r=1,p=1$c29tZXNhbHQ", 16, 32),
+            ("--setting $scrypt$ln=2,r=3,p=1", 16 * 2, 16 * 4),  # of 1.5 KiB
+            ("--upgrade $argon2id$v=19$m=128,t=5,p=1", 16 * 128, 16 * 128 * 5),
+            ("--upgrade $scrypt$ln=10,r=8,p=1 --setting $argon2id$v=19$m=8,t=1,p=1", 16384, 32768),
+            ("--most-memory 2G", "2G", 16 * 65536 * 3),
+            ("--most-work 17", 16 * 65536, 17),
+            ("--setting $argon2id$v=19$m=64,t=1,p=1 --most-memory 1M --most-work 3M", "1M", "3M"),
+        ):
+            with self.subTest(options):
+                words = [str(it) for it in parse([*options.split(), "users.db"]).book_words()]
+                bounds = dict(zip(words, words[1:]))
+                self.assertEqual(bounds["--most-memory"], str(memory))
+                self.assertEqual(bounds["--most-work"], str(work))

@@ -17,6 +17,14 @@ def mode_of(path: pathlib.Path) -> int:
 DENIED = (
     "enrol account load show rename list reset disable delete login upgrade remove serve backup"
 )
+# Lines that take a setting behind them, and the answers where they may have one.
+TAKE_SETTINGS = {
+    f"change ada {SECRET} {SECRET}": "replaced",
+    f"reset ada {SECRET}": "replaced",
+    f"enrol bob {SECRET}": "enrolled",
+    f"upgrade ada {SECRET}": "upgraded",
+}
+DEAR, CHEAPEST = "$argon2id$v=19$m=262144,t=40,p=1$c2FsdHNhbHQ", "$scrypt$ln=1,r=1,p=1$c2FsdA"
 NO_OPERATIONS = ["VERIFY", "verify,change", "", "all", "verif", "verifyx", "\xff"]
 # Notes the mode of each socket as it is bound.
 SPY = """import os, socket, _socket
@@ -53,12 +61,41 @@ class Asking(Case):
         self.assertEqual(len(service.asked()), asked, "a denied line came to the book")
         self.assertTrue(admin.ask("show").startswith("bad "), "show without a name")
 
+    def test_settings(self) -> None:
+        """A line that hashes brings no costs, dear or cheap, but through a socket that may load
+        records."""
+        room = self.room()
+        hashing = "verify,login,change,upgrade,remove,enrol,reset"
+        more = f"--socket hashing {room}/hashing 0600 - {hashing},account,show"
+        more += f" --socket loading {room}/loading 0600 - {hashing},load"
+        service = self.serving("--tries", "0", *more.split()).enrol(ada="secret")
+        service.talk("admin account bob -> ok")
+        asked = len(service.asked())
+        with Client(room / "hashing") as may_hash, Client(room / "loading") as may_load:
+            lines = [(may_hash, it) for it in TAKE_SETTINGS]
+            lines.append((service.client(), f"change ada {SECRET} {SECRET}"))
+            for client, line in lines:
+                for setting in (DEAR, CHEAPEST, "$fast$c=2", "x", "", f"{DEAR} x"):
+                    with self.subTest(line, setting=setting):
+                        self.assertEqual(client.ask(f"{line} {setting}"), "denied")
+            self.assertEqual(len(service.asked()), asked, "a denied line came to the book")
+            for line in ("verify ada {secret}", "login ada {secret}", "remove ada {secret}"):
+                may_hash.talk(f"{line} {CHEAPEST} -> bad 11 line")
+            for client, costs in ((service.client("admin"), "2"), (may_load, "3")):
+                for line, said in TAKE_SETTINGS.items():
+                    setting = f"$fast$c={costs if 'upgrade' not in line else 4}$c2FsdHNhbHQ"
+                    with self.subTest(line, setting=setting):
+                        self.assertEqual(client.ask(f"{line} {setting}"), said)
+                service.talk("admin disable bob -> disabled")
+        self.assertIn("denied at hashing to uid 0: reset with a setting", service.log())
+        self.assertEqual(service.stats()["denied"], 6 * 5)
+
     def test_sockets_of_its_own(self) -> None:
         """Each --socket has its path, mode, group and operations."""
         room = self.room()
         more = f"--socket check {room}/check 0640 - verify".split()
         more += f"--socket adding {room}/adding 0600 - account,enrol".split()
-        service = self.serving(*more).enrol(ada="secret")
+        self.serving(*more).enrol(ada="secret")
         with Client(room / "check") as check, Client(room / "adding") as adding:
             check.talk("verify ada {secret} -> yes\nknown ada -> denied")
             adding.talk("account bob -> ok\nverify ada {secret} -> denied")
@@ -66,7 +103,8 @@ class Asking(Case):
         self.assertEqual(mode_of(room / "check"), 0o640)
 
     def test_default_sockets(self) -> None:
-        """Without --socket: login.sock and admin.sock in a folder by the book's name, or by its path elsewhere."""
+        """Without --socket: login.sock and admin.sock in a folder by the book's name, or by its
+        path elsewhere."""
         need_root()
         need("unshare")
         room = self.room()
@@ -106,7 +144,8 @@ class Asking(Case):
             self.assertEqual(as_user(4711, gid, room / door, "known ada"), said)
 
     def test_paths_that_are_taken(self) -> None:
-        """A dead socket is replaced; a file, or a socket that is listened at, ends the start, and stays."""
+        """A dead socket is replaced; a file, or a socket that is listened at, ends the start, and
+        stays."""
         path = self.room() / "s"
         words = f"--socket a {path} 0600 - all".split()
         with socket.socket(socket.AF_UNIX) as dead:
@@ -130,7 +169,8 @@ class Asking(Case):
         self.assertEqual(path.read_text(), "precious")
 
     def test_tags(self) -> None:
-        """Tags are a client's own; one that isn't a tag is answered under *; one used twice twice."""
+        """Tags are a client's own; one that isn't a tag is answered under *; one used twice
+        twice."""
         service = self.serving(faults="late").enrol(ada="secret")
         one, two = service.client(), service.client()
         one.send(f"a verify ada {SECRET}\n" * 2)
@@ -155,7 +195,8 @@ class Asking(Case):
             service.client().talk("verify ada {secret} -> unavailable")
 
     def test_least_length(self) -> None:
-        """A new password of too few characters of UTF-8 is refused by name, and the old one stays; logins are as before."""
+        """A new password of too few characters of UTF-8 is refused by name, and the old one stays;
+        logins are as before."""
         folder = self.room()
         self.serving(folder=folder).enrol(ada="pw").stop()
         service = self.serving("--least-length", "4", folder=folder)

@@ -15,6 +15,7 @@ from served import SECRET, TOP, WRONG, Case, Client, Service, field_of, free_por
 from daemon import tries
 from daemon.options import OPERATIONS, Options
 from tests.helpers import Peer, run
+from tests.needs import need_file
 
 
 def noted(path: pathlib.Path) -> list[dict[str, object]]:
@@ -121,11 +122,12 @@ class Seen(Case):
         self.assertEqual(service.log().count("no memory for a hash"), 1)
 
     def test_waits(self) -> None:
-        """Who has to wait is listed and logged, and can be forgiven; a wait's begin and end are a line each."""
+        """Who has to wait is listed and logged, and can be forgiven; a wait's begin and end are a
+        line each."""
         service = self.serving("--tries", "2", clocked=True)
         service.enrol(ada="secret", bob="secret", cid="secret")
-        for name, tries in (("ada", 2), ("bob", 2), ("cid", 1)):
-            service.talk(f"admin verify {name} {{wrong}} -> no\n" * tries)
+        for name, count in (("ada", 2), ("bob", 2), ("cid", 1)):
+            service.talk(f"admin verify {name} {{wrong}} -> no\n" * count)
         service.talk(
             """
             login verify ada {secret} -> later
@@ -168,7 +170,9 @@ class Seen(Case):
             counted = tries.Tally(Options())
             for name in "abac":
                 counted.count(verify, name, "", "yes")
-        self.assertEqual([counted.answer(b"last", it)[:4] for it in "abc"], ["last", "none", "last"])
+        self.assertEqual(
+            [counted.answer(b"last", it)[:4] for it in "abc"], ["last", "none", "last"]
+        )
 
 
 # What no log may have: passwords, as they are and as fields, and names.
@@ -195,7 +199,8 @@ def asked_all(service: Service) -> None:
 
 class Logs(Case):
     def test_logs(self) -> None:
-        """No password, no line and no name is logged, whatever happens and however it is started."""
+        """No password, no line and no name is logged, whatever happens and however it is
+        started."""
         debug = {"PYTHONASYNCIODEBUG": "1", "PYTHONDEVMODE": "1"}
         for faults in ("", "garbage", "dies=6", "endless", "answers=yes\x07"):
             service = self.serving(faults=faults, environment=debug)
@@ -228,8 +233,10 @@ class Logs(Case):
         service.process.kill()
 
     def test_types(self) -> None:
-        """mypy --strict takes its modules, and credkeep-ask, by the oldest Python that they may be run by."""
+        """mypy --strict takes its modules, and credkeep-ask, by the oldest Python that they may be
+        run by."""
         need("mypy")
+        need_file("/usr/lib/python3/dist-packages/passlib-stubs")
         words = f"mypy --strict --python-version=3.9 --cache-dir={self.room()}".split()
         at = TOP / "python/rigzumal/server"
         for checked in ("daemon", str(TOP / "bin/credkeep-ask")):
@@ -245,7 +252,8 @@ login change ada {secret} {wrong} -> replaced | ada replaced
 login verify ada {secret} -> no |
 login verify ada {wrong} -> yes | ada yes
 login change hunter2 {secret} {wrong} -> noaccount |
-login change hunter2 {secret} {wrong} {wrong} -> bad 1 shape |
+login change hunter2 {secret} {wrong} {wrong} -> denied |
+admin change hunter2 {secret} {wrong} {wrong} -> bad 1 shape |
 admin account ada -> bad 1 exists |
 login known ada -> yes |
 admin list - 5 -> names ada |
@@ -268,7 +276,8 @@ admin delete bob -> deleted | bob deleted
 
 class Audited(Case):
     def test_lines(self) -> None:
-        """Each change is a line of JSON, with who asked for it and the answer; right logins are too."""
+        """Each change is a line of JSON, with who asked for it and the answer; right logins are
+        too."""
         path, rows = self.room() / "audit", [it.split(" | ") for it in AUDITED.strip().splitlines()]
         service = self.serving("--audit", str(path), "--tries", "0")
         service.talk("\n".join(row[0].removesuffix(" |") for row in rows))
@@ -328,7 +337,8 @@ class Audited(Case):
             self.assertEqual(late.ended(), (1, said), reader)
 
     def test_written_before_it_is_answered(self) -> None:
-        """When a change is answered its line is in the file; a file that was renamed is begun anew."""
+        """When a change is answered its line is in the file; a file that was renamed is begun
+        anew."""
         path = self.room() / "audit"
         admin = self.serving("--audit", str(path)).client("admin")
         for number in range(1, 21):
@@ -357,7 +367,8 @@ class Audited(Case):
         self.assertEqual(found, ["account", "ok", "enrol", "enrolled", "yes", "verify"])
 
     def test_no_room(self) -> None:
-        """A change whose line can't be written isn't said to be made; logins go on, and changes once there is room."""
+        """A change whose line can't be written isn't said to be made; logins go on, and changes
+        once there is room."""
         need("prlimit")
         path, said = self.room() / "audit", list[str]()
         service = self.serving("--audit", str(path), before=("prlimit", "--fsize=2000"))

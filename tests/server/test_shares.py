@@ -41,7 +41,8 @@ time.sleep(200)
 
 class Floods(Case):
     def test_lines_that_need_no_book(self) -> None:
-        """Beside a hundred connections that send such lines without end, another's is answered soon."""
+        """Beside a hundred connections that send such lines without end, another's is answered
+        soon."""
         service = self.serving()
         for kind, (line, answer) in IDLE_LINES.items():
             with self.subTest(kind), contextlib.ExitStack() as stack:
@@ -67,7 +68,8 @@ class Floods(Case):
         return count
 
     def test_all_of_a_users_lines(self) -> None:
-        """A thousand a second that cost the book nothing are answered, on however many connections."""
+        """A thousand a second that cost the book nothing are answered, on however many
+        connections."""
         service = self.serving()
         for count in (1, 10, 100):
             clients = [service.client() for _ in range(count)]
@@ -125,9 +127,7 @@ class Floods(Case):
         async def taken() -> str:
             nonlocal most
             lines, service = list[bytes](), Service(Options())
-            with mock.patch.object(
-                service, "submit", lambda _, it: (lines.append(it) or b"", b"")
-            ):
+            with mock.patch.object(service, "submit", lambda _, it: (lines.append(it) or b"", b"")):
                 async with self.door(service) as (door, stack):
                     for letter in letters:
                         client = stack.enter_context(Client(pathlib.Path(door.path)))

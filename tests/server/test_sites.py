@@ -1,4 +1,5 @@
-"""Debian's web and mail servers, unchanged, ask the book as docs/SERVERS.md tells them to: see test_logins.py."""
+"""Debian's web and mail servers, unchanged, ask the book as docs/SERVERS.md tells them to: see
+test_logins.py."""
 
 import base64
 import collections
@@ -7,29 +8,31 @@ import imaplib
 import pathlib
 import re
 import smtplib
-import unittest
 import urllib.error
 import urllib.request
 
 from machine import PAGE, commands_on_page, in_namespaces, install, is_open, on_page, shell, started
 from served import Case, Service, need, same, until
+from tests.needs import need_file
 
 POSTFIX = "inet_interfaces=127.0.0.1 inet_protocols=ipv4 alias_maps= myhostname=mail.example.org"
 POSTFIX += " mydestination=localhost maillog_file=/var/log/postfix.log"
 # Without it each wrong password costs its address some seconds more.
-QUICK = "ssl = no\nauth_failure_delay = 0\nservice anvil {\n unix_listener anvil-auth-penalty {\n mode = 0\n }\n}\n"
-
-
-def need_file(path: str, package: str) -> None:
-    if not pathlib.Path(path).exists():
-        raise unittest.SkipTest(f"{package} isn't installed")
+QUICK = """ssl = no
+auth_failure_delay = 0
+service anvil {
+ unix_listener anvil-auth-penalty {
+ mode = 0
+ }
+}
+"""
 
 
 def run_nginx(room: pathlib.Path, site: str, port: int) -> Service:
     """The book's server, and nginx with one of the page's sites."""
     need("nginx", "curl", "htpasswd")
     module = "/usr/lib/nginx/modules/ngx_http_auth_pam_module.so"
-    need_file(module, "libnginx-mod-http-auth-pam")
+    need_file(module)
     server = started(room)
     install("/etc/pam.d/nginx", f"/etc/nginx/sites-enabled/{site}")
     install_pages()
@@ -41,7 +44,7 @@ def run_nginx(room: pathlib.Path, site: str, port: int) -> Service:
 def run_apache(room: pathlib.Path, configuration: str, modules: str) -> Service:
     """The same of Apache."""
     need("apache2", "curl")
-    need_file("/usr/lib/apache2/modules/mod_authnz_pam.so", "libapache2-mod-authnz-pam")
+    need_file("/usr/lib/apache2/modules/mod_authnz_pam.so")
     server = started(room)
     install("/etc/pam.d/apache2", f"/etc/apache2/conf-enabled/{configuration}")
     shell(f"a2enmod {modules}")
@@ -63,7 +66,7 @@ def imap(user: str, password: str) -> bool:
 
 def run_dovecot(*changes: tuple[str, str]) -> None:
     need("dovecot")
-    need_file("/usr/lib/dovecot/imap", "dovecot-imapd")
+    need_file("/usr/lib/dovecot/imap")
     install("/etc/pam.d/dovecot", "/etc/pam.d/mail", "/etc/dovecot/local.conf")
     remove_system_users()
     configure_dovecot(*changes)
@@ -145,7 +148,8 @@ class Sites(Case):
 
     @in_namespaces
     def test_nginx_cache(self, room: pathlib.Path) -> None:
-        """Forty pictures cost one hash; a wrong password isn't kept; what is kept is nginx's alone."""
+        """Forty pictures cost one hash; a wrong password isn't kept; what is kept is nginx's
+        alone."""
         server = run_nginx(room, "cached", 8081)
         before = server.stats()
         self.assertEqual(fetched("ada:secret", 8081), {200: 40})
@@ -161,7 +165,8 @@ class Sites(Case):
 
     @in_namespaces
     def test_nginx_htpasswd(self, room: pathlib.Path) -> None:
-        """A user of an htpasswd file gets in by it until the name is taken out, and by the book from then on."""
+        """A user of an htpasswd file gets in by it until the name is taken out, and by the book
+        from then on."""
         server = run_nginx(room, "both", 8082)
         old = pathlib.Path("/etc/nginx/htpasswd")
         old.touch()
@@ -215,17 +220,24 @@ class Mail(Case):
 
     @in_namespaces
     def test_dovecot_mail_names(self, room: pathlib.Path) -> None:
-        """An imap login as user@example.org, by --mail-names; and as one domain's user by %Ln."""
-        server = started(room, "--mail-names").enrol(**{"ada@example.org": "mail word"})
-        run_dovecot(("args = dovecot", "args = mail"), ("", "auth_username_format = %u\n"))
+        """An imap login as user@example.org, by --mail-names, into one mailbox however the domain
+        is typed; and as one domain's user by %Ln."""
+        started(room, "--mail-names").enrol(**{"ada@example.org": "mail word"})
+        install("/etc/dovecot/conf.d/99-names.conf")
+        run_dovecot(("args = dovecot", "args = mail"))
         self.imap_logins(
             ("ada@example.org", "mail word", True),
             ("ada@Example.ORG", "mail word", True),
             ("ada@example.org", "secret", False),
             ("ada@example.net", "mail word", False),
+            ("ada@EXAMPLE.org", "mail word", True),
+            ("Ada@example.org", "mail word", False),
             ("ada", "secret", True),
             ("ada", "mail word", False),
+            ("@example.org", "mail word", False),
         )
+        homes = sorted(it.name for it in pathlib.Path("/srv/vmail").glob("*"))
+        self.assertEqual(homes, ["ada", "ada@example.org"], "one account, one mailbox")
         configure_dovecot(("", "auth_username_format = %Ln\n"))
         shell("doveadm reload")
         until(lambda: imap("Ada@example.org", "secret"), "the new configuration")
@@ -233,6 +245,19 @@ class Mail(Case):
             ("ada@example.net", "secret", True),
             ("ada@example.org", "x", False),
         )
+
+    @in_namespaces
+    def test_dovecot_folded_names(self, room: pathlib.Path) -> None:
+        """The same where the part before the @ is folded too."""
+        server = started(room, "--mail-names", "--fold-local-part")
+        server.enrol(**{"ann@example.org": "mail word"})
+        (word,) = re.findall("With `--fold-local-part` write `(%\\w+)`", PAGE.read_text())
+        names = f"auth_username_format = {word}\n"
+        run_dovecot(("args = dovecot", "args = mail"), ("", names))
+        for typed in ("ann@example.org", "Ann@example.org", "ANN@Example.ORG"):
+            self.imap_logins((typed, "mail word", True), (typed, "secret", False))
+        homes = [it.name for it in pathlib.Path("/srv/vmail").glob("*")]
+        self.assertEqual(homes, ["ann@example.org"])
 
     @in_namespaces
     def test_postfix(self, room: pathlib.Path) -> None:

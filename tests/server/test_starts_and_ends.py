@@ -1,4 +1,5 @@
-"""Tests of bin/credkeep-server: how it starts, what the book gets, how it ends, and systemd's words."""
+"""Tests of bin/credkeep-server: how it starts, what the book gets, how it ends, and systemd's
+words."""
 
 import contextlib
 import os
@@ -14,7 +15,8 @@ from served import SECRET, Case, Client, is_listening, need, until
 
 class Starting(Case):
     def test_own_limits(self) -> None:
-        """Both have as many descriptors as they may have, and no core dump; so many clients are let in."""
+        """Both have as many descriptors as they may have, and no core dump; so many clients are let
+        in."""
         need("prlimit")
         core = ["--core=unlimited"] if os.geteuid() == 0 else []
         service = self.serving(before=("prlimit", "--nofile=64:2048", *core))
@@ -27,7 +29,8 @@ class Starting(Case):
             client.talk("known ada -> noaccount")
 
     def test_too_few_descriptors(self) -> None:
-        """Without a descriptor for another client it goes on with those that it has, and asyncio logs nothing."""
+        """Without a descriptor for another client it goes on with those that it has, and asyncio
+        logs nothing."""
         need("prlimit")
         service = self.serving(before=("prlimit", "--nofile=32:32"))
         clients = [service.client() for _ in range(60)]
@@ -45,7 +48,8 @@ class Starting(Case):
         self.assertEqual([it for it in service.log().splitlines() if not own.match(it)], [])
 
     def test_a_systemd_that_isnt_there(self) -> None:
-        """What its environment can't mean is passed over, and a socket that nobody reads is named in the log."""
+        """What its environment can't mean is passed over, and a socket that nobody reads is named
+        in the log."""
         for usec in ("x", "0", "-1", "", "9" * 400):
             given = {"NOTIFY_SOCKET": f"{self.room()}/none", "WATCHDOG_USEC": usec}
             service = self.serving(environment=given)
@@ -77,9 +81,7 @@ class Endings(Case):
                 with contextlib.suppress(OSError):
                     clients[0].send(f"b verify ada {SECRET}\n")
                 self.assertEqual([client.line() for client in clients], [b"a yes"] * 3)
-                self.assertTrue(
-                    all(client.is_ended() for client in [*clients, idle]), "it goes on"
-                )
+                self.assertTrue(all(client.is_ended() for client in [*clients, idle]), "it goes on")
                 self.assertEqual(service.process.wait(timeout=20), 0)
                 self.assertEqual(len(service.asked()), 5)
                 self.assertIn("end: status 0", service.log())
@@ -131,7 +133,8 @@ class Endings(Case):
             self.assertNotIn("a fault", log)
 
     def test_a_book_that_goes_on(self) -> None:
-        """Lines without an answer are dropped after 18 s. A book that still goes on is killed, 2 s later."""
+        """Lines without an answer are dropped after 18 s. A book that still goes on is killed, 2 s
+        later."""
         for is_stopped in (False, True):
             service = self.serving("--at-once", "2", faults="mute=verify")
             service.client().send("a verify ada -\n" * 20)

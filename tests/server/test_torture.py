@@ -1,10 +1,10 @@
 """64 clients on 8 accounts through the server's sockets, while the server and the book are killed.
 
 Every new password is another one, so an answer that lets a password in names the record that stood.
-python/tests/accounts/torture judges these, and those without an answer as made once or never. An answer
-that doesn't let a password in is judged apart: it must not lie within the time in which that password
-surely stood. What was answered before a kill has to be there after it. TORTURE_SECONDS in the
-environment is how long it goes on (60, with a kill every three), TORTURE_SEED its seed.
+python/tests/accounts/torture judges these, and those without an answer as made once or never. An
+answer that doesn't let a password in is judged apart: it must not lie within the time in which that
+password surely stood. What was answered before a kill has to be there after it. TORTURE_SECONDS in
+the environment is how long it goes on (60, with a kill every three), TORTURE_SEED its seed.
 """
 
 import concurrent.futures
@@ -16,16 +16,14 @@ import random
 import signal
 import sys
 import time
-import unittest
 from typing import Optional
 
 from served import CHEAP, FAST_BOOK, TOP, Case, Client, Given, Service, chosen_book, field_of
+from tests.needs import need_file
 
 sys.path[:0] = str(TOP / "python"), str(TOP / "python/tests/accounts")
-try:
-    from torture.history import Account, Attempt, Illegal, Operation, check  # noqa: E402
-except ImportError as fault:
-    raise unittest.SkipTest(str(fault).partition(":")[0]) from None
+need_file(os.environ["RIGZUMAL_LIBRARY"])
+from torture.history import Account, Attempt, Illegal, Operation, check  # noqa: E402
 
 SECONDS = int(os.environ.get("TORTURE_SECONDS", "60"))
 SEED = int(os.environ.get("TORTURE_SEED", "1"))

@@ -12,7 +12,8 @@ from daemon.journal import log
 
 class Tries(Case):
     def test_later(self) -> None:
-        """After so many failed tries each doubles the wait; the right password is let in after it."""
+        """After so many failed tries each doubles the wait; the right password is let in after
+        it."""
         service = self.serving("--tries", "2", clocked=True).enrol(ada="secret", bob="secret")
         client = service.client()
         for now, password, ought in (
@@ -27,7 +28,8 @@ class Tries(Case):
             self.assertEqual(client.ask(f"verify bob {SECRET}"), "yes")
 
     def test_later_for_each_operation(self) -> None:
-        """Each operation that takes the old password counts, but at a name that the book lacks; a reset ends the wait."""
+        """Each operation that takes the old password counts, but at a name that the book lacks; a
+        reset ends the wait."""
         service = self.serving("--tries", "5", clocked=True).enrol(ada="secret")
         service.client().talk("verify eve {secret} -> noaccount\n" * 30)  # whom others may know
         service.talk(
@@ -49,7 +51,8 @@ class Tries(Case):
         )
 
     def test_what_counts(self) -> None:
-        """Each answer that a try failed counts, and after each that one was right, or is made so, none does."""
+        """Each answer that a try failed counts, and after each that one was right, or is made so,
+        none does."""
         service = self.serving("--tries", "2", clocked=True).enrol(ada="secret")
         admin = service.client("admin")
         for row in (
@@ -68,7 +71,8 @@ class Tries(Case):
         admin.talk("verify ada {secret} -> yes")
 
     def test_guesses_at_once(self) -> None:
-        """Of guesses that are sent together as many are judged as may fail, and one after each wait."""
+        """Of guesses that are sent together as many are judged as may fail, and one after each
+        wait."""
         for operation in "verify", "change", "login":
             service = self.serving("--at-once", "20", clocked=True).enrol(ada="secret")
             for _ in range(100):  # changes are quick, so many are at the book at once
@@ -94,7 +98,8 @@ class Tries(Case):
         self.assertEqual(client.lines(100), [b"a yes"] * 100)
 
     def test_too_early_takes_a_hash(self) -> None:
-        """A try that is too early is answered after the time of a hash, as one at an unknown name is."""
+        """A try that is too early is answered after the time of a hash, as one at an unknown name
+        is."""
         service = self.serving("--tries", "2", faults="slow=0.3", clocked=True).enrol(ada="secret")
         client, seconds = service.client(), {}
         for name, ought in (*[("ada", "no")] * 2, ("zoe", "noaccount"), ("ada", "later")):
@@ -165,7 +170,8 @@ class Limiters(Case):
         return few, many
 
     def test_others_dont_free_a_victim(self) -> None:
-        """What is remembered has a bound: those who needn't wait are forgotten first, the oldest first."""
+        """What is remembered has a bound: those who needn't wait are forgotten first, the oldest
+        first."""
         limiter, last = Limiter(10), tries.REMEMBERED + 999
         self.tried(limiter, *["victim"] * 12, *(f"n{at}" for at in range(last + 1)))
         self.assertTrue(limiter.rest("victim"))
@@ -202,7 +208,8 @@ class Limiters(Case):
         self.assertEqual(said, [*begun, "w has to wait no more: no failed try for an hour"])
 
     def test_tries_are_forgotten(self) -> None:
-        """An hour after a wait was over its tries are forgotten, and not before; a wait has a bound."""
+        """An hour after a wait was over its tries are forgotten, and not before; a wait has a
+        bound."""
         limiter = Limiter(3)
         for self.clock, count, wait in (
             *((1000.0, 1, 0), (1000.0, 2, 0), (1000.0, 3, 1), (1000.0, 4, 2)),
@@ -215,7 +222,8 @@ class Limiters(Case):
         self.assertEqual(limiter.tries["x"].until, self.clock + 900)
 
     def test_tries_at_once(self) -> None:
-        """A try runs once fewer run at its key than may fail there; without a key it runs at once."""
+        """A try runs once fewer run at its key than may fail there; without a key it runs at
+        once."""
         limiter, begun = Limiter(2), list[str]()
         ends = {name: asyncio.Semaphore(0) for name in ("a", "b", "")}
 

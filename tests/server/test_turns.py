@@ -35,7 +35,8 @@ class Waiting(IsolatedAsyncioTestCase):
         return "".join(taken)
 
     async def test_places(self) -> None:
-        """A user takes places while there are some, but for the last, and then as one comes back."""
+        """A user takes places while there are some, but for the last, and then as one comes
+        back."""
         places = Places(3)
         self.assertEqual(self.take(places, 1, "abcd"), "ab")
         self.assertEqual([self.released(places, it) for it in "abcd"], ["c", "d", "", ""])
@@ -81,7 +82,8 @@ class Waiting(IsolatedAsyncioTestCase):
         with mock.patch.object(service.locks, "answer", judge):
             for name, uid, count in asked:
                 client: Any = SimpleNamespace(door=door, uid=uid, user=uid, reply=replies)
-                client.running, client.is_gone, client.answered = 0, False, asyncio.Event()
+                client.running, client.answered = 0, asyncio.Event()
+                client.has_gone = lambda: False
                 client.queues = defaultdict(asyncio.Lock)
                 for _ in range(count):
                     service.submit(client, f"a verify {name} -".encode())
@@ -97,7 +99,8 @@ class Waiting(IsolatedAsyncioTestCase):
         self.assertEqual(said, "ann ann bob cat ann bob ann bob" + " ann" * 5)
 
     async def test_guesses_of_a_person(self) -> None:
-        """Of a person's guesses that come at once as many are judged as may fail, over all names."""
+        """Of a person's guesses that come at once as many are judged as may fail, over all
+        names."""
         service = Service(Options(uid_tries=2))
         service.hash_seconds = 0.0
         asked = [(name, uid, 1) for uid in (1000, 33) for name in "abcdef"]
@@ -106,7 +109,8 @@ class Waiting(IsolatedAsyncioTestCase):
 
 
 class Changes(Case):
-    """Each change is a letter, a small one if it is a sync of its own; at "-" nobody logs in any more."""
+    """Each change is a letter, a small one if it is a sync of its own; at "-" nobody logs in any
+    more."""
 
     def setUp(self) -> None:
         super().setUp()

@@ -4,12 +4,18 @@ test_booted.py runs them.
 """
 
 import re
+import shutil
 from typing import Any
 
-from machine import shell
+from machine import PAGE, shell
 from served import PYTHON, TOP, Case, Client, chosen_book, is_listening, need, until
+from tests.helpers import each
 
 NOT_NEEDED = {"fchown"}  # of a new log, to the book's owner, whose it is
+
+# Who may read what it makes and leaves, and how it ends: systemd-analyze judges none of these.
+LINES = "User=rigzumal UMask=0077 StateDirectoryMode=0700 LogsDirectoryMode=0700 LimitCORE=0"
+LINES += " KillMode=mixed Restart=always NoNewPrivileges=yes"
 
 
 def in_set(name: str) -> set[str]:
@@ -37,12 +43,53 @@ class Units(Case):
         for path in (TOP / "units").iterdir():
             text = path.read_text().replace("/usr/sbin/credkeep-server", program)
             (room / path.name).write_text(text)
-        names = ("server@users.service", "server@users.socket", "server-admin@users.socket")
-        return [f"{room}/credkeep-{name}" for name in names]
+        names = {path.name.replace("@.", "@users.") for path in (TOP / "units").iterdir()}
+        kinds = ("server@users.service", "server@users.socket", "server-admin@users.socket")
+        ought = [f"credkeep-{it}" for it in (*kinds, "server-http@users.socket")]
+        self.assertEqual(names, set(ought))
+        return [f"{room}/{it}" for it in ought]
 
     def test_verified(self) -> None:
         """systemd-analyze verify finds nothing."""
         self.assertEqual(shell(f"systemd-analyze verify --man=no {' '.join(self.units())}"), "")
+
+    def test_sockets(self) -> None:
+        """Whatever clients do while a service can't start, none of its sockets stays dead; none is
+        anybody's."""
+        folders = dict[str, str]()
+        for path in sorted((TOP / "units").glob("*.socket")):
+            with self.subTest(path.name):
+                lines = path.read_text().splitlines()
+                for line in (
+                    "ConditionPathExists=/var/lib/rigzumal/%i.db",
+                    "StartLimitIntervalSec=0",
+                    "TriggerLimitIntervalSec=0",
+                    "DirectoryMode=0755",
+                    "SocketGroup=rigzumal",
+                ):
+                    self.assertIn(line, lines)
+                mode = "0600" if "admin" in path.name else "0660"
+                self.assertIn(f"SocketMode={mode}", lines)
+                named = dict(it.split("=", 1) for it in lines if "=" in it and it[0] != "#")
+                folders[named["FileDescriptorName"]] = named["ListenStream"]
+                if path.name != "credkeep-server@.socket":
+                    self.assertEqual(named["Service"], "credkeep-server@%i.service")
+        ought = {it: f"/run/rigzumal/%i/{it}.sock" for it in ("admin", "http", "login")}
+        self.assertEqual(folders, ought)
+
+    def test_http_socket(self) -> None:
+        """The page only enables it; then a start of the service opens it, and a boot too."""
+        need("systemctl")
+        text = PAGE.read_text()
+        self.assertFalse("[Socket]" in text, "the page has a unit of its own")
+        (line,) = re.findall("^systemctl enable (credkeep-server-http@.*)$", text, re.M)
+        room = self.room()
+        own = room / "usr/lib/systemd/system"
+        shutil.copytree(TOP / "units", own)
+        shell(f"systemctl --root={room} --quiet enable {line}")
+        wanted = {str(it.relative_to(room)) for it in room.rglob("*.wants/*")}
+        by = ("sockets.target", "credkeep-server@users.service")
+        self.assertEqual(wanted, {f"etc/systemd/system/{it}.wants/{line}" for it in by})
 
     def test_exposure(self) -> None:
         """systemd-analyze security gives at most 1.5."""
@@ -50,8 +97,14 @@ class Units(Case):
         (level,) = re.findall(r"Overall exposure.*?: ([\d.]+)", shell(f"{words} {self.units()[0]}"))
         self.assertLessEqual(float(level), 1.5)
 
+    @each(*LINES.split())
+    def test_lines(self, line: str) -> None:
+        unit = (TOP / "units/credkeep-server@.service").read_text()
+        self.assertIn(line, unit.splitlines())
+
     def test_system_calls(self) -> None:
-        """What the server and the book call of the system is within what the unit allows, or isn't needed: it is refused here too."""
+        """What the server and the book call of the system is within what the unit allows, or isn't
+        needed: it is refused here too."""
         need("strace", "systemd-analyze", "systemd-socket-activate")
         room = self.room()
         (room / "old").write_text("bob:{SHA}5en6G6MezRroT3XKqkdPOmY/BfQ=\n")

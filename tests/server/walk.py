@@ -1,4 +1,5 @@
-"""What a new user types in an empty Debian that has booted, as docs/SERVERS.md tells him: test_booted.py runs it there."""
+"""What a new user types in an empty Debian that has booted, as docs/SERVERS.md tells him:
+test_booted.py runs it there."""
 
 import pathlib
 import re
@@ -70,12 +71,10 @@ class Walk(Case):
     def nginx_by_http(self) -> None:
         install_packages("python3-h11")
         install("/etc/nginx/sites-enabled/http")
-        install("/etc/systemd/system/credkeep-server-http@.socket")
-        install("/etc/systemd/system/credkeep-server@users.service.d/http.conf")
         (option,) = re.findall(r"`(--http /\S+)`", part("nginx"))
         options = pathlib.Path("/etc/default/credkeep-server-users")
         options.write_text(f"CREDKEEP_SERVER_OPTIONS={option}\n")
-        for line in block("nginx", "systemctl daemon-reload"):
+        for line in block("nginx", "systemctl enable credkeep-server-http"):
             self.type(line)
         shell("systemctl reload nginx")
         until(lambda: is_open(8083), "nginx")
@@ -92,7 +91,8 @@ class Walk(Case):
         self.assertEqual([imap("ada", it) for it in ("secret", "guess")], [True, False])
 
     def sshd(self) -> None:
-        """Right and wrong; one that must be changed; a locked name; and what the others say of these."""
+        """Right and wrong; one that must be changed; a locked name; and what the others say of
+        these."""
         install_packages(packages("sshd"))
         (line,) = re.findall(r"`(adduser [^`]+ ada)`", part("sshd"))
         self.type(" ".join(line.split()))

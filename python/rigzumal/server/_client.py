@@ -46,6 +46,7 @@ class Reply(enum.Enum):
     RENAMED = "renamed"
     EXPIRED = "expired"
     SHORT = "short"
+    SAME = "same"
     LOCKED = "locked"
     UNLOCKED = "unlocked"
     NONE = "none"
@@ -204,7 +205,7 @@ class Calls(Generic[Replied, Listed]):
         """REPLACED, or WRONG for the old password; ABSENT; NO_ACCOUNT.
 
         SHORT is a new password of fewer characters than the server demands; so it is of
-        `enrol` and `reset`.
+        `enrol` and `reset`. SAME is the old password again, where it must be changed.
 
         Raises:
             ValueError: the new password has over 256 bytes, or is text with no UTF-8.

@@ -33,7 +33,7 @@ class Client:
     """One that sends lines, and gets an answer to each, in any order."""
 
     no_room = b"* unavailable\n"
-    is_ending = is_gone = is_watched = False
+    is_ending = is_watched = False
 
     def __init__(self, service: Service, door: Door, sock: socket.socket) -> None:
         self.service, self.door, self.socket = service, door, sock
@@ -54,7 +54,7 @@ class Client:
                 self.socket.send(b"")  # which fails where nobody reads
                 await self.has_fewer(1)
         finally:
-            self.is_ending = self.is_gone = True
+            self.is_ending = True
             self.loop.remove_reader(self.socket)
             del self.service.clients[self]
             self.door.counts -= Counter([self.user])
@@ -94,6 +94,8 @@ class Client:
     async def submit(self, line: bytes) -> None:
         """Has a line answered, once few enough others run, and it is this user's turn."""
         await self.has_fewer(AT_ONCE)
+        if self.is_ending:
+            return
         await self.service.turns.take(self.user)
         self.loop.call_soon(self.service.turns.release, self.user)  # in the next pass
         if self.is_ending:
@@ -124,6 +126,14 @@ class Client:
                 self.end(socket.SHUT_RDWR)
         self.active = time.monotonic()
 
+    def has_gone(self) -> bool:
+        """Whether nobody reads its answers any more, though lines of it may still come."""
+        try:
+            self.socket.send(b"")  # which fails then
+        except OSError:
+            return True
+        return False
+
     def end(self, how: int = socket.SHUT_RD) -> None:
         """Takes no more requests; by SHUT_RDWR those that run aren't answered either."""
         self.is_ending = True
@@ -136,12 +146,11 @@ class Door:
     """A socket, what its clients may ask for, and who they are."""
 
     name: str
-    path: str  # or 127.0.0.1:PORT, which each user of the machine may reach
+    path: str
     mode: int
     group: str  # or "-" for none
     operations: frozenset[bytes]
     client: type[Client] = Client  # what its clients speak
-    port: int = 0  # of 127.0.0.1
     gid: int = -1
     listener: Optional[socket.socket] = None  # systemd's, or the server's own
     counts: Counter[Hashable] = field(default_factory=Counter)  # clients of each user
@@ -150,9 +159,8 @@ class Door:
         """Finds systemd's socket; or its group, and the lock of its own, to the process's end."""
         if os.environ.get("LISTEN_PID") == str(os.getpid()):
             names = os.environ.get("LISTEN_FDNAMES", "").split(":")
-            family = socket.AF_INET if self.port else socket.AF_UNIX
             it = socket.socket(fileno=3 + names.index(self.name)) if self.name in names else None
-            if not it or (it.type, it.family) != (socket.SOCK_STREAM, family):
+            if not it or (it.type, it.family) != (socket.SOCK_STREAM, socket.AF_UNIX):
                 raise Problem(f"systemd handed over no stream socket with the name {self.name}")
             self.listener = it
             return
@@ -160,8 +168,6 @@ class Door:
             self.gid = -1 if self.group == "-" else grp.getgrnam(self.group).gr_gid
         except KeyError:
             raise Problem(f"there is no group {self.group}, for {self.path}") from None
-        if self.port:
-            return
         folder = os.path.dirname(self.path)
         if not os.path.isdir(folder):
             os.mkdir(folder)
@@ -174,8 +180,6 @@ class Door:
 
     def bound(self) -> socket.socket:
         """A socket of its own, whose mode is set before it listens."""
-        if self.port:
-            return socket.create_server(("127.0.0.1", self.port))
         made = socket.socket(socket.AF_UNIX)
         if pathlib.Path(self.path).is_socket():
             if made.connect_ex(self.path) == 0:
@@ -222,8 +226,6 @@ class Door:
         with suppress(OSError):
             sock.send(client.no_room)
         sock.close()
-        log_seldom(
-            client.user, "no more connections at %s for %s, which has %d", *client.user, own
-        )
+        log_seldom(client.user, "no more connections at %s for %s, which has %d", *client.user, own)
         service.tally.counts["refused"] += 1
         return False

@@ -4,7 +4,6 @@ import asyncio
 import ctypes.util
 import hashlib
 import hmac
-import os
 import re
 import time
 from contextlib import suppress
@@ -12,16 +11,16 @@ from weakref import WeakValueDictionary
 
 from passlib.hash import apr_md5_crypt
 
+from .aging import Line, today
 from .book import UNAVAILABLE, decoded
 from .journal import Marks, log, log_seldom, status_of
-from .service import LACKS, Request, Service
+from .service import LACKS, Request, Service, keeps_password
 
 NAME = re.compile(rb"[a-z0-9._-]{1,32}")  # of a book
 # Answered to a password if the book has a record.
 HAS = (b"yes", b"replaced", b"upgraded", b"kept", b"enrolled", b"exists")
 # What an operation that makes a name is answered if the file has the name.
 TAKES = {b"account": b"bad 1 exists", b"rename": b"exists"}
-ALONE = {b"known": b"yes", b"delete": b"deleted"}  # if only the file has it
 ENDS = (b"disable", b"delete", b"rename", b"remove")  # leave no record in the book
 STILL, LOOKS = 0.1, 20  # seconds, and how often the file is looked at
 MOST_TOLD = 20  # names in a line of the log
@@ -41,7 +40,8 @@ class Foreign:
     def __init__(self, service: Service, path: str) -> None:
         self.service, self.path = service, path
         self.version: tuple[int, ...] = ()
-        self.records = dict[bytes, bytes]()
+        self.lines = dict[bytes, Line]()
+        self.last = self.lines  # as it was when it could be read, for those whom it bars
         self.locks = WeakValueDictionary[bytes, asyncio.Lock]()
         self.reading = asyncio.Lock()
         self.moved = Marks(f"{path}.moved")
@@ -55,48 +55,61 @@ class Foreign:
             time.sleep(STILL)
             if version == version_of(self.path):
                 break
-        records, stuck = dict[bytes, bytes](), list[str]()
+        lines, stuck = dict[bytes, Line](), list[str]()
         with open(self.path, "rb") as file:
-            users = [it.rstrip().split(b":")[:2] for it in file if b":" in it]
-        for typed, record in users:  # of two lines of a name the first decides
-            name = self.service.in_book(typed)
-            is_new = name not in records and not self.moved.has(name)
-            if is_new and record and (why := why_stuck(name, record)):
+            users = [it.rstrip().split(b":") for it in file if b":" in it and it[:1] != b"#"]
+        for typed, record, *others in users:  # of two lines of a name the first decides
+            name, line = self.service.in_book(typed), Line(record, tuple(others))
+            is_new = name not in lines and not self.moved.has(name)
+            if is_new and record and (why := why_stuck(name, line)):
                 stuck.append(f"{re.sub(b'[^!-~]', b'?', typed).decode()} ({why})")
-            records.setdefault(name, record)
-        self.version, self.records = version, records
+            lines.setdefault(name, line)
+        self.version, self.lines, self.last = version, lines, lines
         if stuck:
             shown = ", ".join([*stuck[:MOST_TOLD], *["..."][: len(stuck) - MOST_TOLD]])
             text = "%s: %d of %d users can't move: %s"
-            log.warning(text, self.path, len(stuck), len(records), shown)
+            log.warning(text, self.path, len(stuck), len(lines), shown)
 
-    async def record(self, name: bytes) -> bytes:
-        """The file's record of a name that hasn't moved, or nothing."""
+    async def refresh(self) -> None:
+        """Reads the file again if it has changed; without it the book decides, but on its bars."""
         async with self.reading:
             try:
                 if version_of(self.path) != self.version:
                     await asyncio.to_thread(self.read)
             except OSError as fault:
                 log_seldom(self.path, "%s: %s", self.path, fault.strerror)
-                self.records, self.version = {}, ()
-        return b"" if self.moved.has(name) else self.records.get(name, b"")
+                self.lines, self.version = {}, ()
+
+    async def line(self, name: bytes) -> Line:
+        """The file's line of a name that hasn't moved, or one without a record."""
+        await self.refresh()
+        return Line() if self.moved.has(name) else self.lines.get(name, Line())
+
+    async def bars(self, name: bytes) -> bool:
+        """Whether the file's line of a name bars its user, also once they have moved."""
+        await self.refresh()
+        return bool(self.last.get(name, Line()).bar(today()))
+
+    def barred(self) -> set[bytes]:
+        """The names whose users the file's lines bar, as it was last read."""
+        return {name for name, line in self.last.items() if line.bar(today())}
 
     async def answer(self, request: Request) -> bytes:
         """The answer: the book's, or the file's where the book lacks the name."""
         operation, name = request.words[:2]
-        if operation in TAKES and await self.record(request.words[-1]):
+        if operation in TAKES and (await self.line(request.words[-1])).record:
             return TAKES[operation]
         may_end = operation in ENDS and not self.moved.has(name)
-        if not may_end and not await self.record(name):
+        if not may_end and not (await self.line(name)).record:
             return await self.service.ask(request)
         async with self.locks.setdefault(name, asyncio.Lock()):  # one request after another
-            record = await self.record(name)
+            line = await self.line(name)
             if may_end and not self.moved.has(name) and not await self.end(operation, name):
                 return UNAVAILABLE
             answer = await self.service.ask(request)
-            if record and answer in LACKS:
-                answer = await self.answer_alone(request, record, answer)
-            if record and request.kind.hashes and answer in HAS and not self.moved.has(name):
+            if line.record and answer in LACKS:
+                answer = await self.answer_alone(request, line, answer)
+            if line.record and request.kind.hashes and answer in HAS and not self.moved.has(name):
                 await self.moved.put(name)
             return answer
 
@@ -106,15 +119,20 @@ class Foreign:
         is_over = operation in (b"disable", b"delete") or has_record
         return not is_over or await self.moved.put(name)
 
-    async def answer_alone(self, request: Request, record: bytes, lacks: bytes) -> bytes:
+    async def answer_alone(self, request: Request, line: Line, lacks: bytes) -> bytes:
         """The answer to a request for a user whom the file has, and the book lacks."""
         operation, name, *fields = request.words
-        if operation in ALONE:
-            return ALONE[operation]
+        if operation == b"known":
+            return known(line)
+        if operation == b"delete":
+            return b"deleted"
         if request.kind.tries:
-            is_known = await asyncio.to_thread(is_right, record, decoded(fields[0]) or b"")
-            if not is_known or await self.record(name) != record:  # as before that hash
+            is_known = await asyncio.to_thread(is_right, line.record, decoded(fields[0]) or b"")
+            is_same = await self.line(name) == line  # as before that hash
+            if not is_known or not is_same or line.why_shut(today()):
                 return request.kind.wrong
+            if line.must_change(today()) and not await self.service.locks.put(name, b"expire"):
+                return UNAVAILABLE
         elif operation not in (b"disable", b"reset"):
             return lacks
         await self.service.ask_besides(request, b"account", name)
@@ -125,6 +143,8 @@ class Foreign:
             if answer not in HAS:
                 return answer
             await self.moved.put(name)
+            if line.must_change(today()) and keeps_password(request.words):
+                return b"same"
         return await self.service.ask(request)
 
 
@@ -134,12 +154,20 @@ def version_of(path: str) -> tuple[int, ...]:
     return it.st_ino, it.st_size, it.st_mtime_ns, it.st_ctime_ns
 
 
-def why_stuck(name: bytes, record: bytes) -> str:
+def known(line: Line) -> bytes:
+    """The answer to `known` of a user whom the file alone has."""
+    if line.why_shut(today()):
+        return b"absent"
+    return b"expired" if line.must_change(today()) else b"yes"
+
+
+def why_stuck(name: bytes, line: Line) -> str:
     """The reason why a user can't move; empty if they can."""
+    record = line.record
     if not NAME.fullmatch(name):
         return "no name of a book"
     if record.startswith((APACHE, b"{SHA}", b"{SSHA}", *CRYPT)):
-        return ""
+        return line.why_shut(today())
     if record[:1] in b"!*":
         return "locked"
     is_des = re.fullmatch(rb"[./0-9A-Za-z]{13}", record)

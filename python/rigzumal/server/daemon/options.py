@@ -10,6 +10,7 @@ from dataclasses import dataclass, field, fields
 from typing import Any, NoReturn
 
 from .clients import Door
+from .costs import TIMES, USUAL, costs_of, size_of
 from .journal import Problem
 
 VERSION = "0.2.0"
@@ -27,14 +28,16 @@ class Kind:
     tries: bool = False  # it takes the present password, so it may be a guess
     wrong: bytes = b"wrong"  # the answer to a wrong password
     new: int = 0  # which field is a new password, if any
+    setting: int = 0  # which field gives costs and a salt, if a line may have one
     is_own: bool = False  # it is answered by the server, and not by the book
 
 
 KINDS = {
     "verify login": Kind(hashes=True, tries=True, wrong=b"no"),
-    "change": Kind(hashes=True, tries=True, changes=True, new=3),
-    "upgrade remove": Kind(hashes=True, tries=True, changes=True),
-    "enrol reset": Kind(hashes=True, changes=True, new=2),
+    "change": Kind(hashes=True, tries=True, changes=True, new=3, setting=4),
+    "upgrade": Kind(hashes=True, tries=True, changes=True, setting=3),
+    "remove": Kind(hashes=True, tries=True, changes=True),
+    "enrol reset": Kind(hashes=True, changes=True, new=2, setting=3),
     "account load disable delete lock unlock expire": Kind(changes=True),
     "rename": Kind(changes=True, names=2),
     "known show": Kind(),
@@ -60,6 +63,9 @@ def option(text: str, metavar: str = "", default: object = "", most: int = 10**9
     return field(default=default, metadata={"help": text, "metavar": metavar, "type": kind})
 
 
+LINE = f"a line's record may need; {TIMES} times --setting's if not given"
+
+
 @dataclass
 class Options:
     """The given values, or else these."""
@@ -67,7 +73,7 @@ class Options:
     file: str = ""
     doors: list[Door] = field(default_factory=list)
     socket: list[list[str]] = field(default_factory=list)
-    http: str = option("answer HTTP at a socket, or at 127.0.0.1:PORT", "ADDRESS")
+    http: str = option("answer HTTP at a further socket", "SOCKET")
     tries: int = option("failed tries until a name has to wait; 0: no limit", "N", 10)
     uid_tries: int = option("the same for each person's uid, over all names", "N", 0)
     idle: int = option("until an idle client is closed", "SECONDS", 600)
@@ -80,12 +86,19 @@ class Options:
     setting: str = option("for credkeep: the costs of new records", "TEXT")
     at_once: int = option("hashes of a user at once; 0: processors", "N", 0, MOST_AT_ONCE)
     memory: str = option("for credkeep: memory for hashes, as 512M", "SIZE")
-    most_memory: str = option("for credkeep: the bound of a record's memory", "SIZE")
-    most_work: str = option("for credkeep: the bound of memory times passes", "N")
+    most_memory: str = option(f"memory that {LINE}", "SIZE")
+    most_work: str = option(f"work that {LINE}", "SIZE")
     wait: int = option("for credkeep: the wait for FILE", "SECONDS", 30, 3600)
     credkeep: str = option("another program than credkeep", "PROGRAM", "credkeep")
     mail_names: bool = option("names may be e-mail addresses")
     fold_local_part: bool = option("fold the part before the @ too")
+
+    def bound(self) -> None:
+        """Bounds what a line may bring, where no option does: a dear record holds up everybody."""
+        costs = costs_of(self.setting or USUAL)
+        if costs:  # credkeep refuses what is no setting
+            self.most_memory = self.most_memory or size_of(TIMES * costs.memory)
+            self.most_work = self.most_work or size_of(TIMES * costs.work)
 
     def workers(self) -> int:
         """The lines that the book hashes at once: one more, for another user."""
@@ -122,6 +135,16 @@ def door(name: str, path: str, mode: str, group: str, operations: str) -> Door:
     return Door(name, os.path.abspath(path), int(mode, 8), group, allowed)
 
 
+def web_door(path: str, mode: str, group: str) -> Door:
+    from .web import WebClient  # which needs h11
+
+    if "/" not in path:
+        raise Problem(f"--http needs the path of a Unix socket, and no port: not {path!r}")
+    made = door("http", path, mode, group, "verify")
+    made.client = WebClient
+    return made
+
+
 def parser() -> Parser:
     text = "Lets many clients ask the kept book FILE. credkeep-server(8) tells more."
     made = Parser(usage="credkeep-server [OPTION].. FILE", description=text)
@@ -147,23 +170,16 @@ def parse(words: Sequence[str]) -> Options:
     if options.upgrade and "=" not in options.upgrade.rpartition("$")[2]:
         raise Problem("--upgrade takes costs without a salt: $argon2id$v=19$m=65536,t=3,p=4")
     options.setting = options.upgrade or options.setting
+    options.bound()
     folder = folder_of(options.file)
     given = options.socket or [
         ["login", f"{folder}/login.sock", "0660", "rigzumal", "verify,change,known"],
         ["admin", f"{folder}/admin.sock", "0600", "-", "all"],
     ]
     options.doors = [door(*it) for it in given]
-    if address := options.http:
-        from .web import WebClient  # which needs h11
-
-        loopback = re.fullmatch(r"127\.0\.0\.1:([1-9][0-9]{0,4})", address)
-        port = int(loopback[1]) if loopback else 0
-        if port > 65535 or not (port or "/" in address):
-            raise Problem(f"--http takes the path of a socket or 127.0.0.1:PORT, not {address!r}")
+    if options.http:
         _, _, mode, group, _ = given[0]
-        web = door("http", address, mode, group, "verify")
-        web.client, web.port, web.path = WebClient, port, address if port else web.path
-        options.doors.append(web)
+        options.doors.append(web_door(options.http, mode, group))
     named = Counter(word for it in options.doors for word in (it.name, it.path))
     if twice := [word for word, count in named.items() if count > 1]:
         raise Problem(f"two sockets are called {twice[0]}")

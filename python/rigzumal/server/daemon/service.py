@@ -10,13 +10,16 @@ import time
 from collections import deque
 from dataclasses import dataclass, replace
 from functools import partial
-from typing import Any
+from typing import TYPE_CHECKING, Any, Optional
 
 from .book import UNAVAILABLE, Book, Places, Rounds, decoded
-from .clients import LONGEST, Client
+from .clients import LONGEST, Client, Door
 from .journal import UNDOES, Journal, Marks, log_seldom, utc
 from .options import OPERATIONS, Kind, Options
 from .tries import LATER, TRIED, Tally
+
+if TYPE_CHECKING:
+    from .foreign import Foreign
 
 LONG = b"bad 16 long"
 KNOWN = {b"none": b"absent", b"bad 5 noaccount": b"noaccount"}  # its answers, by those of `show`
@@ -60,10 +63,12 @@ class Service:
             self.audit.append(b"")  # which fails now if it can't be written
         self.upgrading = asyncio.Lock()
         self.answer = self.ask  # or an old file's, where the book lacks the name
+        self.foreign: Optional["Foreign"] = None
         if options.foreign:
             from .foreign import Foreign  # which needs passlib
 
-            self.answer = Foreign(self, options.foreign).answer
+            self.foreign = Foreign(self, options.foreign)
+            self.answer = self.foreign.answer
         self.locks = Locks(self)
 
     def submit(self, client: Client, line: bytes) -> tuple[bytes, bytes]:
@@ -87,8 +92,7 @@ class Service:
 
     def own_answer(self, client: Client, words: list[bytes]) -> bytes:
         """The server's answer to a line that the book needn't be asked for, or nothing."""
-        if words[0] not in client.door.operations:
-            what = words[0].decode() if words[0] in OPERATIONS else "an unknown operation"
+        if what := denied(client.door, words):
             values = (client.door.name, client.uid, what)
             log_seldom(values, "denied at %s to uid %d: %s", *values)
             self.tally.counts["denied"] += 1
@@ -102,10 +106,17 @@ class Service:
             return self.locks.shown()
         if kind.is_own:
             return self.tally.answer(words[0], words[1].decode(errors="replace")).encode()
-        password = decoded(words[kind.new]) if 0 < kind.new < len(words) else None
-        letters = (password or b"").decode(errors="surrogateescape")
-        is_short = password is not None and len(letters) < self.options.least_length
-        return b"short" if is_short else b""  # the book refuses what is no password
+        return self.why_refused(kind, words) if 0 < kind.new < len(words) else b""
+
+    def why_refused(self, kind: Kind, words: list[bytes]) -> bytes:
+        """The answer to a new password that isn't taken; nothing for others."""
+        password = decoded(words[kind.new])
+        if password is None:  # which the book refuses
+            return b""
+        if len(password.decode(errors="surrogateescape")) < self.options.least_length:
+            return b"short"
+        must_change = self.locks.has(words[1], b"expire") and not self.locks.has(words[1], b"lock")
+        return b"same" if must_change and keeps_password(words) else b""
 
     def in_book(self, name: bytes) -> bytes:
         """The book's form of a name; "@", which is no name, for a refused one."""
@@ -115,9 +126,17 @@ class Service:
         is_whole = local and domain and not re.search(rb"[\0-\x20\x7f]", name)
         if not is_whole or len(name) > 254:
             return b"@"
-        local = local.lower() if self.options.fold_local_part else local
-        digest = hashlib.blake2b(local + b"@" + domain.lower(), digest_size=20).digest()
+        digest = hashlib.blake2b(self.folded(name), digest_size=20).digest()
         return b"e." + base64.b32encode(digest)[:30].lower()
+
+    def folded(self, name: bytes) -> bytes:
+        """The one spelling of an address that may be typed in several; other names as they are."""
+        local, at, domain = name.rpartition(b"@")
+        if not self.options.mail_names or not at:
+            return name
+        if self.options.fold_local_part:
+            local = local.lower()
+        return local + at + domain.lower()
 
     async def process(self, request: Request) -> None:
         """Has a request answered, unless its client has gone and it changes nothing."""
@@ -129,7 +148,7 @@ class Service:
             await request.places.take(client.user)
         tally.waited += time.monotonic() - came
         try:
-            if kind.changes or not client.is_gone:
+            if kind.changes or not client.has_gone():
                 answering = partial(self.locks.answer, request)
                 judging = partial(tally.names.judge, name, answering)
                 answer = await (tally.users.judge(user, judging) if kind.tries else answering())
@@ -207,37 +226,77 @@ class Service:
                 self.tally.counts["upgraded"] += answer == b"upgraded"
 
 
+def denied(door: Door, words: list[bytes]) -> str:
+    """What of a line its socket doesn't take, as the log names it; nothing if it takes the line."""
+    operation = words[0]
+    if operation not in OPERATIONS:
+        return "an unknown operation"
+    if operation not in door.operations:
+        return operation.decode()
+    is_setting_given = 0 < OPERATIONS[operation].setting < len(words)
+    if is_setting_given and b"load" not in door.operations:  # costs are an administrator's
+        return f"{operation.decode()} with a setting"
+    return ""
+
+
+def keeps_password(words: list[bytes]) -> bool:
+    """Whether a change's new password is the old one that it gives."""
+    return words[0] == b"change" and decoded(words[2]) == decoded(words[3])
+
+
 class Locks(Marks):
     """The marks of names, in a file beside the book, which has their records."""
 
     def __init__(self, service: Service) -> None:
         super().__init__(f"{service.options.file}-locks")
         self.service = service
+        self.marking = asyncio.Lock()  # else a mark is put at a name that is just going
 
     def shown(self) -> bytes:
-        said = [b"%b:%b" % (name, MARKS[mark]) for name, mark in sorted(self.pairs)]
+        barred = self.service.foreign.barred() if self.service.foreign else set[bytes]()
+        pairs = self.pairs | {(name, b"lock") for name in barred}  # else an export has them
+        said = [b"%b:%b" % (name, MARKS[mark]) for name, mark in sorted(pairs)]
         return b" ".join([b"locks", *said])
 
+    async def is_locked(self, name: bytes) -> bool:
+        """Whether a name is locked, or an old file bars its user."""
+        foreign = self.service.foreign
+        return self.has(name, b"lock") or foreign is not None and await foreign.bars(name)
+
     async def answer(self, request: Request) -> bytes:
+        """The answer to a request. What moves marks, or ends a name, goes one after another."""
+        operation = request.words[0]
+        if operation not in (*MARKS, b"rename", b"delete"):
+            return await self.judge(request)
+        async with self.marking:
+            if operation == b"rename":
+                return await self.rename(request)
+            if operation == b"delete":
+                return await self.delete(request)
+            return await self.mark(request)
+
+    async def judge(self, request: Request) -> bytes:
         """The answer to a request: a wrong password's for a locked name."""
         operation, name = request.words[:2]
-        if operation in MARKS:
-            return await self.mark(request)
-        if operation == b"rename":
-            return await self.rename(request)
-        is_locked, asked = self.has(name, b"lock"), request
+        is_locked, asked = await self.is_locked(name), request
         if is_locked and request.kind.tries:
             # As long as a wrong password takes, and nothing is changed.
             asked = replace(request, words=[b"verify", *request.words[1:3]])
         answer = await self.service.answer(asked)
-        if answer in (b"yes", b"no") and (is_locked or self.has(name, b"lock")):
+        if answer in (b"yes", b"no", b"expired") and (is_locked or await self.is_locked(name)):
             return b"absent" if operation == b"known" else request.kind.wrong
         if answer == b"yes" and self.has(name, b"expire"):
             return b"expired"
-        if answer in (b"replaced", b"enrolled") and self.has(name, b"expire"):
+        is_new = answer in (b"replaced", b"enrolled") and not keeps_password(request.words)
+        if is_new and self.has(name, b"expire"):
             return answer if await self.put(name, b"renew") else UNAVAILABLE
+        return answer
+
+    async def delete(self, request: Request) -> bytes:
+        """Deletes an account, and then its marks: the next of its name has none."""
+        answer = await self.service.answer(request)
         if answer == b"deleted":
-            await self.clear(name)
+            await self.clear(request.words[1])
         return answer
 
     async def mark(self, request: Request) -> bytes:
@@ -246,7 +305,7 @@ class Locks(Marks):
         if mark == b"unlock" and not self.has(name, b"lock"):
             return b"none"
         answer = await self.service.answer(replace(request, words=[b"known", name]))
-        if answer not in (b"yes", b"absent"):
+        if answer not in (b"yes", b"absent", b"expired"):
             return answer
         return MARKS[mark] if await self.put(name, mark) else UNAVAILABLE
 

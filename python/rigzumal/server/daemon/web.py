@@ -66,7 +66,9 @@ class WebClient(Client):
 
     async def respond(self, status: int) -> None:
         """Sends a status, and goes on with the next request if there may be one."""
-        headers = [("Content-Length", "0"), *HEADERS.get(status, ())]
+        headers: list[tuple[str, Any]] = [("Content-Length", "0"), *HEADERS.get(status, ())]
+        if status == 200:
+            headers.append(("Remote-User", self.service.folded(self.name)))
         if status == 429:
             name = self.service.in_book(self.name).decode(errors="replace")
             tally, user = self.service.tally, f"uid={self.uid}"

@@ -1,0 +1,90 @@
+"""A user's line in an old file: the record, shadow(5)'s dates, and Dovecot's extra fields."""
+
+import re
+import time
+from dataclasses import dataclass
+from typing import NamedTuple, Optional
+
+SECONDS_A_DAY = 86400
+SHADOW = 9  # fields of a line of shadow(5); those without the last ones are taken too
+OLD_SHADOW = 5  # with the last change, the least and the most days of a password
+NUMBER = re.compile(rb"[0-9]{0,9}")  # the C library refuses a sign too
+# What Dovecot's extra fields begin with that let a user in nowhere, or from some networks alone.
+BARS = (b"nologin", b"noauthenticate", b"allow_")
+
+
+def today() -> int:
+    """Days since 1970, as shadow(5) counts them."""
+    return int(time.time()) // SECONDS_A_DAY
+
+
+class Days(NamedTuple):
+    """The numbers of a line of shadow(5), in its order; -1 is an empty field."""
+
+    changed: int = -1
+    least: int = -1
+    most: int = -1
+    warned: int = -1
+    inactive: int = -1
+    end: int = -1
+
+    def age(self, day: int) -> int:
+        return day - self.changed if self.changed <= day else -1
+
+    def has_ended(self, day: int) -> bool:
+        return self.end != -1 and day >= self.end
+
+    def is_too_old(self, day: int) -> bool:
+        """Whether the password can't even be changed any more."""
+        is_bounded = self.changed != 0 and self.most != -1 and self.inactive != -1
+        bound = max(self.most, self.inactive, self.most + self.inactive)
+        return is_bounded and self.age(day) > bound
+
+    def must_change(self, day: int) -> bool:
+        return self.changed == 0 or self.most != -1 and self.age(day) > self.most
+
+
+@dataclass(frozen=True)
+class Line:
+    """A user's line: the record, and the fields behind it."""
+
+    record: bytes = b""
+    others: tuple[bytes, ...] = ()
+
+    def days(self) -> Optional[Days]:
+        """The dates, none of which an htpasswd file has; None if one isn't a number."""
+        fields, count = self.others[: len(Days())], 2 + len(self.others)
+        are_numbers = all(map(NUMBER.fullmatch, fields))
+        if count == SHADOW and not are_numbers and not self.is_of_dovecot():
+            return None
+        if not are_numbers or not OLD_SHADOW <= count <= SHADOW:
+            return Days()
+        return Days(*(int(it or b"-1") for it in fields))
+
+    def is_of_dovecot(self) -> bool:
+        """Whether it has a home, or an extra field: a value's colon makes nine fields of it."""
+        home, extra = self.others[3], self.others[5]
+        return b"/" in home or b"=" in extra
+
+    def bar(self, day: int) -> str:
+        """Why no password lets the user in, also once they moved; empty if nothing bars them."""
+        days = self.days()
+        if days and days.has_ended(day):
+            return "the account has expired"
+        items = (it for field in self.others for it in field.split(b" "))
+        barring = next((it for it in items if it.startswith(BARS)), b"")
+        return re.sub(b"[^a-z_].*", b"", barring, flags=re.DOTALL).decode()
+
+    def why_shut(self, day: int) -> str:
+        """Why no password of this line lets the user in; empty if one may."""
+        if why := self.bar(day):
+            return why
+        days = self.days()
+        if days is None:
+            return "a date that is no number"
+        return "the password has expired" if days.is_too_old(day) else ""
+
+    def must_change(self, day: int) -> bool:
+        """Whether a right password lets the user in only once it is changed, as pam_unix has it."""
+        days = self.days()
+        return days is not None and days.must_change(day)

@@ -1,0 +1,42 @@
+"""What a hash needs, as credkeep(1) counts it for --most-memory and --most-work."""
+
+import math
+import re
+from dataclasses import dataclass
+from typing import Optional
+
+USUAL = "$argon2id$v=19$m=65536,t=3,p=4"  # credkeep's new records, if --setting isn't given
+TIMES = 16  # what a line may bring is so many times the new records' costs
+ARGON2 = re.compile(
+    r"\$argon2(?:d|i|id)\$v=19\$m=([0-9]{1,7}),t=([0-9]{1,10}),p=[0-9]{1,3}(?:\$.*)?"
+)
+SCRYPT = re.compile(r"\$scrypt\$ln=([0-9]{1,2}),r=([0-9]{1,3}),p=([0-9]{1,3})(?:\$.*)?")
+MOST = 2**32 - 1  # of a size's number
+GIB = 2**20  # in KiB
+
+
+@dataclass(frozen=True)
+class Costs:
+    """Of a hash, in KiB: its memory, and what it goes over, each time that it does."""
+
+    memory: int
+    work: int
+
+
+def costs_of(setting: str) -> Optional[Costs]:
+    """The costs of a setting, with its salt or without; none if it is no setting."""
+    if argon2 := ARGON2.fullmatch(setting):
+        memory, passes = int(argon2[1]), int(argon2[2])
+        return Costs(memory, memory * passes)
+    if scrypt := SCRYPT.fullmatch(setting):
+        log2, size, pieces = int(scrypt[1]), int(scrypt[2]), int(scrypt[3])
+        memory = math.ceil(128 * size * pieces * 2**log2 / 1024)
+        return Costs(memory, 2 * memory)
+    return None
+
+
+def size_of(kib: int) -> str:
+    """A bound as credkeep takes one: a number of KiB, or of GiB where that is too large."""
+    if kib <= MOST:
+        return str(kib)
+    return f"{min(math.ceil(kib / GIB), MOST)}G"
