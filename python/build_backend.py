@@ -2,9 +2,9 @@
 
     python3 build_backend.py FOLDER
 
-The wheel holds the library that `make -C c` has built, or with ARCH=arm64 in the environment `make
--C c ARCH=arm64`. It is for Linux on that processor, and for every Python 3: the library is loaded by
-ctypes.
+The wheel holds the library of `make -C c`, or with ARCH=arm64 in the environment of `make -C c
+ARCH=arm64`, which is built if it isn't there. It is for Linux on that processor, and for every
+Python 3: the library is loaded by ctypes.
 """
 
 from __future__ import annotations
@@ -14,11 +14,13 @@ import hashlib
 import os
 import pathlib
 import re
+import subprocess
 import sys
 import zipfile
 from typing import Any, Optional
 
 HERE = pathlib.Path(__file__).resolve().parent
+sys.path.insert(0, str(HERE.parent / "packaging"))
 # What a wheel's name and the library's head (e_machine, at 18) call a processor.
 MACHINES = {62: "x86_64", 183: "aarch64"}
 IS_ARM64 = os.environ.get("ARCH") == "arm64"
@@ -74,9 +76,18 @@ Tag: {tag()}
 
 
 def need_library() -> None:
-    """Ends with a word on how to build the library if it isn't there."""
-    if not LIBRARY.exists():
-        sys.exit(f"{LIBRARY} is not there: run `make -C c` first, which builds it")
+    """Builds the library if it isn't there. If it can't, the last line says why."""
+    if LIBRARY.exists():
+        return
+    c = HERE.parent / "c"
+    if not (c / "Makefile").exists():
+        sys.exit(f"{c} is not there: pip before 21.3 builds a copy of this folder alone")
+    try:
+        done = subprocess.run(["make", "-C", str(c)], stdout=sys.stderr)
+    except FileNotFoundError:
+        sys.exit("make is not there: the library is built by make and a C compiler")
+    if done.returncode != 0 or not LIBRARY.exists():
+        sys.exit(f"`make -C {c}` did not build {LIBRARY.name}: its lines above say why")
 
 
 def package() -> dict[str, bytes]:
@@ -96,10 +107,12 @@ def line_of(name: str, data: bytes) -> str:
     return f"{name},sha256={digest},{len(data)}\n"
 
 
-def write_wheel(directory: str, held: dict[str, bytes]) -> str:
-    """Writes a wheel of these files into the folder, and answers its name."""
+def write_wheel(directory: str, held: dict[str, bytes], about: dict[str, bytes]) -> str:
+    """Writes a wheel of these files into the folder, with what is said of them, and answers its
+    name.
+    """
     folder = f"rigzumal-{version()}.dist-info"
-    files = {**held, **{f"{folder}/{name}": data for name, data in metadata().items()}}
+    files = {**held, **{f"{folder}/{name}": data for name, data in about.items()}}
     record = "".join(line_of(name, data) for name, data in files.items())
     files[f"{folder}/RECORD"] = (record + f"{folder}/RECORD,,\n").encode()
     name = f"rigzumal-{version()}-{tag()}.whl"
@@ -112,13 +125,25 @@ def write_wheel(directory: str, held: dict[str, bytes]) -> str:
     return name
 
 
+def about_components() -> dict[str, bytes]:
+    """The files of the folder dist-info that say whose compiled code is in the library."""
+    import components  # of the folder packaging, which a copy of this folder alone lacks
+
+    files = {f"rigzumal/{LIBRARY.name}": LIBRARY.read_bytes()}
+    return {
+        "licenses/NOTICES": components.notices("wheel").encode(),
+        "sboms/rigzumal.spdx.json": components.spdx("wheel", files),
+    }
+
+
 def build_wheel(
     wheel_directory: str,
     config_settings: Optional[dict[str, Any]] = None,
     metadata_directory: Optional[str] = None,
 ) -> str:
     """Writes the wheel into the folder, and answers its name."""
-    return write_wheel(wheel_directory, package())
+    held = package()
+    return write_wheel(wheel_directory, held, {**metadata(), **about_components()})
 
 
 def build_editable(
@@ -127,10 +152,10 @@ def build_editable(
     metadata_directory: Optional[str] = None,
 ) -> str:
     """Writes a wheel that names this folder, for `pip install -e` (PEP 660): what is changed here
-    is changed for all who import it. The library is the one that `make -C c` has built.
+    is changed for all who import it. The library is the one in c/out.
     """
     need_library()
-    return write_wheel(wheel_directory, {"rigzumal.pth": f"{HERE}\n".encode()})
+    return write_wheel(wheel_directory, {"rigzumal.pth": f"{HERE}\n".encode()}, metadata())
 
 
 def build_sdist(sdist_directory: str, config_settings: Optional[dict[str, Any]] = None) -> str:

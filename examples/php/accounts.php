@@ -39,7 +39,7 @@ function login(PDO $db, string $name, #[SensitiveParameter] string $password): ?
         }
         $is_old = password_needs_rehash($user[1], PASSWORD_ARGON2ID, COSTS);
         $now = $is_old ? put($db, $user, $password) : read($db, $user[0], 'id');
-        if ($now !== null && ($is_old || $now == $user)) {
+        if ($now !== null && ($is_old || $now === $user)) {
             return $now;
         }
         $user = read($db, $user[0], 'id');
@@ -85,8 +85,12 @@ function reset_token(array $user, #[SensitiveParameter] string $key, int $until)
 function reset_password(
     PDO $db, int $id, #[SensitiveParameter] string $key, string $token, #[SensitiveParameter] string $new
 ): ?array {
+    // The whole form: (int) '1795965680.9e1..' is another number, since PHP reads a float there.
+    if (!preg_match('/^([1-9][0-9]{0,17})\.[0-9a-f]{64}$/D', $token, $parts)) {
+        return null;
+    }
+    $until = (int) $parts[1];
     $user = read($db, $id, 'id');
-    $until = (int) $token;
     if ($user === null || $until < time() || !hash_equals(reset_token($user, $key, $until), $token)) {
         return null;
     }

@@ -22,15 +22,21 @@ class Store:
 
     def __init__(self, dsn: str) -> None:
         given = {"autocommit": True, "connect_timeout": 5, "tcp_user_timeout": 10_000}
-        self.pool = ConnectionPool(dsn, kwargs=given, open=True)
-        columns = Postgres("users", "email", "record")
-        self.accounts = Accounts(self.pool.connection, columns, PasswordHasher())
+        self.pool = ConnectionPool(dsn, kwargs=given, open=True, timeout=5)
+        self.columns = Postgres("users", "email", "record")
+        self.accounts = Accounts(self.pool.connection, self.columns, PasswordHasher())
         for fault in self.accounts.examine():
             if fault.is_error:
                 raise SystemExit(fault)
 
     def sign_up(self, email: str, password: str) -> bool:
-        """False if the address is taken: nobody else's row is touched."""
+        """False if the address is taken: nobody else's row is touched.
+
+        ValueError if no new account may have the address or the password.
+        """
+        if not self.columns.can_stand(email):
+            raise ValueError("no text of PostgreSQL has a NUL byte or a lone surrogate")
+        self.columns.check_new_key(email)
         record = self.accounts.new_record(password)
         with self.pool.connection() as conn:
             return conn.execute(ADD, [email, record]).rowcount == 1

@@ -9,6 +9,11 @@ True
 `python3 -m rigzumal` tries it at the shell. Nothing here prints or keeps a password.
 """
 
+import sys
+
+if sys.version_info < (3, 9):  # before what older ones can't even read
+    raise ImportError("rigzumal needs Python 3.9 or later; this is " + sys.version.split()[0])
+
 from rigzumal._hashers import PasswordHasher, ScryptHasher, Type, argon2, scrypt
 from rigzumal._library import InvalidNumbersError, InvalidRecordError, NoRandomError
 from rigzumal._library import OutOfMemoryError, RigzumalError, VerifyMismatchError

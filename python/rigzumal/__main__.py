@@ -5,8 +5,8 @@
     python3 -m rigzumal calibrate --target-ms 250 --memory 64M
     python3 -m rigzumal accounts --help
 
-A password is never an argument. At a terminal the command asks for it, unseen; otherwise it is all of
-standard input, with a newline at its end too. The exit statuses are credkeep's: 4 is a no.
+A password is never an argument. At a terminal the command asks for it, unseen; otherwise it is all
+of standard input, with a newline at its end too. The exit statuses are credkeep's: 4 is a no.
 """
 
 from __future__ import annotations

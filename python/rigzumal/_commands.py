@@ -8,13 +8,14 @@ import enum
 import getpass
 import re
 import sys
-from collections.abc import Callable
+from collections.abc import Callable, Iterator
 from typing import NoReturn, Optional, Union
 
 from rigzumal._hashers import PasswordHasher, ScryptHasher
 from rigzumal._library import NoRandomError, OutOfMemoryError
 
 _UNITS = {"K": 1, "M": 1024, "G": 1024 * 1024}
+_LOW_MEMORY = 8192  # KiB; what is lower without a unit is a mistake, more often than not
 
 
 class Status(enum.IntEnum):
@@ -37,6 +38,15 @@ class Refusal(Exception):
         self.status = status
 
 
+# What other programs call the costs.
+_SYNONYMS = {
+    **dict.fromkeys(("--time", "--time-cost", "--iterations", "--rounds", "-t"), "--passes"),
+    **dict.fromkeys(("--memory-cost", "--mem", "-m", "-k"), "--memory"),
+    **dict.fromkeys(("--parallelism", "--parallel", "-p"), "--lanes"),
+    **dict.fromkeys(("--cost", "--costs", "--setting"), "--memory, --passes or --lanes"),
+}
+
+
 class Words(argparse.ArgumentParser):
     """A parser whose errors end with the status of refused words."""
 
@@ -44,16 +54,30 @@ class Words(argparse.ArgumentParser):
         """Ends the program, and hides a word that isn't taken: it may be a password."""
         front, _, words = message.partition("unrecognized arguments: ")
         if words and not front:
-            said = "a password is never an argument: pipe or type it"
-            message = f"a word too many; {said}"
-            first = words.split()[0].partition("=")[0]
-            near = difflib.get_close_matches(first, self._option_string_actions, 1, 0.7)
-            if near and first.startswith("--"):
-                message += f"; is {near[0]} meant?"
+            message = self._unknown(words.split()[0].partition("=")[0])
         hidden = r"invalid choice: .*(?=\(choose)"
         message = re.sub(hidden, "unknown word ", message, flags=re.S)
         self.print_usage(sys.stderr)
         self.exit(Status.WORDS, f"{self.prog}: error: {message}\n")
+
+    def _unknown(self, word: str) -> str:
+        """The fault of a word that isn't shown."""
+        if not word.startswith("-"):
+            return "a word too many; a password is never an argument: pipe or type it"
+        options = {*_options_of(self)}
+        near = difflib.get_close_matches(word, options, 1, 0.7)
+        meant = _SYNONYMS.get(word) or "".join(near)
+        is_there = bool(options.intersection(meant.replace(",", "").split()))
+        return f"an unknown option, which isn't shown{f'; is {meant} meant?' if is_there else ''}"
+
+
+def _options_of(words: argparse.ArgumentParser) -> Iterator[str]:
+    """The options of a parser, and of its commands."""
+    yield from words._option_string_actions
+    for action in words._actions:
+        if isinstance(action, argparse._SubParsersAction):
+            for command in action.choices.values():
+                yield from _options_of(command)
 
 
 def status_of(fault: Exception) -> Status:
@@ -92,6 +116,10 @@ def memory(text: str) -> int:
     number = text[:-1] if unit in _UNITS else text
     if not (number.isascii() and number.isdigit()):
         raise argparse.ArgumentTypeError(f"{text!r} is not a size such as 64M")
+    if unit not in _UNITS and int(number) < _LOW_MEMORY:
+        say(
+            f"--memory {number} is {number} KiB: {number}M is meant if it is of MiB, else {number}K"
+        )
     return int(number) * _UNITS.get(unit, 1)
 
 

@@ -6,6 +6,7 @@ import enum
 
 from rigzumal import _library
 from rigzumal._frozen import Frozen
+from rigzumal._hidden import hidden
 from rigzumal._library import Secret, checked, in_range, pair, whole_number
 
 TYPE_CHECKING = False
@@ -60,6 +61,7 @@ class _Hasher(Frozen):
         """The secret of new records, and those of older ones."""
         return self.secrets or (self.secret,)
 
+    @hidden
     def hash(self, password: Secret, *, salt: Optional[Bytes] = None) -> str:
         """A new record of the password.
 
@@ -80,6 +82,7 @@ class _Hasher(Frozen):
         given = (self.costs, chosen, self.hash_len, password)
         return _library.record(*given, self._secrets()[0], self.threads)
 
+    @hidden
     def verify(self, hash: Secret, password: Secret) -> Literal[True]:
         """True if the password is the record's.
 
@@ -98,9 +101,13 @@ class _Hasher(Frozen):
             fault = _library.check(hash, password, secret or None, self.threads)
             if fault not in (_library.MISMATCH, _library.SCHEME):
                 break
+        if _library.OK < fault < _library.MEMORY and _is_record(password):
+            said = "the first argument is no record, and the second is one: pass the record first"
+            raise _library.InvalidRecordError(fault, said)
         _library.raise_fault(fault, hash)
         return place
 
+    @hidden
     def verify_and_rehash(self, hash: Secret, password: Secret) -> Optional[str]:
         """None if the password is right and its record may stay; a new record if it is old.
 
@@ -120,6 +127,11 @@ class _Hasher(Frozen):
         found = (parts.scheme, parts.version, parts.memory, parts.passes, parts.lanes)
         sizes = (parts.salt_size, parts.tag_size)
         return found + sizes != self._scheme() + (self.salt_len, self.hash_len)
+
+
+def _is_record(password: Secret) -> bool:
+    """Whether what stands for a password is a record: other libraries have them the other way."""
+    return isinstance(password, (str, bytes)) and _library.is_record(password)
 
 
 class PasswordHasher(_Hasher):
@@ -159,6 +171,7 @@ class PasswordHasher(_Hasher):
     _LEAST_SALT = 8
     _COSTS = "$argon2{type.name}$v=19$m={memory_cost},t={time_cost},p={parallelism}"
 
+    @hidden
     def __init__(
         self,
         time_cost: int = 3,
@@ -193,6 +206,7 @@ class PasswordHasher(_Hasher):
             secrets=several,
         )
 
+    @hidden
     def replace(self, **changes: Any) -> PasswordHasher:
         """A copy with other values of some attributes."""
         if "secrets" in changes:
@@ -253,6 +267,7 @@ class ScryptHasher(_Hasher):
         return (_SCRYPT, 0, self.log2_n, self.block_size, self.parallelism)
 
 
+@hidden
 def argon2(
     password: Secret,
     salt: Bytes,
@@ -286,6 +301,7 @@ def argon2(
     return _library.made_bytes(hash_len, call, costs, inputs)
 
 
+@hidden
 def scrypt(
     password: Secret, salt: Bytes, *, log2_n: int, r: int, p: int, length: int = 32
 ) -> bytes:

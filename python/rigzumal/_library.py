@@ -177,13 +177,17 @@ NAME: Final = "librigzumal.so.1"
 
 
 def _path() -> str:
-    """The file that RIGZUMAL_LIBRARY names; otherwise the package's, make's, or the system's."""
+    """The file that RIGZUMAL_LIBRARY names; otherwise the package's, make's, the one in the folder
+    lib of the prefix below which the package is installed, or the system's.
+    """
     named = os.environ.get("RIGZUMAL_LIBRARY")
     if named:
         return named
     here = os.path.dirname(os.path.realpath(__file__))
     made = os.path.join(os.path.dirname(os.path.dirname(here)), "c", "out")
-    for folder in (here, made):
+    # lib/python3.11/site-packages/rigzumal, or the like
+    prefixed = os.path.normpath(os.path.join(here, "..", "..", ".."))
+    for folder in (here, made, prefixed):
         path = os.path.join(folder, NAME)
         if os.path.exists(path):
             return path
@@ -194,7 +198,7 @@ def _load() -> Any:
     try:
         library = ctypes.CDLL(_path())
     except OSError as refused:
-        hint = "build it by `make -C c`, or name it in RIGZUMAL_LIBRARY"
+        hint = "build it by `make -C c` with a C compiler alone, or name it in RIGZUMAL_LIBRARY"
         raise ImportError(f"{NAME} can't be loaded: {hint}: {refused}") from None
     text, size, to = ctypes.c_char_p, ctypes.c_size_t, ctypes.POINTER
     room, inputs = [text, size], to(Inputs)

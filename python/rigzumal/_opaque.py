@@ -2,10 +2,10 @@
 
 from __future__ import annotations
 
+from rigzumal._hidden import hidden
+
 # The categories of RFC 8264's FreeformClass, section 4.3: what a person may type.
-_ALLOWED = frozenset(
-    "Ll Lu Lo Nd Lm Mn Mc Lt Nl No Me Sm Sc Sk So Pc Pd Ps Pe Pi Pf Po Zs".split()
-)
+_ALLOWED = frozenset("Ll Lu Lo Nd Lm Mn Mc Lt Nl No Me Sm Sc Sk So Pc Pd Ps Pe Pi Pf Po Zs".split())
 
 # Default_Ignorable_Code_Point in these categories, which unicodedata doesn't tell; conjoining
 # Hangul (sections 9.9 and 9.13); the exceptions of RFC 5892, section 2.6.
@@ -18,6 +18,7 @@ _REFUSED = (
 _JOINERS = "\u200c\u200d"
 
 
+@hidden
 def opaque_string(text: str) -> str:
     """The text as RFC 8265's OpaqueString (section 4.2): each space is U+0020, in NFC.
 

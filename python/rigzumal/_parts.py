@@ -64,9 +64,7 @@ def decoded(letters: str) -> bytes:
 
 # As other programs begin a record: $2b$.., or Django's pbkdf2_sha256$... Nothing else is
 # shown, since the text may be a password.
-_OTHERS = (
-    r"\$([A-Za-z0-9-]{1,20})\$" r"|((?:pbkdf2|bcrypt|argon2|scrypt|md5|sha1)[a-z0-9_]{0,9})\$"
-)
+_OTHERS = r"\$([A-Za-z0-9-]{1,20})\$" r"|((?:pbkdf2|bcrypt|argon2|scrypt|md5|sha1)[a-z0-9_]{0,9})\$"
 
 
 def scheme_of_another(record: str) -> str:

@@ -20,7 +20,7 @@ from typing import Any, Union
 from passlib.handlers import argon2 as _argon2
 from passlib.handlers import scrypt as _scrypt
 from passlib.registry import register_crypt_handler
-from passlib.utils import handlers, to_bytes
+from passlib.utils import handlers
 
 import rigzumal
 
@@ -86,7 +86,7 @@ class argon2(_OneBackend, _argon2._Argon2Common):
 
     def _calc_checksum(self, secret: Union[str, bytes]) -> bytes:
         return rigzumal.argon2(
-            to_bytes(secret, "utf-8", param="secret"),
+            secret,
             self.salt,
             time_cost=self.rounds,
             memory_cost=self.memory_cost,
@@ -106,7 +106,7 @@ class scrypt(_OneBackend, _scrypt.scrypt):
 
     def _calc_checksum(self, secret: Union[str, bytes]) -> bytes:
         return rigzumal.scrypt(
-            to_bytes(secret, "utf-8", param="secret"),
+            secret,
             self.salt,
             log2_n=self.rounds,
             r=self.block_size,

@@ -6,11 +6,12 @@ import functools
 from collections.abc import Callable, Coroutine
 from typing import TYPE_CHECKING, Any, TypeVar
 
+from rigzumal._hidden import hidden, hide
 from rigzumal._library import Secret
 from rigzumal.accounts._operations import Operations
 from rigzumal.accounts._session import AsyncRuntime, Hook, HookFailed, Runtime, run
 from rigzumal.accounts.types import Answer, Key, Kind, Reply, Request, Ticket, Worked
-from rigzumal.accounts.dialects._dialect import Fault
+from rigzumal.accounts.dialects._faults import Fault
 from rigzumal.accounts.pools import AsyncPool, Pool
 
 if TYPE_CHECKING:
@@ -44,7 +45,8 @@ class Accounts(Operations[Pool]):
             replaces even if its own aren't higher.
         tries: how often to try an operation whose commit finds another record; 1 or more.
         patience: seconds for a new connection, a busy server, and a lost answer; 0 or
-            more. It ends no statement that hangs: connections need their own limits.
+            more. It ends no statement that hangs, and no wait of a pool for a
+            connection: both need limits of their own, of some seconds.
         confirm: confirm an answer without a change, such as a verify's, by writing the
             record over itself. It is for servers that show a change before it is safe
             (MariaDB without a binary log), and makes a login cost as much as a change.
@@ -64,7 +66,7 @@ class Accounts(Operations[Pool]):
     reply or not at all. If the server undoes the transaction, `also` is called again in
     the next; for CHANGED it isn't called. Its exceptions undo all and reach the caller,
     but for its connection's errors that mean "again". It leaves the transaction open and
-    the record alone, and calls no operation of accounts on the same connection.
+    the record alone, and calls no operation on the same table.
 
     Every operation may raise:
         TypeError: the key is of another type than its column, or a password is neither
@@ -89,6 +91,7 @@ class Accounts(Operations[Pool]):
         """The operation's answer; AsyncAccounts returns the coroutine instead."""
         return run(doing)
 
+    @hidden
     def enrol(self, key: Key, password: Secret, *, also: Hook = None) -> Reply:
         """ENROLLED; EXISTS if the account has a record; NO_ACCOUNT.
 
@@ -96,10 +99,12 @@ class Accounts(Operations[Pool]):
         """
         return self._done(self._replied(Request(Kind.ENROL, key, password), also))
 
+    @hidden
     def verify(self, key: Key, password: Secret, *, also: Hook = None) -> Reply:
         """YES or NO; ABSENT if the account has no record; NO_ACCOUNT."""
         return self._done(self._replied(Request(Kind.VERIFY, key, password), also))
 
+    @hidden
     def login(self, key: Key, password: Secret, *, also: Hook = None) -> Reply:
         """A verify that replaces a record of lower costs, answered as a verify.
 
@@ -108,6 +113,7 @@ class Accounts(Operations[Pool]):
         """
         return self._done(self._login(key, password, also))
 
+    @hidden
     def change(
         self, key: Key, password: Secret, new_password: Secret, *, also: Hook = None
     ) -> Reply:
@@ -118,20 +124,24 @@ class Accounts(Operations[Pool]):
         request = Request(Kind.CHANGE, key, password, new_password)
         return self._done(self._replied(request, also))
 
+    @hidden
     def reset(self, key: Key, new_password: Secret, *, also: Hook = None) -> Reply:
         """For administrators: REPLACED, or ENROLLED if it had no record; NO_ACCOUNT."""
         request = Request(Kind.RESET, key, b"", new_password)
         return self._done(self._replied(request, also))
 
+    @hidden
     def upgrade(self, key: Key, password: Secret, *, also: Hook = None) -> Reply:
         """UPGRADED if the record is of lower costs, otherwise KEPT; WRONG; ABSENT;
         NO_ACCOUNT."""
         return self._done(self._replied(Request(Kind.UPGRADE, key, password), also))
 
+    @hidden
     def remove(self, key: Key, password: Secret, *, also: Hook = None) -> Reply:
         """REMOVED; the account stays, with no record. WRONG; ABSENT; NO_ACCOUNT."""
         return self._done(self._replied(Request(Kind.REMOVE, key, password), also))
 
+    @hidden
     def new_record(self, password: Secret) -> str:
         """A record for your own INSERT, which makes an account with its password.
 
@@ -141,6 +151,7 @@ class Accounts(Operations[Pool]):
         """
         return self._done(self._new_record(password))
 
+    @hidden
     def examine(self, *used: Kind) -> list[Fault]:
         """The faults of the table, the server and the replica; empty if they have none.
 
@@ -156,18 +167,22 @@ class Accounts(Operations[Pool]):
 
     # ---- in parts: see rigzumal.accounts.types
 
+    @hidden
     def perform(self, request: Request, *, also: Hook = None) -> Answer:
         """The whole operation, with the records before and after it."""
         return self._done(self._perform(request, also))
 
+    @hidden
     def begin(self, request: Request) -> Ticket:
         """The first part: reads the record."""
         return self._done(self._begin(request))
 
+    @hidden
     def work(self, ticket: Ticket) -> Worked:
         """The second part: hashes, and uses no connection."""
         return self._done(self._work(ticket))
 
+    @hidden
     def commit(self, worked: Worked) -> Answer:
         """The third part: writes the new record, if the row still has the copy.
 
@@ -175,6 +190,7 @@ class Accounts(Operations[Pool]):
         """
         return self._done(self._commit(worked))
 
+    @hidden
     def commit_in(self, conn: Any, worked: Worked) -> Answer:
         """The third part in a transaction that the caller begins and ends.
 
@@ -202,12 +218,18 @@ def _awaited(
 
     @functools.wraps(method)
     async def operation(accounts: Any, /, *args: P.args, **kwargs: P.kwargs) -> T:
-        doing: Any = method(accounts, *args, **kwargs)
         try:
+            doing: Any = method(accounts, *args, **kwargs)
             answer: T = await doing
             return answer
         except HookFailed as failed:
             error = failed.error
+        except BaseException as raised:
+            del args, kwargs
+            hide(raised)
+            raise
+        del args, kwargs  # noqa: F821
+        hide(error)
         raise error
 
     return operation

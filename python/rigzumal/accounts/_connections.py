@@ -11,15 +11,16 @@ from typing import Any, Final, Optional
 
 from rigzumal.accounts._session import Job, Runtime
 from rigzumal.accounts._table import Lost, Table, Undone
-from rigzumal.accounts.types import AccountsError, Unavailable
-from rigzumal.accounts.dialects._dialect import Fault, Verdict, error as fault_of
-from rigzumal.accounts.dialects._dialect import is_of_driver, warning
+from rigzumal.accounts.types import AccountsError, NoConnection, Unavailable
+from rigzumal.accounts.dialects._dialect import Verdict, is_of_driver
+from rigzumal.accounts.dialects._faults import Fault, error as fault_of, warning
 
 LOGGER: Final = logging.getLogger("rigzumal.accounts")
 """Warns of retries and unknown outcomes, without a name, record or password."""
 
 _AT_ONCE: Final = 0.5  # seconds in which a pool's dead connections are worked through
 _LONGEST: Final = 400  # letters of a reason
+_AWAY: Final = 5.0  # seconds for which a replica that failed isn't asked
 _DSN_PASSWORD: Final = re.compile(
     r"""((?:password|passwd|pwd)\s*=\s*|//[^/@\s:]*:)('[^']*'|"[^"]*"|[^\s@;,]+)""",
     re.I,
@@ -36,11 +37,22 @@ class Connections:
     table: Table
     patience: float
     _is_passed_over: bool = field(default=False, init=False)
+    _asked_from: float = field(default=0.0, init=False)  # on, the replica
 
     async def at_replica(self, job: Job[Any]) -> Any:
-        """Runs a job once at the replica; Undone without one, or if it fails or refuses."""
-        if self.replica is None:
+        """Runs a job once at the replica; Undone without one, if it fails or refuses, or if it
+        did so a moment ago."""
+        begun = time.monotonic()
+        if self.replica is None or begun < self._asked_from:
             return Undone(None)
+        if self._is_passed_over:
+            # This operation alone finds out whether it is back, which may take a while.
+            self._asked_from = begun + _AWAY
+        done = await self._at_replica(job)
+        self._asked_from = time.monotonic() + _AWAY if self._is_passed_over else 0.0
+        return done
+
+    async def _at_replica(self, job: Job[Any]) -> Any:
         try:
             done = await self._once(self.replica, job)
         except Exception as raised:
@@ -55,7 +67,7 @@ class Connections:
 
     async def replica_faults(self, job: Job[Any]) -> list[Fault]:
         """The faults of the replica, if one exists."""
-        done = None if self.replica is None else await self.at_replica(job)
+        done = None if self.replica is None else await self._at_replica(job)
         if not isinstance(done, Undone):
             return []
         is_away = not isinstance(done.cause, AccountsError) and done.reason
@@ -88,14 +100,15 @@ class Connections:
                 cause, is_dead = cause.__cause__, waits.age < _AT_ONCE
             name = self.table.name(cause)
             if waits.are_over:
-                text = f"no server did it in time: {name}{done.reason}"
-                raise Unavailable(text) from cause
+                kind = NoConnection if done.reason else Unavailable
+                raise kind(f"no server did it in time: {name}{done.reason}") from cause
             if waits.is_first:
                 LOGGER.warning("an operation is tried again: %s", name)
             await self.runtime.pause(waits.next(is_dead))
 
     async def _once(self, pool: Any, job: Job[Any]) -> Any:
         """Runs a job; Undone if it made no change and may be tried again."""
+        self.table.refuse_nested()
         try:
             return await self.runtime.use(pool, job)
         except Lost as lost:
@@ -103,7 +116,7 @@ class Connections:
         except Exception as error:  # of the pool, which makes connections
             verdict = self.table.dialect.verdict
             if any(kind.__name__ == "PoolClosed" for kind in type(error).__mro__):
-                raise Unavailable(f"the pool is closed{_reason(error)}") from error
+                raise NoConnection(f"the pool is closed{_reason(error)}") from error
             if not is_of_driver(error) or verdict(error) is Verdict.REFUSED:
                 raise
             return Undone(error, _reason(error))

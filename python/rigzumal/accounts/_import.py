@@ -2,24 +2,27 @@
 
 from __future__ import annotations
 
+import contextlib
 import enum
 import itertools
 import operator
 import pathlib
 import re
+import shutil
 import sys
+import tempfile
 import time
 from collections import Counter
 from collections.abc import Callable, Iterable, Iterator, Sequence
-from dataclasses import dataclass, field
-from typing import Any, Final, NamedTuple, Optional
+from dataclasses import dataclass
+from typing import IO, Any, Final, NamedTuple, Optional, Union
 
 from rigzumal import InvalidRecordError, _library
 from rigzumal._parts import Parts, none_of_ours, parts, scheme_of_another
 from rigzumal._commands import Refusal, Status, say
 from rigzumal.accounts._accounts import Accounts
 from rigzumal.accounts._session import Session, run
-from rigzumal.accounts.dialects._dialect import ANOTHER_RECORD, Dialect
+from rigzumal.accounts.dialects._dialect import ANOTHER_RECORD, Dialect, Line
 from rigzumal.accounts.types import Key, Kind, Reply, Request, StoreFault, Ticket
 from rigzumal.accounts.types import Worked
 from rigzumal.accounts.pools import Pool
@@ -27,7 +30,6 @@ from rigzumal.accounts.pools import Pool
 BATCH = 50_000  # lines of an import that are committed together
 SHARE = 1000  # of them that one statement adds
 FEW = 200  # that one puts into rows without a record: each key is compared with all
-Line = tuple[Key, str]
 _KEY: Final[Callable[[Line], Any]] = operator.itemgetter(0)
 _NO_UTF8: Final = re.compile("[\udc80-\udcff]")
 
@@ -40,12 +42,10 @@ class Rows:
     dialect: Dialect
 
     def every(self) -> Iterator[tuple[Any, Optional[str]]]:
-        """Each name with its record, in the order of the names."""
+        """Each name with its record, in the order of the names, as the server sends them."""
         with self.pool() as conn:
-            cursor = conn.cursor()
-            cursor.execute(self.dialect.every)
-            yield from iter(cursor.fetchone, None)
-            cursor.close()
+            for name, record in self.dialect.rows_of(conn, self.dialect.every):
+                yield name, record
 
     def delete(self, key: Key) -> bool:
         """Deletes the account with its row; False if it doesn't exist."""
@@ -139,37 +139,53 @@ class Import:
     pool: Pool
     takes_foreign: bool = False  # records of other schemes, for a hook to judge
     are_new: bool = True  # the names, so far
-    spaced: list[int] = field(default_factory=list)  # lines whose names have a space
+    copies: bool = True  # the engine takes lines in a way of its own, so far
 
     def take(self, file: pathlib.Path, key_of: Callable[[str], Key]) -> dict[str, int]:
         """Adds the accounts of lines "NAME RECORD", and counts the outcomes.
 
-        Refused lines are named on standard error.
+        All lines are read before the first is added, and again for each batch. Refused lines
+        are named on standard error.
         """
-        with open(file, encoding="utf-8", errors="surrogateescape") as lines:
-            records = list(self._records(lines, key_of))
-        if self.spaced:
-            name, count = shown(records[self.spaced[0] - 1][0]), len(self.spaced)
-            said = f"{name!r} has a space; names with a space: {count}"
-            say(f"line {self.spaced[0]}: {said}")
-        begun, words = time.monotonic(), list[str]()
-        while len(words) < len(records):
-            start, batch = len(words), records[len(words) : len(words) + BATCH]
+        with _read_twice(file) as lines:
+            total = self._checked(self._records(lines, key_of))
+            lines.seek(0)
+            return self._taken(self._records(lines, key_of), total)
+
+    def _checked(self, records: Iterable[Line]) -> int:
+        """The number of lines; it names those with a space in the name, which may be a mistake."""
+        total, spaced = 0, list[tuple[int, str]]()
+        for total, (key, _) in enumerate(records, 1):
+            if isinstance(key, str) and " " in key:
+                spaced.append((total, key))
+        for number, name in spaced[:1]:
+            said = f"{shown(name)!r} has a space; names with a space: {len(spaced)}"
+            say(f"line {number}: {said}")
+        return total
+
+    def _taken(self, records: Iterator[Line], total: int) -> dict[str, int]:
+        """Adds the records of so many lines, batch after batch, and counts the outcomes."""
+        begun, done, counts = time.monotonic(), 0, Counter[str]()
+        while done < total:
             try:
-                words += self.put(batch)
+                batch = [*itertools.islice(records, BATCH)]
+                words = self.put(batch)
             except Exception:
-                say(f"the lines from {start + 1} on may be missing")
+                say(f"the lines from {done + 1} on may be missing")
                 raise
-            for place in range(start, len(words)):
-                if words[place] == "another":
-                    name = shown(records[place][0])
-                    say(f"line {place + 1}: {name} has another record, which stays")
-            _progress(len(words), len(records), begun)
-        counts = Counter(words)
+            if not batch:
+                raise Refusal(f"the file has {done} lines by now, and had {total}")
+            counts.update(words)
+            for number, word in enumerate(words):
+                if word == "another":
+                    name = shown(batch[number][0])
+                    say(f"line {done + number + 1}: {name} has another record, which stays")
+            done += len(batch)
+            _progress(done, total, begun)
         return {word: counts[word] for word in ("added", "there", "another")}
 
     def _records(self, lines: Iterable[str], key_of: Callable[[str], Key]) -> Iterator[Line]:
-        """The names and records of an import, all read before any is added."""
+        """The names and records of lines."""
         is_text, fault_of = self.dialect.key_type is str, _library.record_fault
         for number, line in enumerate(lines, 1):
             line = line.rstrip("\r\n")
@@ -184,8 +200,6 @@ class Import:
                 yield self._record(line, key_of)
             except Refusal as refusal:
                 raise Refusal(f"line {number}: {refusal}") from None
-            if " " in name:
-                self.spaced.append(number)
 
     def _record(self, line: str, key_of: Callable[[str], Key]) -> Line:
         name, _, record = line.rpartition(" ")
@@ -208,9 +222,22 @@ class Import:
         with self.pool() as conn:
             session = Session(conn)
             run(self.dialect.start(session))
-            words = self._by_shares(session, batch)
+            words = self._by_copy(session, batch) or self._by_shares(session, batch)
             run(self.dialect.commit(session))
         return words
+
+    def _by_copy(self, session: Session, batch: Sequence[Line]) -> Optional[list[str]]:
+        """Puts a large batch in the engine's own way; None if it has none, or refuses it."""
+        if len(batch) <= SHARE or not self.copies:
+            return None
+        try:
+            return run(self.dialect.add_all(session, batch))
+        except Exception:
+            # As of a role that makes no temporary table: then by statements for all engines.
+            self.copies = False
+            run(self.dialect.undo(session))
+            run(self.dialect.start(session))
+        return None
 
     def _by_shares(self, session: Session, batch: Sequence[Line]) -> list[str]:
         """Puts a batch by large statements: as if all names were new, and then as they stand.
@@ -247,14 +274,11 @@ class Import:
         added = [it for it in new.items() if it[0] not in stands]
         enrolled = [it for it in new.items() if it[0] in stands] if stands else []
         if added:
-            sql = self.dialect.add(len(added))
-            result = run(session.execute(sql, *itertools.chain(*added)))
+            result = run(session.execute(*self.dialect.adding(added)))
             if self.are_new and result.affected != len(added):
                 raise StoreFault(ANOTHER_RECORD)
         for start in range(0, len(enrolled), FEW):
-            few = enrolled[start : start + FEW]
-            sql, keys = self.dialect.enrol(len(few)), [key for key, _ in few]
-            run(session.execute(sql, *itertools.chain(*few), *keys))
+            run(session.execute(*self.dialect.enrolling(enrolled[start : start + FEW])))
         # A trigger, a collation or another program may have come between.
         found = self._standing(session, [*new])
         if found != [*new.items()] and dict(found) != new:  # in another order perhaps
@@ -274,10 +298,7 @@ class Import:
         """The rows of these keys, with their records or None."""
         if not keys:
             return []
-        table, k, r = self.dialect.table, self.dialect.key, self.dialect.record
-        marks = ", ".join([self.dialect.mark] * len(keys))
-        sql = f"SELECT {k}, {r} FROM {table} WHERE {k} IN ({marks})"
-        return run(session.execute(sql, *keys)).rows
+        return run(session.execute(*self.dialect.standing(keys))).rows
 
     def _named(self, session: Session, key: Key, record: str) -> str:
         try:
@@ -301,6 +322,20 @@ class Import:
         raise Refusal(f"the server keeps {kept} {shown(key)}", Status.DATABASE)
 
 
+@contextlib.contextmanager
+def _read_twice(file: pathlib.Path) -> Iterator[IO[str]]:
+    """The lines of a file; those of a pipe are kept in another, until they are read again."""
+    given: dict[str, Any] = {"encoding": "utf-8", "errors": "surrogateescape"}
+    with open(file, **given) as lines:
+        if lines.seekable():
+            yield lines
+            return
+        with tempfile.TemporaryFile("w+", **given) as copy:
+            shutil.copyfileobj(lines, copy)
+            copy.seek(0)
+            yield copy
+
+
 def line_of(name: object, record: Optional[str]) -> str:
     """The line of an import; empty of an account without a record, or if it fits none."""
     text, line = str(name), f"{name} {record}"
@@ -314,7 +349,7 @@ def shown(name: object) -> str:
     return text if text.isprintable() else ascii(text)
 
 
-def why(record: object, fault: InvalidRecordError) -> str:
+def why(record: object, fault: Union[InvalidRecordError, str]) -> str:
     """The fault of a record, with the scheme of another program's record."""
     scheme = none_of_ours(record) if isinstance(record, str) else ""
     return f"{scheme}, and {fault}" if scheme else str(fault)

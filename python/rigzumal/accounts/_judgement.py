@@ -31,6 +31,7 @@ Prepare = Callable[[str], str]
 Its ValueError says that no account has such a password.
 """
 
+FOREIGN_HINT: Final = ": give Accounts a `foreign` that judges records of other schemes"
 _TAG_SIZE: Final = 32
 _KNOWN: Final = 64  # costs of which a judge knows whether they are upgraded
 # Their numbers in the library for C are their places.
@@ -179,9 +180,12 @@ class Judge:
             return Reply.EXISTS, copy
         try:
             return self._at_record(request, copy)
-        except InvalidRecordError:
-            if self.foreign is None or _library.is_record(copy):
+        except InvalidRecordError as fault:
+            if _library.is_record(copy):
                 raise
+            refused = fault
+        if self.foreign is None:
+            raise InvalidRecordError(refused.number, f"{refused}{FOREIGN_HINT}")
         # A text of another scheme, which any upgrade replaces.
         if right is None:
             self._spend(self.sample, request.password, self._secrets)
@@ -257,8 +261,8 @@ class Judge:
         """Whether an upgrade replaces a record of these numbers.
 
         No chain of upgrades leads back: of one scheme, neither version, memory nor work
-        is lower, and one is higher. So two versions of a service don't flip records to
-        and fro.
+        is lower, and one is higher. So two versions of a service, whose costs differ, don't
+        flip records to and fro.
         """
         if found.costs in self._old:
             return True

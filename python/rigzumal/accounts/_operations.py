@@ -20,13 +20,16 @@ from rigzumal.accounts._judgement import Foreign, Hasher, Judge, Passwords, Prep
 from rigzumal.accounts._judgement import verdict_of
 from rigzumal.accounts._session import Hook, Job, Runtime
 from rigzumal.accounts._table import Broken, Table, Undone, judged, unused_key
-from rigzumal.accounts.types import NO_ROW, Answer, Copy, Key, Kind, OutcomeUnknown
-from rigzumal.accounts.types import Reply, Request, StoreFault, Ticket, Unavailable
-from rigzumal.accounts.types import Worked
-from rigzumal.accounts.dialects._dialect import Dialect, Fault
+from rigzumal.accounts.types import NO_ROW, Answer, Copy, Key, Kind, NoConnection
+from rigzumal.accounts.types import OutcomeUnknown, Reply, Request, StoreFault, Ticket
+from rigzumal.accounts.types import Unavailable, Worked
+from rigzumal.accounts.dialects._dialect import Dialect, Verdict
+from rigzumal.accounts.dialects._faults import Fault
 from rigzumal.accounts.pools import check_pool
 
 AnyPool = TypeVar("AnyPool")
+
+_REFUSALS: Final = 3  # of a COMMIT whose effect is unknown, after which it isn't sent again
 
 AS_A_VERIFY: Final = {
     Reply.KEPT: Reply.YES,
@@ -62,7 +65,7 @@ class Operations(Generic[AnyPool]):
         if tries < 1 or not patience >= 0:
             raise ValueError("tries must be 1 or more, and patience 0 or more")
         for one in (pool, *([] if replica is None else [replica])):
-            check_pool(one)
+            check_pool(one, self._kind.enter)
         if not isinstance(dialect, Dialect):
             wanted = 'pass a dialect such as Postgres("users", "id", "record")'
             raise TypeError(f"{wanted}, not a {type(dialect).__name__}")
@@ -70,7 +73,7 @@ class Operations(Generic[AnyPool]):
         self._passwords = Passwords(least_length, prepare)
         self._dialect, self._tries = dialect, tries
         self._runtime = self._kind(dialect.execute_options, executor)
-        self._table = Table(dialect, confirm, self._before_commit)
+        self._table = Table(dialect, confirm, self._before_commit, pool)
         self._connections = Connections(self._runtime, pool, replica, self._table, patience)
 
     def _before_commit(self, worked: Worked) -> None:
@@ -80,7 +83,7 @@ class Operations(Generic[AnyPool]):
         return (await self._perform(request, also)).reply
 
     async def _login(self, key: Key, password: Secret, also: Hook) -> Reply:
-        patience: Optional[float] = None
+        begun = time.monotonic()
         try:
             request = Request(Kind.UPGRADE, key, password)
             hook = None if also is None else _as_a_verify(also)
@@ -89,12 +92,14 @@ class Operations(Generic[AnyPool]):
         except OutcomeUnknown:
             if also is not None:
                 raise  # its rows may stand
-        except (StoreFault, OutOfMemoryError):
+        except NoConnection:
+            raise  # another look would wait for a connection too
+        except (StoreFault, OutOfMemoryError, Unavailable):
             pass
-        except Unavailable:
-            patience = 0.0  # one look more; but the server was waited for already
+        # The server was waited for already: this is one look more, or in what is left.
+        rest = max(0.0, self._connections.patience - (time.monotonic() - begun))
         verify = Request(Kind.VERIFY, key, password)
-        return (await self._perform(verify, also, patience)).reply
+        return (await self._perform(verify, also, rest)).reply
 
     async def _examined(self, used: Container[Kind]) -> list[Fault]:
         record, pool = self._judge.sample, self._connections.primary
@@ -177,9 +182,7 @@ class Operations(Generic[AnyPool]):
         LOGGER.warning("COMMIT had no answer: %s", self._table.name(cause))
         return await self._settled(worked, also)
 
-    async def _change(
-        self, worked: Worked, also: Hook, patience: Optional[float] = None
-    ) -> Answer:
+    async def _change(self, worked: Worked, also: Hook, patience: Optional[float] = None) -> Answer:
         answer: Answer = await self._connections.patiently(
             lambda session: self._table.change(session, worked, also), patience
         )
@@ -197,12 +200,13 @@ class Operations(Generic[AnyPool]):
         record that another client has removed since.
         """
         waits, why = Waits(self._connections.patience, time.monotonic(), 0.01), ""
-        while worked.reply.makes_change:
+        refusals = 0
+        while worked.reply.makes_change and refusals < _REFUSALS:
             try:
                 if await self._put_again(worked, also):
                     return Answer(worked.reply, worked.ticket.copy, worked.after)
-            except Broken:
-                pass
+            except Broken as broken:
+                refusals += self._is_refusal(broken.__cause__)
             except OutcomeUnknown:
                 raise
             except Exception as error:
@@ -213,6 +217,10 @@ class Operations(Generic[AnyPool]):
                 break
             await self._runtime.pause(waits.next())
         raise _unknown(worked, why)
+
+    def _is_refusal(self, cause: Optional[BaseException]) -> bool:
+        """Whether the server answered a COMMIT, as it does each time while its disk is ill."""
+        return cause is not None and self._dialect.verdict(cause) is Verdict.REFUSED
 
     async def _put_again(self, worked: Worked, also: Hook) -> bool:
         """Whether the change was made for good; False if another try may tell.

@@ -97,7 +97,7 @@ def _result(cursor: Any, fetched: Any) -> Result:
 
 def _values(row: Any) -> tuple[Any, ...]:
     """A row's values, of a driver that makes no tuples of rows."""
-    if not isinstance(row, Iterable):
+    if not isinstance(row, Iterable) or isinstance(row, (str, bytes)):
         raise StoreFault(f"a row is {type(row).__name__}, and no tuple or dictionary")
     return tuple(row.values() if isinstance(row, Mapping) else row)
 
@@ -140,6 +140,7 @@ def _answer(end: Union[T, BaseException]) -> T:
 class Runtime:
     """Waits as a thread does; `options` are those of its sessions."""
 
+    enter = "__enter__"  # gives a pool's connection
     _session: type[Session] = Session
     _executors: tuple[type[ThreadPoolExecutor], ...] = ()  # those that it can use
 
@@ -163,7 +164,7 @@ class Runtime:
         """
         ends: list[Union[T, BaseException]] = []
         try:
-            with lent(pool, "__enter__") as conn:
+            with lent(pool, self.enter) as conn:
                 await _ended(job(self.session(conn)), ends)
         except Exception:
             if not ends:
@@ -186,13 +187,14 @@ class Runtime:
 class AsyncRuntime(Runtime):
     """Waits as a task of asyncio does, and hashes in a thread of an executor."""
 
+    enter = "__aenter__"
     _session = AsyncSession
     _executors = (ThreadPoolExecutor,)
 
     async def use(self, pool: Any, job: Job[T]) -> T:
         ends: list[Union[T, BaseException]] = []
         try:
-            async with lent(pool, "__aenter__") as conn:
+            async with lent(pool, self.enter) as conn:
                 await _ended(job(self.session(conn)), ends)
         except Exception:
             if not ends:
@@ -211,7 +213,15 @@ class AsyncRuntime(Runtime):
 
         # As asyncio.to_thread, which has no executor to choose.
         run_in, loop = contextvars.copy_context().run, asyncio.get_running_loop()
-        return await loop.run_in_executor(self._executor, lambda: run_in(work, *args))
+
+        def done() -> T:
+            try:
+                return run_in(work, *args)
+            except StopIteration as end:
+                # Before Python 3.13 no future takes it: whoever awaits one waits for ever.
+                raise RuntimeError("a function raised StopIteration") from end
+
+        return await loop.run_in_executor(self._executor, done)
 
     async def ask(self, name: str, hook: Callable[..., Any], *args: Any) -> Any:
         if inspect.iscoroutinefunction(hook):

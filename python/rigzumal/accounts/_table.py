@@ -13,9 +13,11 @@ from collections.abc import Callable, Container
 from dataclasses import dataclass
 from typing import Any, Final, NoReturn, Optional, Union
 
+from rigzumal.accounts._running import RUNNING, Also, runs_on
 from rigzumal.accounts._session import Hook, HookFailed, Session
 from rigzumal.accounts.dialects._dialect import ANOTHER_RECORD, NOT_NULL, Dialect
-from rigzumal.accounts.dialects._dialect import Fault, Severity, Verdict, is_of_driver
+from rigzumal.accounts.dialects._dialect import Verdict, is_of_driver
+from rigzumal.accounts.dialects._faults import Fault, Severity
 from rigzumal.accounts.types import NO_ROW, Answer, Copy, Key, Kind, Reply, Request
 from rigzumal.accounts.types import StoreFault, Ticket, Worked
 
@@ -24,6 +26,10 @@ ENDED: Final = (
     " error by which the transaction has failed"
 )
 WROTE: Final = "`also` has changed the account's own record"
+NESTED: Final = (
+    "`also` has called an operation on its own table, which may wait for the row that it"
+    " holds: use its argument, the connection"
+)
 
 
 class Lost(Exception):
@@ -49,6 +55,12 @@ class Table:
     dialect: Dialect
     confirm: bool  # what makes no change is confirmed by a COMMIT that writes
     before_commit: Callable[[Worked], None]  # is called before each one of a change
+    pool: Any = None  # of the primary: accounts that share it are of one database
+
+    def refuse_nested(self) -> None:
+        """Refuses an operation within an `also` on the same table."""
+        if runs_on(self.pool, self.dialect.table):
+            raise TypeError(NESTED)
 
     def writes(self, worked: Worked) -> bool:
         """Whether the operation writes, if only the copy over itself."""
@@ -154,10 +166,15 @@ class Table:
         expected = judged(worked, now)
         if expected.reply is Reply.CHANGED:
             return expected
+        outer, this = RUNNING.get(), Also(self.pool, self.dialect.table)
         try:
+            RUNNING.set((*outer, this))
             await session.wait(also(session.conn, expected.reply))
         except Exception as error:
             raise HookFailed(error)
+        finally:
+            this.is_over = True
+            RUNNING.set(outer)
         if not self._is_open(session):
             raise HookFailed(TypeError(ENDED))
         answer = await self.compare(session, worked)
@@ -233,6 +250,7 @@ class Table:
                 copy = await self.one(session, self.dialect.locked, key)
                 ticket = Ticket(Request(Kind.RESET, key), copy)
                 await self.compare(session, Worked(ticket, Reply.REPLACED, record))
+                await self.dialect.settle(session)
         except StoreFault as raised:
             fault = str(raised)
         except Exception as raised:
@@ -299,8 +317,8 @@ class Table:
             raise error
         if self.dialect.verdict(error) is not Verdict.REFUSED:
             raise Lost() from error
-        name = self.name(error)
-        raise StoreFault(f"the server refused a statement: {name}; see examine()")
+        said = self.dialect.missing_name(error) or "see examine()"
+        raise StoreFault(f"the server refused a statement: {self.name(error)}; {said}")
 
     def name(self, error: Optional[BaseException]) -> str:
         """An error's kind and number, without its text."""
@@ -321,6 +339,8 @@ def _record(rows: list[tuple[Any, ...]]) -> Copy:
         raise StoreFault("more than one row has the key")
     if not rows:
         return NO_ROW
+    if len(rows[0]) != 1:
+        raise StoreFault(f"a row has {len(rows[0])} values instead of its record")
     (record,) = rows[0]
     if record is not None and not isinstance(record, str):
         raise StoreFault(f"the record is not text, but {type(record).__name__}")

@@ -23,6 +23,7 @@ from typing import Final, Optional
 from rigzumal import InvalidRecordError, RigzumalError, opaque_string
 from rigzumal._commands import Refusal, Status, ended, hint, say, status_of
 from rigzumal.accounts._accounts import Accounts
+from rigzumal.accounts._judgement import FOREIGN_HINT
 from rigzumal.accounts._import import Import, Rows, as_prometheus, costs_of, line_of
 from rigzumal.accounts._import import report, shown, why
 from rigzumal.accounts._session import Session, run
@@ -42,9 +43,10 @@ def main(words: Optional[Sequence[str]] = None) -> int:
     texts = {name: act.__doc__ or "" for name, act in _COMMANDS.items()}
     args = parser(__doc__.partition("\n\n")[2], texts).parse_args(words)
     try:
-        return ended(lambda: _COMMANDS[args.command](_Command(args)))
+        with contextlib.closing(_Command(args)) as command:
+            return ended(lambda: _COMMANDS[args.command](command))
     except AccountsError as fault:
-        say(str(fault))
+        say(str(fault).replace("see examine()", "see the command examine"))
     except ImportError as fault:
         say(f"the driver isn't installed: {fault}")
     except (RigzumalError, ValueError, TypeError) as fault:
@@ -74,6 +76,11 @@ class _Command:
 
     def __init__(self, args: argparse.Namespace) -> None:
         self.args = args
+
+    def close(self) -> None:
+        """Closes the connection, if there is one."""
+        if "pool" in vars(self):
+            self.pool.close()
 
     @functools.cached_property
     def database(self) -> Database:
@@ -174,7 +181,8 @@ class _Command:
         try:
             reply = accounts.verify(key, password)
         except InvalidRecordError as fault:
-            raise Refusal(why(self.copy(key), fault), Status.DATABASE) from None
+            said = str(fault).partition(FOREIGN_HINT)[0]
+            raise Refusal(why(self.copy(key), said), Status.DATABASE) from None
         if reply is Reply.NO and len(password) < LONGEST_PASSWORD:
             text = hint(password, lambda it: accounts.verify(key, it) is Reply.YES)
             if text:

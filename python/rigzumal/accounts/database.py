@@ -23,7 +23,8 @@ from urllib.parse import parse_qsl, unquote
 from rigzumal.accounts.dialects import Dialect, MariaDB, MySQL, Postgres, Sqlite
 
 _MYSQL: Final = re.compile(r"(?:([^:@/]*)(?::([^@/]*))?@)?([^/]*)/([^?]*)(?:\?(.*))?")
-_HOST: Final = re.compile(r"(?:\[([^]]+)\]|([^:\[\]]+))(?::([0-9]{1,5}))?")
+_HOST: Final = re.compile(r"(?:\[([^]]+)\]|([^:@\[\]]+))(?::([0-9]{1,5}))?")
+_NO_ESCAPE: Final = re.compile("%(?![0-9A-Fa-f]{2})")
 _OPTIONS: Final = ("charset", "unix_socket", "ssl_ca", "ssl_cert", "ssl_key")
 
 
@@ -48,6 +49,8 @@ class Database:
         if self.kind == "sqlite" and self._path in ("", ":memory:"):
             # SQLite would make a database that goes with the connection.
             raise ValueError("a database of SQLite is a file: sqlite:///path")
+        if self.kind != "sqlite":
+            _check_people(self._rest)
 
     @property
     def is_missing(self) -> bool:
@@ -106,6 +109,16 @@ class Database:
                 failed = error
                 self.turn += 1
         raise failed
+
+
+def _check_people(rest: str) -> None:
+    """Refuses a user's name and password that are no part of a URL: a driver would take the rest of
+    them for a host, and show it."""
+    front, _, path = rest.partition("?")[0].partition("/")
+    people = front.rpartition("@")[0]
+    if _NO_ESCAPE.search(people) or "@" in people + path:
+        text = "in the user's name and password of a URL"
+        raise ValueError(f"{text} % is written %25, @ is %40, / is %2F")
 
 
 def _place(text: str) -> tuple[str, int]:

@@ -26,20 +26,27 @@ from contextlib import AbstractAsyncContextManager, AbstractContextManager
 from contextlib import asynccontextmanager, contextmanager, suppress
 from typing import TYPE_CHECKING, Any, Final, Optional
 
-from rigzumal.accounts.types import Unavailable
+from rigzumal.accounts._running import runs_over
+from rigzumal.accounts.types import NoConnection
 
 if TYPE_CHECKING:
     import asyncio
 
 Pool = Callable[[], AbstractContextManager[Any]]
 AsyncPool = Callable[[], AbstractAsyncContextManager[Any]]
-_MAKERS = "PerThread(connect), of_engine(engine) or ConnectionPool(..).connection"
+_MAKERS: Final = {
+    "__enter__": "PerThread(connect), of_engine(engine) or ConnectionPool(..).connection",
+    "__aenter__": "PerUse(connect), of_engine(async_engine) or AsyncConnectionPool(..).connection",
+}
+"""The pools of Accounts and of AsyncAccounts, by what gives a connection."""
 
 
-def check_pool(pool: object) -> None:
-    """Raises TypeError for a connection or an engine in place of a pool."""
-    if not callable(pool) or hasattr(type(pool), "cursor"):
-        raise TypeError(f"pass a pool, not a {type(pool).__name__}: {_MAKERS}")
+def check_pool(pool: object, enter: str) -> None:
+    """Raises TypeError for a connection or an engine in place of a pool, and for a PerThread or a
+    PerUse of the other kind of accounts."""
+    is_other = isinstance(pool, PerThread if enter == "__aenter__" else PerUse)
+    if not callable(pool) or hasattr(type(pool), "cursor") or is_other:
+        raise TypeError(f"pass a pool, not a {type(pool).__name__}: {_MAKERS[enter]}")
 
 
 def lent(pool: Any, enter: str) -> Any:
@@ -55,24 +62,24 @@ def lent(pool: Any, enter: str) -> Any:
         lender.close()
     wanted = "`with`" if enter == "__enter__" else "`async with`"
     fault = f"a pool gives connections by {wanted}, and this one returned"
-    raise TypeError(f"{fault} a {kind.__name__}: {_MAKERS}")
+    raise TypeError(f"{fault} a {kind.__name__}: {_MAKERS[enter]}")
 
 
 class _Held:
     """A connection that is closed with its thread, in the process that made it."""
 
-    is_lent = False
+    conn: Any = None  # of an interrupted __init__, as its pid is that of no process
+    pid, is_lent = 0, False
 
     def __init__(self, conn: Any) -> None:
         self.conn, self.pid = conn, os.getpid()
 
     def close(self) -> None:
-        with suppress(Exception):
-            self.conn.close()
-
-    def __del__(self) -> None:
         if self.pid == os.getpid():
-            self.close()
+            with suppress(Exception):
+                self.conn.close()
+
+    __del__ = close
 
 
 class PerThread:
@@ -87,24 +94,8 @@ class PerThread:
         self._local = threading.local()
         self._parents: list[_Held] = []
 
-    def __call__(self) -> PerThread:
-        return self
-
-    def __enter__(self) -> Any:
-        held = self._mine() or self._made()
-        if held.is_lent:
-            fault = "this thread's connection is in use"
-            raise TypeError(f"{fault}: within `also`, use its argument")
-        held.is_lent = True
-        return held.conn
-
-    def __exit__(self, kind: Any, *error: object) -> None:
-        held = getattr(self._local, "held", None)
-        if held is None:
-            return  # closed meanwhile
-        held.is_lent = False
-        if kind is not None:
-            self.close()
+    def __call__(self) -> AbstractContextManager[Any]:
+        return _Use(self)
 
     def close(self) -> None:
         """Closes this thread's connection, if it has one."""
@@ -112,6 +103,27 @@ class PerThread:
         self._local.held = None
         if held is not None:
             held.close()
+
+    def _lend(self) -> _Held:
+        """The thread's connection, or a new one."""
+        if runs_over(self):
+            fault = "this thread's connection is in use"
+            raise TypeError(f"{fault}: within `also`, use its argument")
+        held = self._mine()
+        # One that is lent never came back: a signal may have interrupted its use anywhere.
+        if held is None or held.is_lent:
+            held = self._made()
+        held.is_lent = True
+        return held
+
+    def _take_back(self, held: _Held, is_well: bool) -> None:
+        """Keeps a connection for the thread's next use, or closes it."""
+        if held is not getattr(self._local, "held", None):
+            held.close()  # another took its place, or it is closed
+        elif is_well:
+            held.is_lent = False
+        else:
+            self.close()
 
     def _mine(self) -> Optional[_Held]:
         """This thread's connection, if this process made it."""
@@ -131,6 +143,20 @@ class PerThread:
             raise TypeError(f"{fault}: use AsyncAccounts and PerUse")
         held = self._local.held = _Held(conn)
         return held
+
+
+class _Use:
+    """A use of a thread's connection."""
+
+    def __init__(self, pool: PerThread) -> None:
+        self._pool = pool
+
+    def __enter__(self) -> Any:
+        self._held = self._pool._lend()
+        return self._held.conn
+
+    def __exit__(self, kind: Any, *error: object) -> None:
+        self._pool._take_back(self._held, kind is None)
 
 
 _CONNECTING: Final = 4  # connections that are opened at a time: each holds up the loop
@@ -221,5 +247,5 @@ def _drivers_error() -> Iterator[None]:
         yield
     except Exception as error:
         if type(error).__name__ == "TimeoutError":  # of its pool
-            raise Unavailable(f"no connection was free: {error}") from error
+            raise NoConnection(f"no connection was free: {error}") from error
         raise getattr(error, "orig", None) or error

@@ -16,6 +16,7 @@ import uuid
 from dataclasses import dataclass, field
 from typing import TYPE_CHECKING, Final, Union
 
+from rigzumal._hidden import hidden
 from rigzumal._library import Secret, bytes_of
 
 Key = Union[int, str, bytes, uuid.UUID]
@@ -106,6 +107,7 @@ class Request:
     # False of what no account can have; the password is then empty, and a wrong one.
     can_be_right: bool = field(init=False, repr=False)
 
+    @hidden
     def __init__(
         self, kind: Kind, key: Key, password: Secret = b"", new_password: Secret = b""
     ) -> None:
@@ -161,6 +163,10 @@ class StoreFault(AccountsError):
 
 class Unavailable(AccountsError):
     """No server did the operation in time; no change was made."""
+
+
+class NoConnection(Unavailable):
+    """The pool had no connection to give, at the last try too."""
 
 
 class OutcomeUnknown(AccountsError):

@@ -2,10 +2,12 @@
 
 from __future__ import annotations
 
-from typing import Any
-
 import rigzumal
 from rigzumal._library import MISMATCH
+
+TYPE_CHECKING = False
+if TYPE_CHECKING:
+    from typing import Any
 
 
 class _Said:

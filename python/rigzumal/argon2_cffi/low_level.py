@@ -2,18 +2,23 @@
 
 from __future__ import annotations
 
-import re
-from dataclasses import dataclass, replace
+import functools
 from enum import Enum
-from hmac import compare_digest
-from typing import Any, Final, Literal, NamedTuple, Optional, Union
 
 import rigzumal
 from rigzumal import _library
+from rigzumal._hidden import hidden
 from rigzumal._library import RigzumalError
 from rigzumal._parts import decoded, encoded
 from rigzumal.argon2_cffi.exceptions import HashingError, InvalidHashError
 from rigzumal.argon2_cffi.exceptions import VerificationError, VerifyMismatchError
+
+# As in rigzumal's own modules: typing, dataclasses, re and hmac are imported only for types, since
+# they take longer than all else.
+TYPE_CHECKING = False
+if TYPE_CHECKING:
+    import re
+    from typing import Any, Final, Literal, Optional, Union
 
 __all__ = [
     "ARGON2_VERSION",
@@ -29,7 +34,7 @@ ARGON2_VERSION = 19
 
 _NUMBER: Final = "(0|[1-9][0-9]{0,9})"
 _BASE64: Final = "([A-Za-z0-9+/]*)"
-_FORM: Final = re.compile(
+_FORM: Final = (
     rf"\$argon2(d|i|id)(?:\$v={_NUMBER})?"
     rf"\$m={_NUMBER},t={_NUMBER},p={_NUMBER}\${_BASE64}\${_BASE64}"
 )
@@ -93,7 +98,17 @@ class Type(Enum):
     ID = 2
 
 
-@dataclass
+class _Fields:
+    """The fields of Parameters, for `dataclasses.replace` and the like."""
+
+    def __get__(self, instance: object, owner: type) -> dict[str, Any]:
+        import dataclasses
+
+        made = dataclasses.make_dataclass("Parameters", owner.__annotations__)
+        found: dict[str, Any] = vars(made)["__dataclass_fields__"]
+        return found
+
+
 class Parameters:
     """The parameters that an Argon2 hash was made with.
 
@@ -115,13 +130,43 @@ class Parameters:
     memory_cost: int
     parallelism: int
 
+    __dataclass_fields__ = _Fields()
+    __match_args__ = (
+        *("type", "version", "salt_len", "hash_len"),
+        *("time_cost", "memory_cost", "parallelism"),
+    )
+    __hash__ = None  # type: ignore[assignment]
 
-class Encoded(NamedTuple):
+    def __init__(
+        self,
+        type: Type,
+        version: int,
+        salt_len: int,
+        hash_len: int,
+        time_cost: int,
+        memory_cost: int,
+        parallelism: int,
+    ) -> None:
+        self.type, self.version = type, version
+        self.salt_len, self.hash_len = salt_len, hash_len
+        self.time_cost, self.memory_cost = time_cost, memory_cost
+        self.parallelism = parallelism
+
+    def __eq__(self, other: object) -> bool:
+        if other.__class__ is not self.__class__:
+            return NotImplemented
+        return vars(self) == vars(other)
+
+    def __repr__(self) -> str:
+        shown = ", ".join(f"{name}={value!r}" for name, value in vars(self).items())
+        return f"{type(self).__qualname__}({shown})"
+
+
+class Encoded:
     """A hash, read."""
 
-    parameters: Parameters
-    salt: bytes
-    tag: bytes
+    def __init__(self, parameters: Parameters, salt: bytes, tag: bytes) -> None:
+        self.parameters, self.salt, self.tag = parameters, salt, tag
 
     def text(self) -> bytes:
         """The encoded hash."""
@@ -133,7 +178,7 @@ class Encoded(NamedTuple):
     @classmethod
     def read(cls, text: bytes) -> Optional[Encoded]:
         """The parts of an encoded hash, or None; its costs may be out of range."""
-        found = _FORM.fullmatch(text.decode("latin1"))
+        found = _form().fullmatch(text.decode("latin1"))
         if found is None:
             return None
         kind, *numbers, salt, tag = found.groups()
@@ -162,8 +207,17 @@ def extract_parameters(hash: Union[str, bytes]) -> Parameters:
     read = Encoded.read(text)
     if read is None or read.parameters.version not in _VERSIONS:
         raise InvalidHashError(number=_fault_of(text))
-    version = read.parameters.version if b"$v=" in text else _NO_VERSION
-    return replace(read.parameters, version=version)
+    if b"$v=" not in text:
+        read.parameters.version = _NO_VERSION
+    return read.parameters
+
+
+@functools.lru_cache(maxsize=None)
+def _form() -> re.Pattern[str]:
+    """The form of a hash."""
+    import re
+
+    return re.compile(_FORM)
 
 
 def _fault_of(text: bytes) -> int:
@@ -200,6 +254,7 @@ def _tag(it: Parameters, secret: bytes, salt: bytes) -> bytes:
     return rigzumal.argon2(secret, salt, threads=it.parallelism, **numbers)
 
 
+@hidden
 def hash_secret_raw(
     secret: bytes,
     salt: bytes,
@@ -229,6 +284,7 @@ def hash_secret_raw(
         raise HashingError(said, fault.number) from None
 
 
+@hidden
 def hash_secret(
     secret: bytes,
     salt: bytes,
@@ -247,6 +303,7 @@ def hash_secret(
     return Encoded(parameters, salt, tag).text()
 
 
+@hidden
 def verify_secret(hash: bytes, secret: bytes, type: Type) -> Literal[True]:
     """True if the encoded hash is of this type and of the secret, with a thread for each lane.
 
@@ -279,5 +336,7 @@ def _verdict(hash: bytes, secret: bytes) -> int:
     number = _first_fault(read.parameters)
     if number is not None:
         raise VerificationError(error_to_str(number), fault)
+    from hmac import compare_digest
+
     made = _tag(read.parameters, secret, read.salt)
     return _library.OK if compare_digest(made, read.tag) else _library.MISMATCH

@@ -13,9 +13,9 @@ from django.contrib.auth import get_user_model, hashers
 from django.contrib.auth.backends import ModelBackend
 from django.db import router
 
+from rigzumal._hidden import hidden_below
 from rigzumal.django import passwords, records
 from rigzumal.django.apps import require_app
-from rigzumal.django.records import hidden
 
 
 class CompareAndSetBackend(ModelBackend):
@@ -31,7 +31,7 @@ class CompareAndSetBackend(ModelBackend):
     def __init__(self) -> None:
         require_app()
 
-    @hidden
+    @hidden_below
     def authenticate(
         self,
         request: Any,
@@ -65,7 +65,7 @@ class CompareAndSetBackend(ModelBackend):
     aauthenticate = records.awaited(lambda self, *a, **b: self.authenticate(*a, **b))
 
 
-@hidden
+@hidden_below
 def _spend(password: Any) -> None:
     """Hashes the typed password, for as long as a wrong one of that length takes."""
     try:

@@ -16,8 +16,8 @@ from django.contrib.auth import forms
 from django.core.exceptions import ValidationError
 from django.utils.translation import gettext_lazy as _
 
+from rigzumal._hidden import hidden_below
 from rigzumal.django import passwords
-from rigzumal.django.records import hidden
 
 CHANGED = _("The password was changed meanwhile. Nothing was done; please begin again.")
 
@@ -39,12 +39,12 @@ def show(form: Any, error: ValidationError) -> None:
 class _Comparing:
     """A form whose frames no report of an error shows: they have passwords."""
 
-    @hidden
+    @hidden_below
     def full_clean(self) -> None:
         """Cleans the fields, as Form's."""
         super().full_clean()  # type: ignore[misc]
 
-    @hidden
+    @hidden_below
     def save(self: Any, commit: bool = True) -> Any:
         """Writes the new password, unless the record was changed meanwhile."""
         if not commit:

@@ -19,9 +19,9 @@ from django.contrib.auth import hashers
 from django.contrib.auth.hashers import BasePasswordHasher
 
 import rigzumal
+from rigzumal._hidden import hidden_below
 from rigzumal._parts import decoded, encoded
 from rigzumal.django.apps import require_app
-from rigzumal.django.records import hidden
 
 Password = Union[str, bytes]
 
@@ -67,7 +67,7 @@ class _RecordHasher(BasePasswordHasher):
         """The tag of the password under a record's own numbers and salt."""
         raise NotImplementedError
 
-    @hidden
+    @hidden_below
     def verify(self, password: Password, encoded: str) -> bool:
         """Whether the password is the record's; OutOfMemoryError if memory lacks.
 
@@ -138,7 +138,7 @@ class Argon2PasswordHasher(_RecordHasher):
         re.ASCII,
     )
 
-    @hidden
+    @hidden_below
     def encode(self, password: Password, salt: str) -> str:
         """A new record of the password, by Argon2id, version 0x13."""
         _check_salt(salt)
@@ -206,7 +206,7 @@ class ScryptPasswordHasher(_RecordHasher):
         re.ASCII,
     )
 
-    @hidden
+    @hidden_below
     def encode(
         self,
         password: Password,

@@ -17,12 +17,13 @@ from typing import Any, Optional
 from django.contrib.auth import hashers, password_validation
 from django.db import DatabaseError
 
+from rigzumal._hidden import hidden_below
 from rigzumal.django import records, users
-from rigzumal.django.records import TRIES, Copy, hidden
+from rigzumal.django.records import TRIES, Copy
 from rigzumal.django.records import RecordChanged as RecordChanged
 
 
-@hidden
+@hidden_below
 def check_password(user: Any, password: Any) -> bool:
     """Whether the password is the user's, as `user.check_password`.
 
@@ -35,7 +36,7 @@ def check_password(user: Any, password: Any) -> bool:
     return records.judge_login(user, password)
 
 
-@hidden
+@hidden_below
 def verify_password(user: Any, password: Any) -> bool:
     """Like `check_password`, but never rehashes (unless the model's own method does)."""
     if users.has_own_methods(user):
@@ -43,7 +44,7 @@ def verify_password(user: Any, password: Any) -> bool:
     return records.judge_alone(user, password)
 
 
-@hidden
+@hidden_below
 def change_password(user: Any, old_password: Any, new_password: Any) -> bool:
     """Writes the new password if the old one is right; False if it is wrong.
 
@@ -55,7 +56,7 @@ def change_password(user: Any, old_password: Any, new_password: Any) -> bool:
     return change_judged(user, old_password, new_password, None)
 
 
-@hidden
+@hidden_below
 def change_judged(user: Any, old_password: Any, new_password: Any, judged: Optional[str]) -> bool:
     """`change_password`, after the old password was right for the record `judged`.
 
@@ -69,7 +70,7 @@ def change_judged(user: Any, old_password: Any, new_password: Any, judged: Optio
     return changed
 
 
-@hidden
+@hidden_below
 def set_password(user: Any, new_password: Any) -> None:
     """Writes a new password over the record that the user was read with.
 

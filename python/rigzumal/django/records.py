@@ -20,17 +20,13 @@ from typing import Any, Optional, TypeVar
 from asgiref.sync import sync_to_async
 from django.contrib.auth import hashers
 from django.db import connections, router, transaction
-from django.views.decorators.debug import sensitive_variables
+
+from rigzumal._hidden import hidden_below
 
 T = TypeVar("T")
-Function = TypeVar("Function", bound=Callable[..., Any])
 
 TRIES = 8
 """The tries of an operation, if the row's record changes meanwhile."""
-
-
-hidden: Callable[[Function], Function] = sensitive_variables()
-"""Django's own decorator: no report of an error shows a variable of the function."""
 
 
 class RecordChanged(Exception):
@@ -202,11 +198,11 @@ def awaited(function: Callable[..., T]) -> Callable[..., Awaitable[T]]:
     An error report shows the frames that wait, so none of them has a password: the work
     has no argument, and no coroutine makes it.
     """
-    concealed = hidden(function)
+    concealed = hidden_below(function)
 
     @functools.wraps(function)
     def asynchronous(*args: Any, **kwargs: Any) -> Awaitable[T]:
-        work = hidden(lambda: concealed(*args, **kwargs))
+        work = hidden_below(lambda: concealed(*args, **kwargs))
         answer: Awaitable[T] = sync_to_async(work)()
         return answer
 

@@ -26,8 +26,7 @@ class AdminSite(sites.AdminSite):
             form_class=AdminOwnPasswordChangeForm,
             success_url=reverse("admin:password_change_done", current_app=self.name),
             extra_context={**self.each_context(request), **(extra_context or {})},
-            template_name=self.password_change_template
-            or "registration/password_change_form.html",
+            template_name=self.password_change_template or "registration/password_change_form.html",
         )
         request.current_app = self.name
         return view(request)

@@ -18,10 +18,6 @@ _OURS: dict[str, Any] = {
 }
 
 urlpatterns = [
-    (
-        path(str(url.pattern), _OURS[url.name].as_view(), name=url.name)
-        if url.name in _OURS
-        else url
-    )
+    (path(str(url.pattern), _OURS[url.name].as_view(), name=url.name) if url.name in _OURS else url)
     for url in urls.urlpatterns
 ]

@@ -19,8 +19,9 @@ from django.contrib.auth.base_user import AbstractBaseUser
 from django.core.exceptions import ImproperlyConfigured
 from django.db import connections, models, transaction
 
+from rigzumal._hidden import hidden_below
 from rigzumal.django import records
-from rigzumal.django.records import RecordChanged, hidden
+from rigzumal.django.records import RecordChanged
 
 
 class CompareAndSetMixin(models.Model):
@@ -66,7 +67,7 @@ class CompareAndSetMixin(models.Model):
         if "password" in self.__dict__:
             records.note_read(self, self._state.db, self.password)
 
-    @hidden
+    @hidden_below
     def check_password(self, raw_password: Any) -> bool:
         """Whether the password is right; RecordChanged if it was changed eight times."""
         copy = records.known_copy(self, records.database_of(self))
@@ -79,7 +80,7 @@ class CompareAndSetMixin(models.Model):
         lambda self, raw_password: bool(self.check_password(raw_password))
     )
 
-    @hidden
+    @hidden_below
     def set_password(self, raw_password: Any) -> None:
         """Sets the password, which `save` writes, as AbstractBaseUser's."""
         _ = self.password  # One that was deferred is read, so that it is compared.
@@ -90,7 +91,7 @@ class CompareAndSetMixin(models.Model):
         _ = self.password
         super().set_unusable_password()
 
-    @hidden
+    @hidden_below
     def save(
         self,
         force_insert: Any = False,
@@ -134,7 +135,7 @@ class CompareAndSetMixin(models.Model):
             and (self.password != copy.newest or copy.is_in_doubt(database))
         )
 
-    @hidden
+    @hidden_below
     def _do_update(
         self, rows: Any, using: str, pk: Any, values: Any, *rest: Any, **more: Any
     ) -> Any:
@@ -159,7 +160,7 @@ class CompareAndSetMixin(models.Model):
             raise RecordChanged
         return updated
 
-    @hidden
+    @hidden_below
     def _do_insert(self, manager: Any, using: str, fields: Any, *rest: Any, **more: Any) -> Any:
         """Model's INSERT into one table."""
         made = super()._do_insert(manager, using, fields, *rest, **more)

@@ -1,10 +1,9 @@
 """A cluster of MariaDB in a temporary folder."""
 
 import itertools
-import os
-from unittest import SkipTest
 
 from servers import MariaServer, need, pymysql
+from tests.needs import need_file
 
 LIBRARY = "/usr/lib/galera/libgalera_smm.so"
 
@@ -28,18 +27,18 @@ class Node(MariaServer):
             f'gmcast.listen_addr=tcp://127.0.0.1:{base}"',
         ]
 
-    def ready(self):
-        shown = "SHOW STATUS LIKE 'wsrep_ready'"
-        return super().ready() and self.as_root(shown)[0][1] == "ON"
+    def answers(self):
+        """Only a node that is synced does: one that joins, or copies to it, refuses or waits."""
+        shown = "SHOW STATUS LIKE 'wsrep_local_state_comment'"
+        return self.as_root(shown)[0][1] == "Synced"
 
 
 class Galera:
     """A cluster's nodes, whose connections are of each by turns and read what was committed."""
 
     def __init__(self, name, count=2):
-        if not os.path.exists(LIBRARY):
-            raise SkipTest("galera-4 is not there")
-        need(pymysql, "python3-pymysql", "rsync")
+        need_file(LIBRARY)
+        need(pymysql, "pymysql", "rsync")
         self.nodes = [Node(f"{name}{number}") for number in range(count)]
         places = ",".join(f"127.0.0.1:{node.port}" for node in self.nodes)
         self.turns, self.url = itertools.cycle(self.nodes), f"mysql://store:store@{places}/store"
@@ -51,6 +50,8 @@ class Galera:
         first.start("--wsrep-new-cluster")
         for node in others:
             node.start()
+        for node in self.nodes:
+            node.wait()
         return self
 
     def connect(self, **more):

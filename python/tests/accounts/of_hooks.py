@@ -113,6 +113,10 @@ class RowsOfOnesOwn:
                 accounts.verify("ann", "one")
             accounts.verify("ann", "one")
 
+        def uses_the_pool(conn):
+            with accounts._connections.primary():
+                raise AssertionError
+
         async def awaited():
             raise AssertionError
 
@@ -121,7 +125,8 @@ class RowsOfOnesOwn:
                 *((methodcaller(it), "has ended the operation's") for it in ("commit", "rollback")),
                 (methodcaller("close"), "closed its connection"),
                 (rewrites, "has changed the account's own record"),
-                (nests, "connection is in use"),
+                (nests, "operation on its own table"),
+                (uses_the_pool, "connection is in use"),
                 # A generator function is its own answer, as is a coroutine function.
                 (lambda conn: (it for it in ()), "a generator, which nobody runs"),
                 (lambda conn: awaited(), "use AsyncAccounts"),
@@ -149,6 +154,41 @@ class RowsOfOnesOwn:
 
         self.assert_replies("change ann one two replaced", accounts, also=nests)
         self.assertEqual(self.rows(), ["replaced"])
+
+    def test_a_nested_call_over_a_pool_of_several(self):
+        """It would wait for the row that its own operation holds, on another connection."""
+        self.execute("DROP TABLE IF EXISTS others")
+        self.execute(self.another_dialect(table="others").create())
+        self.execute("INSERT INTO others VALUES ('ann', %s)", self.low.hash("one"))
+        pool, used, given = self.of_several, [], {"patience": 0.5}
+        accounts, dearer = (self.over(pool, it, **given) for it in (self.low, self.high))
+        others = self.over(pool, self.low, self.another_dialect(table="others"), **given)
+
+        def also(conn, reply):
+            self.also(conn, reply)
+            for nested, text in (
+                *((it, text) for it in (accounts, dearer) for text in (*CHANGES, "verify ann one")),
+                *((it, "reset ann x") for it in (accounts, dearer)),
+            ):
+                with self.assertRaisesRegex(TypeError, "operation on its own table"):
+                    called(nested, text)
+            used.append(called(others, "verify ann one"))
+
+        for text, reply in (("login ann one", "yes"), ("change ann one two", "replaced")):
+            self.begin()
+            self.assert_replies(f"{text} {reply}", accounts, also=also)
+            self.assertEqual(self.rows(), [reply])
+        self.assertEqual(used, ["yes"] * 2)
+        self.assert_replies("verify ann two yes", accounts)
+
+    @contextlib.contextmanager
+    def of_several(self):
+        """A connection that doesn't wait for a row for long."""
+        conn = self.setting(self.lock_timeout)()
+        try:
+            yield conn
+        finally:
+            conn.close()
 
     def test_strangers_guesses_beside_the_owner(self):
         """Each writes the account's own row, as a counter of failures does: nobody is told to

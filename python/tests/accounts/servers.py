@@ -2,6 +2,7 @@
 
 import atexit
 import contextlib
+import glob
 import itertools
 import os
 import pathlib
@@ -11,9 +12,12 @@ import signal
 import socket
 import sqlite3
 import subprocess
+import sys
 import tempfile
 import time
-from unittest import SkipTest
+
+sys.path.insert(0, str(pathlib.Path(__file__).resolve().parents[3]))
+from tests import needs  # noqa: E402
 
 try:
     import psycopg
@@ -24,6 +28,7 @@ try:
 except ImportError:
     pymysql = None
 
+INITDB = "/usr/lib/postgresql/*/bin/initdb"
 ROOM = pathlib.Path(tempfile.mkdtemp(prefix="rigzumal-accounts-"))
 ROOM.chmod(0o755)
 MAIN = os.getpid()
@@ -51,19 +56,16 @@ def free_port(count=1):
 def need(driver, name, *programs):
     """The path of the first program; a skipped test without the driver, or one of the programs."""
     if driver is None:
-        raise SkipTest(f"{name} is not there")
-    found = [shutil.which(it, path="/usr/sbin:/usr/bin") for it in programs]
-    if None in found:
-        raise SkipTest(f"{programs[found.index(None)]} is not there")
-    return found[0] if found else None
+        needs.need_module(name)
+    needs.need(*programs)
+    return shutil.which(programs[0]) if programs else None
 
 
 def as_user(name):
     """What subprocess needs to run as another user, since no server runs as root."""
     if os.getuid() != 0:
         return {}
-    if name not in {it.pw_name for it in pwd.getpwall()}:
-        raise SkipTest(f"there is no user {name}")
+    needs.need_user(name)
     return {"user": name, "group": pwd.getpwnam(name).pw_gid, "extra_groups": []}
 
 
@@ -102,13 +104,17 @@ class Server:
             given = {"cwd": ROOM, "start_new_session": True, **as_user(self.user)}
             words = [*map(str, self.words()), *more]
             self.process = subprocess.Popen(words, **streams, **given)
+        self.wait()
+        return self
+
+    def wait(self):
+        """Until it answers, for two minutes at most."""
         end = time.monotonic() + 120
         while not self.ready():
             if self.process.poll() is not None or time.monotonic() > end:
                 tail = self.log.read_text(errors="replace")[-3000:]
-                raise RuntimeError(f"{self.folder.name} doesn't start: {tail}")
+                raise RuntimeError(f"{self.folder.name} doesn't answer: {tail}")
             time.sleep(0.1)
-        return self
 
     def kill(self):
         """As a crash: all of its processes end at once."""
@@ -173,11 +179,9 @@ class PostgresServer(OfPostgres):
     """One node of PostgreSQL, of the user `store`."""
 
     def __init__(self, name, of=None):
-        need(psycopg, "python3-psycopg")
-        found = sorted(pathlib.Path("/usr/lib/postgresql").glob("*/bin/initdb"))
-        if not found:
-            raise SkipTest("postgresql is not there")
-        self.bin = found[-1].parent
+        need(psycopg, "psycopg")
+        needs.need_file(INITDB)
+        self.bin = pathlib.Path(sorted(glob.glob(INITDB))[-1]).parent
         super().__init__(name)
         self.port = free_port()
         self.make() if of is None else self.copy(of)
@@ -224,7 +228,7 @@ class PooledPostgres(OfPostgres):
     mode = "transaction"
 
     def __init__(self, name):
-        self.program = need(psycopg, "python3-psycopg", "pgbouncer")
+        self.program = need(psycopg, "psycopg", "pgbouncer")
         super().__init__(name)
         self.of, self.port = PostgresServer(f"{name}-behind"), free_port()
         self.file = ROOM / f"{name}.ini"
@@ -271,11 +275,13 @@ class OfMySql(Server):
             return cursor.fetchall()
 
     def ready(self):
-        try:
-            self.as_root("SELECT 1")
-        except (pymysql.err.Error, OSError):
-            return False
-        return True
+        """Whether it answers: while it starts, any question to it may be refused or cut."""
+        with contextlib.suppress(pymysql.err.Error, OSError):
+            return self.answers()
+        return False
+
+    def answers(self):
+        return bool(self.as_root("SELECT 1"))
 
     def start(self, *more):
         super().start(*more)
@@ -294,7 +300,7 @@ class MariaServer(OfMySql):
     more_lines = ("log_bin=binlog", "sync_binlog=1", "server_id=1")
 
     def __init__(self, name):
-        self.program = need(pymysql, "python3-pymysql", "mariadbd", "mariadb-install-db")
+        self.program = need(pymysql, "pymysql", "mariadbd", "mariadb-install-db")
         super().__init__(name)
         ROOM.chmod(0o777)
         self.port = free_port(8)
@@ -334,10 +340,9 @@ class MySqlServer(OfMySql):
     more_grants = ("PROCESS, CONNECTION_ADMIN ON *.*",)
 
     def __init__(self, name):
-        self.root = os.environ.get("RIGZUMAL_MYSQL", "").rstrip("/")
-        if not self.root or os.getuid() != 0:
-            raise SkipTest("RIGZUMAL_MYSQL names no root of MySQL, or one isn't root")
-        need(pymysql, "python3-pymysql")
+        self.root = needs.need_variable("RIGZUMAL_MYSQL").rstrip("/")
+        needs.need_root()
+        need(pymysql, "pymysql")
         super().__init__(name)
         self.port = free_port()
         self.data = f"/tmp/{name}-{os.getpid()}"

@@ -24,6 +24,7 @@ from rigzumal.accounts import Accounts, PerThread, Sqlite, _judgement, cli
 from rigzumal.accounts._session import Session, run  # noqa: F401: of each test
 from rigzumal.accounts.types import Kind, Request
 from tests.helpers import each  # noqa: F401: of each test
+from tests.needs import lacking
 
 # Of sqlite3's errors, which have their names from Python 3.11 on.
 CHECK_FAILED, FOREIGN_KEY_FAILED = (
@@ -34,7 +35,7 @@ LOW = PasswordHasher(time_cost=1, memory_cost=64, parallelism=1)
 HIGH = PasswordHasher(time_cost=1, memory_cost=128, parallelism=1)
 # Made by the reference program, of the older version.
 OLDER = "$argon2i$m=256,t=2,p=1$c29tZXNhbHQ$/U3YPXYsSb3q9XxHvc0MLxur+GP960kN9j7emXX8zwY"
-COSTS = "--memory 64 --passes 1 --lanes 1".split()
+COSTS = "--memory 64K --passes 1 --lanes 1".split()
 FOREIGN = "$2y$05$" + "a" * 53
 RECORD, TWO = LOW.hash("one"), LOW.hash("two")
 # Of a command's answers those with status 4.
@@ -62,7 +63,7 @@ def module(name):
     try:
         return importlib.import_module(name)
     except ImportError:
-        raise unittest.SkipTest(f"Python's {name} is not there") from None
+        raise lacking(f"Python's module {name}") from None
 
 
 class Base(unittest.TestCase):

@@ -5,17 +5,16 @@ import os
 import pathlib
 import re
 import shlex
-import shutil
 import sqlite3
 import subprocess
 import sys
-import unittest
 from unittest import mock
 
 import support
 from support import LOW, RECORD, Commands, each
 from rigzumal.accounts import cli
 from rigzumal.accounts.database import Database
+from tests.needs import need
 
 LONG, SHELLS = "x" * 257, ("bash", "fish")
 
@@ -154,8 +153,7 @@ class Words(Commands):
         ("bash", "rigzumal accounts check --secret ", ""),
     )
     def test_what_shells_complete(self, shell, line, offered):
-        if shutil.which(shell) is None:
-            raise unittest.SkipTest(f"{shell} is not there")
+        need(shell)
         code = f"source {support.PACKAGE.parent}/completions/rigzumal/{shell}; "
         words = [*line.split(), *([""] if line.endswith(" ") else [])]
         if shell == "bash":
@@ -226,6 +224,20 @@ class Faults(Commands):
     def test_a_file_that_is_missing(self, words):
         said = self.run_command(*words.split(), status=2)
         self.assertEqual(said, "rigzumal: nowhere: No such file or directory\n")
+
+    @each(("list", 0), ("check eve", 4), ("add ann", 6), ("--table nowhere list", 5))
+    def test_its_connection_is_closed(self, words, status):
+        """However the command ends."""
+        made, connect = [], Database.connect
+
+        def noted(database):
+            made.append(connect(database))
+            return made[-1]
+
+        with mock.patch.object(Database, "connect", noted):
+            self.streams(*words.split(), given="x" * 257 * (status == 6) or "x", status=status)
+        self.assertEqual(len(made), 1)
+        self.assertRaises(sqlite3.ProgrammingError, made[0].execute, "SELECT 1")
 
     def test_a_name_that_the_table_keeps(self):
         """Whatever refuses another name, it isn't said that the other exists."""

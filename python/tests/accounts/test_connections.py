@@ -1,5 +1,5 @@
-"""How long is waited, and for what, over a clock and a runtime that only note it; what a URL says to
-a database's driver, whose stand-ins note what they are given."""
+"""How long is waited, and for what, over a clock and a runtime that only note it; what a URL says
+to a database's driver, whose stand-ins note what they are given."""
 
 import os
 import sqlite3
@@ -7,9 +7,10 @@ import sys
 import tempfile
 import types
 import unittest
+import urllib.parse
 from unittest import mock
 
-from support import run
+from support import each, run
 from rigzumal.accounts import Sqlite, StoreFault, Unavailable, _connections
 from rigzumal.accounts._connections import Connections, Waits
 from rigzumal.accounts._table import Lost, Table, Undone
@@ -101,7 +102,10 @@ class Patience(unittest.TestCase):
             given = (answer, answer, "done", answer)
             runtime, connections = self.connections(*given, replica="replica")
             with self.assertLogs("rigzumal.accounts", "WARNING") as logs:
-                done = [run(connections.at_replica(None)) for _ in given]
+                done = []
+                for _ in given:
+                    done.append(run(connections.at_replica(None)))
+                    runtime.now += 5.1
             self.assertEqual([isinstance(it, Undone) for it in done], [True, True, False, True])
             self.assertEqual((self.used(runtime), runtime.pauses), (["replica"] * 4, []))
             self.assertEqual(len(logs.output), 2)
@@ -114,6 +118,38 @@ class Patience(unittest.TestCase):
         self.assertIsInstance(run(connections.at_replica(None)), Undone)
         self.assertEqual(run(connections.patiently(None)), "done")
         self.assertEqual((self.used(runtime), runtime.pauses), (["primary"], []))
+
+    def test_a_replica_that_is_away_is_left_alone(self):
+        """For five seconds; then one operation asks it, and the others wait for none."""
+        runtime, connections = self.connections(BUSY, BUSY, "back", replica="replica")
+        look = lambda: isinstance(run(connections.at_replica(None)), Undone)
+        uses = []
+        for _ in range(11):
+            uses.append((look(), runtime.use.call_count))
+            runtime.now += 1.0
+        self.assertEqual(uses, [(True, 1)] * 5 + [(True, 2)] * 5 + [(False, 3)])
+        self.assertEqual((look(), runtime.use.call_count), (False, 4))
+
+    def test_one_operation_asks_a_replica_that_was_away(self):
+        runtime, connections = self.connections(replica="replica")
+        asked = []
+
+        async def slow(pool, job):
+            asked.append(pool)
+            if len(asked) == 2:  # another operation comes meanwhile
+                self.assertIsInstance(await connections.at_replica(None), Undone)
+                runtime.now += 3.0
+            raise BUSY
+
+        runtime.use = slow
+        for _ in range(2):
+            run(connections.at_replica(None))
+            runtime.now += 5.1
+        self.assertEqual(asked, ["replica"] * 2)
+        for _ in range(2):  # `examine` asks it at any time
+            found = run(connections.replica_faults(None))
+            self.assertEqual([it.code for it in found], ["replica-away"])
+        self.assertEqual(asked, ["replica"] * 4)
 
 
 class Refused(Exception):
@@ -196,6 +232,18 @@ class Urls(unittest.TestCase):
         files = ("sqlite://", "sqlite:///", "sqlite:///:memory:")
         for url in (*files, "", "oracle://x", "sqlite", "/tmp/x.db"):
             self.assertRaises(ValueError, Database, url)
+
+    @each("sec%ret", "sec@ret", "sec/ret@x", "%", "a%zz")
+    def test_a_password_that_is_no_part_of_a_url(self, password):
+        """It is said how to write it, and it is in no error and no look-up of a host."""
+        for kind in ("mysql", "mariadb", "postgresql", "postgres"):
+            with self.assertRaisesRegex(ValueError, "%25, @ is %40, / is %2F") as raised:
+                Database(f"{kind}://ada:{password}@db/d").connect()
+            self.assertNotRegex(str(raised.exception), "sec|ret|zz")
+        self.assertEqual(self.tried, [])
+        url = f"mysql://ada:{urllib.parse.quote(password, safe='')}@db/d"
+        self.assertEqual(Database(url).connect()["password"], password)
+        self.tried.clear()
 
     def test_no_password_is_in_a_repr(self):
         for kind in ("mysql", "postgresql"):

@@ -15,6 +15,7 @@ from support import HIGH, LOW, called, module
 from rigzumal.accounts import Accounts, AsyncAccounts, MariaDB, Postgres, Reply, Sqlite, StoreFault
 from rigzumal.accounts import Unavailable, of_engine
 from rigzumal.accounts.types import Kind, Request, Ticket
+from tests.needs import lacking
 
 
 class Refused(unittest.TestCase):
@@ -184,7 +185,7 @@ class EnginesOfPostgres(AwaitedEngines, engines.OnPostgres, support.Base):
     def setUp(self):
         super().setUp()
         if self.sqlalchemy.__version__ < "2":
-            self.skipTest("SQLAlchemy 1.4 has no psycopg 3")
+            raise lacking("a newer SQLAlchemy")
 
 
 class Prepared(engines.OnPostgres, support.Base):

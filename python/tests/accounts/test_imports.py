@@ -1,11 +1,15 @@
 """The command over whole tables: imports, exports, lists, reports, and its lines of JSON."""
 
 import json
+import os
+import pathlib
+import threading
+import tracemalloc
 from unittest import mock
 
 from support import FOREIGN, HIGH, RECORD, TWO, Commands, each
 from rigzumal import parts
-from rigzumal.accounts import _import
+from rigzumal.accounts import PerThread, Sqlite, _import
 
 SAME = "v=19 m=64,t=1,p=1"
 ANOTHER = "another record, which stays"
@@ -32,6 +36,45 @@ class Imports(Commands):
         named = "".join(f"rigzumal: line {at}: {it} has {ANOTHER}\n" for at, it in places)
         self.assertEqual(error, named)
         self.assert_answers(("check user7@x", "one", "yes"))
+
+    def test_a_batch_is_held_at_a_time(self):
+        """However long the file is, and the table that is exported."""
+        self.enterContext(mock.patch.multiple(_import, BATCH=500, SHARE=250))
+        file = self.file(*(f"user{it:05} {RECORD}" for it in range(10_000)))
+        size = os.path.getsize(file)
+        tracemalloc.start()
+        self.addCleanup(tracemalloc.stop)
+        self.streams("import", file)
+        self.assertLess(tracemalloc.get_traced_memory()[1], size / 2)
+        tracemalloc.reset_peak()
+        rows = _import.Rows(PerThread(self.connect), Sqlite("accounts", "name", "record"))
+        self.assertEqual(sum(1 for _ in rows.every()), 10_000)
+        self.assertLess(tracemalloc.get_traced_memory()[1], size / 2)
+
+    def test_a_pipe(self):
+        """It is read once, and what it brought twice."""
+        name = f"{self.server.path}.pipe"
+        os.mkfifo(name)
+        lines = "".join(f"user{it} {RECORD}\n" for it in range(3000))
+        writer = threading.Thread(target=pathlib.Path(name).write_text, args=(lines,))
+        writer.start()
+        self.assert_answers((f"import {name}", "", "3000 added, 0 there already"))
+        writer.join()
+
+    def test_a_file_that_is_shortened_meanwhile(self):
+        """It is said, with what was added."""
+        self.enterContext(mock.patch.multiple(_import, BATCH=500, SHARE=250))
+        file = self.file(*(f"user{it:05} {RECORD}" for it in range(1200)))
+        put, size = _import.Import.put, os.path.getsize(file)
+
+        def puts(importing, batch):
+            os.truncate(file, size // 2)
+            return put(importing, batch)
+
+        with mock.patch.object(_import.Import, "put", puts):
+            said, error = self.streams("import", file, status=6)
+        self.assertEqual(said, "")
+        self.assertRegex(error, r"has \d+ lines by now, and had 1200|line \d+:")
 
     def test_names_that_come_twice(self):
         """The first record of each counts, in a table that has none of them too."""
@@ -199,7 +242,7 @@ class Json(Commands):
             ("absent", 1, "", ""),
         ]
         # An upgrade goes to higher costs of one scheme alone.
-        dear = "report --memory 128"
+        dear = "report --memory 128K"
         said = self.run_command(*dear.split()).splitlines()
         wanted = [f"{count} {state} {scheme} {costs}" for state, count, scheme, costs in lines]
         self.assertCountEqual([it.split() for it in said], [it.split() for it in wanted])

@@ -67,8 +67,11 @@ class Peppers(Base):
     OLD, NEW = (LOW.replace(secret=it) for it in (b"old", b"new"))
     BOTH = LOW.replace(secrets=[b"new", b"old"])
     NEW_OR_NONE = LOW.replace(secrets=[b"new", b""])
+    # Whoever rotates again before all have logged in.
+    OLDER, FOUR = LOW.replace(secret=b"older"), LOW.replace(secrets=[b"new", b"old", b"older", b""])
     # Records that are replaced at the next login, and the hashers that read them.
     ROTATED = ((OLD, BOTH), (LOW, NEW_OR_NONE), (ScryptHasher(4), NEW_OR_NONE))
+    ROTATED += ((OLD, FOUR), (OLDER, FOUR), (LOW, FOUR))
 
     def test_a_record_is_of_one_secret(self):
         """And of no other; nor is one for an INSERT, which has a salt of its own."""

@@ -1,13 +1,14 @@
 """What goes wrong on a real server of MariaDB, trap by trap."""
 
 import tempfile
+import tracemalloc
 from unittest import mock
 
 import engines
 import support
 import torture
 from support import LOW, Base, commanded, run, scripted
-from rigzumal.accounts import AsyncAccounts, MariaDB, Reply, StoreFault, cli
+from rigzumal.accounts import AsyncAccounts, MariaDB, PerThread, Reply, StoreFault, _import, cli
 from rigzumal.accounts._session import Result
 from rigzumal.accounts.dialects import mariadb
 from rigzumal.accounts.types import Kind
@@ -70,6 +71,27 @@ class OnMariaDB(engines.OnMariaDB, Base):
                     run(put)
                 self.assertEqual(self.dialect.gave_up(raised.exception), stands == "old")
             self.assertEqual(session.execute.call_args_list[1], mock.call("ROLLBACK"))
+
+    def test_texts_that_come_as_bytes(self):
+        """Named by each operation and by `examine`, before anything is hashed."""
+        accounts = self.accounts(connect=self.setting(use_unicode=False))
+        for act, *given in (
+            (accounts.login, "ann", "one"),
+            (accounts.change, "ann", "one", "two"),
+            (accounts.examine,),
+        ):
+            with self.hashes(0):
+                self.assertRaisesRegex(StoreFault, "use_unicode is False", act, *given)
+
+    def test_rows_are_read_as_they_are_sent(self):
+        """Nothing has kept them all."""
+        large = "SELECT CONCAT('user', seq), REPEAT('x', 500) FROM seq_1_to_9000"
+        self.execute(f"INSERT INTO users {large}")
+        tracemalloc.start()
+        self.addCleanup(tracemalloc.stop)
+        rows = _import.Rows(PerThread(self.connect), self.dialect).every()
+        self.assertEqual(sum(1 for _ in rows), 9001)
+        self.assertLess(tracemalloc.get_traced_memory()[1], 9000 * 500 / 4)
 
     def test_found_rows(self):
         from pymysql.constants import CLIENT

@@ -13,10 +13,11 @@ import engines
 from servers import SqliteFile
 from support import FOREIGN_KEY_FAILED, HIGH, LOW, Base, after_hash, called, each, scripted
 from rigzumal import OutOfMemoryError
-from rigzumal.accounts import MariaDB, Reply, StoreFault, Unavailable, _connections
+from rigzumal.accounts import MariaDB, Reply, StoreFault, _connections, _operations
 from rigzumal.accounts import parts, types
 from rigzumal.accounts._session import Result, run
-from rigzumal.accounts.types import Answer, Kind, Request, Ticket, Worked
+from rigzumal.accounts._table import Undone
+from rigzumal.accounts.types import Answer, Kind, NoConnection, Request, Ticket, Worked
 
 
 ENROLLED = "remove ann one removed; enrol ann x enrolled"
@@ -120,7 +121,7 @@ class Operations(Base):
         accounts = self.accounts(replica=away, patience=0.0)
         self.assert_replies("login ann one yes; verify ann two no", accounts)
         self.assert_replies("change ann one two replaced; reset ann one replaced", accounts)
-        self.assertEqual(away.call_count, 4)
+        self.assertEqual(away.call_count, 1)
 
     @each("upgrade ann one upgraded", "change ann one x replaced", "reset ann x replaced", ENROLLED)
     def test_salts_are_the_systems_random_bytes(self, calls):
@@ -145,8 +146,61 @@ class Operations(Base):
         accounts = self.accounts(**given)
         with mock.patch.object(_connections.time, "monotonic", lambda: clock[0]):
             with mock.patch.object(type(accounts._runtime), "pause", pause):
-                self.assertRaises(Unavailable, accounts.login, "ann", "one")
+                self.assertRaises(NoConnection, accounts.login, "ann", "one")
         self.assertTrue(101.0 <= clock[0] < 101.9, clock)
+
+    @each((0.0, 1), (11.0, 2))
+    def test_a_pool_that_waits_itself(self, patience, count):
+        """It isn't asked again once `patience` is over, by a login either."""
+        clock, uses = [100.0], []
+
+        def pool():
+            uses.append(clock[0])
+            clock[0] += 10.0
+            raise sqlite3.OperationalError("database is locked")
+
+        accounts = self.over(pool, HIGH, patience=patience)
+        with mock.patch.object(_connections.time, "monotonic", lambda: clock[0]):
+            for name in ("verify", "login"):
+                uses.clear()
+                self.assertRaises(NoConnection, getattr(accounts, name), "ann", "one")
+                self.assertEqual(len(uses), count)
+
+    def test_a_login_whose_upgrade_waited(self):
+        """A server that only reads is looked at once more, and the hash isn't lost."""
+        clock, accounts = [100.0], self.accounts(HIGH, patience=1.0)
+        reads = sqlite3.OperationalError("database is locked")
+        accounts._table.change = mock.AsyncMock(return_value=Undone(reads))
+
+        async def pause(runtime, seconds):
+            clock[0] += seconds
+
+        with mock.patch.object(_connections.time, "monotonic", lambda: clock[0]):
+            with mock.patch.object(type(accounts._runtime), "pause", pause):
+                self.assertIs(accounts.login("ann", "one"), Reply.YES)
+        self.assertTrue(101.0 <= clock[0] < 101.9, clock)
+
+    def test_an_unknown_upgrade_is_waited_for_once(self):
+        """COMMIT had no answer, and no server is there any more: for both one patience."""
+        clock, accounts = [100.0], self.losing(True, 9999, hasher=HIGH, patience=1.0)
+
+        async def pause(runtime, seconds):
+            clock[0] += seconds
+
+        with mock.patch.object(_operations.time, "monotonic", lambda: clock[0]):
+            with mock.patch.object(type(accounts._runtime), "pause", pause):
+                connect = accounts._connections.primary._connect
+                looks = []
+
+                def away():
+                    looks.append(clock[0])
+                    if len(looks) > 1:
+                        raise sqlite3.OperationalError("database is locked")
+                    return connect()
+
+                accounts._connections.primary._connect = away
+                self.assertRaises(NoConnection, accounts.login, "ann", "one")
+        self.assertTrue(101.0 <= clock[0] < 102.0, clock)
 
     def test_a_connection_that_is_not_rolled_back_is_given_up(self):
         """Where the server wants the transaction anew, and ROLLBACK fails."""
@@ -185,7 +239,7 @@ class Operations(Base):
     def test_a_missing_table(self):
         self.conn.execute("DROP TABLE users")
         for text in ("verify ann one", "login ann one"):
-            with self.hashes(0), self.assertRaisesRegex(StoreFault, r"see examine\(\)"):
+            with self.hashes(0), self.assertRaisesRegex(StoreFault, "no such table: users"):
                 called(self.accounts(), text)
 
 
@@ -241,3 +295,49 @@ class Tasks(engines.OnSqliteTasks, Base):
         rows = [row for (row,) in self.conn.execute("SELECT reply FROM sessions")]
         self.assertEqual(rows, ["replaced", "yes"] * 3)
         self.assertEqual(told, [*rows, "replaced"])
+
+    def test_a_hook_that_raises_stopiteration(self):
+        """`next` of nothing, in a hook of any kind: no task waits for ever."""
+
+        def foreign(record, password):
+            return next(iter(()))
+
+        async def awaited(record, password):
+            return next(iter(()))
+
+        def also(conn, reply):
+            return next(iter(()))
+
+        for stands, more, hook in (
+            ("{SSHA}x", {"foreign": foreign}, None),
+            ("{SSHA}x", {"foreign": awaited}, None),
+            (LOW.hash("one"), {"prepare": lambda text: next(iter(()))}, None),
+            (LOW.hash("one"), {}, also),
+        ):
+            self.put(stands)
+            accounts = self.accounts(**more).core
+            login = accounts.login("ann", "one", also=hook)
+            with self.subTest(more=more), self.assertRaises(RuntimeError):
+                asyncio.run(asyncio.wait_for(login, 10))
+
+    def test_a_nested_call(self):
+        """It is refused within `also`; a task that was begun there may go on after it."""
+        accounts, tasks = self.accounts().core, []
+
+        async def later(over):
+            await over.wait()
+            return await accounts.login("ann", "two")
+
+        async def act():
+            over = asyncio.Event()
+
+            async def also(conn, reply):
+                with self.assertRaisesRegex(TypeError, "operation on its own table"):
+                    await accounts.verify("ann", "one")
+                tasks.append(asyncio.create_task(later(over)))
+
+            reply = await accounts.change("ann", "one", "two", also=also)
+            over.set()
+            return reply, await tasks[0]
+
+        self.assertEqual(asyncio.run(act()), (Reply.REPLACED, Reply.YES))

@@ -4,13 +4,15 @@ import asyncio
 import itertools
 import os
 import sqlite3
+import sys
 from unittest import mock
 
 import engines
 import of_engines
 from support import LOW, Awaiting, Base, each
-from rigzumal.accounts import AsyncAccounts, PerThread, Reply, StoreFault, Unavailable
+from rigzumal.accounts import AsyncAccounts, PerThread, Reply, StoreFault, pools
 from rigzumal.accounts.pools import PerUse
+from rigzumal.accounts.types import NoConnection
 
 BUSY = sqlite3.OperationalError("database is locked")
 
@@ -196,11 +198,11 @@ class OnePerThread(Base):
         closed = type("PoolClosed", (sqlite3.OperationalError,), {})
         connect = mock.Mock(side_effect=closed("the pool 'pool-1' is already closed"))
         accounts = self.accounts(connect=connect, patience=60.0)
-        for name, count in (("verify", 1), ("login", 2)):
+        for name in ("verify", "login"):
             connect.reset_mock()
-            with self.assertRaisesRegex(Unavailable, "the pool is closed: .* already closed"):
+            with self.assertRaisesRegex(NoConnection, "the pool is closed: .* already closed"):
                 getattr(accounts, name)("ann", "one")
-            self.assertEqual(connect.call_count, count)
+            self.assertEqual(connect.call_count, 1)
 
     def forked(self, act):
         """The status of a child that does this."""
@@ -239,6 +241,64 @@ class OnePerThread(Base):
         self.assertEqual(ended, [])
         with used() as conn:
             self.assertIs(conn, mine)
+
+    def interrupted(self, number, act):
+        """Does this, with an exception before this instruction of the pool's, as a signal's handler
+        raises it; whether the pool made fewer."""
+        left = [number]
+
+        def trace(frame, event, arg):
+            if frame.f_code.co_filename != pools.__file__:
+                return None
+            frame.f_trace_opcodes = True
+            left[0] -= event == "opcode"
+            if left[0] == 0:
+                raise Alarm
+            return trace
+
+        try:
+            sys.settrace(trace)
+            act()
+        except Alarm as alarm:
+            return False, alarm  # which a report of errors may keep, with its frames
+        finally:
+            sys.settrace(None)
+        return True, None
+
+    def test_an_interrupt_at_any_instruction(self):
+        """The thread's next use is as any other, on a connection that nothing is left open on, and
+        no other connection stays."""
+        made, kept = [], []
+        connect = lambda: made.append(self.connect()) or made[-1]
+        pool, is_over = PerThread(connect), False
+
+        def use():
+            with pool() as conn:
+                conn.execute("BEGIN IMMEDIATE")
+                conn.execute("COMMIT")
+
+        while not is_over:
+            is_over, alarm = self.interrupted(len(kept) + 1, use)
+            kept.append(alarm)
+            with self.subTest(instruction=len(kept)), pool() as conn:
+                self.assertFalse(conn.in_transaction)
+        self.assertGreater(len(kept), 50)
+        kept.clear()
+        pool.close()
+        for conn in made:
+            self.assertRaises(sqlite3.ProgrammingError, conn.execute, "SELECT 1")
+
+    def test_a_use_within_another(self):
+        """Each has a connection of its own, and the thread keeps one."""
+        pool = PerThread(self.connect)
+        with pool() as one:
+            with pool() as other:
+                self.assertIsNot(one, other)
+            one.execute("SELECT 1")
+        with pool() as last:
+            self.assertIs(last, other)
+        self.assertRaises(sqlite3.ProgrammingError, one.execute, "SELECT 1")
+        pool.close()
 
     def test_a_connection_is_given_up_after_an_exception(self):
         """After those, too, by which a thread is interrupted and a task cancelled; it is closed."""

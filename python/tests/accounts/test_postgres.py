@@ -7,13 +7,15 @@ import math
 import pathlib
 import tempfile
 import threading
+import uuid
 from unittest import mock
 
 import engines
 import torture
-from support import LOW, Base, Session, called, each, module, run
+from support import LOW, RECORD, TWO, Base, Session, called, each, module, run
 from rigzumal import InvalidRecordError
-from rigzumal.accounts import AsyncAccounts, OutcomeUnknown, Reply, StoreFault, Unavailable
+from rigzumal.accounts import AsyncAccounts, OutcomeUnknown, PerThread, Reply
+from rigzumal.accounts import StoreFault, Unavailable, _connections, _import
 from rigzumal.accounts.types import Kind
 from torture import _torture
 
@@ -33,6 +35,35 @@ class OnPostgres(engines.OnPostgres, Base):
                 self.accounts().change("ann", "one", "two")
         self.assert_no_record(raised.exception)
         self.assertTrue(self.is_right("one"))
+        (fault,) = [it for it in self.accounts().examine() if it.is_error]
+        self.assertRegex(str(fault), "no record can be written: .* P0001")
+        self.assertTrue(self.is_right("one"))
+
+    @each(
+        *(f"CREATE TRIGGER tr {it} UPDATE ON users" for it in ("BEFORE", "AFTER")),
+        "CREATE CONSTRAINT TRIGGER tr AFTER UPDATE ON users DEFERRABLE INITIALLY DEFERRED",
+    )
+    def test_a_trigger_that_warns(self, when):
+        """As an auditing one may: each change is made once, and its COMMIT is believed."""
+        self.execute("DROP TABLE IF EXISTS audit")
+        self.execute("CREATE TABLE audit (record text)")
+        self.create()
+        body = "RAISE WARNING USING MESSAGE = TG_OP; INSERT INTO audit VALUES (NEW.record);"
+        self.trigger(f"{body} RETURN NEW;", when)
+        accounts = self.accounts(patience=60.0)
+        made = 0
+        for text, reply in (
+            ("enrol ann one", "enrolled"),
+            ("change ann one two", "replaced"),
+            ("reset ann one", "replaced"),
+            ("remove ann one", "removed"),
+        ):
+            if made == 0:
+                self.give(None)
+            made += 1
+            with mock.patch.object(_connections.LOGGER, "warning", side_effect=AssertionError):
+                self.assertEqual(called(accounts, text), reply)
+            self.assertEqual(self.execute("SELECT count(*) FROM audit"), [(made,)])
 
     def test_a_trigger_that_comes_after(self):
         """RETURNING doesn't see what it writes, so `examine` has to name it."""
@@ -83,6 +114,89 @@ class OnPostgres(engines.OnPostgres, Base):
         with self.assertRaisesRegex(StoreFault, "ROLLBACK to COMMIT"):
             run(self.dialect.commit(session))
         self.assertTrue(self.is_right("one"))
+
+    # ---- imports and exports
+
+    def test_rows_are_read_as_they_are_sent(self):
+        """After the first one the statement isn't at its end, so nothing has kept them all."""
+        self.execute("INSERT INTO users SELECT 'user' || it FROM generate_series(1, 9) AS it")
+        made, connect = [], lambda: made.append(self.connect()) or made[-1]
+        rows = _import.Rows(PerThread(connect), self.dialect).every()
+        self.assertEqual(next(rows)[0], "ann")
+        self.assertEqual(made[0].info.transaction_status.name, "ACTIVE")
+        self.assertEqual([*rows], [(f"user{it}", None) for it in range(1, 10)])
+
+    # Names as people have them, and as nobody should; one is in the table without a record, one
+    # with this record, and one with another.
+    NAMES = (
+        "ann",
+        "b\\e",
+        "ca\u00e9",
+        "d'an",
+        'e"d',
+        "f\tl",
+        "g%s",
+        "h\\N",
+        "\\.",
+        "there",
+        "none",
+        "other",
+    )
+
+    def imported(self, connect, lines, **sizes):
+        """The words for these lines, put in batches of so many; and what stands then."""
+        self.create()
+        for name, record in (("there", RECORD), ("none", None), ("other", TWO)):
+            self.put(record, name)
+        importing = _import.Import(self.accounts(), self.dialect, PerThread(connect))
+        with mock.patch.multiple(_import, **sizes):
+            words = importing.put(lines)
+        importing.pool.close()
+        return words, self.execute("SELECT name, record FROM users ORDER BY name"), importing.copies
+
+    def test_a_large_batch_is_copied(self):
+        """With the answers of line by line, names that come twice among them."""
+        lines = [(name, record) for record in (RECORD, TWO, RECORD) for name in self.NAMES]
+        wanted, stands, _ = self.imported(self.connect, lines, SHARE=1000)
+        self.assertEqual(wanted[:12], ["added"] * 9 + ["there", "added", "another"])
+        given = [*lines, *((f"user{it}", RECORD) for it in range(500))]
+        with self.statements("BEGIN CREATE CREATE WITH SELECT COMMIT"):
+            words, found, is_copied = self.imported(self.connect, given, SHARE=30)
+        self.assertTrue(is_copied)
+        self.assertEqual(words, wanted + ["added"] * 500)
+        self.assertEqual([it for it in found if not it[0].startswith("user")], stands)
+        self.assertEqual(len(found), len(stands) + 500)
+
+    @each((int, 7, "bigint"), (bytes, b"\0\xff", "bytea"), (uuid.UUID, uuid.UUID(int=7), "uuid"))
+    def test_keys_that_are_copied(self, kind, key, column):
+        self.dialect = self.another_dialect(key_type=kind)
+        self.table("varchar(512)", column)
+        words = _import.Import(self.accounts(), self.dialect, PerThread(self.connect))
+        with mock.patch.object(_import, "SHARE", 1):
+            self.assertEqual(words.put([(key, RECORD), (key, TWO)]), ["added", "another"])
+        self.assertTrue(words.copies)
+        self.assertEqual(self.execute("SELECT name, record FROM users"), [(key, RECORD)])
+
+    def test_what_can_not_be_copied(self):
+        """By a role that makes no temporary table, or past a trigger that makes another record: it
+        is undone, and put by the statements of every engine."""
+        lines = [(f"user{it}", RECORD) for it in range(40)]
+        connect = self.of_role("SELECT, INSERT, UPDATE")
+        self.execute("REVOKE TEMPORARY ON DATABASE postgres FROM PUBLIC")
+        self.addCleanup(self.execute, "GRANT TEMPORARY ON DATABASE postgres TO PUBLIC")
+        importing = _import.Import(self.accounts(), self.dialect, PerThread(connect))
+        with mock.patch.object(_import, "SHARE", 30):
+            self.assertEqual(importing.put(lines), ["added"] * 40)
+            self.assertFalse(importing.copies)
+            self.execute("DELETE FROM users")
+            self.trigger(
+                "IF NEW.name = ''user7'' THEN NEW.record = upper(NEW.record); END IF; RETURN NEW;",
+                "CREATE TRIGGER tr BEFORE INSERT ON users",
+            )
+            importing = _import.Import(self.accounts(), self.dialect, PerThread(self.connect))
+            self.assertEqual(importing.put(lines), ["added"] * 40)
+            self.assertFalse(importing.copies)
+        self.assertEqual(self.execute("SELECT DISTINCT record FROM users"), [(RECORD,)])
 
     # ---- a standby that doesn't answer
 

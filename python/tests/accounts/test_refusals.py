@@ -9,7 +9,7 @@ from unittest import mock
 from engines import Awaited
 from support import HIGH, LOW, Base, called, each, scripted
 from rigzumal.accounts import Accounts, AsyncAccounts, MariaDB, OutcomeUnknown, Postgres, Reply
-from rigzumal.accounts import PerThread, Sqlite, StoreFault, Unavailable
+from rigzumal.accounts import Sqlite, StoreFault, Unavailable
 from rigzumal.accounts.types import NO_ROW, Answer, Kind, Request, Ticket, Worked
 from rigzumal.accounts._session import Result, run
 from rigzumal.accounts.dialects import MySQL, Verdict
@@ -19,9 +19,9 @@ class Arguments(Base):
     def test_pools_and_hashers(self):
         """Of another kind they are refused as Accounts are made, and named."""
         engine = type("Engine", (), {"connect": self.no_connection})()
-        for kind in (Accounts, AsyncAccounts):
+        for kind, pool in ((Accounts, "PerThread"), (AsyncAccounts, "PerUse")):
             for given in (self.conn, engine, "sqlite:///x"):
-                name = f"pass a pool, not a {type(given).__name__}: PerThread"
+                name = f"pass a pool, not a {type(given).__name__}: {pool}"
                 self.assertRaisesRegex(TypeError, name, kind, given, self.dialect, LOW)
                 with self.assertRaisesRegex(TypeError, name):
                     kind(self.no_connection, self.dialect, LOW, replica=given)
@@ -50,7 +50,7 @@ class Arguments(Base):
                 Accounts(pool, self.dialect, LOW).verify("ann", "one")
             with self.assertRaisesRegex(TypeError, "an awaitable: use AsyncAccounts"):
                 self.accounts(connect=awaited).verify("ann", "one")
-        for pool in (self.connect, awaited, PerThread(self.connect), nothing):
+        for pool in (self.connect, awaited, nothing):
             with self.assertRaisesRegex(TypeError, "gives connections by `async with`"):
                 Awaited(AsyncAccounts(pool, self.dialect, LOW)).verify("ann", "one")
 
@@ -98,7 +98,8 @@ class Arguments(Base):
         self.assertTrue(self.is_right("one", "emial"))
 
     def test_names_of_subclasses_of_str(self):
-        """Each is the text that it holds, whatever its class shows: `str` of this one is another."""
+        """Each is the text that it holds, whatever its class shows: `str` of this one is
+        another."""
         key = enum.Enum("Role", {"ANN": "ann"}, type=str).ANN
         accounts = self.accounts()
         self.assertIs(accounts.verify(key, "one"), Reply.YES)
@@ -133,7 +134,12 @@ class Arguments(Base):
 
     def test_rows_and_records_of_other_types(self):
         self.put(LOW.hash("one").encode())
-        odd = {lambda cursor, row: object(): "a row is object", None: "is not text, but bytes"}
+        odd = {
+            lambda cursor, row: object(): "a row is object",
+            lambda cursor, row: row[0].decode(): "a row is str, and no tuple",
+            lambda cursor, row: (row[0], row[0]): "a row has 2 values",
+            None: "is not text, but bytes",
+        }
         for factory, said in odd.items():
             conn = self.another()
             conn.row_factory = factory
@@ -189,10 +195,14 @@ OF_MARIADB = (
     ([ConnectionResetError()], Verdict.LOST, False),
 )
 # Before Python 3.11 an error of SQLite has its text alone.
-LOCKED, MISSING = map(sqlite3.OperationalError, ("database is locked", "no such table: x"))
+LOCKED, MISSING, FULL = map(
+    sqlite3.OperationalError,
+    ("database is locked", "no such table: x", "database or disk is full"),
+)
 OF_SQLITE = (
     ([*of_codes(5, 5 | 1 << 8, 5 | 2 << 8, 6, 6 | 1 << 8), LOCKED], Verdict.AGAIN, True),
-    ([*of_codes(8, 10, 10 | 4 << 8, 13, 14), MISSING], Verdict.REFUSED, False),
+    ([*of_codes(13, 13 | 1 << 8), FULL], Verdict.REFUSED, True),
+    ([*of_codes(8, 10, 10 | 4 << 8, 14), MISSING], Verdict.REFUSED, False),
 )
 
 
@@ -217,10 +227,16 @@ class Errors(Base):
         conn = mock.Mock(in_transaction=True, autocommit=False)
         self.assertRaisesRegex(StoreFault, "have to be in autocommit", self.dialect.fresh, conn)
 
-    @each(("WARNING", "WARNUNG", True), ("NOTICE", "HINWEIS", False))
-    def test_a_warning_in_the_servers_language(self, severity, word, raised):
-        """It is known by its severity as no language changes it."""
-        notice = mock.Mock(severity=word, severity_nonlocalized=severity, sqlstate="01000")
+    @each(
+        ("WARNING", "WARNUNG", "SyncRepWaitForLSN", True),
+        ("WARNING", "WARNING", None, True),  # of a proxy that doesn't say whose it is
+        ("WARNING", "WARNING", "exec_stmt_raise", False),  # of a trigger
+        ("NOTICE", "HINWEIS", "exec_stmt_raise", False),
+    )
+    def test_a_warning_in_the_servers_language(self, severity, word, function, raised):
+        """It is known by its severity, which no language changes, and by who warns."""
+        named = {"severity": word, "severity_nonlocalized": severity, "source_function": function}
+        notice = mock.Mock(sqlstate="01000", **named)
         session = scripted(Result([], 0, "COMMIT"))
         session.conn.add_notice_handler.side_effect = lambda handler: handler(notice)
         with self.assertRaises(ConnectionError) if raised else contextlib.nullcontext():

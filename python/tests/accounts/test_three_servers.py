@@ -9,9 +9,12 @@ from multiprocessing.managers import BaseManager
 import servers
 from support import module, server
 from rigzumal import PasswordHasher
+from tests.hostile_fields import NAMES, PASSWORDS, text_of
 
 EXAMPLE = pathlib.Path(__file__).resolve().parents[3] / "examples/postgres"
 ADA = "ada@example.org"
+NO_ADDRESSES = ("", " ", "\n", "ada@x.org ", " ada@x.org", "ada@x.org\n", "\u00a0ada@x.org")
+NO_ADDRESSES += ("\ufeffada@x.org", "ada@x.org\0", "\0", "ada\ud800@x.org", "ada\udcff")
 
 
 def open_store(dsn):
@@ -65,6 +68,45 @@ class ThreeServers(unittest.TestCase):
         for name in (ADA, "invited@example.org"):
             self.assertFalse(shop.sign_up(name, "evil"))
             self.assertFalse(shop.log_in(name, "evil"))
+
+    def rows(self):
+        with self.server.connect() as conn:
+            return dict(conn.execute("SELECT email, record FROM users").fetchall())
+
+    def test_hostile_fields(self):
+        """A visitor's address and password get an answer, and no other row than their own."""
+        shop, ann = self.web_server(), "ann@example.org"
+        self.assertTrue(shop.sign_up(ann, "secret"))
+        rows = self.rows()
+        for what, password in PASSWORDS.items():
+            for typed in (password, text_of(password)):
+                with self.subTest(password=what):
+                    self.assertFalse(shop.log_in(ann, typed))
+                    self.assertFalse(shop.change(ann, typed, "hacked"))
+        for what, name in NAMES.items():
+            with self.subTest(name=what):
+                self.assertFalse(shop.log_in(text_of(name), "secret"))
+                self.assertFalse(shop.change(text_of(name), "secret", "hacked"))
+        self.assertEqual(self.rows(), rows)
+        self.assertTrue(shop.log_in(ann, "secret"))
+
+    def test_addresses_that_nobody_gets(self):
+        """They are a ValueError before anything is hashed, and so is a password that can't be."""
+        shop = self.web_server()
+        for name in NO_ADDRESSES:
+            with self.subTest(name=name):
+                self.assertRaises(ValueError, shop.sign_up, name, "secret")
+        for password in ("x" * 257, "\ud800"):
+            with self.subTest(password=password):
+                self.assertRaises(ValueError, shop.sign_up, ADA, password)
+        self.assertEqual(self.rows(), {})
+        for name in (ADA, "ada\u00e4@x.org", "a" * 1100, "it's@x.org", "ada@x.org'); DROP"):
+            with self.subTest(name=name):
+                self.assertTrue(shop.sign_up(name, "secret\0"))
+                self.assertFalse(shop.sign_up(name, "evil"))
+                self.assertFalse(shop.log_in(name, "secret"))
+                self.assertTrue(shop.log_in(name, "secret\0"))
+        self.assertEqual(len(self.rows()), 5)
 
     def test_a_table_that_pads_is_refused(self):
         with self.server.connect() as conn:

@@ -21,6 +21,7 @@ from users_app.models import Person
 import rigzumal
 from rigzumal.django import backends, forms, passwords
 from rigzumal.django.hashers import Argon2PasswordHasher
+from tests.frames import shown
 from tests.helpers import each
 
 (OURS,), THEIRS = settings.AUTHENTICATION_BACKENDS, f"{ModelBackend.__module__}.ModelBackend"
@@ -48,7 +49,8 @@ class Operations(Ann, TestCase):
 
 
 class Reports(Cheap, TransactionTestCase):
-    """What Django shows of the frames of an exception, in a report to administrators."""
+    """What Django shows of the frames of an exception, in a report to administrators, and what
+    other reporters keep of them."""
 
     def setUp(self):
         super().setUp()
@@ -78,7 +80,7 @@ class Reports(Cheap, TransactionTestCase):
         for frame in frames:
             for secret in self.secrets:
                 self.assertNotIn(secret, str(frame["vars"]), frame["filename"])
-        self.assertNotIn("topsecret", "".join(map(str, found[:2])))
+        self.assertEqual(shown(found[1], *self.secrets), [])
 
     def each(self, fault, *left_out, before=lambda user: None):
         """Checks each operation: of a stock User, and of a model with the mixin."""

@@ -39,7 +39,7 @@ def scrypt_by_hashlib(password, n, r, p, size=64):
 class Strings(unittest.TestCase):
     """What stands in the database is what Django's own hashers write and read."""
 
-    @unittest.skipIf(argon2_cffi is None, "argon2-cffi is not there")
+    @unittest.skipIf(argon2_cffi is None, "needs Python's module argon2")
     def test_argon2_both_ways(self):
         """Servers with each hasher, by turns: at most one record is made anew."""
         theirs, ours, alike = hashers.Argon2PasswordHasher(), Argon2(), Argon2()

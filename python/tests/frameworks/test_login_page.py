@@ -1,5 +1,5 @@
-"""examples/login_page as an application: what its forms answer, whose session lasts how long, and which
-tries are refused. DATABASE may name a PostgreSQL."""
+"""examples/login_page as an application: what its forms answer, whose session lasts how long, and
+which tries are refused. DATABASE may name a PostgreSQL."""
 
 import hashlib
 import itertools
@@ -219,7 +219,7 @@ class Sessions(Page):
         self.assertNotIn(NEW, str(logged.output) + self.ann.text)
         self.assertTrue(self.ann.is_in() and self.opens(OLD))
 
-    @unittest.skipIf("DATABASE" in os.environ, "it is about SQLite's file")
+    @unittest.skipIf("DATABASE" in os.environ, "needs no variable DATABASE")
     def test_file(self):
         """For its owner alone, with what SQLite puts beside it; committed to the disk."""
         folder, file = pathlib.Path(DATABASE).parent, common_folder() / "old.db"
@@ -233,7 +233,7 @@ class Sessions(Page):
         with kept._transaction(), self.assertRaises(sqlite3.OperationalError):
             sqlite3.connect(file, timeout=0).execute("BEGIN IMMEDIATE")
 
-    @unittest.skipUnless("DATABASE" in os.environ, "a file closes no connection")
+    @unittest.skipUnless("DATABASE" in os.environ, "needs the variable DATABASE")
     def test_connections_that_are_closed(self):
         """No visitor sees it."""
         import psycopg

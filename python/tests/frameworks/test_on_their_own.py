@@ -2,7 +2,6 @@
 PostgreSQL, and Django's own tests."""
 
 import functools
-import os
 import sys
 import tempfile
 import unittest
@@ -14,6 +13,7 @@ sys.path.insert(0, str(here.HERE.parent / "accounts"))
 import servers
 
 from tests.helpers import each, need_module, run
+from tests.needs import need_variable
 
 
 @functools.cache
@@ -53,9 +53,7 @@ class Runs(unittest.TestCase):
     @each("sqlite", "postgresql")
     def test_djangos_own(self, vendor):
         """Django's tests of auth, over this backend and these hashers."""
-        source = os.environ.get("DJANGO_SOURCE")
-        if source is None:
-            self.skipTest("DJANGO_SOURCE names no folder of Django's source")
+        source = need_variable("DJANGO_SOURCE")
         need_module("django", *(["psycopg2"] if vendor == "postgresql" else []))
         env = {"FRAMEWORKS_POSTGRES": postgres()} if vendor == "postgresql" else {}
         self.run_python("django_own.py", source, **env)

@@ -1,12 +1,16 @@
 """rigzumal.passlib by passlib's own tests, in full, and what it has of its own."""
 
+import contextlib
+import functools
 import os
 import sys
 import unittest
 from unittest import mock
 
 import here  # noqa: F401 (before rigzumal)
+from tests.frames import shown
 from tests.helpers import each, need_module, run
+from tests.needs import lacking
 
 os.environ["PASSLIB_TEST_MODE"] = "full"
 
@@ -17,11 +21,19 @@ from passlib.tests import test_handlers_argon2 as argon2_tests
 from passlib.tests import test_handlers_scrypt as scrypt_tests
 
 import rigzumal.passlib
+from rigzumal import _library
 
 ours, our_scrypt = rigzumal.passlib.argon2, rigzumal.passlib.scrypt
 
 
-class Argon2(argon2_tests._base_argon2_test):
+class Named:
+    """passlib's tests with a reason of ours, where one is of what no handler of ours is."""
+
+    def skipTest(self, reason):
+        raise lacking(f"another kind of handler: {reason}")
+
+
+class Argon2(Named, argon2_tests._base_argon2_test):
     class handler(ours):
         memory_cost = 512
         default_rounds = 2
@@ -42,7 +54,7 @@ class Argon2(argon2_tests._base_argon2_test):
         return made.to_string()
 
 
-class Scrypt(scrypt_tests._scrypt_test):
+class Scrypt(Named, scrypt_tests._scrypt_test):
     handler = our_scrypt
     backend = None
     descriptionPrefix = "scrypt over rigzumal"
@@ -85,6 +97,27 @@ class Ours(unittest.TestCase):
             with self.assertRaises(PasswordSizeError) as caught:
                 handler.hash("topsecret" * 500)
             self.assertNotIn("topsecret", repr(caught.exception))
+
+    @each(ours.using(memory_cost=64, time_cost=1), our_scrypt.using(rounds=4))
+    def test_no_frame_shows_a_password(self, handler):
+        """Whatever a call raises; passlib's own frames have it under names that reports hide."""
+        record = handler.hash("topsecret")
+        hashes, verifies = handler.hash, functools.partial(handler.verify, hash=record)
+        library = mock.Mock(wraps=_library._library)
+        library.rigzumal_argon2_from = library.rigzumal_scrypt = lambda *given: _library.MEMORY
+        no_memory = mock.patch.object(_library, "_library", library)
+        for call, password, around in (
+            *((it, "topsecret", no_memory) for it in (hashes, verifies)),
+            *((it, "topsecret\ud800", contextlib.nullcontext()) for it in (hashes, verifies)),
+            *((it, "topsecret" * 500, contextlib.nullcontext()) for it in (hashes, verifies)),
+        ):
+            raised = None
+            with self.subTest(call=call, password=password), around:
+                try:
+                    call(password)
+                except (MemoryError, ValueError) as error:
+                    raised = error
+                self.assertEqual(shown(raised, "topsecret"), [])
 
     @each(ours, our_scrypt)
     def test_there_is_one_backend(self, handler):

@@ -1,6 +1,6 @@
-"""What the tests of the hashers share: where the package is, records of other programs, hashers that
-are quick, the calls of the library counted, and Python run apart. Each test reads it first, so that
-the package is found by it and by the processes that it starts."""
+"""What the tests of the hashers share: where the package is, records of other programs, hashers
+that are quick, the calls of the library counted, and Python run apart. Each test reads it first, so
+that the package is found by it and by the processes that it starts."""
 
 import base64
 import os

@@ -1,5 +1,5 @@
-"""rigzumal.argon2_cffi beside the argon2-cffi that is installed: what one makes the other reads, and
-the answers and messages are the same. Its own tests: argon2_cffi_own.py."""
+"""rigzumal.argon2_cffi beside the argon2-cffi that is installed: what one makes the other reads,
+and the answers and messages are the same. Its own tests: argon2_cffi_own.py."""
 
 import array
 import dataclasses
@@ -212,7 +212,8 @@ class Parameters(Same):
         self.assertEqual(ours.extract_parameters(hashed), ours.profiles.CHEAPEST)
 
     def test_defaults(self):
-        """Those of argon2-cffi since its version 21.2, which say RFC 9106's second recommendation."""
+        """Those of argon2-cffi since its version 21.2, which say RFC 9106's second
+        recommendation."""
         hashed = ours.PasswordHasher().hash("x")
         self.assertTrue(hashed.startswith("$argon2id$v=19$m=65536,t=3,p=4$"), hashed)
         self.assertEqual(ours.profiles.get_default_parameters(), ours.extract_parameters(hashed))
@@ -238,3 +239,7 @@ class Exceptions(unittest.TestCase):
         other = pickle.loads(pickle.dumps(made))
         self.assertEqual((type(other), other.args), (type(made), made.args))
         self.assertEqual(other.number, made.number)
+
+    def test_those_that_a_program_makes(self):
+        """The number is that of the fault, as rigzumal.h has it: 10 of another password."""
+        self.assertEqual(ours.exceptions.VerifyMismatchError("text").number, 10)

@@ -1,8 +1,8 @@
-"""Tests of where the library is looked for, of what it keeps, and of argon2-cffi's own tests over it."""
+"""Tests of where the library is looked for, of what it keeps, and of argon2-cffi's own tests over
+it."""
 
 import importlib
 import inspect
-import os
 import pathlib
 import shutil
 import tempfile
@@ -13,6 +13,14 @@ from records import HERE, python
 import rigzumal
 from rigzumal import PasswordHasher, _library
 from tests.helpers import LIBRARIES, PYTHON, each, need_module
+from tests.needs import need_variable
+
+
+def loaded(named, **env):
+    """The libraries that Python maps where this one is named."""
+    script = "import rigzumal; print(open('/proc/self/maps').read())"
+    output = python("-c", script, RIGZUMAL_LIBRARY=str(named), **env)
+    return {it.split()[-1] for it in output.splitlines() if "librigzumal" in it}
 
 
 class Places(unittest.TestCase):
@@ -20,7 +28,7 @@ class Places(unittest.TestCase):
         self.room = pathlib.Path(self.enterContext(tempfile.TemporaryDirectory()))
 
     def test_a_missing_library(self):
-        """A package without its library says how to build it, and so does what packs it."""
+        """A package without its library says how to build it, and what packs it that it can't."""
         shutil.copytree(PYTHON / "rigzumal", self.room / "rigzumal")
         clean = {"PYTHONPATH": str(self.room), "LD_LIBRARY_PATH": "", "RIGZUMAL_LIBRARY": ""}
         script = "try:\n    import rigzumal\nexcept ImportError as fault:\n    print(fault)"
@@ -30,7 +38,7 @@ class Places(unittest.TestCase):
         left_out = shutil.ignore_patterns("tests", "out")
         shutil.copytree(PYTHON, self.room / "python", ignore=left_out)
         output = python("python/build_backend.py", self.room, at=self.room, status=1)
-        self.assertIn("make -C c", output)
+        self.assertIn("c is not there: pip before 21.3 builds a copy of this folder alone", output)
 
     @each(("own", "python/rigzumal"), ("made", "c/out"))
     def test_the_package_comes_first(self, package, library):
@@ -43,18 +51,31 @@ class Places(unittest.TestCase):
         env = {"PYTHONPATH": str(room / "python"), "RIGZUMAL_LIBRARY": ""}
         python("-c", "import rigzumal", at=self.room, **env)
 
-    def test_the_one_that_is_named_is_loaded(self):
-        def loaded(named):
-            script = "import rigzumal; print(open('/proc/self/maps').read())"
-            output = python("-c", script, RIGZUMAL_LIBRARY=str(named))
-            return {it.split()[-1] for it in output.splitlines() if "librigzumal" in it}
+    def test_the_prefix_has_one(self):
+        """A package that is installed below a prefix takes the library in the prefix's lib."""
+        library, packages = self.room / "lib/librigzumal.so.1", self.room / "lib/python3/packages"
+        shutil.copytree(PYTHON / "rigzumal", packages / "rigzumal")
+        shutil.copy(LIBRARIES / library.name, library)
+        self.assertEqual(loaded("", PYTHONPATH=str(packages)), {str(library)})
 
+    def test_the_one_that_is_named_is_loaded(self):
         named = self.room / "librigzumal-of-mine.so"
         shutil.copy(_library._path(), named)
         self.assertEqual(loaded(named), {str(named)})
         self.assertEqual(loaded(""), {str(_library._path())})
         output = python("-c", "import rigzumal", RIGZUMAL_LIBRARY=f"{named}.not", status=1)
         self.assertIn("ImportError: librigzumal.so.1 can't be loaded", output)
+
+
+class OldPythons(unittest.TestCase):
+    @each((2, 7, 18), (3, 6, 15), (3, 8, 20))
+    def test_import(self, version):
+        """One line says which Python it needs, at the command too."""
+        old = f"import sys; sys.version_info = {version}; sys.version = '1.2.3 (of a test)'; "
+        for command in ("import rigzumal", "import runpy; runpy.run_module('rigzumal')"):
+            output = python("-c", old + command, status=1)
+            said = "ImportError: rigzumal needs Python 3.9 or later; this is 1.2.3"
+            self.assertEqual(output.splitlines()[-1], said)
 
 
 class Names(unittest.TestCase):
@@ -86,7 +107,4 @@ class Kept(unittest.TestCase):
 class OfOthers(unittest.TestCase):
     def test_of_argon2_cffi(self):
         need_module("pytest", "hypothesis")
-        source = os.environ.get("ARGON2_CFFI_SOURCE")
-        if source is None:
-            self.skipTest("ARGON2_CFFI_SOURCE names no folder of argon2-cffi's source")
-        python(HERE / "argon2_cffi_own.py", source)
+        python(HERE / "argon2_cffi_own.py", need_variable("ARGON2_CFFI_SOURCE"))

@@ -13,14 +13,15 @@ from records import SMALL, unpadded, verdict
 import rigzumal
 from rigzumal import PasswordHasher, Type
 from tests.helpers import need, need_module, run
+from tests.needs import lacking, need_library
 
 # Passwords in turn. The argon2 program takes 1 to 127 bytes.
 PASSWORDS = [b"password", b"x", "pässwörd 密码".encode(), b" two  spaces ", bytes(range(127))]
 LONGER = [b"", bytes(range(256)), b"\0", b"\xff" * 65, b"correct horse battery staple"]
 MIB = 1 << 20
 
-# Memory in KiB, passes, lanes, bytes of salt and of tag: the ends of what is read, 1000 KiB, of which
-# some aren't used, and more lanes and passes.
+# Memory in KiB, passes, lanes, bytes of salt and of tag: the ends of what is read, 1000 KiB, of
+# which some aren't used, and more lanes and passes.
 ARGON2 = [(8, 1, 1, 8, 32), (256, 2, 1, 16, 4), (1000, 3, 3, 47, 24), (4096, 2, 4, 48, 64)]
 ARGON2_WIDE = [(2040, 1, 255, 16, 32), (8, 1000, 1, 16, 32), (65536, 3, 4, 16, 32)]
 # ln, r, p, bytes of salt and of tag.
@@ -118,9 +119,8 @@ class Further(Judged):
             self.assertEqual([says(made, password) for password in tried], [True, False])
 
     def test_libsodium(self):
+        need_library("sodium")
         name = ctypes.util.find_library("sodium")
-        if name is None:
-            self.skipTest("libsodium isn't installed")
         sodium = ctypes.CDLL(name)
         self.assertGreaterEqual(sodium.sodium_init(), 0)
         wide, size = ctypes.c_ulonglong, ctypes.c_size_t
@@ -149,7 +149,7 @@ class Further(Judged):
             return run("php", "-r", code, "--", password.decode(), text) == "yes"
 
         if "argon2id" not in run("php", "-r", "echo implode(' ', password_algos());"):
-            self.skipTest("this PHP has no Argon2")
+            raise lacking("a PHP with Argon2")
         small = "['memory_cost' => 1024, 'time_cost' => 2, 'threads' => 1]"
         texts = [made(it, small) for it in ("PASSWORD_ARGON2I", "PASSWORD_ARGON2ID")]
         self.check_both_ways([made("PASSWORD_ARGON2ID", "[]"), *texts], says)

@@ -15,7 +15,7 @@ from tests.helpers import at_a_terminal, each, ended
 
 
 COMMAND = [sys.executable, "-m", "rigzumal"]
-LEAST_WORDS = "--memory 8 --passes 1 --lanes 1"
+LEAST_WORDS = "--memory 8K --passes 1 --lanes 1"
 NO_MILLISECONDS = ("9.9", "0", "-5", "60001", "nan", "inf", "x", "1e9")
 
 
@@ -73,8 +73,8 @@ class Shell(unittest.TestCase):
         self.assertNotIn("hunter2", fault)
 
     @each(
-        ("--memory 64 --passes 2 --lanes 3", "$argon2id$v=19$m=64,t=2,p=3$"),
-        ("--memory 100 --passes 1 --lanes 5", "$argon2id$v=19$m=100,t=1,p=5$"),
+        ("--memory 64K --passes 2 --lanes 3", "$argon2id$v=19$m=64,t=2,p=3$"),
+        ("--memory 100K --passes 1 --lanes 5", "$argon2id$v=19$m=100,t=1,p=5$"),
         (" ", "$argon2id$v=19$m=65536,t=3,p=4$"),
         ("--scrypt", "$scrypt$ln=17,r=8,p=1$"),
         *((f"--scrypt --log2-n {it}", f"$scrypt$ln={it},r=8,p=1$") for it in (4, 11)),

@@ -41,14 +41,15 @@ class Defaults(unittest.TestCase):
         key = rigzumal.scrypt("x", b"somesalt", log2_n=1, r=1, p=1)
         self.assertEqual(key, rigzumal.scrypt("x", b"somesalt", log2_n=1, r=1, p=1, length=32))
 
-    def test_modules_that_take_long_are_not_imported(self):
+    @each("rigzumal", "rigzumal.argon2_cffi")
+    def test_modules_that_take_long_are_not_imported(self, name):
         """Beside ctypes and enum all are small: twice argon2-cffi's time at most."""
         front = f"import sys; sys.path[:0] = [{str(PYTHON)!r}]"
-        script = f"{front}; import rigzumal; print(*sys.modules)"
+        script = f"{front}; import {name}; print(*sys.modules)"
         found = set(python("-I", "-S", "-c", script).split())
-        self.assertIn("rigzumal._hashers", found)
+        self.assertIn(name, found)
         slow = {"argparse", "ast", "dataclasses", "getpass", "inspect", "pathlib", "re", "typing"}
-        self.assertEqual(found & slow, set())
+        self.assertEqual(found & {*slow, "hashlib", "hmac", "random", "secrets"}, set())
 
 
 class Values(unittest.TestCase):
@@ -102,6 +103,7 @@ class Rotation(unittest.TestCase):
     OLD, NEW = (SMALL.replace(secret=it) for it in (b"old", b"new"))
     BOTH = SMALL.replace(secrets=[b"new", bytearray(b"old")])
     NEW_OR_NONE = SMALL.replace(secrets=[b"new", b""])
+    FOUR = SMALL.replace(secrets=[b"new", b"newest but one", b"old", b""])
 
     # Who made a record, who reads it, and whether it is right and is made anew.
     @each(
@@ -115,6 +117,8 @@ class Rotation(unittest.TestCase):
         (NEW, OLD, False, False),
         (SMALL, NEW_OR_NONE, True, True),
         (SCRYPT, NEW_OR_NONE, True, True),
+        (OLD, FOUR, True, True),
+        (SMALL, FOUR, True, True),
         *((it, it, True, False) for it in (SMALL, NEW, SCRYPT)),
         *((it.replace(salt_len=17), it, True, True) for it in (SMALL, NEW, SCRYPT)),
     )

@@ -1,5 +1,5 @@
-"""Tests of the package as it is installed and packed, and of how its sources look. Debian's packages
-for all of them: python3-venv, mypy, black, python3-django, python3-passlib, python3-flask.
+"""Tests of the package as it is installed and packed, and of how its sources look. Debian's
+packages for all of them: python3-venv, mypy, black, python3-django, python3-passlib, python3-flask.
 """
 
 import base64
@@ -13,6 +13,7 @@ sys.path.insert(0, str(pathlib.Path(__file__).resolve().parents[3]))
 
 from tests.helpers import LIBRARIES, PYTHON, TOP
 from tests.helpers import common_folder, each, files_below, need, need_module, run
+from tests.needs import lacking, need_file
 
 ROOM = common_folder()
 VERSION = (TOP / "VERSION").read_text().strip()
@@ -22,7 +23,12 @@ FILES = sorted(
     for it in (PYTHON / "rigzumal").rglob("*")
     if it.is_file() and it.suffix != ".pyc"
 )
-INSTALLED = "lib/python3/dist-packages"
+# Below a prefix that no Python knows, where the system's would look in its own.
+INSTALLED = run(
+    "/usr/bin/python3",
+    "-c",
+    "import sys; print('lib/python%d.%d/site-packages' % sys.version_info[:2])",
+).strip()
 OTHERS = {
     *("bin/rigzumal", "share/man/man1/rigzumal.1", "share/bash-completion/completions/rigzumal"),
     *("share/zsh/site-functions/_rigzumal", "share/fish/vendor_completions.d/rigzumal.fish"),
@@ -72,7 +78,7 @@ def new_environment(name):
     try:
         run(sys.executable, "-m", "venv", room)
     except AssertionError:
-        raise unittest.SkipTest("python3-venv is not there") from None
+        raise lacking("Python's module ensurepip") from None
     return room
 
 
@@ -95,7 +101,8 @@ class Package(unittest.TestCase):
 
     @each((), ("/of_another.py", "/django/of_another.py"))
     def test_uninstalled(self, others):
-        """`make uninstall` takes away what `make install` put there, and nothing of anyone else's."""
+        """`make uninstall` takes away what `make install` put there, and nothing of anyone
+        else's."""
         room = ROOM / "uninstalled"
         words = (f"DESTDIR={room}", "PREFIX=/opt/rigzumal")
         packages = room / "opt/rigzumal" / INSTALLED
@@ -123,12 +130,11 @@ class Package(unittest.TestCase):
             check_hashing(room / "bin/python", CLEAN, room)
 
     def test_wheel_for_arm64(self):
-        """The wheel hashes in Debian's Python for ARM64, which tests/arm64/root.sh of c unpacked."""
+        """The wheel hashes in Debian's Python for ARM64, which tests/arm64/root.sh of c
+        unpacked."""
         need("qemu-aarch64")
         library, root = LIBRARIES / "arm64/librigzumal.so.1", LIBRARIES / "arm64/root/at"
-        for needed in (library, root):
-            if not needed.exists():
-                self.skipTest(f"{needed} is not there")
+        need_file(library, root)
         room = ROOM / "arm64"
         room.mkdir()
         wheel = room / run(sys.executable, PYTHON / "build_backend.py", room, env=ARM64).strip()
@@ -141,7 +147,8 @@ class Package(unittest.TestCase):
         self.assertTrue(run(*emulated, env=env, at=ROOM).startswith("True "))
 
     def test_editable(self):
-        """`pip install -e` has the folder itself imported, and leaves nothing when it is taken away."""
+        """`pip install -e` has the folder itself imported, and leaves nothing when it is taken
+        away."""
         room = new_environment("editable")
         python = room / "bin/python"
         run(room / "bin/pip", "install", "-q", "--no-index", "-e", PYTHON, env=CLEAN)
@@ -150,7 +157,8 @@ class Package(unittest.TestCase):
         run(python, "-c", "import rigzumal", env=CLEAN, at=ROOM, status=1)
 
     def test_deb(self):
-        """Debian's package holds its files and no others, and hashes; tests/packages asks lintian."""
+        """Debian's package holds its files and no others, and hashes; tests/packages asks
+        lintian."""
         need("dpkg-deb")
         for deb in (PYTHON / "out").glob("*.deb"):
             deb.unlink()
@@ -170,16 +178,6 @@ class Package(unittest.TestCase):
         self.assertIn(f"librigzumal1 (>= {VERSION})", run("dpkg-deb", "-f", deb, "Depends"))
         packages = str(room / "usr/lib/python3/dist-packages")
         check_hashing("/usr/bin/python3", {**OVER_LIBRARY, "PYTHONPATH": packages}, room)
-
-    def test_layout(self):
-        """black leaves the sources as they are: the package's, the packers', and the tests'."""
-        need("black")
-        black = ("black", "-q", "--check", "-l")
-        run(*black, "99", PYTHON / "rigzumal", PYTHON / "build_backend.py", TOP / "packaging")
-        parts = ("python/tests", "docs/tests", "rust/tests", "c/tests", "c/pam/tests")
-        parts += ("examples/login_page", "tests/helpers.py", "tests/operations.py")
-        parts += ("tests/credbook", "tests/credkeep")
-        run(*black, "100", *(TOP / it for it in parts))
 
     def test_types(self):
         cache = f"--cache-dir={ROOM / 'mypy'}"

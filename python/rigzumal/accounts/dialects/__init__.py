@@ -5,7 +5,7 @@ every engine, `python/tests/accounts/of_engines.py`, can run over it.
 """
 
 from rigzumal.accounts.dialects._dialect import Dialect, Mode, Verdict
-from rigzumal.accounts.dialects._dialect import Fault, Findings, Severity
+from rigzumal.accounts.dialects._faults import Fault, Findings, Severity
 from rigzumal.accounts.dialects.mariadb import MariaDB, MySQL
 from rigzumal.accounts.dialects.postgres import Postgres
 from rigzumal.accounts.dialects.sqlite import Sqlite

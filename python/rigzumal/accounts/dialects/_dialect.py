@@ -3,14 +3,14 @@
 from __future__ import annotations
 
 import enum
-import functools
+import itertools
 import re
 from collections.abc import Collection, Container, Iterable, Iterator, Mapping
 from collections.abc import Sequence
-from dataclasses import dataclass
-from typing import Any, ClassVar, Final, NamedTuple
+from typing import Any, ClassVar, Final, NamedTuple, Optional
 
 from rigzumal.accounts._session import Result, Session
+from rigzumal.accounts.dialects._faults import Fault, Findings, error, warning
 from rigzumal.accounts.types import Copy, Key, StoreFault
 
 LONGEST_RECORD: Final = 512  # bytes
@@ -25,6 +25,8 @@ LEFT_OPEN: Final = (
     " gave out, or rolls it back"
 )
 _BIGINT: Final = 2**63
+Line = tuple[Key, str]
+"""An account with its record."""
 _IN_NO_COLUMN: Final = re.compile("[\0\ud800-\udfff]")
 
 
@@ -49,45 +51,6 @@ def other_driver(conn: Any, wanted: str) -> StoreFault:
     found = type(conn).__module__.partition(".")[0]
     more = ": pass of_engine(engine)" if found == "sqlalchemy" else ""
     return StoreFault(f"the driver is {found} instead of {wanted}{more}")
-
-
-class Severity(enum.Enum):
-    """An error loses acknowledged changes, answers wrongly or refuses a good operation; a
-    warning is good to know."""
-
-    ERROR = "error"
-    WARNING = "warning"
-
-
-@dataclass(frozen=True)
-class Fault:
-    """A finding of `examine`."""
-
-    severity: Severity
-    code: str  # its name in a word or two, such as "key-not-unique"
-    text: str  # for people
-
-    @property
-    def is_error(self) -> bool:
-        return self.severity is Severity.ERROR
-
-    def __str__(self) -> str:
-        return self.text
-
-
-error: Final = functools.partial(Fault, Severity.ERROR)
-warning: Final = functools.partial(Fault, Severity.WARNING)
-not_durable: Final = functools.partial(error, "not-durable")
-
-
-@dataclass(frozen=True)
-class Findings:
-    """The findings in an engine's catalogue and settings."""
-
-    faults: list[Fault]
-    is_usable: bool = True  # a trial is possible there, and can be undone
-    # No faults if looks are confirmed by a COMMIT that writes.
-    unless_confirmed: tuple[Fault, ...] = ()
 
 
 class Mode(NamedTuple):
@@ -160,19 +123,41 @@ class Dialect:
     def _at_once(self, t: str, k: str, r: str) -> str:
         return ""
 
-    def add(self, count: int) -> str:
-        """The statement that adds accounts with their records, but for those that exist."""
-        rows = ", ".join([f"({self.mark}, {self.mark})"] * count)
-        unless = self._unless_exists.format(k=self.key)
-        columns = f"{self.key}, {self.record}"
-        return f"INSERT INTO {self.table} ({columns}) VALUES {rows}{unless}"
+    # ---- statements of many rows, each with its values
 
-    def enrol(self, count: int) -> str:
-        """The statement that puts records where none stand: of keys with theirs, and the keys."""
+    def adding(self, lines: Sequence[Line]) -> Sequence[Any]:
+        """Adds accounts with their records, but for those that exist."""
+        rows = ", ".join([f"({self.mark}, {self.mark})"] * len(lines))
+        sql = f"INSERT INTO {self.table} ({self.key}, {self.record}) VALUES {rows}"
+        return (sql + self._unless_exists.format(k=self.key), *itertools.chain(*lines))
+
+    def enrolling(self, lines: Sequence[Line]) -> Sequence[Any]:
+        """Puts records into rows that have none."""
         k, r, m = self.key, self.record, self.mark
-        record = f"CASE {k}{f' WHEN {m} THEN {m}' * count} END"
-        keys = ", ".join([m] * count)
-        return f"UPDATE {self.table} SET {r} = {record} WHERE {k} IN ({keys}) AND {r} IS NULL"
+        record = f"CASE {k}{f' WHEN {m} THEN {m}' * len(lines)} END"
+        keys = ", ".join([m] * len(lines))
+        sql = f"UPDATE {self.table} SET {r} = {record} WHERE {k} IN ({keys}) AND {r} IS NULL"
+        return (sql, *itertools.chain(*lines), *(key for key, _ in lines))
+
+    def standing(self, keys: Sequence[Key]) -> Sequence[Any]:
+        """Reads keys and records of the rows with these keys."""
+        marks = ", ".join([self.mark] * len(keys))
+        sql = f"SELECT {self.key}, {self.record} FROM {self.table} WHERE {self.key} IN ({marks})"
+        return (sql, *keys)
+
+    async def add_all(self, session: Session, lines: Sequence[Line]) -> Optional[list[str]]:
+        """Adds many accounts in a way of the engine's own, in an open transaction: "added", "there"
+        or "another" for each; None if it has no such way."""
+        return None
+
+    def rows_of(self, conn: Any, sql: str) -> Iterator[tuple[Any, ...]]:
+        """The rows of a statement without values, as they are read: a table may be large."""
+        cursor = conn.cursor()
+        cursor.execute(sql)
+        yield from iter(cursor.fetchone, None)
+        cursor.close()
+
+    # ---- names
 
     def quoted(self, name: str) -> str:
         """A name of a table or a column, as a statement has it."""
@@ -255,6 +240,9 @@ class Dialect:
         """Commits, and raises unless the change surely stays."""
         await session.execute(self.commit_sql)
 
+    async def settle(self, session: Session) -> None:
+        """Has the constraints judged that COMMIT would judge, in a trial that is rolled back."""
+
     async def undo(self, session: Session) -> None:
         """Rolls back an open transaction."""
         await session.execute("ROLLBACK")
@@ -285,6 +273,11 @@ class Dialect:
 
     def number(self, raised: BaseException) -> str:
         """The server's number of an error; its text may have the refused row."""
+        return ""
+
+    def missing_name(self, raised: BaseException) -> str:
+        """The server's words if they are of a table or a column that is missing, or of a right to
+        it; empty if they may have a row."""
         return ""
 
     # ---- tables

@@ -10,10 +10,10 @@ from typing import Any, Final, Optional
 from rigzumal.accounts._session import Result, Session
 from rigzumal.accounts.types import Copy, Key, StoreFault
 from rigzumal.accounts.dialects._dialect import ANOTHER_RECORD, CRASH_LOSES
-from rigzumal.accounts.dialects._dialect import POWER_CUT_LOSES
-from rigzumal.accounts.dialects._dialect import Dialect, Fault, Findings
-from rigzumal.accounts.dialects._dialect import Mode, Verdict, error, not_durable
-from rigzumal.accounts.dialects._dialect import other_driver, warning
+from rigzumal.accounts.dialects._dialect import POWER_CUT_LOSES, Dialect, Mode, Verdict
+from rigzumal.accounts.dialects._dialect import other_driver
+from rigzumal.accounts.dialects._faults import Fault, Findings, error, not_durable
+from rigzumal.accounts.dialects._faults import warning
 
 UNCOMMITTED: Final = "READ UNCOMMITTED: uncommitted records are read"
 NOBODYS_RECORD: Final = f"$argon2id$v=19$m=8,t=1,p=1$bm9ib2R5J3M${'A' * 43}"
@@ -34,6 +34,8 @@ _BROKEN: Final = (ConnectionError, TimeoutError, socket.timeout)
 # ROLLBACK; 1021, 1026, 1030: a full disk, an error of writing, an error of the engine.
 _UNKNOWN: Final = frozenset({1021, 1026, 1030, 1180, 1181, _TIME_IS_OVER})
 
+# No such table or column, and no right to it.
+_MISSING: Final = (1146, 1054, 1142, 1143)
 _UNICODE: Final = ("utf8mb4", "utf16", "utf16le", "utf32")
 # A text that can't be compared with the column: its characters aren't in the column's set.
 _LACKS: Final = (1267, 3988)
@@ -70,6 +72,8 @@ class MariaDB(Dialect):
             raise other_driver(conn, "PyMySQL")
         if not conn.open:
             raise ConnectionError("the connection is closed")
+        if not getattr(conn, "use_unicode", True):
+            raise StoreFault("the connection's use_unicode is False: texts come as bytes")
         is_open = bool(conn.server_status & 1)  # SERVER_STATUS_IN_TRANS
         return Mode(conn.get_autocommit(), has_transaction=is_open)
 
@@ -133,6 +137,13 @@ class MariaDB(Dialect):
             raise StoreFault(ANOTHER_RECORD)
         return result
 
+    def rows_of(self, conn: Any, sql: str) -> Iterator[tuple[Any, ...]]:
+        from pymysql.cursors import SSCursor  # the default reads all rows first
+
+        with conn.cursor(SSCursor) as cursor:
+            cursor.execute(sql)
+            yield from iter(cursor.fetchone, None)
+
     def verdict(self, raised: BaseException) -> Verdict:
         number = _number(raised)
         if number in _AGAIN or number == _TIME_IS_OVER:
@@ -155,6 +166,10 @@ class MariaDB(Dialect):
 
     def number(self, raised: BaseException) -> str:
         return str(_number(raised) or "")
+
+    def missing_name(self, raised: BaseException) -> str:
+        is_missing = _number(raised) in _MISSING and len(raised.args) > 1
+        return str(raised.args[1]) if is_missing else ""
 
     async def examine(self, session: Session) -> Findings:
         schema, _, t = self.table_name.rpartition(".")

@@ -3,14 +3,14 @@
 from __future__ import annotations
 
 import uuid
-from collections.abc import Iterator
+from collections.abc import Iterator, Sequence
 from typing import Any, Final
 
 from rigzumal.accounts._session import Result, Session
-from rigzumal.accounts.dialects._dialect import CRASH_LOSES
-from rigzumal.accounts.dialects._dialect import Dialect, Fault, Findings, Mode, Verdict
-from rigzumal.accounts.dialects._dialect import error, not_durable, other_driver
-from rigzumal.accounts.dialects._dialect import warning
+from rigzumal.accounts.dialects._dialect import ANOTHER_RECORD, CRASH_LOSES, Dialect
+from rigzumal.accounts.dialects._dialect import Line, Mode, Verdict, other_driver
+from rigzumal.accounts.dialects._faults import Fault, Findings, error, not_durable
+from rigzumal.accounts.dialects._faults import warning
 from rigzumal.accounts.types import Copy, Key, StoreFault
 
 # 40001: serialization; 40P01: a deadlock; 55P03: lock_timeout; 57014: statement_timeout.
@@ -22,6 +22,11 @@ _ELSEWHERE: Final = frozenset({"25006", "53300"})
 _LOST: Final = ("08", "57P0", "25P03")
 _UNKNOWN: Final = "40003"  # the server doesn't know whether what was sent was done
 _LACKS: Final = ("22P05", "22021")  # characters that the server's encoding doesn't have
+# The server's own function that warns of a wait that was cancelled; its words are translated.
+_WAIT_FOR_STANDBY: Final = "SyncRepWaitForLSN"
+_COPY: Final = "COPY rigzumal_came (number, name, made) FROM STDIN"
+# No such table, column or schema, and no right to it.
+_MISSING: Final = ("42P01", "42703", "3F000", "42501")
 STATEMENT_MODE: Final = (
     "PgBouncer's pool_mode is statement, which has no transactions: set it to transaction"
     " or session"
@@ -112,8 +117,9 @@ class Postgres(Dialect):
         warnings: list[str] = []
 
         def handler(notice: Any) -> None:
-            # Outside of its handler a notice is empty.
-            if notice.severity_nonlocalized == "WARNING":
+            # Outside of its handler a notice is empty. A trigger may warn too.
+            is_warning = notice.severity_nonlocalized == "WARNING"
+            if is_warning and notice.source_function in (_WAIT_FOR_STANDBY, None, ""):
                 warnings.append(notice.sqlstate or "")
 
         session.conn.add_notice_handler(handler)
@@ -125,6 +131,66 @@ class Postgres(Dialect):
         if warnings:
             raise ConnectionError("committed here, and perhaps not at the standby")
         return done
+
+    async def add_all(self, session: Session, lines: Sequence[Line]) -> list[str]:
+        """Adds lines with their records by COPY: "added", "there" or "another" for each.
+
+        It raises if the server kept another record than one that was added.
+        """
+        for sql in self._came:
+            await session.execute(sql)
+        with session.conn.cursor() as cursor, cursor.copy(_COPY) as copy:
+            for number, line in enumerate(lines):
+                copy.write_row((number, *line))
+        await session.execute(self._put_all)
+        words = ["added"] * len(lines)
+        for number, was_put, is_same in (await session.execute(self._others)).rows:
+            if was_put or is_same is None:
+                raise StoreFault(ANOTHER_RECORD)
+            words[number] = "there" if is_same else "another"
+        return words
+
+    @property
+    def _came(self) -> tuple[str, str]:
+        """The statements that make tables for what came, and for what was put of it."""
+        columns = f"0 AS number, {self.key} AS name, {self.record}::text AS made"
+        came = f"AS SELECT {columns} FROM {self.table} LIMIT 0"
+        return (
+            self.alone(f"CREATE TEMPORARY TABLE rigzumal_came ON COMMIT DROP {came}"),
+            "CREATE TEMPORARY TABLE rigzumal_put (number int) ON COMMIT DROP",
+        )
+
+    @property
+    def _put_all(self) -> str:
+        """Puts the first record of each name, in their order, where none stands."""
+        t, k, r = self.table, self.key, self.record
+        came = "SELECT DISTINCT ON (name) * FROM rigzumal_came ORDER BY name, number"
+        add = f"INSERT INTO {t} ({k}, {r}) SELECT name, made FROM came ON CONFLICT DO NOTHING"
+        where = f"kept.{k} = came.name AND kept.{r} IS NULL"
+        enrol = f"UPDATE {t} AS kept SET {r} = came.made FROM came WHERE {where}"
+        found = "SELECT number FROM came JOIN added USING (name) UNION ALL SELECT * FROM enrolled"
+        return self.alone(
+            f"WITH came AS ({came}), added AS ({add} RETURNING {k} AS name),"
+            f" enrolled AS ({enrol} RETURNING came.number) INSERT INTO rigzumal_put {found}"
+        )
+
+    @property
+    def _others(self) -> str:
+        """Finds lines that weren't put, and those of which another record stands."""
+        same = f'kept.{self.record}::text COLLATE "C" = came.made'
+        joined = "rigzumal_came AS came LEFT JOIN rigzumal_put AS put USING (number)"
+        return self.alone(
+            f"SELECT number, put.number IS NOT NULL, {same} FROM {joined}"
+            f" LEFT JOIN {self.table} AS kept ON kept.{self.key} = came.name"
+            f" WHERE put.number IS NULL OR ({same}) IS NOT TRUE"
+        )
+
+    def rows_of(self, conn: Any, sql: str) -> Iterator[tuple[Any, ...]]:
+        with conn.cursor() as cursor:
+            yield from cursor.stream(sql)
+
+    async def settle(self, session: Session) -> None:
+        await session.execute("SET CONSTRAINTS ALL IMMEDIATE")
 
     def verdict(self, raised: BaseException) -> Verdict:
         state = self.number(raised)
@@ -152,6 +218,11 @@ class Postgres(Dialect):
 
     def number(self, raised: BaseException) -> str:
         return getattr(raised, "sqlstate", None) or ""
+
+    def missing_name(self, raised: BaseException) -> str:
+        if self.number(raised) not in _MISSING:
+            return ""
+        return str(getattr(getattr(raised, "diag", None), "message_primary", None) or "")
 
     async def examine(self, session: Session) -> Findings:
         t = self.table.replace("%%", "%")

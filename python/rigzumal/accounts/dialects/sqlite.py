@@ -9,8 +9,13 @@ from typing import Any, Final
 from rigzumal.accounts._session import Session
 from rigzumal.accounts.types import StoreFault
 from rigzumal.accounts.dialects._dialect import NO_TRANSACTION, POWER_CUT_LOSES, Dialect
-from rigzumal.accounts.dialects._dialect import Fault, Findings, Mode, Verdict, error
-from rigzumal.accounts.dialects._dialect import not_durable, other_driver, warning
+from rigzumal.accounts.dialects._dialect import Mode, Verdict, other_driver
+from rigzumal.accounts.dialects._faults import Fault, Findings, error, not_durable
+from rigzumal.accounts.dialects._faults import warning
+
+
+_BUSY: Final = (5, 6)  # SQLITE_BUSY, SQLITE_LOCKED
+_FULL: Final = (13,)  # SQLITE_FULL
 
 
 class Sqlite(Dialect):
@@ -54,17 +59,21 @@ class Sqlite(Dialect):
     def verdict(self, raised: BaseException) -> Verdict:
         if not isinstance(raised, sqlite3.OperationalError):
             return Verdict.REFUSED
-        # SQLITE_BUSY and SQLITE_LOCKED; before Python 3.11 the text alone tells.
-        code = getattr(raised, "sqlite_errorcode", None)
-        busy = "locked" in str(raised) if code is None else code & 0xFF in (5, 6)
-        return Verdict.AGAIN if busy else Verdict.REFUSED
+        is_busy = _is_of(raised, _BUSY, "locked")
+        return Verdict.AGAIN if is_busy else Verdict.REFUSED
 
     def gave_up(self, raised: BaseException) -> bool:
-        # A constraint that is deferred is judged at COMMIT.
-        return super().gave_up(raised) or isinstance(raised, sqlite3.IntegrityError)
+        # A constraint that is deferred is judged at COMMIT, and a full disk is found there:
+        # what marks the commit is written last, so it isn't there then.
+        is_full = _is_of(raised, _FULL, "is full")
+        return super().gave_up(raised) or isinstance(raised, sqlite3.IntegrityError) or is_full
 
     def number(self, raised: BaseException) -> str:
         return str(getattr(raised, "sqlite_errorname", ""))
+
+    def missing_name(self, raised: BaseException) -> str:
+        text = str(raised)
+        return text if text.startswith(("no such table: ", "no such column: ")) else ""
 
     async def examine(self, session: Session) -> Findings:
         schema, _, t = self.table_name.rpartition(".")
@@ -112,6 +121,12 @@ class Sqlite(Dialect):
             holds = bytes
         fits = {str: (str, bytes), int: (int, float, bytes)}
         yield from self.key_faults(declared, holds in fits.get(self.key_type, (holds,)))
+
+
+def _is_of(raised: BaseException, codes: tuple[int, ...], text: str) -> bool:
+    """Whether an error is of these codes; before Python 3.11 its text alone tells."""
+    code = getattr(raised, "sqlite_errorcode", None)
+    return text in str(raised) if code is None else code & 0xFF in codes
 
 
 # Indexes of all rows, by one part, which has no name if it is an expression.

@@ -1,4 +1,5 @@
-"""The command, whose words `torture` has. Status 4 is an illegal history, or one that shows nothing."""
+"""The command, whose words `torture` has. Status 4 is an illegal history, or one that shows
+nothing."""
 
 import argparse
 import os

@@ -14,13 +14,14 @@ from django.contrib.auth import get_user_model
 from django.contrib.auth.management.commands import changepassword
 from django.core.management.base import CommandError
 
+from rigzumal._hidden import hidden_below
 from rigzumal.django import records, users
 
 
 class Command(changepassword.Command):
     """Django's command, during which the user model compares."""
 
-    @records.hidden
+    @hidden_below
     def handle(self, *args: Any, **options: Any) -> Any:
         """Asks for the new password, and puts it, or raises a CommandError."""
         try:

@@ -1,0 +1,81 @@
+"""Reports of errors without passwords.
+
+Sentry, cgitb, rich and Django's debug page show the variables of the frames that an exception has
+passed, all but those of some names. So each public call that gets a password or a pepper empties
+such frames before an exception leaves it.
+"""
+
+from __future__ import annotations
+
+import functools
+import sys
+
+TYPE_CHECKING = False
+if TYPE_CHECKING:
+    from collections.abc import Callable
+    from types import FrameType
+    from typing import Any, Optional, TypeVar
+
+    Function = TypeVar("Function", bound=Callable[..., Any])
+
+
+def hidden(function: Function) -> Function:
+    """The function, whose exceptions bring no variable of this package's frames. A caller's hooks
+    keep theirs."""
+    return _hiding(function, hide)
+
+
+def hidden_below(function: Function) -> Function:
+    """The function, whose exceptions bring no variable of a frame below it, whosever it is."""
+    return _hiding(function, _hide_all)
+
+
+def _hiding(function: Function, hides: Callable[..., None]) -> Function:
+    @functools.wraps(function)
+    def call(*args: Any, **kwargs: Any) -> Any:
+        handled = sys.exc_info()[1]  # by the caller, whose own it is
+        try:
+            return function(*args, **kwargs)
+        except BaseException as raised:
+            del args, kwargs
+            hides(raised, handled)
+            raise
+
+    return call  # type: ignore[return-value]
+
+
+def hide(raised: BaseException, handled: Optional[BaseException] = None) -> None:
+    """Empties this package's frames that an exception, and those of which it came, have passed."""
+    _empty(raised, handled, _is_ours)
+
+
+def _hide_all(raised: BaseException, handled: Optional[BaseException]) -> None:
+    _empty(raised, handled, lambda frame: True)
+
+
+def _is_ours(frame: FrameType) -> bool:
+    return str(frame.f_globals.get("__name__")).partition(".")[0] == "rigzumal"
+
+
+def _empty(
+    raised: BaseException,
+    handled: Optional[BaseException],
+    is_hidden: Callable[[FrameType], bool],
+) -> None:
+    waiting: list[Optional[BaseException]] = [raised]
+    seen = [None, handled]
+    while waiting:
+        error = waiting.pop()
+        if any(error is it for it in seen):
+            continue
+        assert error is not None
+        seen.append(error)
+        waiting += error.__cause__, error.__context__
+        trace = error.__traceback__
+        while trace is not None:
+            if is_hidden(trace.tb_frame):
+                try:
+                    trace.tb_frame.clear()
+                except RuntimeError:  # it runs: `hidden` empties its own
+                    pass
+            trace = trace.tb_next

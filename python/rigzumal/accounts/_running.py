@@ -1,0 +1,36 @@
+"""The hooks that run, by which an operation within one is known.
+
+An `also` holds the row of its operation: another operation on the same table could wait for that
+row, which no server sees as a deadlock, and PerThread's one connection is in use.
+"""
+
+from __future__ import annotations
+
+import contextvars
+from typing import Any, Final
+
+
+class Also:
+    """A caller's `also` that runs, within an operation on a table over a pool.
+
+    Attributes:
+        is_over: whether it has ended: a task that it created has its context ever after.
+    """
+
+    def __init__(self, pool: Any, table: str) -> None:
+        self.pool, self.table, self.is_over = pool, table, False
+
+
+RUNNING: Final = contextvars.ContextVar[tuple[Also, ...]]("rigzumal.accounts.also", default=())
+"""Those within which the caller is, the innermost last."""
+
+
+def runs_over(pool: Any) -> bool:
+    """Whether the caller is within an `also` of an operation over this pool."""
+    return any(it.pool == pool for it in RUNNING.get() if not it.is_over)
+
+
+def runs_on(pool: Any, table: str) -> bool:
+    """Whether the caller is within an `also` of an operation on this table of the pool's."""
+    found = (it for it in RUNNING.get() if not it.is_over)
+    return any((it.pool, it.table) == (pool, table) for it in found)

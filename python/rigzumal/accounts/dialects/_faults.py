@@ -1,0 +1,47 @@
+"""The findings of `examine`: faults of a table, a server or a connection."""
+
+from __future__ import annotations
+
+import enum
+import functools
+from dataclasses import dataclass
+from typing import Final
+
+
+class Severity(enum.Enum):
+    """An error loses acknowledged changes, answers wrongly or refuses a good operation; a
+    warning is good to know."""
+
+    ERROR = "error"
+    WARNING = "warning"
+
+
+@dataclass(frozen=True)
+class Fault:
+    """A finding of `examine`."""
+
+    severity: Severity
+    code: str  # its name in a word or two, such as "key-not-unique"
+    text: str  # for people
+
+    @property
+    def is_error(self) -> bool:
+        return self.severity is Severity.ERROR
+
+    def __str__(self) -> str:
+        return self.text
+
+
+error: Final = functools.partial(Fault, Severity.ERROR)
+warning: Final = functools.partial(Fault, Severity.WARNING)
+not_durable: Final = functools.partial(error, "not-durable")
+
+
+@dataclass(frozen=True)
+class Findings:
+    """The findings in an engine's catalogue and settings."""
+
+    faults: list[Fault]
+    is_usable: bool = True  # a trial is possible there, and can be undone
+    # No faults if looks are confirmed by a COMMIT that writes.
+    unless_confirmed: tuple[Fault, ...] = ()

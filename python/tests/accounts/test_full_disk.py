@@ -1,0 +1,145 @@
+"""A file of SQLite on a disk that is full or ill. The disk is a small one of memory, which root
+alone mounts."""
+
+import contextlib
+import os
+import sqlite3
+import subprocess
+import sys
+import tempfile
+from unittest import mock
+
+from support import HIGH, Base, each
+from rigzumal.accounts import OutcomeUnknown, Reply, StoreFault
+from tests.helpers import need_root
+
+
+class FullDisk(Base):
+    """What each operation answers, at once: nothing is waited for."""
+
+    def setUp(self):
+        super().setUp()
+        need_root()
+        self.folder = self.enterContext(tempfile.TemporaryDirectory(prefix="rigzumal-full-"))
+        mounting = ["mount", "-t", "tmpfs", "-o", "size=120k", "tmpfs", self.folder]
+        if subprocess.run(mounting, capture_output=True).returncode:
+            self.skipTest("nothing can be mounted here")
+        self.addCleanup(subprocess.run, ["umount", "-l", self.folder], check=True)
+
+    def begin(self, mode):
+        """With a table on that disk in a mode of SQLite's journal: of `ann`, `low` and `none`."""
+        self.server.path = f"{self.folder}/{mode}.db"
+        self.conn = self.another()
+        for pragma in (f"journal_mode = {mode}", "synchronous = FULL"):
+            self.execute(f"PRAGMA {pragma}")
+        self.create()
+        for name, password in (("ann", "one"), ("low", "one"), ("none", None)):
+            self.give(password, name)
+
+    @contextlib.contextmanager
+    def full(self):
+        """Nothing more fits on the disk, within."""
+        path = os.path.join(self.folder, "filling")
+        with open(path, "wb", buffering=0) as filling, contextlib.suppress(OSError):
+            while True:
+                filling.write(b"x" * 4096)
+        yield
+        os.remove(path)
+
+    def no_pause(self, accounts):
+        """Fails where an operation waits, for a `with`."""
+        raises = mock.AsyncMock(side_effect=AssertionError("it waits"))
+        return mock.patch.object(accounts._runtime, "pause", raises)
+
+    @each("WAL", "DELETE")
+    def test_what_each_operation_answers(self, mode):
+        """Logins go on, each change is a fault, and what stood stands."""
+        self.begin(mode)
+        accounts = self.accounts(HIGH, patience=60.0)
+        accounts.verify("ann", "one")
+        stood = self.execute("SELECT name, record FROM users ORDER BY name")
+        with self.full(), self.no_pause(accounts):
+            self.assert_replies("login low one yes; login low two no; verify ann one yes", accounts)
+            for name, *given in (
+                ("change", "ann", "one", "two"),
+                ("reset", "ann", "two"),
+                ("remove", "ann", "one"),
+                ("upgrade", "low", "one"),
+                ("enrol", "none", "two"),
+            ):
+                with self.subTest(name=name), self.assertRaisesRegex(
+                    StoreFault, "FULL|Operational"
+                ):
+                    getattr(accounts, name)(*given)
+        self.assertEqual(self.execute("SELECT name, record FROM users ORDER BY name"), stood)
+        self.assert_replies("change ann one two replaced; verify ann two yes", accounts)
+        self.assertIs(accounts.login("low", "one"), Reply.YES)
+        self.assertIn("m=128,", self.stands("low"))
+
+    def test_a_crash_after_a_refused_commit(self):
+        """The record that was acknowledged last stands, wherever the log of SQLite ended."""
+        for before in range(9):
+            self.begin("WAL")
+            words = (self.server.path, str(before), os.path.join(self.folder, "filling"))
+            child = [sys.executable, "-c", CRASHES, *words]
+            said = subprocess.run(child, capture_output=True, text=True, check=True).stdout
+            os.remove(words[2])
+            with self.subTest(before=before):
+                self.assertIn("full", said)
+                self.assertEqual(self.stands(), said.splitlines()[-2], said)
+            self.conn.close()
+            for name in os.listdir(self.folder):
+                os.remove(os.path.join(self.folder, name))
+
+
+CRASHES = """
+import os, sqlite3, sys
+path, before, filling = sys.argv[1:]
+conn = sqlite3.connect(path, isolation_level=None)
+conn.execute("PRAGMA wal_autocheckpoint = 0")
+def change(record):
+    conn.execute("BEGIN IMMEDIATE")
+    conn.execute("UPDATE users SET record = ? WHERE name = 'ann'", (record,))
+    conn.execute("COMMIT")
+    print(record)
+change("the first")
+for number in range(int(before)):
+    change("x" * number)
+try:
+    with open(filling, "wb", buffering=0) as file:
+        while True:
+            file.write(b"x" * 4096)
+except OSError:
+    pass
+try:
+    for number in range(9):
+        change("another" * number)
+except sqlite3.OperationalError as error:
+    print(error, flush=True)
+os._exit(0)
+"""
+
+
+class IllDisk(Base):
+    """A disk whose errors say nothing of what was written."""
+
+    broken = sqlite3.OperationalError("disk I/O error")
+
+    def test_a_commit_is_sent_again_a_few_times(self):
+        """And not for all of patience, by a login either."""
+        for name, raised in (
+            ("login", None),
+            ("change", OutcomeUnknown),
+            ("reset", OutcomeUnknown),
+        ):
+            self.give("one")
+            accounts = self.losing(True, 9999, hasher=HIGH, patience=60.0)
+            pause = mock.AsyncMock(side_effect=[None] * 9)
+            given = ["one", "two"] if name == "change" else ["one"]
+            with self.subTest(name=name), mock.patch.object(accounts._runtime, "pause", pause):
+                if raised is None:
+                    self.assertIs(accounts.login("ann", *given), Reply.YES)
+                else:
+                    self.assertRaises(raised, getattr(accounts, name), "ann", *given)
+                self.assertLessEqual(pause.call_count, 3)
+            self.assertEqual(self.is_right("one"), True)
