@@ -1,12 +1,14 @@
 # Rigzumal as a whole. What each part needs says docs/BUILDING.md.
 #
 #     make build                    the programs, the library for C and Python, libargon2, and the PAM module
-#     make test                     the gate and the tests after it, and those of the library, of the package
-#                                   for Python, of the crate, of the pages, of the server, of tools and of packages
+#     make test                     the gate with the tests of every folder, and the long ones that it leaves out
 #     make wrong-bodies             the gate with every wrong body, as before a release
 #     make deb                      Debian's packages: in c/out, python/out and c/pam/out, with programs that run
 #                                   on every x86-64 processor
 #     make wheel                    the package for Python with the library in it, in python/out
+#     make proved                   c/proved, by rt: the proved code compiled, for machines without rt
+#     make dist                     out/rigzumal-VERSION.tar.xz, by rt: all this with the programs' compiled code, from which
+#                                   a C compiler and Python build and install it
 #     make bench                    the library beside libargon2, libsodium and OpenSSL
 #     make install PREFIX=/usr/local [DESTDIR=..]
 #     make uninstall PREFIX=/usr/local [DESTDIR=..]
@@ -38,27 +40,25 @@ CPU ?=
 HAS_PAM := $(wildcard /usr/include/security/pam_modules.h)
 PAM_WORDS = DESTDIR='$(DESTDIR)' PAMDIR='$(PAMDIR)' MANDIR='$(MAN)'
 
-.PHONY: build programs library test wrong-bodies deb wheel bench install install-programs uninstall
+.PHONY: build programs library test wrong-bodies deb wheel proved dist bench install install-programs uninstall
 .DELETE_ON_ERROR:
 # Each of these works on crates side by side, and no two may work on the same ones.
 .NOTPARALLEL:
 
-build: programs library
+# The library first: it is there in minutes, and who wants it alone can stop then.
+build: library programs
 	$(if $(HAS_PAM),$(MAKE) -C c/pam,@echo 'pam_rigzumal.so is left out: libpam0g-dev is not there')
 
 # tools/build.py knows what is built already.
 programs:
-	for name in $(PROGRAMS); do RT='$(RT)' $(PYTHON) tools/build.py $(patsubst %,--cpu %,$(or $(filter arm64,$(ARCH)),$(CPU))) $$name || exit 1; done
+	@for name in $(PROGRAMS); do RT='$(RT)' $(PYTHON) tools/build.py $(patsubst %,--cpu %,$(or $(filter arm64,$(ARCH)),$(CPU))) $$name || exit 1; done
 
 library:
 	$(MAKE) -C c RT='$(RT)' PYTHON='$(PYTHON)'
 
 test:
 	.ci/run
-	$(MAKE) -C c test RT='$(RT)' PYTHON='$(PYTHON)'
-	$(MAKE) -C python test RT='$(RT)' PYTHON='$(PYTHON)'
-	for tests in rust/tests docs/tests tests/server; do $(PYTHON) -m unittest discover -s $$tests || exit 1; done
-	for tests in tools packages; do $(PYTHON) -m unittest discover -t . -s tests/$$tests || exit 1; done
+	$(PYTHON) tools/run_tests.py --long
 
 wrong-bodies:
 	$(PYTHON) tools/wrong_bodies.py --all -- $(RT) ci
@@ -70,6 +70,16 @@ deb: library
 wheel: library
 	$(MAKE) -C python wheel RT='$(RT)' PYTHON='$(PYTHON)'
 
+proved:
+	$(MAKE) -C c proved RT='$(RT)' PYTHON='$(PYTHON)'
+
+# Of every level that the tarball has, the highest last: that program stays built.
+dist:
+	$(MAKE) -C c check-proved RT='$(RT)' PYTHON='$(PYTHON)'
+	for level in x86-64 x86-64-v3; do for name in $(PROGRAMS); do \
+		RT='$(RT)' $(PYTHON) tools/build.py --object --cpu $$level $$name || exit 1; done; done
+	$(PYTHON) tools/dist.py
+
 bench: library
 	for pages in own none all; do $(PYTHON) bench/c/run.py --pages $$pages || exit 1; done
 
@@ -78,33 +88,44 @@ install: build install-programs
 	$(if $(HAS_PAM),$(MAKE) -C c/pam install $(PAM_WORDS))
 	$(MAKE) -C c install PREFIX='$(PREFIX)' DESTDIR='$(DESTDIR)' RT='$(RT)'
 
+# Where files are put, for a shell: paths may have spaces.
+TO_PREFIX = '$(DESTDIR)$(PREFIX)'
+TO_LIBEXEC = '$(DESTDIR)$(LIBEXEC)'
+TO_DAEMON = '$(DESTDIR)$(DAEMON)'
+TO_MAN = '$(DESTDIR)$(MAN)'
+TO_UNITS = '$(DESTDIR)$(UNIT_DIR)'
+TO_SHELLS = '$(DESTDIR)$(BASH_DIR)' '$(DESTDIR)$(ZSH_DIR)' '$(DESTDIR)$(FISH_DIR)'
+
 # The programs that were built, the server with its units, their pages and completions.
 install-programs:
-	install -d $(DESTDIR)$(LIBEXEC) $(DESTDIR)$(PREFIX)/bin $(DESTDIR)$(PREFIX)/sbin
+	install -d $(TO_LIBEXEC) $(TO_PREFIX)/bin $(TO_PREFIX)/sbin
 	for name in $(PROGRAMS); do \
-		install -m 755 crates/$$name/out/$$name $(DESTDIR)$(LIBEXEC) && \
-		sed "s|@PROGRAM@|$(LIBEXEC)/$$name|" bin/launcher.in > $(DESTDIR)$(PREFIX)/bin/$$name && \
-		chmod 755 $(DESTDIR)$(PREFIX)/bin/$$name || exit 1; \
+		install -m 755 crates/$$name/out/$$name $(TO_LIBEXEC) && \
+		sed "s|@PROGRAM@|$(LIBEXEC)/$$name|" bin/launcher.in > $(TO_PREFIX)/bin/$$name && \
+		chmod 755 $(TO_PREFIX)/bin/$$name || exit 1; \
 	done
-	install -m 755 bin/credkeep-ask $(DESTDIR)$(PREFIX)/bin
-	install -m 755 bin/credkeep-server $(DESTDIR)$(PREFIX)/sbin
-	install -d $(DESTDIR)$(DAEMON)
-	install -m 644 $(MODULES:%=python/rigzumal/server/daemon/%) $(DESTDIR)$(DAEMON)
-	install -d $(DESTDIR)$(MAN)/man1 $(DESTDIR)$(MAN)/man5 $(DESTDIR)$(MAN)/man8
-	for page in $(PAGES); do install -m 644 man/$${page#*/} $(DESTDIR)$(MAN)/$$page || exit 1; done
-	install -d $(DESTDIR)$(UNIT_DIR)
-	for unit in $(UNITS); do sed 's|/usr/sbin/|$(PREFIX)/sbin/|' units/$$unit > $(DESTDIR)$(UNIT_DIR)/$$unit || exit 1; done
-	$(PYTHON) tools/completions.py $(DESTDIR)$(BASH_DIR) $(DESTDIR)$(ZSH_DIR) $(DESTDIR)$(FISH_DIR)
+	install -m 755 bin/credkeep-ask $(TO_PREFIX)/bin
+	install -m 755 bin/credkeep-server $(TO_PREFIX)/sbin
+	install -d $(TO_DAEMON)
+	install -m 644 $(MODULES:%=python/rigzumal/server/daemon/%) $(TO_DAEMON)
+	install -d $(TO_MAN)/man1 $(TO_MAN)/man5 $(TO_MAN)/man8
+	for page in $(PAGES); do install -m 644 man/$${page#*/} $(TO_MAN)/$$page || exit 1; done
+	install -d $(TO_UNITS)
+	for unit in $(UNITS); do \
+		sed 's|/usr/sbin/|$(PREFIX)/sbin/|' units/$$unit > $(TO_UNITS)/$$unit && \
+		chmod 644 $(TO_UNITS)/$$unit || exit 1; \
+	done
+	$(PYTHON) tools/completions.py $(TO_SHELLS)
 
 uninstall:
 	$(MAKE) -C c uninstall PREFIX='$(PREFIX)' DESTDIR='$(DESTDIR)'
 	$(MAKE) -C python uninstall PREFIX='$(PREFIX)' DESTDIR='$(DESTDIR)' PYTHON='$(PYTHON)'
 	$(MAKE) -C c/pam uninstall $(PAM_WORDS)
-	rm -f $(PROGRAMS:%=$(DESTDIR)$(PREFIX)/bin/%) $(PROGRAMS:%=$(DESTDIR)$(LIBEXEC)/%)
-	rm -f $(DESTDIR)$(PREFIX)/bin/credkeep-ask $(DESTDIR)$(PREFIX)/sbin/credkeep-server
-	rm -f $(MODULES:%=$(DESTDIR)$(DAEMON)/%)
-	rm -rf $(DESTDIR)$(DAEMON)/__pycache__
-	for folder in $(DESTDIR)$(LIBEXEC) $(DESTDIR)$(DAEMON) $(DESTDIR)$(PREFIX)/share/rigzumal; do \
+	rm -f $(PROGRAMS:%=$(TO_PREFIX)/bin/%) $(PROGRAMS:%=$(TO_LIBEXEC)/%)
+	rm -f $(TO_PREFIX)/bin/credkeep-ask $(TO_PREFIX)/sbin/credkeep-server
+	rm -f $(MODULES:%=$(TO_DAEMON)/%)
+	rm -rf $(TO_DAEMON)/__pycache__
+	for folder in $(TO_LIBEXEC) $(TO_DAEMON) $(TO_PREFIX)/share/rigzumal; do \
 		rmdir --ignore-fail-on-non-empty $$folder 2>/dev/null || true; done
-	rm -f $(PAGES:%=$(DESTDIR)$(MAN)/%) $(UNITS:%=$(DESTDIR)$(UNIT_DIR)/%)
-	$(PYTHON) tools/completions.py --remove $(DESTDIR)$(BASH_DIR) $(DESTDIR)$(ZSH_DIR) $(DESTDIR)$(FISH_DIR)
+	rm -f $(PAGES:%=$(TO_MAN)/%) $(UNITS:%=$(TO_UNITS)/%)
+	$(PYTHON) tools/completions.py --remove $(TO_SHELLS)

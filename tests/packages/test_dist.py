@@ -1,0 +1,177 @@
+"""What is packed has the same bytes, wherever, whenever and by whomever it is packed, and what
+`make dist` packs builds without rt. It needs gcc and git, and for the packages dpkg-dev. Objects of
+the programs that no build kept are stand-ins here."""
+
+import hashlib
+import json
+import os
+import re
+import sys
+import tarfile
+
+from tests import helpers
+from tests.helpers import TOP, need, run, write_files
+from tests.packages.test_without_rt import PATH, copy
+
+sys.path.insert(0, str(TOP / "tools"))
+sys.path.insert(0, str(TOP / "packaging"))
+import components  # noqa: E402
+import programs  # noqa: E402
+import tree  # noqa: E402
+
+VERSION = (TOP / "VERSION").read_text().strip()
+NAME = f"rigzumal-{VERSION}"
+# A program that calls what proved ones call of C, and shows a help from which completions are made.
+STAND_IN = """#include <stdint.h>
+#include <stdio.h>
+#include <string.h>
+#include <sys/types.h>
+ssize_t rattle_arg(size_t at, uint8_t *buffer, size_t room);
+int main(void) {
+    char word[100] = "";
+    ssize_t size = rattle_arg(1, (uint8_t *)word, sizeof word);
+    if (size < 0 || strcmp(word, "fail") == 0)
+        return 1;
+    puts("Usage: program FILE [OPTIONS] [COMMAND]\\n\\nCommands:\\n  init  begins\\n");
+    puts("Options:\\n  --wait  waits");
+    return 0;
+}
+"""
+KEEP = """import pathlib, sys
+sys.path.insert(0, "tools")
+import programs
+programs.keep(*sys.argv[1:3], pathlib.Path(sys.argv[3]))
+"""
+GIT = ("-c", "user.name=x", "-c", "user.email=x@example.org", "-c", "safe.directory=*")
+# When the tree is committed.
+SECONDS = 1767323045
+NOBODY = ["setpriv", "--reuid=nobody", "--regid=nogroup", "--clear-groups"]
+# Two who pack: the umask of each, the command before theirs, and what else differs.
+PACKERS = (
+    (0o022, [], {"TZ": "UTC", "LANG": "C"}),
+    (0o077, [] if os.getuid() else NOBODY, {"TZ": "Asia/Tokyo", "LANG": "C.UTF-8"}),
+)
+
+
+class Packer:
+    """One who packs, in a folder of its own."""
+
+    def __init__(self, room, umask, before, env):
+        self.room, self.umask, self.before = room, umask, before
+        self.env = {"PATH": PATH, "HOME": str(room), **env}
+
+    def run(self, at, command, status=0):
+        if self.before:
+            run("chown", "-R", "nobody:nogroup", self.room)
+        env = ["env", "-i", *(f"{name}={value}" for name, value in self.env.items())]
+        command = ["sh", "-c", f"umask {self.umask:o}; {command}"]
+        return run(*self.before, *env, *command, at=at, status=status)
+
+
+def sum_of(data):
+    return hashlib.sha256(data).hexdigest()
+
+
+class Dist(helpers.Case):
+    seconds = 900
+
+    def setUp(self):
+        super().setUp()
+        need("make", "gcc", "git")
+        self.packers = [
+            Packer(self.room() / f"of packer {at}", *it) for at, it in enumerate(PACKERS)
+        ]
+        for packer in self.packers:
+            packer.room.mkdir()
+
+    def object(self, program, level):
+        """The program's object that a build kept, or a stand-in."""
+        if programs.is_kept(program, level):
+            return programs.kept(program) / level / f"{program}.o"
+        room = self.room()
+        write_files(room, {"program.c": STAND_IN})
+        run("gcc", "-O2", "-fPIC", "-c", "program.c", at=room)
+        return room / "program.o"
+
+    def clone(self, packer):
+        """A repository of the tree with the objects of the programs."""
+        top = copy(packer.room / "clone")
+        date = {"GIT_AUTHOR_DATE": f"{SECONDS} +0000", "GIT_COMMITTER_DATE": f"{SECONDS} +0000"}
+        for words in (("init", "-q"), ("add", "-A"), ("commit", "-q", "-m", "x")):
+            run("git", *GIT, *words, at=top, env=date)
+        for program in programs.PROGRAMS:
+            for level in programs.LEVELS:
+                run(sys.executable, "-c", KEEP, program, level, self.object(program, level), at=top)
+        return top
+
+    def packed(self, packer):
+        """The tarball that one makes."""
+        top = self.clone(packer)
+        packer.run(top, "/usr/bin/python3 tools/dist.py")
+        packer.run(top / "out", f"sha256sum -c --status {NAME}.tar.xz.sha256")
+        return top / "out" / f"{NAME}.tar.xz"
+
+    def test_same_bytes(self):
+        """A tarball, and the wheel and the packages that are built in it."""
+        one, other = (self.packed(it) for it in self.packers)
+        self.assertEqual(one.read_bytes(), other.read_bytes())
+        with tarfile.open(one) as archive:
+            entries = archive.getmembers()
+        owners = {(it.uid, it.gid, it.uname, it.gname, it.mtime) for it in entries}
+        self.assertEqual(owners, {(0, 0, "", "", SECONDS)})
+        self.assertEqual({it.mode for it in entries}, {0o644, 0o755})
+        need("dpkg-shlibdeps")
+        built = []
+        for packer in self.packers:
+            commands = f"tar -xf '{one}' && cd {NAME} && make && make deb wheel"
+            packer.run(packer.room, commands)
+            files = [*packer.room.glob(f"{NAME}/**/*.deb"), *packer.room.glob(f"{NAME}/**/*.whl")]
+            built.append({it.name: sum_of(it.read_bytes()) for it in files})
+        self.assertEqual(len(built[0]), 6, built[0])
+        self.assertEqual(*built)
+
+    def test_listed(self):
+        """The list of what is packed has each compiled file, and each crate of others with its
+        licence or with the word that none is known."""
+        with tarfile.open(self.packed(self.packers[0])) as archive:
+            files = {it.name: archive.extractfile(it).read() for it in archive.getmembers()}
+        listed = json.loads(files[f"{NAME}/{NAME}.spdx.json"])
+        compiled = {it: data for it, data in files.items() if it.endswith((".a", ".o"))}
+        self.assertEqual(len(compiled), 9)
+        sums = {
+            it["fileName"].replace("./", f"{NAME}/"): it["checksums"][1]["checksumValue"]
+            for it in listed["files"]
+        }
+        self.assertEqual(sums, {it: sum_of(data) for it, data in compiled.items()})
+        licences = {it["name"]: it["licenseDeclared"] for it in listed["packages"]}
+        self.assertEqual(licences["base64"], "MIT OR Apache-2.0")
+        self.assertEqual((licences["rigzumal"], licences["std"]), ("NONE", "NOASSERTION"))
+        related = {it["relatedSpdxElement"] for it in listed["relationships"]}
+        ids = {it["SPDXID"] for it in [*listed["packages"], *listed["files"]]}
+        self.assertEqual(related, ids)
+
+    def test_crates_are_listed(self):
+        """Each crate of which compiled code has a symbol is among those of its part."""
+        proved = [it for it in (TOP / "c/proved").rglob("*.a") if it.stat().st_size]
+        objects = {("librigzumal", it) for it in proved}
+        for program in programs.PROGRAMS:
+            objects |= {(program, it) for it in programs.kept(program).rglob("*.o")}
+        for part, path in sorted(objects):
+            with self.subTest(path=str(path.relative_to(TOP))):
+                symbols = run("nm", "--no-demangle", path)
+                found = {it for it in re.findall(r" (\w+)::", symbols)} - {*tree.listed()}
+                self.assertTrue(found)
+                known = {it["name"] for it in components.KNOWN["crates"] if part in it["in"]}
+                self.assertEqual(found - known, set())
+
+    def test_what_is_refused(self):
+        """Changes that no commit has, and objects of other sources than the commit's."""
+        packer = self.packers[0]
+        top = self.clone(packer)
+        (top / "crates/cred_book/src/lib.rt").write_text("// changed\n")
+        said = packer.run(top, "/usr/bin/python3 tools/dist.py", status=1)
+        self.assertEqual(said, "make dist packs what is committed: commit your changes first\n")
+        run("git", *GIT, "commit", "-q", "-a", "-m", "x", at=top)
+        said = packer.run(top, "/usr/bin/python3 tools/dist.py", status=1)
+        self.assertEqual(said, "credbook for x86-64 isn't built: make dist does it\n")
+        self.assertFalse((top / "out").exists())
