@@ -1,5 +1,5 @@
-"""What the benchmarks share: what is compared takes turns, so that the machine's other work meets all
-of it, and the best turn of each counts, or the median of their ratios."""
+"""What the benchmarks share: what is compared takes turns, so that the machine's other work meets
+all of it, and the best turn of each counts, or the median of their ratios."""
 
 import os
 import random

@@ -1,5 +1,5 @@
-"""What all tests share: how a program is run and how it ended, what a test needs of the machine,
-and the shim that stands before the C library.
+"""What all tests share: how a program is run and how it ended, and the shim that stands before the
+C library. What a test needs of the machine is in needs.py.
 
 RIGZUMAL_TIMES=N makes N times as many kills and random operations as the gate does. ARCH=arm64 runs
 programs of that processor, under qemu-user. It runs on Python 3.9, as the package does.
@@ -34,13 +34,14 @@ from collections.abc import Callable, Iterable, Iterator
 from concurrent.futures import ThreadPoolExecutor
 from typing import Any, NamedTuple, Optional, TypeVar
 
+from tests.needs import ARCH, IS_NATIVE, need, need_native
+from tests.needs import need_module, need_root  # noqa: F401 (for the tests)
+
 TOP = pathlib.Path(__file__).resolve().parent.parent
 PYTHON, LIBRARIES = TOP / "python", TOP / "c/out"
 TIMES = int(os.environ.get("RIGZUMAL_TIMES", "1"))
 # How many times as long everything may take, where much else runs on our processors.
 BUSY = max(1, int(os.getloadavg()[0] / len(os.sched_getaffinity(0))))
-ARCH = os.environ.get("ARCH", "x86_64")
-IS_NATIVE = ARCH == "x86_64"
 TRIPLET = "x86_64-linux-gnu" if IS_NATIVE else "aarch64-linux-gnu"
 # Programs of another processor run under qemu-user, over Debian's cross libraries.
 EMULATOR = ["qemu-aarch64", "-L", f"/usr/{TRIPLET}"]
@@ -178,6 +179,7 @@ def program(name: str) -> str:
     out = TOP / "crates" / name / "out" / ("" if IS_NATIVE else ARCH)
     source = pathlib.Path(os.environ.get(name.upper(), out / name))
     if not source.is_file():
+        need("rt")  # which alone builds it
         raise FileNotFoundError(f"{source}: build it by make programs, or by rt ci")
     return str(runnable(pathlib.Path(shutil.copy(source, common_folder()))))
 
@@ -191,13 +193,6 @@ def runnable(program: pathlib.Path) -> pathlib.Path:
     script.write_text(f'#!/bin/sh\nexec {shlex.join(EMULATOR)} {program} "$@"\n')
     script.chmod(0o755)
     return script
-
-
-def need_native() -> None:
-    """Skips a test that looks at the program's process, or bounds it: on this machine it is the
-    emulator's."""
-    if not IS_NATIVE:
-        raise unittest.SkipTest(f"{EMULATOR[0]} would be looked at or bounded")
 
 
 @functools.cache
@@ -242,31 +237,6 @@ def manual(name: str) -> str:
 def options_in(text: str) -> set[str]:
     """The options that a text names, in any of its lines."""
     return set(re.findall(r"(?<![\w-])--[a-z][a-z-]*", text))
-
-
-def need(*programs: str) -> None:
-    """Skips a test where one of these programs isn't installed."""
-    for name in programs:
-        if shutil.which(name) is None:
-            raise unittest.SkipTest(f"{name} isn't installed")
-
-
-def need_module(*names: str, python: str = sys.executable) -> None:
-    """Skips a test where a Python, or this one, lacks one of these modules."""
-    for name in names:
-        if subprocess.run([python, "-c", f"import {name}"], capture_output=True).returncode:
-            raise unittest.SkipTest(f"Python's module {name} isn't installed")
-
-
-def skip_if_busy() -> None:
-    """Skips a test that came too late to say anything, where much else runs."""
-    if BUSY > 1:
-        raise unittest.SkipTest("the machine is busy")
-
-
-def need_root() -> None:
-    if os.getuid():
-        raise unittest.SkipTest("only root can do it")
 
 
 def limited(limit: int, most: int) -> Callable[[], None]:
@@ -348,10 +318,12 @@ TOLD = r"(REFUSED|SYNCS|THREADS|PEAK|ASKED) (\d+)\n"
 
 
 def shim_compiler() -> list[str]:
-    """The toolchain's clang, in a folder beside the page whose path `rt doc` prints, or cc; for
-    another processor its own."""
+    """The toolchain's clang, in a folder beside the page whose path `rt doc` prints, or cc where
+    either isn't there; for another processor its own."""
     if not IS_NATIVE:
         return [f"{TRIPLET}-gcc"]
+    if shutil.which("rt") is None:
+        return ["cc"]
     page = subprocess.run(["rt", "doc"], capture_output=True, text=True, check=True).stdout.strip()
     clang = pathlib.Path(page).parent / "toolchain" / "bin" / "clang"
     return [str(clang), "-nostdlib", "-fuse-ld=lld"] if clang.exists() else ["cc"]

@@ -1,17 +1,24 @@
 #!/usr/bin/env python3
-"""Proves and builds a program from nothing, crates side by side, and runs it on the words that come after `--`, if that is there.
+"""Proves and builds a program from nothing, crates side by side, and runs it on the words that come
+after `--`, if that is there.
 
-    python3 tools/build.py [--cpu LEVEL] [--built] [--note] [PROGRAM] [-- WORD..]          (PROGRAM: credbook)
+    python3 tools/build.py [--cpu LEVEL] [--built] [--object] [--note] [PROGRAM] [-- WORD..]
+                                                                          (PROGRAM: credbook)
 
-The program is compiled for LEVEL: x86-64, x86-64-v2 or x86-64-v3, and without the flag for the highest of them whose features this
-processor has. With the level arm64 it is one for that processor, linked by Debian's gcc-aarch64-linux-gnu, in the crate's out/arm64.
-On standard error it says every half minute, and as each library is proved, how many are, and about how long the rest will take. What
-the program prints is all that comes on standard output, and its status is this script's. What is built already is taken as it is, if
-its sources are unchanged; with --built nothing else is done, and the status is 1 if the program isn't built for LEVEL. What each crate
-took is what it is expected to take the next time (crates/NAME/out/seconds), and with --note by those who build it first, too:
-tools/build_seconds.json, of four idle processors. `rt run` alone does the same in more time: one rt at a time may work above a library,
-so libraries that don't use each other are worked here in two copies of the sources, and what was proved is copied back. The variable RT
-names another rt.
+The program is compiled for LEVEL: x86-64, x86-64-v2 or x86-64-v3, and without the flag for the
+highest of them whose features this processor has. With the level arm64 it is one for that
+processor, linked by Debian's gcc-aarch64-linux-gnu, in the crate's out/arm64. Where rt is missing,
+a C compiler links the program's object in c/proved/programs, which a tarball of `make dist` has. On
+standard error it says every half minute, and as each library is proved, how many are, and about how
+long the rest will take. What the program prints is all that comes on standard output, and its
+status is this script's. What is built already is taken as it is, if its sources are unchanged; with
+--built nothing else is done, and the status is 1 if the program isn't built for LEVEL. With
+--object it is built again unless its object was kept (crates/NAME/out/objects), for `make dist`.
+What each crate took is what it is expected to take the next time (crates/NAME/out/seconds), and
+with --note by those who build it first, too: tools/build_seconds.json, of four idle processors. `rt
+run` alone does the same in more time: one rt at a time may work above a library, so libraries that
+don't use each other are worked here in two copies of the sources, and what was proved is copied
+back. The variable RT names another rt.
 """
 
 import argparse
@@ -30,24 +37,22 @@ import threading
 import tempfile
 import time
 
-from tree import CRATES, TOP, all_below, below, listed, source, tell_each
+import programs
+from tree import CRATES, RT, TOP, all_below, below, has_rt, listed, need_rt, source, tell_each
 
 AT_ONCE = 2
 # Seconds between two lines on standard error.
 EVERY = float(os.environ.get("BUILD_SAYS_EVERY", 25))
-RT = os.environ.get("RT", "rt")
 # What each took at its first build; others count as 60.
 NOTED = TOP / "tools/build_seconds.json"
 LEVELS = ("x86-64", "x86-64-v2", "x86-64-v3")
 LOADER = "/lib64/ld-linux-x86-64.so.2"
-ARM64, TARGET = "arm64", "aarch64-unknown-linux-gnu"
-# What the toolchain's part in C lacks for ARM64, and how a program is linked with it.
-ARM64_CALLS = TOP / "c/programs/arm64.c"
-ARM64_LINKER = "aarch64-linux-gnu-gcc -O2 -std=c11 -Wall -Wextra -Wpedantic -Werror -pie -Wl,-z,relro,-z,now -Wl,-z,noexecstack".split()
+ARM64, TARGET = programs.ARM64, "aarch64-unknown-linux-gnu"
 
 
 def folders(room):
-    """Folders with the sources, each for one rt at a time. The first that is free is the repository itself."""
+    """Folders with the sources, each for one rt at a time. The first that is free is the repository
+    itself."""
     free = queue.PriorityQueue()
     free.put((0, TOP))
     for number in range(1, AT_ONCE):
@@ -99,17 +104,26 @@ class Progress:
             self.say(f"{name}: {what}, {seconds:.0f} s")
 
     def rest(self):
-        """Seconds until all are done, if each takes as long as expected at the pace of those that are done."""
+        """Seconds until all are done, if each takes as long as expected at the pace of those that
+        are done."""
         now, done, running = time.monotonic(), {**self.done}, {**self.running}
         pace = sum(done.values()) / sum(self.expected[it] for it in done) if done else 1
-        left = {it: max(pace * self.expected[it] - now + running.get(it, now), EVERY) for it in self.names if it not in done}
+        left = {
+            it: max(pace * self.expected[it] - now + running.get(it, now), EVERY)
+            for it in self.names
+            if it not in done
+        }
         chain = lambda name: left.get(name, 0) + max(map(chain, below(name)), default=0)
         return max([sum(left.values()) / AT_ONCE, *map(chain, left)])
 
     def say(self, what, end="\n"):
         """What happened, how much is done, and how long the rest takes."""
         minutes = max(round(self.rest() / 60), 1)
-        rest = f", about {minutes} minute{'s' if minutes > 1 else ''} left" if len(self.done) < len(self.names) else ""
+        rest = (
+            f", about {minutes} minute{'s' if minutes > 1 else ''} left"
+            if len(self.done) < len(self.names)
+            else ""
+        )
         clear = "\033[K" if sys.stderr.isatty() else ""
         # in one piece, since two threads tell
         sys.stderr.write(f"{clear}{what}; {len(self.done)} of {len(self.names)} done{rest}{end}")
@@ -139,7 +153,9 @@ def missing_of(libraries):
 
 def build_all(libraries, progress):
     """Builds each library once those below it are built."""
-    with tempfile.TemporaryDirectory(prefix="build-") as room, concurrent.futures.ThreadPoolExecutor(AT_ONCE) as pool:
+    with tempfile.TemporaryDirectory(
+        prefix="build-"
+    ) as room, concurrent.futures.ThreadPoolExecutor(AT_ONCE) as pool:
         free, left, running = folders(room), missing_of(libraries), {}
         while left or running:
             pending = {*left, *running.values()}
@@ -148,7 +164,9 @@ def build_all(libraries, progress):
                 left.remove(name)
                 alone = not running and len(ready) == 1
                 running[pool.submit(build, name, free, alone, progress)] = name
-            for done in concurrent.futures.wait(running, return_when=concurrent.futures.FIRST_COMPLETED).done:
+            for done in concurrent.futures.wait(
+                running, return_when=concurrent.futures.FIRST_COMPLETED
+            ).done:
                 running.pop(done)
                 done.result()
 
@@ -159,12 +177,11 @@ def level_here():
     return max(it for it in LEVELS if it == LEVELS[0] or f"{it} (supported" in output)
 
 
-def sum_of(program, level):
-    """A sum over all that a built program depends on, and over the program itself."""
-    crates = [CRATES / it for it in [*all_below(program), program]]
-    sources = [it for at in crates for part in ("src", "specs", "proofs") for it in sorted((at / part).rglob("*")) if it.is_file()]
-    sources += [ARM64_CALLS] if level == ARM64 else []
-    found = hashlib.sha256(level.encode())
+def sum_of(program, level, by=""):
+    """A sum over all that a built program depends on, over the program itself, and over who linked
+    it, if that wasn't rt."""
+    sources = [*programs.sources(program), *([programs.CALLS] if by or level == ARM64 else [])]
+    found = hashlib.sha256((level + by).encode())
     for file in [TOP / "crates.txt", *sources, files_of(program, level)[0]]:
         found.update(hashlib.sha256(file.read_bytes()).digest())
     return found.hexdigest()
@@ -176,9 +193,38 @@ def files_of(program, level):
     return out / program, out / f"{program}.level"
 
 
+# Who linked a program where rt is missing.
+LINKED = "cc"
+
+
 def is_built(program, level):
+    """Whether the program is there as rt built it, or where rt is missing, as its packed object was
+    linked."""
     built, seal = files_of(program, level)
-    return built.is_file() and seal.is_file() and seal.read_text() == sum_of(program, level)
+    if not (built.is_file() and seal.is_file()):
+        return False
+    return seal.read_text() in [
+        sum_of(program, level, it) for it in (("",) if has_rt() else ("", LINKED))
+    ]
+
+
+def best_level(program):
+    """The highest level that a program can be built for and this processor has: where rt is
+    missing, of those it has an object for."""
+    here = level_here()
+    if has_rt():
+        return here
+    return max(
+        (it for it in LEVELS if it <= here and programs.has_object(program, it, programs.PACKED)),
+        default=here,
+    )
+
+
+def link_packed(program, level):
+    """Links the packed object of a program."""
+    built, seal = files_of(program, level)
+    programs.link_packed(program, level, built)
+    seal.write_text(sum_of(program, level, LINKED))
 
 
 def build_program(program, level, progress):
@@ -187,33 +233,59 @@ def build_program(program, level, progress):
     for file in (built, compiled):
         file.unlink(missing_ok=True)
     with progress.of(program, "proved and built"):
-        # rt builds a program as it runs it: here for its help. It links none for another machine, and fails then.
+        # rt builds a program as it runs it: here for its help. It links none for another machine,
+        # and fails then.
         flag = f"--target={TARGET}" if level == ARM64 else f"--cpu={level}"
-        done = subprocess.run([RT, "run", flag, "--", "--help"], cwd=CRATES / program, capture_output=True, text=True)
+        done = subprocess.run(
+            [RT, "run", flag, "--", "--help"], cwd=CRATES / program, capture_output=True, text=True
+        )
         said = done.stdout + done.stderr  # rt run says on the latter what was proved
-        if level == ARM64 and compiled.is_file() and re.search(rf"(?m)^logic=proved .*\btarget={TARGET}\b", said):
-            built.parent.mkdir(exist_ok=True)
-            subprocess.run([*ARM64_LINKER, compiled, ARM64_CALLS, "-o", built], check=True)
+        if (
+            level == ARM64
+            and compiled.is_file()
+            and re.search(rf"(?m)^logic=proved .*\btarget={TARGET}\b", said)
+        ):
+            programs.link(compiled, built, level)
         if not built.is_file():
             raise SystemExit(f"{program}: not proved\n{said[-4000:]}")
+        programs.keep(program, level, compiled)
         seal.write_text(sum_of(program, level))
 
 
 def main():
     at = sys.argv.index("--") if "--" in sys.argv else None
     reader = argparse.ArgumentParser(usage=__doc__.split("\n\n")[1].strip())
-    reader.add_argument("--cpu", choices=(*LEVELS, ARM64), metavar="LEVEL", help=", ".join((*LEVELS, ARM64)))
+    reader.add_argument(
+        "--cpu", choices=(*LEVELS, ARM64), metavar="LEVEL", help=", ".join((*LEVELS, ARM64))
+    )
     reader.add_argument("--built", action="store_true")
+    reader.add_argument("--object", action="store_true")
     reader.add_argument("--note", action="store_true")
-    reader.add_argument("program", nargs="?", default="credbook", choices=[*listed()], metavar="PROGRAM")
+    reader.add_argument(
+        "program", nargs="?", default="credbook", choices=[*listed()], metavar="PROGRAM"
+    )
     asked = reader.parse_args(sys.argv[1:at])
-    program, level = asked.program, asked.cpu or level_here()
+    program, level = asked.program, asked.cpu or best_level(asked.program)
     if at is not None and level == ARM64:
         reader.error("a program for arm64 doesn't run on this machine: leave out -- and its words")
-    if not is_built(program, level):
-        if asked.built:
-            raise SystemExit(f"{program} isn't built for {level}: make programs {'ARCH' if level == ARM64 else 'CPU'}={level} does it")
-        print(f"{program}: for {level}{'' if asked.cpu else ', which this processor has'}", file=sys.stderr, flush=True)
+    is_lacking = (
+        not is_built(program, level) or asked.object and not programs.is_kept(program, level)
+    )
+    if is_lacking and asked.built:
+        variable = "ARCH" if level == ARM64 else "CPU"
+        raise SystemExit(
+            f"{program} isn't built for {level}: make programs {variable}={level} does it"
+        )
+    if is_lacking and not has_rt():
+        if not programs.PACKED.is_dir():  # a checkout has none, and a tarball has
+            need_rt(f"prove and build {program}")
+        link_packed(program, level)
+    elif is_lacking:
+        print(
+            f"{program}: for {level}{'' if asked.cpu else ', which this processor has'}",
+            file=sys.stderr,
+            flush=True,
+        )
         progress = Progress([*missing_of(all_below(program)), program])
         build_all(all_below(program), progress)
         build_program(program, level, progress)

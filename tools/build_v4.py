@@ -3,10 +3,10 @@
 
     python3 tools/build_v4.py LIBRARY.a            (the variable RT names another rt)
 
-rt takes this level with Rattle's own compiler alone, whose code is slower. So rattle is called as rt
-lib calls it for x86-64-v3, but with a folder of links to the toolchain whose clang is this script:
-it changes the level in the proved module, and hands all else on to the toolchain's clang. Where the
-toolchain doesn't allow that the status is 1, and the reason is the last line.
+rt takes this level with Rattle's own compiler alone, whose code is slower. So rattle is called as
+rt lib calls it for x86-64-v3, but with a folder of links to the toolchain whose clang is this
+script: it changes the level in the proved module, and hands all else on to the toolchain's clang.
+Where the toolchain doesn't allow that the status is 1, and the reason is the last line.
 """
 
 import os
@@ -16,7 +16,7 @@ import subprocess
 import sys
 import tempfile
 
-from tree import CRATES, all_below, below
+from tree import CRATES, all_below, below, need_rt
 
 CRATE = "cred_c"
 MADE_FOR, LEVEL = '"target-cpu"="x86-64-v3"', '"target-cpu"="x86-64-v4"'
@@ -79,6 +79,7 @@ def build(target):
 def main():
     if sys.argv[1] == "--clang":
         be_clang(f"{sys.argv[2]}/toolchain/bin/clang", sys.argv[3:])
+    need_rt("compile the library for x86-64-v4")
     if reason := build(pathlib.Path(sys.argv[1]).resolve()):
         sys.exit(f"{reason}\nThe library is built without x86-64-v4: the lines above say why.")
 

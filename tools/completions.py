@@ -1,11 +1,14 @@
 #!/usr/bin/env python3
-"""Writes the completions of the programs for bash, zsh and fish, each into its folder. `make install` runs it.
+"""Writes the completions of the programs for bash, zsh and fish, each into its folder. `make
+install` runs it.
 
     python3 tools/completions.py [--remove] BASH_FOLDER ZSH_FOLDER FISH_FOLDER
 
-The commands and the options are those that the built programs show for --help. With --remove it removes the files that it writes.
+The commands and the options are those that the built programs show for --help. With --remove it
+removes the files that it writes.
 """
 
+import os
 import pathlib
 import re
 import subprocess
@@ -15,11 +18,14 @@ from typing import NamedTuple
 TOP = pathlib.Path(__file__).resolve().parent.parent
 PROGRAMS = {"credbook": "crates/credbook/out/credbook", "credkeep": "crates/credkeep/out/credkeep"}
 PROGRAMS |= {"credkeep-server": "bin/credkeep-server"}
-OPTION = re.compile(r"^ +(?:-\w, )?--([\w-]+)(?:[ =]<?([\w-]+)>?)?(?:(?:  +|\n {8,})(?!-)(\S.*))?", re.M)
+OPTION = re.compile(
+    r"^ +(?:-\w, )?--([\w-]+)(?:[ =]<?([\w-]+)>?)?(?:(?:  +|\n {8,})(?!-)(\S.*))?", re.M
+)
 
 
 class Command(NamedTuple):
-    """What help says of a program, or of one of its commands: an option is its name, its value's name and its text."""
+    """What help says of a program, or of one of its commands: an option is its name, its value's
+    name and its text."""
 
     word: str
     text: str
@@ -37,7 +43,9 @@ def help_of(path, *words):
 
 
 def command_of(shown, word="", text=""):
-    return Command(word, text, shown.partition("sage: ")[2].partition("\n")[0], OPTION.findall(shown))
+    return Command(
+        word, text, shown.partition("sage: ")[2].partition("\n")[0], OPTION.findall(shown)
+    )
 
 
 class Program:
@@ -46,9 +54,15 @@ class Program:
     def __init__(self, name, path):
         self.name, self.file_first, shown = name, name != "credbook", help_of(path)
         self.top = command_of(shown)
-        below = re.findall(r"^  (\w+)  +(\S.*)", shown.partition("Commands:\n")[2].partition("\n\n")[0], re.M)
+        below = re.findall(
+            r"^  (\w+)  +(\S.*)", shown.partition("Commands:\n")[2].partition("\n\n")[0], re.M
+        )
         file = ["-"] if self.file_first else []
-        self.commands = [command_of(help_of(path, *file, word), word, text) for word, text in below if word != "help"]
+        self.commands = [
+            command_of(help_of(path, *file, word), word, text)
+            for word, text in below
+            if word != "help"
+        ]
         if not self.top.options:
             sys.exit(f"{path} --help names no option")
 
@@ -96,16 +110,25 @@ def quoted(text):
 
 
 def written(template, fields):
-    return re.sub(r"@([A-Z]+)@", lambda it: fields[it[1]], (TOP / "completions" / template).read_text())
+    return re.sub(
+        r"@([A-Z]+)@", lambda it: fields[it[1]], (TOP / "completions" / template).read_text()
+    )
 
 
 def files(folders):
     """Each file with the shell that it is for, and the program."""
     bash, zsh, fish = map(pathlib.Path, folders)
     for name in PROGRAMS:
-        yield from ((bash / name, "bash", name), (zsh / f"_{name}", "zsh", name), (fish / f"{name}.fish", "fish", name))
+        yield from (
+            (bash / name, "bash", name),
+            (zsh / f"_{name}", "zsh", name),
+            (fish / f"{name}.fish", "fish", name),
+        )
     # bash and fish look for a file of the command's own name
-    yield from ((bash / "credkeep-ask", "bash", "credkeep"), (fish / "credkeep-ask.fish", "fish", "credkeep-ask"))
+    yield from (
+        (bash / "credkeep-ask", "bash", "credkeep"),
+        (fish / "credkeep-ask.fish", "fish", "credkeep-ask"),
+    )
 
 
 def main():
@@ -116,6 +139,7 @@ def main():
         for path, _, _ in files(folders):
             path.unlink(missing_ok=True)
         return
+    os.umask(0o022)  # everybody may read them, whoever installs them
     programs = {name: Program(name, TOP / path) for name, path in PROGRAMS.items()}
     for path, shell, name in files(folders):
         path.parent.mkdir(parents=True, exist_ok=True)

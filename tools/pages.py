@@ -3,19 +3,26 @@
 
     python3 tools/pages.py
 
-The figures, versions and places that pages name, their links and pictures, the code that they have from files, and the names that
-docs/PROMISES.md and docs/PLANTED.md give: each check below says what it compares. Each link leads to a file, and each picture has a
-text for those who can't see it.
+The figures, times, versions and places that pages name, their links and pictures, the code that
+they have from files, the names that docs/PROMISES.md and docs/PLANTED.md give, and the promises
+that docs/STATEMENTS.txt has: each check below says what it compares. Each link leads to a file, and
+each picture has a text for those who can't see it.
 
-The last line is `N passed, M failed`, and the status is 1 if anything failed.
+What only the toolchain tells is left out, with a line, where rt isn't there. The last line is `N
+passed, M failed`, with `, K left out` then, and the status is 1 if anything failed.
 """
 
-import os
+from __future__ import annotations
+
+import pathlib
 import re
 import subprocess
 import sys
+from collections.abc import Iterable, Iterator
 
 import promises
+import statements
+import tree
 from tree import CRATES, TOP, has_edit, has_test, is_test_or_example, listed, report, source
 
 PAGES = [
@@ -24,8 +31,10 @@ PAGES = [
     *sorted(CRATES.glob("*/README.md")),
     *(TOP / it for it in ("bench/RESULTS.md", "examples/login_page/README.md")),
 ]
+README, BUILDING = TOP / "README.md", TOP / "docs/BUILDING.md"
 
-# The folders of proofs by hand: each makes values of one struct with ghost data, and its page says what is trusted of that.
+# The folders of proofs by hand: each makes values of one struct with ghost data, and its page says
+# what is trusted of that.
 WALKS = {"cred_cli/proofs/past"}
 MOST = {
     "words in README.md": 650,
@@ -33,11 +42,19 @@ MOST = {
     "lines of over 100 columns in src/ and specs/": 25,
     "lines that tools/english.txt finds": 165,
 }
-FOLDERS = "crates|c|python|rust|tests|docs|tools|bench|examples|man|bin|units|packaging|completions|proofs|specs|src"
+FOLDERS = (
+    "crates|c|python|rust|tests|docs|tools|bench|examples|man|bin|units|packaging|completions"
+    "|proofs|specs|src"
+)
 # What pages name where it is installed.
 INSTALLED = {"bin/credkeep"}
 # A variable by which a test speaks to its own programs.
 SET_BY_TESTS = {"FRAMEWORKS_ROOM"}
+# The variables that a user or a tester may set, where code reads them.
+VARIABLE = re.compile(
+    r"(?:environ(?:\.get\(|\[)|getenv\()"
+    r'"((?:RIGZUMAL|TORTURE|FRAMEWORKS|SERVER|TEST|CREDKEEP|CREDBOOK)\w*)"'
+)
 # The files that say the version, and how.
 VERSIONED = {
     "c/include/rigzumal.h": r'RIGZUMAL_LIBRARY_VERSION "(.*)"',
@@ -48,57 +65,113 @@ VERSIONED = {
     "crates/cred_cli/src/arguments.rt": r'\.version\("(.*)"\)',
     "crates/credkeep_words/src/arguments.rt": r'\.version\("(.*)"\)',
 }
+# The rows of BUILDING's table of times that README has, of its two commands: "7 and 34 minutes".
+TIMES = ("README's first command from nothing", "`.ci/run` from nothing")
+
+# What is wrong with the tree, or None for what is right.
+Facts = Iterable["str | None"]
 
 
-def versions():
+def git(*words: str) -> str:
+    """What git prints; its status is 1 if it found nothing."""
+    done = subprocess.run(["git", *words], cwd=TOP, capture_output=True, text=True)
+    if done.returncode > 1:
+        raise SystemExit(f"git {words[0]}: {done.stderr.strip()}")
+    return done.stdout
+
+
+def name_of(page: pathlib.Path) -> str:
+    return str(page.relative_to(TOP))
+
+
+def versions() -> Facts:
     """What is wrong with each file that says the version."""
     there = (TOP / "VERSION").read_text().strip()
     for file, form in VERSIONED.items():
         said = re.search(form, (TOP / file).read_text(), re.M)
-        yield None if said and said[1] == there else f"{file} says version {said and said[1]}, and VERSION {there}"
+        wrong = f"{file} says version {said and said[1]}, and VERSION {there}"
+        yield None if said and said[1] == there else wrong
 
 
-def house():
-    """What is to grow no more: README's words and bytes, long lines of code, and places that tools/english.txt finds."""
-    readme, lines = (TOP / "README.md").read_text(), 0
+def house() -> Facts:
+    """What is to grow no more: README's words and bytes, long lines of code, and places that
+    tools/english.txt finds."""
+    readme, lines = README.read_text(), 0
     for file in [*CRATES.glob("*/src/**/*.rt"), *CRATES.glob("*/specs/**/*.antt")]:
-        lines += sum(len(line) > 100 and "use " not in line for line in source(file).splitlines())
-    found = subprocess.run(["git", "grep", "-cPf", "tools/english.txt", "--", "*.md", "man"], cwd=TOP, capture_output=True, text=True).stdout
-    habits = sum(int(it.rpartition(":")[2]) for it in found.splitlines())
-    counts = {"words in README.md": len(readme.split()), "bytes in README.md": len(readme.encode())}
-    counts |= {"lines of over 100 columns in src/ and specs/": lines, "lines that tools/english.txt finds": habits}
-    yield from (f"{count} {what}, and {MOST[what]} at most are wanted" if count > MOST[what] else None for what, count in counts.items())
+        lines += sum(len(it) > 100 and "use " not in it for it in source(file).splitlines())
+    found = git("grep", "-cPf", "tools/english.txt", "--", "*.md", "man").splitlines()
+    counts = {
+        "words in README.md": len(readme.split()),
+        "bytes in README.md": len(readme.encode()),
+        "lines of over 100 columns in src/ and specs/": lines,
+        "lines that tools/english.txt finds": sum(int(it.rpartition(":")[2]) for it in found),
+    }
+    for what, count in counts.items():
+        wrong = f"{count} {what}, and {MOST[what]} at most are wanted"
+        yield wrong if count > MOST[what] else None
 
 
-def figures():
-    """What README counts: the crates that the gate proves, the wrong bodies that it tries, and its tests. No time is left open."""
-    tests = sum(len(re.findall(r"^\s*#\[test\]", it.read_text(), re.M)) for it in CRATES.glob("*/src/**/*.rt"))
-    there = {"crates": len(listed()), "wrong bodies": len([*CRATES.glob("*/wrong-bodies/*.edit")]), "tests": tests}
-    readme = (TOP / "README.md").read_text()
+def figures() -> Facts:
+    """What README counts: the crates that the gate proves, the wrong bodies that it tries, and its
+    tests. No time is left open."""
+    code = [source(it) for it in CRATES.glob("*/src/**/*.rt")]
+    there = {
+        "crates": len(listed()),
+        "wrong bodies": len([*CRATES.glob("*/wrong-bodies/*.edit")]),
+        "tests": sum(len(re.findall(r"^\s*#\[test\]", it, re.M)) for it in code),
+    }
+    readme = README.read_text()
     for word, count in there.items():
         said = re.findall(rf"(\d+) {word}", readme)
         yield None if said else f"README.md doesn't say how many {word} there are: {count}"
-        yield from (None if int(it) == count else f"README.md says {it} {word}, and there are {count}" for it in said)
-    yield from (f"README.md: {it} isn't filled in" for it in re.findall(r"\b[A-Z_]+_MINUTES\b", readme))
+        for it in said:
+            wrong = f"README.md says {it} {word}, and there are {count}"
+            yield None if int(it) == count else wrong
+    for it in re.findall(r"\b[A-Z_]+_MINUTES\b", readme):
+        yield f"README.md: {it} isn't filled in"
 
 
-def logic():
+def in_minutes(elapsed: str) -> str:
+    """`7 min 23 s to 15 min 47 s` as README says it: `7 to 16`."""
+    found = re.findall(r"(?:(\d+) h )?(\d+) min(?: (\d+) s)?", elapsed)
+    minutes = (int(h or 0) * 60 + int(m) + int(s or 0) / 60 for h, m, s in found)
+    return " to ".join(f"{it:.0f}" for it in minutes)
+
+
+def times() -> Facts:
+    """README's times, with those of BUILDING's table, and the processors that they are of."""
+    readme, building = (" ".join(it.read_text().split()) for it in (README, BUILDING))
+    rows = [re.search(rf"\| {re.escape(it)}[^|]*\| ([^|]*) \|", building) for it in TIMES]
+    processors = re.search(r"These are of [^.]*?(\w+ processors)", building)
+    if processors is None or None in rows:
+        lost = [it for it, row in zip(TIMES, rows) if row is None] or ["some number of processors"]
+        yield f"docs/BUILDING.md has no time of {lost[0]}"
+    else:
+        minutes = " and ".join(in_minutes(it[1]) for it in rows if it) + " minutes"
+        for words in (minutes, processors[1]):
+            wrong = f"README.md doesn't say `{words}`, as docs/BUILDING.md has it of its commands"
+            yield None if re.search(rf"(?<!to ){words}", readme) else wrong
+
+
+def logic() -> Facts:
     """The logic that the toolchain here proves in, and each page that doesn't name it."""
-    told = subprocess.run([os.environ.get("RT", "rt"), "version"], capture_output=True, text=True, check=True).stdout
-    here = re.search(r"\blogic (\w+)", told)[1]
-    for page in ("README.md", "docs/BUILDING.md"):
-        yield None if f"`{here}`" in (TOP / page).read_text() else f"{page} doesn't name the toolchain's logic: {here}"
+    [here] = re.findall(r"\blogic (\w+)", tree.told_by_rt("version"))
+    for page in (README, BUILDING):
+        named = f"{name_of(page)} doesn't name the toolchain's logic: {here}"
+        yield None if f"`{here}`" in page.read_text() else named
 
 
-def stands(place):
-    """Whether a place is there: a test, `CRATE::TEST`, a file by its path, or a wrong body of the gate, `CRATE/NAME`."""
+def stands(place: str) -> bool:
+    """Whether a place is there: a test, `CRATE::TEST`, a file by its path, or a wrong body of the
+    gate, `CRATE/NAME`."""
     if "::" in place:
         return has_test(*place.split("::"))
     return (TOP / place).is_file() or place.count("/") == 1 and has_edit(*place.split("/"))
 
 
-def planted():
-    """The wrong bodies of docs/PLANTED.md: the third column of its tables names where each is in the gate, or tests that refuse it."""
+def planted() -> Facts:
+    """The wrong bodies of docs/PLANTED.md: the third column of its tables names where each is in
+    the gate, or tests that refuse it."""
     page = (TOP / "docs/PLANTED.md").read_text()
     rows = re.findall(r"^\| .*", re.sub(r"^\| .*\n\|-.*\n", "", page, flags=re.M), re.M)
     yield None if rows else "docs/PLANTED.md has no table of named wrong bodies"
@@ -106,72 +179,98 @@ def planted():
         name, _, where, *_ = row.strip("| ").split(" | ")
         places = re.findall(r"`([^`]+)`", where)
         lost = [it for it in places if not stands(it)]
-        yield f"docs/PLANTED.md: {name}: {', '.join(lost) or 'no place'} isn't there" if lost or not places else None
+        wrong = f"docs/PLANTED.md: {name}: {', '.join(lost) or 'no place'} isn't there"
+        yield wrong if lost or not places else None
 
 
-def anchors(page):
+def without_code(text: str) -> str:
+    return re.sub(r"```.*?```", "", text, flags=re.S)
+
+
+def anchors(page: pathlib.Path) -> set[str]:
     """The anchors of a page's headings, as forges make them."""
-    heads = re.findall(r"^#+ (.*)$", re.sub(r"```.*?```", "", source(page), flags=re.S), re.M)
+    heads = re.findall(r"^#+ (.*)$", without_code(source(page)), re.M)
     return {re.sub(r"[^\w -]", "", it.lower()).replace(" ", "-") for it in heads}
 
 
-def links(page):
+def links(page: pathlib.Path) -> Facts:
     """Each link and picture of a page."""
-    text = re.sub(r"```.*?```", "", page.read_text(), flags=re.S)
+    text = without_code(page.read_text())
     for picture, words, target in re.findall(r"(!?)\[([^\]]*)\]\(([^)\s]+)\)", text):
         file, _, place = target.partition("#")
         there = (page.parent / file).resolve() if file else page
         if re.match(r"\w+:", target):
             continue
         if not there.exists() or place and place not in anchors(there):
-            yield f"{page.relative_to(TOP)}: {target} isn't there"
+            yield f"{name_of(page)}: {target} isn't there"
         elif picture and len(words) < 30:
-            yield f"{page.relative_to(TOP)}: the picture {target} has no text"
+            yield f"{name_of(page)}: the picture {target} has no text"
         else:
             yield None
 
 
-def places(page):
-    """Each file or folder of the tree that a page names in code, seen from the top, from the page or from a crate."""
+def places(page: pathlib.Path) -> Facts:
+    """Each file or folder of the tree that a page names in code, seen from the top, from the page
+    or from a crate."""
     text = re.sub(r"```.*?```|\[[^\]]*\]\([^)]*\)", "", source(page), flags=re.S)
     for place in re.findall(rf"(?<![\w/.~-])((?:{FOLDERS})/[\w./-]*\w)", text):
         if place not in INSTALLED and not re.search(r"/out\b|[A-Z]{4}", place):
             tried = [TOP / place, page.parent / place, *CRATES.glob(f"*/{place}")]
-            yield None if any(it.exists() for it in tried) else f"{page.relative_to(TOP)}: {place} isn't there"
+            is_there = any(it.exists() for it in tried)
+            yield None if is_there else f"{name_of(page)}: {place} isn't there"
 
 
-def variables():
+def variables() -> Facts:
     """Each variable that a user or tester may set, on a page or in a manual."""
-    said = "\n".join(source(it) for it in [*PAGES, *TOP.glob("*/README.md"), *TOP.glob("man/*")])
-    files = subprocess.run(["git", "ls-files", "*.py", "*.c", "*.rs"], cwd=TOP, capture_output=True, text=True, check=True).stdout.split()
-    form = r'(?:environ(?:\.get\(|\[)|getenv\()"((?:RIGZUMAL|TORTURE|FRAMEWORKS|SERVER|TEST|CREDKEEP|CREDBOOK)\w*)"'
-    for name in sorted({name for it in files for name in re.findall(form, source(TOP / it))}):
-        yield None if name in SET_BY_TESTS or re.search(rf"\b{name}\b", said) else f"no page names the variable {name}"
+    pages = [*PAGES, *TOP.glob("*/README.md"), *TOP.glob("man/*")]
+    said = "\n".join(source(it) for it in pages)
+    files = git("ls-files", "*.py", "*.c", "*.rs").split()
+    names = {name for it in files for name in VARIABLE.findall(source(TOP / it))}
+    for name in sorted(names - SET_BY_TESTS):
+        is_said = re.search(rf"\b{name}\b", said)
+        yield None if is_said else f"no page names the variable {name}"
 
 
-def plain(code):
+def plain(code: str) -> str:
     """Code without what sets it in."""
     return re.sub(r"[ \t]+", " ", re.sub(r"^[ \t]+", "", code, flags=re.M)).strip("\n")
 
 
-def callers(page):
-    """Code after a line `<!-- from FILE -->`: it stands there word for word, but for what is left out at a line of two dots."""
-    for name, code in re.findall(r"^<!-- from (\S+) -->\n```\w+\n(.*?)^```$", page.read_text(), re.S | re.M):
-        parts = [it for it in re.split(r"^\s*(?://\s*)?\.\.\s*$", code, flags=re.M) if it.strip()]
-        lost = [it for it in parts if plain(it) not in plain(source(TOP / name))]
-        yield f"{page.relative_to(TOP)}: code that isn't in {name}: {lost[0].strip().splitlines()[0]}" if lost else None
+def callers(page: pathlib.Path) -> Facts:
+    """Code after a line `<!-- from FILE -->`: it stands there word for word, but for what is left
+    out at a line of two dots."""
+    form = r"^<!-- from (\S+) -->\n```\w+\n(.*?)^```$"
+    for name, code in re.findall(form, page.read_text(), re.S | re.M):
+        parts = re.split(r"^\s*(?://\s*)?\.\.\s*$", code, flags=re.M)
+        there = plain(source(TOP / name))
+        lost = [it for it in parts if it.strip() and plain(it) not in there]
+        first = lost[0].strip().splitlines()[0] if lost else ""
+        yield f"{name_of(page)}: code that isn't in {name}: {first}" if lost else None
 
 
-def rooms():
+def rooms() -> Facts:
     """A page for each crate, and its place in the picture."""
     picture = (TOP / "docs/pictures/crates.svg").read_text()
     for name in sorted(listed()):
-        yield None if (CRATES / name / "README.md").is_file() else f"crates/{name}/README.md isn't there"
+        is_there = (CRATES / name / "README.md").is_file()
+        yield None if is_there else f"crates/{name}/README.md isn't there"
         if not is_test_or_example(name):
-            yield None if f">{name}</text>" in picture else f"docs/pictures/crates.svg lacks {name}: run tools/pictures.py"
+            lacks = f"docs/pictures/crates.svg lacks {name}: run tools/pictures.py"
+            yield None if f">{name}</text>" in picture else lacks
 
 
-def definitions():
+def order() -> Facts:
+    """The table of docs/ARCHITECTURE.md: each crate has a row, below those of all that it uses."""
+    page = source(TOP / "docs/ARCHITECTURE.md")
+    rows = [re.findall(r"\(\.\./crates/(\w+)\)", it) for it in re.findall(r"^\| \[.*", page, re.M)]
+    at = {name: number for number, row in enumerate(rows) for name in row}
+    for name in listed():
+        above = [it for it in tree.below(name) if at.get(it, -1) > at.get(name, len(rows))]
+        wrong = f"{name} above {', '.join(above)}, which it uses" if above else f"no {name}"
+        yield f"docs/ARCHITECTURE.md's table has {wrong}" if above or name not in at else None
+
+
+def definitions() -> Facts:
     """Each file of definitions, in its crate's section of docs/DEFINITIONS.md."""
     page = source(TOP / "docs/DEFINITIONS.md")
     sections = dict(re.findall(r"^## (\w+)\n(.*?)(?=^## |\Z)", page, re.S | re.M))
@@ -182,18 +281,48 @@ def definitions():
             yield None if is_named else f"docs/DEFINITIONS.md: {crate} has no {name}"
 
 
-def walks():
-    """The proofs by hand, which may give a ghost field any value: each stands in a folder that is named here."""
+def walks() -> Facts:
+    """The proofs by hand, which may give a ghost field any value: each stands in a folder that is
+    named here."""
     for proof in CRATES.glob("*/proofs/**/Proof.antt"):
         place = proof.relative_to(CRATES).as_posix()
         is_known = any(place.startswith(f"{it}/") for it in WALKS)
-        yield None if is_known else f"crates/{place}: a proof by hand, outside of {', '.join(sorted(WALKS))}"
+        wrong = f"crates/{place}: a proof by hand, outside of {', '.join(sorted(WALKS))}"
+        yield None if is_known else wrong
 
 
-def main():
-    of_tree = (house, figures, variables, logic, planted, rooms, definitions, walks, versions, promises.check)
-    of_page = [it(page) for page in PAGES for it in (links, callers, places)]
-    return report([it for found in [*(check() for check in of_tree), *of_page] for it in found])
+OF_TREE = (
+    house,
+    figures,
+    times,
+    variables,
+    planted,
+    rooms,
+    order,
+    definitions,
+    walks,
+    versions,
+    promises.check,
+    statements.check,
+)
+# What only the toolchain tells.
+OF_TOOLCHAIN = {
+    logic: "the logic that README and BUILDING name",
+    promises.check_trusted: "the crates of the toolchain that PROMISES has as trusted",
+}
+
+
+def facts() -> Iterator[str | None]:
+    for check in (*OF_TREE, *(OF_TOOLCHAIN if tree.has_rt() else ())):
+        yield from check()
+    for page in PAGES:
+        for look in (links, callers, places):
+            yield from look(page)
+
+
+def main() -> int:
+    unseen = [] if tree.has_rt() else OF_TOOLCHAIN.values()
+    return report([*facts()], [f"left out, as {tree.RT} isn't there: {it}" for it in unseen])
 
 
 if __name__ == "__main__":

@@ -3,11 +3,13 @@
 
     python3 tools/peak_memory.py
 
-It runs tests of outside vectors, in the program that `rt test` or `rt ci` built last (crates/hash_tests/out/hash_tests_tests), each
-in a process of its own, where a shim before the C library's allocator adds up what was asked for and not yet given back.
-The most at any time is to be the memory of the parameters of the largest hash among them and at most SOME_KIB more. In tests of hashes
-that are made one after another in memory that is kept, all that was ever asked for is to be no more than that of one hash and SOME_KIB.
-A line for each test; the last line is `N passed, M failed`. It needs the toolchain alone, whose compiler builds the shim.
+It runs tests of outside vectors, in the program that `rt test` or `rt ci` built last
+(crates/hash_tests/out/hash_tests_tests), each in a process of its own, where a shim before the C
+library's allocator adds up what was asked for and not yet given back. The most at any time is to be
+the memory of the parameters of the largest hash among them and at most SOME_KIB more. In tests of
+hashes that are made one after another in memory that is kept, all that was ever asked for is to be
+no more than that of one hash and SOME_KIB. A line for each test; the last line is `N passed, M
+failed`. It needs the toolchain alone, whose compiler builds the shim.
 """
 
 import sys
@@ -18,8 +20,8 @@ from tree import report
 
 # scrypt's memory of N = 2^14 and r = 8 in KiB.
 TABLE = 128 * 8 * 2**14 // 1024
-# The end of the test's name, the word that the shim says, and the memory of the largest hash in KiB. The last two make several
-# hashes of one memory, in memory that is kept.
+# The end of the test's name, the word that the shim says, and the memory of the largest hash in
+# KiB. The last two make several hashes of one memory, in memory that is kept.
 TESTS = [
     ("::large_vectors", "PEAK", 65536),
     ("::scrypt_vectors", "PEAK", TABLE),

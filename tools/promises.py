@@ -3,29 +3,35 @@
 
     python3 tools/promises.py
 
-Each call is named by its path, `cred_argon::argon::argon2` (`input_len`, `err`): the function has to stand in that file, and its
-contract has to have the clauses in brackets. Each test `CRATE::TEST`, each file, and each definition that a file "has" has to be
-there. The list of what is trusted has each crate of the toolchain that ours stand on, and no others. No cell of a table has over 120
-characters. The last line is `N passed, M failed`, and the status is 1 if anything failed."""
+Each call is named by its path, `cred_argon::argon::argon2` (`input_len`, `err`): the function has
+to stand in that file, and its contract has to have the clauses in brackets. Each test
+`CRATE::TEST`, each file, and each definition that a file "has" has to be there. The list of what is
+trusted has each crate of the toolchain that ours stand on, and no others. No cell of a table has
+over 120 characters. The last line is `N passed, M failed`, and the status is 1 if anything
+failed."""
 
 import fnmatch
-import os
-import pathlib
 import re
-import subprocess
 import sys
 
-from tree import CRATES, TOP, has_test, is_test_or_example, listed, report, source
+from tree import CRATES, TOP, has_test, is_test_or_example, kit, listed, need_rt, report, source
 
 PAGE = TOP / "docs/PROMISES.md"
-FILES = re.compile(r"(?<![\w/.-])((?:crates|tools|tests|c|docs|bench)/[\w/.-]*\.(?:txt|rt|antt|py|c|md|h))")
+FILES = re.compile(
+    r"(?<![\w/.-])((?:crates|tools|tests|c|docs|bench)/[\w/.-]*\.(?:txt|rt|antt|py|c|md|h))"
+)
 
 
 def contract_of(text):
-    """The front of a function, up to its body: the only brace that neither `ensures` nor `requires` opens."""
+    """The front of a function, up to its body: the only brace that neither `ensures` nor `requires`
+    opens."""
     depth = 0
     for place, letter in enumerate(text):
-        if depth == 0 and (letter == ";" or letter == "{" and not re.search(r"\b(ensures|requires)(\s+\w+)?\s*$", text[:place])):
+        if depth == 0 and (
+            letter == ";"
+            or letter == "{"
+            and not re.search(r"\b(ensures|requires)(\s+\w+)?\s*$", text[:place])
+        ):
             return text[:place]
         depth += (letter in "([{") - (letter in ")]}")
     return text
@@ -36,7 +42,9 @@ def contracts(path):
     crate, *modules, name = path.split("::")
     modules = [it for it in modules if it.islower()]
     text = source(CRATES / crate / "src" / f"{'/'.join(modules) or 'lib'}.rt")
-    return [contract_of(text[it.start() :]) for it in re.finditer(rf"\bfn {re.escape(name)}\b", text)]
+    return [
+        contract_of(text[it.start() :]) for it in re.finditer(rf"\bfn {re.escape(name)}\b", text)
+    ]
 
 
 def calls(text):
@@ -51,28 +59,42 @@ def calls(text):
             yield f"the call `{path}` isn't there"
         else:
             names = re.findall(r"\w+", clauses)
-            lost = [it for it in names if not any(re.search(rf"\bensures {it}\b", contract) for contract in found)]
+            lost = [
+                it
+                for it in names
+                if not any(re.search(rf"\bensures {it}\b", contract) for contract in found)
+            ]
             yield f"`{path}` has no clause {', '.join(lost)}" if lost else None
 
 
 def words(text):
-    """What is wrong with each bare name in what carries a promise: it belongs to the crate that was named before it."""
+    """What is wrong with each bare name in what carries a promise: it belongs to the crate that was
+    named before it."""
     for item in re.findall(r"^- \*Carried by\*.*?(?=^- |^#|^$|\Z)", text, re.S | re.M):
         crate = None
-        for named, word in re.findall(r"crates/(\w+)/|`([\w:]+)`", re.sub(r"\(`[^()]*`\)", "", item)):
+        for named, word in re.findall(
+            r"crates/(\w+)/|`([\w:]+)`", re.sub(r"\(`[^()]*`\)", "", item)
+        ):
             crate = named or (word.split("::")[0] if word.split("::")[0] in listed() else crate)
             name = word.split("::")[-1]
             if crate and word and crate != word.split("::")[0]:
-                texts = (source(it) for kind in ("src/**/*.rt", "specs/**/*.antt") for it in (CRATES / crate).glob(kind))
+                texts = (
+                    source(it)
+                    for kind in ("src/**/*.rt", "specs/**/*.antt")
+                    for it in (CRATES / crate).glob(kind)
+                )
                 found = any(re.search(rf"\b{name}\b", it) for it in texts)
                 yield None if found or name in listed() else f"`{word}` isn't in {crate}"
 
 
 def files(text):
-    """What is wrong with each file that a text names, and with the definitions that it is said to have."""
+    """What is wrong with each file that a text names, and with the definitions that it is said to
+    have."""
     for name in FILES.findall(text):
         yield None if (TOP / name).is_file() else f"the file {name} isn't there"
-    for name, words in re.findall(r"(crates/[\w/.-]+\.antt)\s+has\s+((?:`\w+`(?:,|\s+and)?\s*)+)", text):
+    for name, words in re.findall(
+        r"(crates/[\w/.-]+\.antt)\s+has\s+((?:`\w+`(?:,|\s+and)?\s*)+)", text
+    ):
         for word in re.findall(r"\w+", words.replace(" and", "")):
             yield None if re.search(rf"\b{word}\b", source(TOP / name)) else f"{name} has no {word}"
 
@@ -80,33 +102,76 @@ def files(text):
 def cells(text):
     """Each cell that is too long to be read."""
     for row in (it for it in text.splitlines() if it.startswith("|")):
-        yield from (f"a cell of over 120 characters: {it.strip()[:60]}.." for it in row.split("|") if len(it.strip()) > 120)
+        yield from (
+            f"a cell of over 120 characters: {it.strip()[:60]}.."
+            for it in row.split("|")
+            if len(it.strip()) > 120
+        )
 
 
 def reached(libraries):
-    """The toolchain's crates that ours stand on: those of crates.txt, and what each of these libraries is built on."""
-    found, more = set(), {"std", *(it for name in listed() if not is_test_or_example(name) for it in listed()[name][1] if it not in listed())}
+    """The toolchain's crates that ours stand on: those of crates.txt, and what each of these
+    libraries is built on."""
+    found, more = set(), {
+        "std",
+        *(
+            it
+            for name in listed()
+            if not is_test_or_example(name)
+            for it in listed()[name][1]
+            if it not in listed()
+        ),
+    }
     while more:
         found |= more
-        more = {low.name for it in more for low in (libraries / f"{it}.rlib/below").glob("*")} - found
+        more = {
+            low.name for it in more for low in (libraries / f"{it}.rlib/below").glob("*")
+        } - found
     return found
 
 
 def trusted(text, crates):
-    """What is wrong with the list of what is trusted: a line that begins with names of crates, or `NAME_*` for several, trusts these."""
-    heads = re.findall(r"^- ((?:`[^`]+`(?:, )?)+):", text.partition("\n## What is trusted\n")[2], re.M)
+    """What is wrong with the list of what is trusted: a line that begins with names of crates, or
+    `NAME_*` for several, trusts these."""
+    heads = re.findall(
+        r"^- ((?:`[^`]+`(?:, )?)+):", text.partition("\n## What is trusted\n")[2], re.M
+    )
     named = [it for head in heads for it in re.findall(r"`([^`]+)`", head)]
-    yield from (None if any(fnmatch.fnmatch(it, name) for name in named) else f"the list of what is trusted lacks `{it}`" for it in sorted(crates))
-    yield from (None if fnmatch.filter(crates, it) else f"the list of what is trusted has `{it}`, on which no crate stands" for it in named)
+    yield from (
+        None
+        if any(fnmatch.fnmatch(it, name) for name in named)
+        else f"the list of what is trusted lacks `{it}`"
+        for it in sorted(crates)
+    )
+    yield from (
+        None
+        if fnmatch.filter(crates, it)
+        else f"the list of what is trusted has `{it}`, on which no crate stands"
+        for it in named
+    )
 
 
 def check():
     """What is wrong with each name of the page."""
     text = PAGE.read_text()
-    told = subprocess.run([os.environ.get("RT", "rt"), "doc"], capture_output=True, text=True, check=True).stdout
-    crates = reached(pathlib.Path(told.strip()).parent / "rlibs")
-    return [it and f"docs/PROMISES.md: {it}" for it in (*calls(text), *words(text), *files(text), *cells(text), *trusted(text, crates))]
+    return [
+        it and f"docs/PROMISES.md: {it}"
+        for it in (*calls(text), *words(text), *files(text), *cells(text))
+    ]
+
+
+def check_trusted():
+    """What is wrong with the list of what is trusted, which the toolchain tells."""
+    return [
+        it and f"docs/PROMISES.md: {it}"
+        for it in trusted(PAGE.read_text(), reached(kit() / "rlibs"))
+    ]
+
+
+def main():
+    need_rt("tell which of its crates are trusted")
+    return report([*check(), *check_trusted()])
 
 
 if __name__ == "__main__":
-    sys.exit(report(check()))
+    sys.exit(main())

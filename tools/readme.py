@@ -1,13 +1,16 @@
 #!/usr/bin/env python3
-"""Runs the shell sessions of the pages and compares what they print with the text that stands below them.
+"""Runs the shell sessions of the pages and compares what they print with the text that stands below
+them.
 
     python3 tools/readme.py [FILE..]          (README.md, docs/*.md and crates/*/README.md)
 
-A session is a block marked `sh`; the block marked `text` right below is what it has to print. All sessions of a page run in one bash and
-one folder, in their order, with the built programs of crates/*/out (`rt run` builds them) and this Python as `python3` in their path, and
-the Python package beside them. The folder holds links to crates/, c/ and python/ and nothing else. A session with no text below it, or that
-installs something, is named and not run. One that needs a program that isn't there is named and skipped. The last line is `N passed, M failed`, and the status is 1
-if anything failed or nothing passed.
+A session is a block marked `sh`; the block marked `text` right below is what it has to print. All
+sessions of a page run in one bash and one folder, in their order, with the built programs of
+crates/*/out (`rt run` builds them) and this Python as `python3` in their path, and the Python
+package beside them. The folder holds links to crates/, c/ and python/ and nothing else. A session
+with no text below it, or that installs something, is named and not run. One that needs a program
+that isn't there is named and skipped. The last line is `N passed, M failed`, and the status is 1 if
+anything failed or nothing passed.
 """
 
 import difflib
@@ -31,7 +34,11 @@ LIBRARIES = {"rigzumal": "c/out/librigzumal.so", "LD_LIBRARY_PATH=c/out": "c/out
 
 
 def pages():
-    every = [it for form in ("README.md", "docs/*.md", "crates/*/README.md") for it in sorted(TOP.glob(form))]
+    every = [
+        it
+        for form in ("README.md", "docs/*.md", "crates/*/README.md")
+        for it in sorted(TOP.glob(form))
+    ]
     return sys.argv[1:] or [str(it.relative_to(TOP)) for it in every]
 
 
@@ -40,7 +47,11 @@ def sessions_of(page):
     blocks = [*BLOCK.finditer(page), None]
     for block, below in zip(blocks, blocks[1:]):
         if block[1] == "sh":
-            is_below = below and below[1] == "text" and not re.search(r"^#", page[block.end() : below.start()], re.M)
+            is_below = (
+                below
+                and below[1] == "text"
+                and not re.search(r"^#", page[block.end() : below.start()], re.M)
+            )
             yield page[: block.start()].count("\n") + 1, block[2], below[2] if is_below else None
 
 
@@ -49,9 +60,19 @@ def missing(script, path):
     if INSTALLS.search(script):
         return "it installs something"
     for name in PROGRAMS:
-        if re.search(rf"(^|[\s(|]){name}\s", script, re.M) and shutil.which(name, path=path) is None:
+        if (
+            re.search(rf"(^|[\s(|]){name}\s", script, re.M)
+            and shutil.which(name, path=path) is None
+        ):
             return f"{name} isn't there"
-    return next((f"{file} isn't built" for word, file in LIBRARIES.items() if word in script and not (TOP / file).exists()), None)
+    return next(
+        (
+            f"{file} isn't built"
+            for word, file in LIBRARIES.items()
+            if word in script and not (TOP / file).exists()
+        ),
+        None,
+    )
 
 
 def printed(scripts, path, folder):
@@ -60,13 +81,17 @@ def printed(scripts, path, folder):
         (folder / name).symlink_to(TOP / name)
     whole = "".join(f"{script}\nprintf '%s\\n' '{MARK}'\n" for script in scripts)
     env = {**os.environ, "PATH": path, "PYTHONPATH": str(TOP / "python")}
-    done = subprocess.run(["bash", "-c", whole], cwd=folder, env=env, stdout=subprocess.PIPE, text=True, timeout=600)
+    done = subprocess.run(
+        ["bash", "-c", whole], cwd=folder, env=env, stdout=subprocess.PIPE, text=True, timeout=600
+    )
     return done.stdout.split(f"{MARK}\n")[:-1]
 
 
 def run(name):
     """How many sessions of a page print what they have to, and how many don't."""
-    with tempfile.TemporaryDirectory(prefix="readme-") as own, tempfile.TemporaryDirectory(prefix="readme-") as folder:
+    with tempfile.TemporaryDirectory(prefix="readme-") as own, tempfile.TemporaryDirectory(
+        prefix="readme-"
+    ) as folder:
         pathlib.Path(own, "python3").symlink_to(sys.executable)
         built = [str(it) for it in TOP.glob("crates/*/out") if it.is_dir()]
         path, taken = os.pathsep.join([own, *built, os.environ["PATH"]]), []
@@ -76,10 +101,16 @@ def run(name):
                 print(f"{name}:{line}: not run: {lacks}")
             else:
                 taken.append((line, script, wanted))
-        found = printed([script for _, script, _ in taken], path, pathlib.Path(folder)) if taken else []
+        found = (
+            printed([script for _, script, _ in taken], path, pathlib.Path(folder)) if taken else []
+        )
     failed = len(taken) - len(found)
     for (line, _, wanted), text in zip(taken, found):
-        differs = list(difflib.unified_diff(wanted.splitlines(), text.splitlines(), "page", "printed", lineterm="", n=0))
+        differs = list(
+            difflib.unified_diff(
+                wanted.splitlines(), text.splitlines(), "page", "printed", lineterm="", n=0
+            )
+        )
         failed += bool(differs)
         print("\n".join([f"{name}:{line}: {'FAILED' if differs else 'passed'}", *differs]))
     return len(taken) - failed, failed

@@ -1,13 +1,15 @@
 #!/usr/bin/env python3
-"""Runs tests of a crate again and again, and refuses the first request for memory, then the second, and so on.
+"""Runs tests of a crate again and again, and refuses the first request for memory, then the second,
+and so on.
 
     python3 tools/refuse_memory.py [CRATE [WORD]]
 
-The tests are those with the word in their names, `::refused` if none is given, in the program that `rt test` or `rt ci` built
-last (crates/CRATE/out/CRATE_tests); with no crate, of every crate of tests. Each is run with its Nth request for memory refused,
-for N from 1 to the first N that refuses nothing. A line for each test has how many requests were refused, and the numbers at which
-the test failed; the last line is `N passed, M failed`. `rt try --test --fail-alloc N` does the same for one N, and builds each time.
-It needs the toolchain alone, whose compiler builds the shim that refuses.
+The tests are those with the word in their names, `::refused` if none is given, in the program that
+`rt test` or `rt ci` built last (crates/CRATE/out/CRATE_tests); with no crate, of every crate of
+tests. Each is run with its Nth request for memory refused, for N from 1 to the first N that refuses
+nothing. A line for each test has how many requests were refused, and the numbers at which the test
+failed; the last line is `N passed, M failed`. `rt try --test --fail-alloc N` does the same for one
+N, and builds each time. It needs the toolchain alone, whose compiler builds the shim that refuses.
 """
 
 import pathlib
@@ -21,7 +23,8 @@ from tests.helpers import Ended, ended, in_turn, without_request  # noqa: E402
 
 
 def sweep(test):
-    """How many requests were refused, and at which numbers the test failed: the last refuses nothing."""
+    """How many requests were refused, and at which numbers the test failed: the last refuses
+    nothing."""
 
     def attempt(nth):
         try:
@@ -38,7 +41,9 @@ def tests_of(crate, word):
     program = CRATES / crate / "out" / f"{crate}_tests"
     if not program.exists():
         sys.exit(f"{program} isn't there: run rt test in its crate, or rt ci")
-    listed = subprocess.run([program, "--list"], capture_output=True, text=True, check=True).stdout.splitlines()
+    listed = subprocess.run(
+        [program, "--list"], capture_output=True, text=True, check=True
+    ).stdout.splitlines()
     found = [line.split(": ")[0] for line in listed if line.endswith(": test") and word in line]
     if not found:
         sys.exit(f"no test of {crate} has {word} in its name")
@@ -48,7 +53,9 @@ def tests_of(crate, word):
 def main():
     if len(sys.argv) > 3:
         sys.exit(__doc__)
-    crates = [pathlib.Path(it).name for it in sys.argv[1:2]] or sorted(it.name for it in CRATES.glob("*_tests"))
+    crates = [pathlib.Path(it).name for it in sys.argv[1:2]] or sorted(
+        it.name for it in CRATES.glob("*_tests")
+    )
     word = sys.argv[2] if len(sys.argv) > 2 else "::refused"
     tests, found = [(crate, it) for crate in crates for it in tests_of(crate, word)], []
     for crate, test in tests:

@@ -1,65 +1,108 @@
-"""What the tools read of the tree, and how they tell."""
+"""What the tools read of the tree and of the toolchain, and how they tell.
+
+`python3 tools/tree.py run the gate` ends with status 1, and says why, where rt isn't there.
+"""
+
+from __future__ import annotations
 
 import functools
+import os
 import pathlib
 import re
+import shutil
+import subprocess
+import sys
 import threading
 import time
+from collections.abc import Callable, Sequence
 
 TOP = pathlib.Path(__file__).resolve().parent.parent
 CRATES = TOP / "crates"
+# The toolchain's command, or what the variable RT names in its place.
+RT = os.environ.get("RT", "rt")
+NO_RT = """\
+{rt} isn't there: only the Rattle toolchain, which isn't published, can {what}.
+Without it `make -C c` builds the library for C, Python, Rust and PHP, by a C compiler alone."""
+
+
+def has_rt() -> bool:
+    return shutil.which(RT) is not None
+
+
+def need_rt(what: str) -> None:
+    """Ends a tool, in two lines, if the toolchain isn't there that alone can do this."""
+    if not has_rt():
+        raise SystemExit(NO_RT.format(rt=RT, what=what))
+
+
+def told_by_rt(*words: str) -> str:
+    """What rt prints."""
+    return subprocess.run([RT, *words], capture_output=True, text=True, check=True).stdout
+
+
+def kit() -> pathlib.Path:
+    """The folder of the toolchain, whose first page rt names."""
+    return pathlib.Path(told_by_rt("doc").strip()).parent
 
 
 @functools.cache
-def listed():
-    """Each crate of crates.txt with what stands before the colon of its line, and what stands behind it."""
+def listed() -> dict[str, tuple[str, list[str]]]:
+    """Each crate of crates.txt: what stands before the colon of its line, and what behind it."""
     lines = [it.split("#")[0].partition(":") for it in source(TOP / "crates.txt").splitlines()]
     return {head.split()[0]: (head, rest.split()) for head, _, rest in lines if head.strip()}
 
 
-def below(name):
+def below(name: str) -> list[str]:
     """The crates of the tree that a crate stands on."""
     return [it for it in listed()[name][1] if it in listed()]
 
 
-def all_below(name):
+def all_below(name: str) -> list[str]:
     """The crates below a crate, lowest first."""
     return [*dict.fromkeys(low for it in below(name) for low in [*all_below(it), it])]
 
 
-def is_test_or_example(name):
+def is_test_or_example(name: str) -> bool:
     """Whether a crate has tests of others, or is an example."""
     return re.match(r"(test|example|hello)_|\w+_tests$", name) is not None
 
 
 @functools.cache
-def source(path):
+def source(path: pathlib.Path) -> str:
     return path.read_text() if path.is_file() else ""
 
 
-def has_test(crate, test):
+def has_test(crate: str, test: str) -> bool:
     """Whether a crate has a test of this name."""
     form = re.compile(rf"#\[test\](\s*#\[[^\n]*\])*\s*fn {re.escape(test)}\b")
     return any(form.search(source(it)) for it in (CRATES / crate / "src").glob("**/*.rt"))
 
 
-def has_edit(crate, name):
+def has_edit(crate: str, name: str) -> bool:
     """Whether a wrong body stands in the gate."""
     return (CRATES / crate / "wrong-bodies" / f"{name}.edit").is_file()
 
 
-def tell_each(seconds, tell):
+def tell_each(seconds: float, tell: Callable[[], None]) -> None:
     """Has something told each time that so many seconds are over, beside the program's work."""
 
-    def work():
-        while not time.sleep(seconds):
+    def work() -> None:
+        while True:
+            time.sleep(seconds)
             tell()
 
     threading.Thread(target=work, daemon=True).start()
 
 
-def report(found):
-    """Prints what is wrong, and how much is: the status of a program that found this, with None for what is right."""
+def report(found: Sequence[str | None], left_out: Sequence[str] = ()) -> int:
+    """Prints what is wrong and what isn't looked at, and how much of each there is: the status of a
+    program that found this, with None for what is right."""
     failures = [it for it in found if it]
-    print("\n".join([*failures, f"{len(found) - len(failures)} passed, {len(failures)} failed"]))
+    counts = f"{len(found) - len(failures)} passed, {len(failures)} failed"
+    counts += f", {len(left_out)} left out" if left_out else ""
+    print("\n".join([*failures, *left_out, counts]))
     return 1 if failures or not found else 0
+
+
+if __name__ == "__main__":  # for scripts in another language
+    need_rt(" ".join(sys.argv[1:]))

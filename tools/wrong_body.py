@@ -37,32 +37,56 @@ class Edit:
         return found if found != texts else None
 
     def is_local(self, texts):
-        """Whether it changes its function alone, and so nothing of those that are planted beside it."""
-        above = [texts[file or only_file(old, texts)].partition(old)[0] for file, old, _ in self.pairs]
-        heads = [re.findall(r"^\s*(?:pub(?:\(\w+\))? )?(?:const )?fn (\w+)|^\}", it, re.M) for it in above]
+        """Whether it changes its function alone, and so nothing of those that are planted beside
+        it."""
+        above = [
+            texts[file or only_file(old, texts)].partition(old)[0] for file, old, _ in self.pairs
+        ]
+        heads = [
+            re.findall(r"^\s*(?:pub(?:\(\w+\))? )?(?:const )?fn (\w+)|^\}", it, re.M)
+            for it in above
+        ]
         return all(it and it[-1] == self.function.split("::")[-1] for it in heads)
 
     def judge(self, output):
-        """The goal at which a check refuses its function. False: the function is proved. None: that waits for another's proof."""
-        line = re.search(rf"((?:^(?!fn ).*\n)*)^fn {re.escape(f'{self.crate}::{self.function}')}: (.*)", output, re.M)
+        """The goal at which a check refuses its function. False: the function is proved. None: that
+        waits for another's proof."""
+        line = re.search(
+            rf"((?:^(?!fn ).*\n)*)^fn {re.escape(f'{self.crate}::{self.function}')}: (.*)",
+            output,
+            re.M,
+        )
         if not line or line[2].startswith("proved"):
             return False if line else None
-        goal = re.search(r"did not prove (`[^`]*`)|could not tell", line[2]) or re.search(r"it is not proved that .*\((`[^`]*`)\)", line[1])
+        goal = re.search(r"did not prove (`[^`]*`)|could not tell", line[2]) or re.search(
+            r"it is not proved that .*\((`[^`]*`)\)", line[1]
+        )
         if goal:
             return goal[1] or "a limit of the prover, which says less"
-        errors = re.findall(rf"^\./proofs/{self.function.replace('::', '/')}/\w+\.antt:\d+:\d+: error: (.*)", output, re.M)
+        errors = re.findall(
+            rf"^\./proofs/{self.function.replace('::', '/')}/\w+\.antt:\d+:\d+: error: (.*)",
+            output,
+            re.M,
+        )
         if wrong := [it for it in errors if not OF_NAMES.search(it)]:
-            return (re.match(r"`[^`]*`", wrong[0]) or [wrong[0][:80]])[0] + ", at its written answer"
+            return (re.match(r"`[^`]*`", wrong[0]) or [wrong[0][:80]])[
+                0
+            ] + ", at its written answer"
         return None if "it calls" in line[2] else "a name that the edit took away, which says less"
 
 
 def groups(edits, texts):
-    """Edits that can be planted together, each in a function of its own, with the texts in which they are."""
+    """Edits that can be planted together, each in a function of its own, with the texts in which
+    they are."""
     while edits:
         group, planted, later = [], texts, []
         for it in edits:
             is_alone = group and not (it.is_local(texts) and group[0].is_local(texts))
-            more = None if is_alone or it.function in [other.function for other in group] else it.planted(planted)
+            more = (
+                None
+                if is_alone or it.function in [other.function for other in group]
+                else it.planted(planted)
+            )
             (later if more is None else group).append(it)
             planted = more or planted
         yield group, planted

@@ -1,21 +1,26 @@
 #!/usr/bin/python3
-"""Times the C library beside libargon2, libsodium and OpenSSL's scrypt, in one run on the same settings.
+"""Times the C library beside libargon2, libsodium and OpenSSL's scrypt, in one run on the same
+settings.
 
-    make -C c && /usr/bin/python3 bench/c/run.py [--times N] [--pages WHOSE] [--callers N [N ..]] [--small] [--other LIBRARY]
+    make -C c && /usr/bin/python3 bench/c/run.py [--times N] [--pages WHOSE]
+                                    [--callers N [N ..]] [--small] [--other LIBRARY]
 
-All are called from this one process in turn, N times over; the best wall time of each is printed, and the least processor time where
-libargon2 has threads. libargon2 gets as many threads as lanes; libsodium has one lane only; ours works on the caller's thread. All give
-the same tags, which is looked at. What isn't installed has no column's values. Ours clears its memory as it gives it back, and its stack.
---other names another librigzumal.so.1, as one that was built before a change: what ours takes over it, by the best times and by the
-median of the turns' ratios.
+All are called from this one process in turn, N times over; the best wall time of each is printed,
+and the least processor time where libargon2 has threads. libargon2 gets as many threads as lanes;
+libsodium has one lane only; ours works on the caller's thread. All give the same tags, which is
+looked at. What isn't installed has no column's values. Ours clears its memory as it gives it back,
+and its stack. --other names another librigzumal.so.1, as one that was built before a change: what
+ours takes over it, by the best times and by the median of the turns' ratios.
 
-WHOSE huge pages there are: `own`, where a library asks for them, as ours does; `none`, as where the system allows none; or for `all`,
-with a shim before mmap and malloc's own setting. How much memory is in huge pages at the end is printed.
+WHOSE huge pages there are: `own`, where a library asks for them, as ours does; `none`, as where the
+system allows none; or for `all`, with a shim before mmap and malloc's own setting. How much memory
+is in huge pages at the end is printed.
 
-With --callers Argon2 alone is timed, ours also with a thread a lane, by so many callers at once: threads that begin at the same moment,
-and make two tags one after another. A cell has the best and the median of the N times, in milliseconds a tag: the wall time of all
-callers over the number of their tags, and behind it the processor time. --small times memories for which the library starts no thread,
-in a build that starts them whatever the memory is.
+With --callers Argon2 alone is timed, ours also with a thread a lane, by so many callers at once:
+threads that begin at the same moment, and make two tags one after another. A cell has the best and
+the median of the N times, in milliseconds a tag: the wall time of all callers over the number of
+their tags, and behind it the processor time. --small times memories for which the library starts no
+thread, in a build that starts them whatever the memory is.
 """
 
 import argparse
@@ -34,18 +39,40 @@ sys.path.insert(0, str(pathlib.Path(__file__).resolve().parents[1]))
 
 import libraries
 from libraries import ORIGINAL, OURS, library, libsodium
-from turns import best, median, median_ratio, print_head, print_load, print_row, ratio, take_turns, timed
+from turns import (
+    best,
+    median,
+    median_ratio,
+    print_head,
+    print_load,
+    print_row,
+    ratio,
+    take_turns,
+    timed,
+)
 
 C = OURS.parents[1]
 # Memory in KiB, passes, lanes.
 ARGON2 = [(65536, 3, 1), (65536, 3, 4), (65536, 3, 16), (102400, 2, 8), (19456, 2, 1), (1024, 2, 1)]
 ARGON2 += [(512, 384, 1)]  # in the cache
-WITH_THREADS = [(65536, 3, 1), (65536, 3, 4), (65536, 3, 8), (19456, 2, 1), (19456, 2, 4), (19456, 2, 8), (262144, 1, 4)]
+WITH_THREADS = [
+    (65536, 3, 1),
+    (65536, 3, 4),
+    (65536, 3, 8),
+    (19456, 2, 1),
+    (19456, 2, 4),
+    (19456, 2, 8),
+    (262144, 1, 4),
+]
 SMALL = [(256, 2, 4), (1024, 2, 4), (2048, 2, 4), (4096, 2, 4), (8192, 2, 4), (16384, 2, 4)]
 # ln, r, p.
 SCRYPT = [(14, 8, 1), (15, 8, 1), (16, 8, 1), (17, 8, 1), (14, 8, 4), (14, 1, 16)]
 WALL, CPU = 0, 1
-PAGES = {"own": "Huge pages where a library asks for them", "none": "No huge pages", "all": "Huge pages for all"}
+PAGES = {
+    "own": "Huge pages where a library asks for them",
+    "none": "No huge pages",
+    "all": "Huge pages for all",
+}
 PR_SET_THP_DISABLE = 41
 TAGS_A_CALLER = 2
 
@@ -63,15 +90,24 @@ def over(name, figure, part=WALL):
 def spread(name):
     """A column: best and median of both times."""
     figures = lambda turns, part: f"{best(turns, part):.1f}/{median(turns, part):.1f}"
-    return lambda row: "; ".join(figures(row[name], part) for part in (WALL, CPU)) if name in row else ""
+    return (
+        lambda row: "; ".join(figures(row[name], part) for part in (WALL, CPU))
+        if name in row
+        else ""
+    )
 
 
 def threads_over_libargon2(part):
-    """A column: ours, with threads where there are lanes for them, by the best times and by the medians."""
+    """A column: ours, with threads where there are lanes for them, by the best times and by the
+    medians."""
 
     def cell(row):
         ours, theirs = row.get("threads") or row["ours"], row.get("libargon2")
-        return "/".join(f"{it(ours, part) / it(theirs, part):.2f}" for it in (best, median)) if theirs else ""
+        return (
+            "/".join(f"{it(ours, part) / it(theirs, part):.2f}" for it in (best, median))
+            if theirs
+            else ""
+        )
 
     return cell
 
@@ -163,7 +199,11 @@ def argon2_calls(ways, call, *setting):
 def without_least_memory(room):
     """A build of the library that starts threads whatever the memory is."""
     path = pathlib.Path(room) / "librigzumal.so"
-    sources = [it for it in sorted((C / "src").glob("*.c")) if not re.match("libargon2|arm64|build", it.name)]
+    sources = [
+        it
+        for it in sorted((C / "src").glob("*.c"))
+        if not re.match("libargon2|arm64|build", it.name)
+    ]
     builds = sorted((C / "out").glob("v?.o"))
     flags = "-O2 -std=c11 -fPIC -pthread -shared -Wl,-Bsymbolic -DLEAST_SHARED_MEMORY=1".split()
     words = ["cc", *flags, f"-I{C / 'include'}", *sources, *builds, "-o", path]
@@ -172,21 +212,44 @@ def without_least_memory(room):
 
 
 def have_pages(whose):
-    """Has this process go on with such pages: where they are for all in a new program, over the shim."""
+    """Has this process go on with such pages: where they are for all in a new program, over the
+    shim."""
     if whose == "none" and ctypes.CDLL(None).prctl(PR_SET_THP_DISABLE, 1, 0, 0, 0) != 0:
         sys.exit("the system doesn't let a process do without huge pages")
     shim = os.environ.get("LD_PRELOAD", "")
     if whose == "all" and "huge_pages" not in shim:
         with tempfile.TemporaryDirectory() as room:
             made = pathlib.Path(room) / "huge_pages.so"
-            subprocess.run(["cc", "-O2", "-fPIC", "-shared", pathlib.Path(__file__).with_name("huge_pages.c"), "-o", made], check=True)
-            env = {**os.environ, "LD_PRELOAD": str(made), "GLIBC_TUNABLES": "glibc.malloc.hugetlb=1"}
+            subprocess.run(
+                [
+                    "cc",
+                    "-O2",
+                    "-fPIC",
+                    "-shared",
+                    pathlib.Path(__file__).with_name("huge_pages.c"),
+                    "-o",
+                    made,
+                ],
+                check=True,
+            )
+            env = {
+                **os.environ,
+                "LD_PRELOAD": str(made),
+                "GLIBC_TUNABLES": "glibc.malloc.hugetlb=1",
+            }
             sys.exit(subprocess.run([sys.executable, *sys.argv], env=env).returncode)
 
 
 def huge_pages():
     """How many MiB of this process's memory are in huge pages."""
-    return int(re.search(r"AnonHugePages: +(\d+)", pathlib.Path("/proc/self/smaps_rollup").read_text())[1]) // 1024
+    return (
+        int(
+            re.search(
+                r"AnonHugePages: +(\d+)", pathlib.Path("/proc/self/smaps_rollup").read_text()
+            )[1]
+        )
+        // 1024
+    )
 
 
 def shown(*setting):
@@ -194,7 +257,8 @@ def shown(*setting):
 
 
 def tables(ours, other):
-    """Argon2 and scrypt beside the others: the names of the first columns, the others, and the rows."""
+    """Argon2 and scrypt beside the others: the names of the first columns, the others, and the
+    rows."""
     more, sodium = OTHER_COLUMNS if other else {}, libsodium()
     ways = {**argon2_ways(ours, sodium), "other": other and libraries.rigzumal_argon2(other)}
     rows = {(shown(*it),): argon2_calls(ways, timed, *it) for it in ARGON2}
@@ -211,13 +275,19 @@ def tables(ours, other):
 
 def table_of_callers(ours, other, callers, settings):
     """Argon2 by so many callers at once, in the same form."""
-    ways = {**argon2_ways(ours, libsodium()), "threads": libraries.rigzumal_argon2(ours, most_threads=255)}
+    ways = {
+        **argon2_ways(ours, libsodium()),
+        "threads": libraries.rigzumal_argon2(ours, most_threads=255),
+    }
     columns = dict(CALLERS_COLUMNS)
     if other:
         ways["other"] = libraries.rigzumal_argon2(other)
         columns["other"] = spread("other")
     each = itertools.product(settings, callers)
-    rows = {(shown(*it), count): argon2_calls(ways, functools.partial(at_once, count), *it) for it, count in each}
+    rows = {
+        (shown(*it), count): argon2_calls(ways, functools.partial(at_once, count), *it)
+        for it, count in each
+    }
     return ["m (KiB), t, p", "Callers"], columns, rows
 
 

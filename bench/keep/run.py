@@ -1,5 +1,6 @@
 #!/usr/bin/python3
-"""Times `credkeep` on books of many accounts, beside Python's sqlite3 on the same file and `htpasswd -B`.
+"""Times `credkeep` on books of many accounts, beside Python's sqlite3 on the same file and
+`htpasswd -B`.
 
     bench/keep/run.py [--turns N] [--accounts N [N ..]] [--program PROGRAM]
 
@@ -31,7 +32,9 @@ from turns import print_row
 CHEAP = "$argon2id$v=19$m=8,t=1,p=1"
 PASSWORD = "secret"
 PASSWORD_WORD = "c2VjcmV0"
-READ_ALL = "import sqlite3, sys\nrows = dict(sqlite3.connect(sys.argv[1]).execute('SELECT name, record FROM account'))"
+READ_ALL = """import sqlite3, sys
+rows = sqlite3.connect(sys.argv[1]).execute('SELECT name, record FROM account')
+rows = dict(rows)"""
 TABLE = "CREATE TABLE account (name TEXT NOT NULL PRIMARY KEY, record TEXT) STRICT"
 BCRYPT = ("htpasswd", "-b", "-B", "-C", "4")
 # How many lines of a kind are timed at once.
@@ -75,14 +78,18 @@ class Sample:
 
     def __init__(self, program: pathlib.Path, folder: pathlib.Path, accounts: int) -> None:
         self.program, self.count = program, accounts
-        self.book, self.other, self.users = (folder / it for it in ("users.db", "other.db", "users"))
+        self.book, self.other, self.users = (
+            folder / it for it in ("users.db", "other.db", "users")
+        )
         numbers = random.Random(accounts).sample(range(16**8), accounts + 2 * LINES)
         names = [f"n{number:08x}" for number in numbers]
         self.names, self.new = names[:accounts], names[accounts:]
         run(program, self.book, "init")
         for name, salt in (("n0", "c29tZXNhbHQ"), ("n1", "b3RoZXJzYWx0")):
             run(program, self.book, "add", name, "--setting", f"{CHEAP}${salt}", given=PASSWORD)
-        exported = subprocess.run([program, self.book, "export"], capture_output=True, text=True, check=True).stdout
+        exported = subprocess.run(
+            [program, self.book, "export"], capture_output=True, text=True, check=True
+        ).stdout
         # A change puts the second: SQLite writes nothing if a row stays as it is.
         self.record, self.changed = (line.split(":")[1] for line in exported.split())
         run(*BCRYPT, "-c", self.users, "n0", PASSWORD)
@@ -103,13 +110,20 @@ def ours(sample: Sample, turns: int) -> dict[str, str]:
     program, book, one = sample.program, sample.book, sample.names[0]
     best = lambda *words, **given: min(run(program, *words, **given) for _ in range(turns))
     opened = best(book, "show", "nobody", status=4)
-    # A database with a table too many is refused once sqlite has looked at it, before a row is read.
+    # A database with a table too many is refused once sqlite has looked at it, before a row is
+    # read.
     refused = best(sample.other, "list", status=5)
     with Service(program, book, "serve") as service:
         service.ask("show nobody")
         blank, shown = [""] * SHOWN, [f"show {name}" for name in sample.some(SHOWN)]
-        blank_s, show_s = (min(service.seconds_at_once(it) for _ in range(turns)) / SHOWN for it in (blank, shown))
-        pairs = [line for it in sample.some(LINES) for line in (f"begin 1 verify {it} {PASSWORD_WORD}", "commit 1")]
+        blank_s, show_s = (
+            min(service.seconds_at_once(it) for _ in range(turns)) / SHOWN for it in (blank, shown)
+        )
+        pairs = [
+            line
+            for it in sample.some(LINES)
+            for line in (f"begin 1 verify {it} {PASSWORD_WORD}", "commit 1")
+        ]
         verify_s = 2 * min(each_timed(service.ask, pairs) for _ in range(turns))
         changes = [f"load {name} {sample.changed}" for name in sample.some(LINES)]
         change_s = min(each_timed(service.ask, changes) for _ in range(turns))
@@ -156,8 +170,13 @@ def theirs(sample: Sample, turns: int) -> dict[str, str]:
     connection = sqlite3.connect(sample.book, isolation_level=None)
     connection.execute("PRAGMA journal_mode = WAL")
     connection.execute("PRAGMA synchronous = FULL")
-    select, update = "SELECT record FROM account WHERE name = ?", "UPDATE account SET record = ? WHERE name = ?"
-    show_s = each_timed(lambda name: connection.execute(select, (name,)).fetchone(), sample.some(SHOWN))
+    select, update = (
+        "SELECT record FROM account WHERE name = ?",
+        "UPDATE account SET record = ? WHERE name = ?",
+    )
+    show_s = each_timed(
+        lambda name: connection.execute(select, (name,)).fetchone(), sample.some(SHOWN)
+    )
     changed = list(dict.fromkeys(sample.some(LINES)))
     change_s = each_timed(lambda name: connection.execute(update, (sample.record, name)), changed)
     insert = "INSERT INTO account VALUES (?, NULL)"
@@ -167,7 +186,9 @@ def theirs(sample: Sample, turns: int) -> dict[str, str]:
     fresh.unlink()
     change = best(0, *BCRYPT, sample.users, one, PASSWORD)
     check = best(0, "htpasswd", "-v", "-b", sample.users, one, PASSWORD)
-    with Service(sys.executable, "-c", f"{READ_ALL}\nprint(1, flush=True); sys.stdin.read()", sample.book) as reader:
+    with Service(
+        sys.executable, "-c", f"{READ_ALL}\nprint(1, flush=True); sys.stdin.read()", sample.book
+    ) as reader:
         reader.answer()
         peak = reader.peak_mb()
     return {
@@ -184,13 +205,19 @@ def theirs(sample: Sample, turns: int) -> dict[str, str]:
 
 def main() -> None:
     """Prints the table."""
-    parser = argparse.ArgumentParser(description="Times credkeep beside Python's sqlite3 and htpasswd -B.")
+    parser = argparse.ArgumentParser(
+        description="Times credkeep beside Python's sqlite3 and htpasswd -B."
+    )
     parser.add_argument("--turns", type=int, default=3)
     parser.add_argument("--accounts", type=int, nargs="+", default=[1000, 10000, 100000])
-    parser.add_argument("--program", type=pathlib.Path, default=TOP / "crates/credkeep/out/credkeep")
+    parser.add_argument(
+        "--program", type=pathlib.Path, default=TOP / "crates/credkeep/out/credkeep"
+    )
     words = parser.parse_args()
     if shutil.which("htpasswd") is None:
         sys.exit("htpasswd is not there (Debian's package apache2-utils has it)")
+    if not words.program.is_file():
+        sys.exit(f"{words.program} is not there: `make programs` builds it, by the toolchain's rt")
     columns = []
     for accounts in words.accounts:
         with tempfile.TemporaryDirectory(prefix="keep-") as folder:

@@ -29,7 +29,9 @@ CLIENTS = (1, 4, 16, 64)
 class Book:
     """A book of ann with these costs, and what is timed on it."""
 
-    def __init__(self, program: pathlib.Path, path: pathlib.Path, setting: str, seconds: float) -> None:
+    def __init__(
+        self, program: pathlib.Path, path: pathlib.Path, setting: str, seconds: float
+    ) -> None:
         self.words, self.seconds = (program, path), seconds
         subprocess.run([*self.words, "init"], check=True)
         command = [*self.words, "add", "ann", "--setting", setting]
@@ -46,19 +48,27 @@ class Book:
             return rate(verify, self.seconds, 1)
 
     def changes_a_second(self, clients: int, pause: float) -> float:
-        """Of so many clients, each with an account of its own, who send a line once the one before it is answered."""
+        """Of so many clients, each with an account of its own, who send a line once the one before
+        it is answered."""
 
         def after(tag: str, answer: str) -> str:
             assert answer in ("enrolled", "removed")
             word = "remove" if answer == "enrolled" else "enrol"
             return f"{tag} {word} c{clients}x{tag} {WORD}"
 
-        slow = ("-e", "trace=fsync,fdatasync", "-e", f"inject=fsync,fdatasync:delay_enter={pause * 1000:.0f}")
+        slow = (
+            "-e",
+            "trace=fsync,fdatasync",
+            "-e",
+            f"inject=fsync,fdatasync:delay_enter={pause * 1000:.0f}",
+        )
         strace = ("strace", "-f", "--seccomp-bpf", "-o", "/dev/null", *slow)
         with Service(*strace, *self.words, "serve", "--tagged", "--setting", CHEAPEST) as run:
             for at in range(clients):
                 run.ask(f"a account c{clients}x{at}")
-            return run.rate([after(str(at), "removed") for at in range(clients)], after, self.seconds)
+            return run.rate(
+                [after(str(at), "removed") for at in range(clients)], after, self.seconds
+            )
 
 
 def changes_together(program: pathlib.Path, seconds: float, pause: float) -> None:
@@ -70,7 +80,10 @@ def changes_together(program: pathlib.Path, seconds: float, pause: float) -> Non
         for clients in CLIENTS:
             made = book.changes_a_second(clients, pause)
             alone = alone or made
-            print(f"  {clients} clients: {made:.0f}, {made / alone:.1f} times those of one", flush=True)
+            print(
+                f"  {clients} clients: {made:.0f}, {made / alone:.1f} times those of one",
+                flush=True,
+            )
 
 
 def main() -> None:

@@ -40,6 +40,8 @@ FORMS = [
     (f"fields:{RECORD}:x", RECORD),
     ("none::1000", ""),
     ("empty:", ""),
+    (f"shell:{RECORD}:1000:1000::/home/shell:/usr/sbin/nologin:", RECORD),
+    (f"quota:{{ARGON2ID}}{RECORD}:1000:1000::/home/q::userdb_quota_rule=*:storage=1G", RECORD),
 ]
 
 # The lines of an update, and how many of its names were there.
@@ -62,6 +64,15 @@ LOCKED = (
     "*LK*",
     "!$6$salt$abc",
     "*:19000:0:99999:7:::",
+)
+# Fields behind a record by which Dovecot lets its user in nowhere, or not from everywhere.
+BARRED = (
+    ":1000:1000::/home/eve::nologin",
+    ":1000:1000::/home/eve::nologin=y reason=moved",
+    ":1000:1000::/home/eve::userdb_mail=maildir:~/mail nologin",
+    ":1000:1000::/home/eve::allow_nets=127.0.0.1,::1",
+    ":1000:1000::/home/eve::proxy allow_real_nets=local",
+    "::::::noauthenticate",
 )
 # Records that take eight passes over their memory, nine, and as many as there can be.
 WORK = [f"$argon2id$v=19$m=8,t={t},p=1${SALT}${TAG}" for t in (8, 9, 4294967295)]
@@ -91,7 +102,7 @@ IMPORTS: list[tuple[str, str, tuple[int, ...] | None, dict[int, str], Accounts]]
     ("", "\n# made by hand\n#\n#ann:x\neve:\n\n\n", (1,), {}, {"eve": ""}),
     ("", "\n# x\neve\n\n #\nfay:", None, {3: "11 line", 5: "11 line"}, {}),
     *(("", lines, (0,), {}, {}) for lines in ("", "#\n\n", "# the last line has no end")),
-    ("", lined(it for it, _ in FORMS), (7,), {}, {it.split(":")[0]: new for it, new in FORMS}),
+    ("", lined(it for it, _ in FORMS), (9,), {}, {it.split(":")[0]: new for it, new in FORMS}),
     # Each bad line is named with its fault, and nothing is changed, or the others are taken in.
     ("", BAD, None, BAD_NAMED, {}),
     ("--skip-bad", BAD, (3, 0, 0, 19), BAD_NAMED, {"new": RECORD, "last": OTHER, "none": ""}),
@@ -107,6 +118,12 @@ IMPORTS: list[tuple[str, str, tuple[int, ...] | None, dict[int, str], Accounts]]
     # A record behind ! or * is a fault of its own; by choice its account has no record.
     *(("", f"eve:{it}\n", None, {1: "17 locked"}, {}) for it in LOCKED),
     *(("--disable-locked", f"eve:{it}\n", (1,), {}, {"eve": ""}) for it in LOCKED),
+    # So is a field of Dovecot's that bars the user, whatever the record.
+    *(("", f"eve:{RECORD}{it}\n", None, {1: "17 locked"}, {}) for it in BARRED),
+    *(("--disable-locked", f"eve:{RECORD}{it}\n", (1,), {}, {"eve": ""}) for it in BARRED),
+    ("--update", f"ann:{OTHER}{BARRED[0]}\n", None, {1: "17 locked"}, {}),
+    ("--disable-locked --update", f"ann:{OTHER}{BARRED[0]}\n", (0, 1), {}, {"ann": ""}),
+    ("", f"eve:{BARRED[0]}\n", None, {1: "17 locked"}, {}),
     ("--disable-locked", NO_RECORDS, None, {1: "3 name", 2: "1 shape"}, {}),
     ("--disable-locked", f"ann:!{RECORD}\n", None, {1: "1 exists"}, {}),
     ("--disable-locked --skip-existing", f"ann:!{RECORD}\n", (0, 0, 1), {}, {}),

@@ -16,7 +16,7 @@ from tests.helpers import Ended
 COUNT = int(os.environ.get("RIGZUMAL_ACCOUNTS", "0"))
 
 
-@unittest.skipUnless(COUNT, "RIGZUMAL_ACCOUNTS isn't set")
+@unittest.skipUnless(COUNT, "needs the variable RIGZUMAL_ACCOUNTS")
 class LargeTest(LostTest, test_kills.ScriptsTest):
     def setUp(self) -> None:
         """Names come in random order; every third has no record."""

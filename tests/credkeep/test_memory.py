@@ -52,8 +52,8 @@ class MemoryTest(BookTest):
             time.sleep(0.01)
 
     def test_blocks(self) -> None:
-        """Blocks of Argon2 are in memory while a hash is worked, and no more after it: neither after
-        a hundred logins, whose memory is kept, nor after one whose memory isn't."""
+        """Blocks of Argon2 are in memory while a hash is worked, and no more after it: neither
+        after a hundred logins, whose memory is kept, nor after one whose memory isn't."""
         kept, costly = "$argon2id$v=19$m=1024,t=1,p=1", "$argon2id$v=19$m=262144,t=1,p=1"
         for name, setting in (("ann", kept), ("bob", costly)):
             self.book.add(name, "right", f"{setting}${SALT}")

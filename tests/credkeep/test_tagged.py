@@ -1,7 +1,6 @@
 """A service of tagged lines: what it answers, and what it does where memory, threads or the file
 fail."""
 
-import asyncio
 import os
 import pathlib
 import re
@@ -11,7 +10,7 @@ from typing import Any
 
 from tests.credkeep.books import CHEAP, DONE, RECORD, SALT, Book, BookTest, commits_in, lined
 from tests.credkeep.doors import in_base64
-from tests.helpers import LONGEST, TOP, each, limited, need_native, skip_if_busy, small_files
+from tests.helpers import each, limited, need_native, small_files
 
 ONE = in_base64("one")
 
@@ -64,26 +63,6 @@ class LinesTest(BookTest):
         self.assertEqual(found, [f"t ann:{RECORD}", "t absent", "t noaccount"])
         self.assertEqual(book("import", "--update", given=f"ann:{RECORD}\n").status, 0)
         self.assertEqual(book.answers("t show ann", "t disable ann"), [f"t {RECORD}", "t disabled"])
-
-    def test_example_of_a_page(self) -> None:
-        """The example of docs/SERVING.md lets in, and keeps out."""
-        text = (TOP / "docs" / "SERVING.md").read_text()
-        blocks = re.findall(r"```python\n(.*?)```", text, re.S)
-        example = next(block for block in blocks if "asyncio" in block)
-        self.book.add("ada", "secret")
-        names: dict[str, Any] = {"__name__": "example"}
-        exec(compile(example, "docs/SERVING.md", "exec"), names)  # noqa: S102
-
-        async def use() -> list[str]:
-            book = await names["Book"].start(*self.book.command())
-            try:
-                asks = [book.ask("login", "ada", pw) for pw in ["secret", "other"] * 10]
-                return list(await asyncio.gather(*asks))
-            finally:
-                await book.close()
-
-        found = asyncio.run(asyncio.wait_for(use(), LONGEST))
-        self.assertEqual(found, ["yes", "no"] * 10)
 
 
 class HashesTest(BookTest):
@@ -171,10 +150,8 @@ class HashesTest(BookTest):
     def test_lines_that_give_up(self, changes: int, ought: str) -> None:
         """A line whose record is another each time that it is hashed is given up as busy, after
         eight changes and not before."""
-        answers = (self.answer_beside(changes, passes) for passes in (6, 24, 96))
-        if (found := next(filter(None, answers), "late")) == "late":
-            skip_if_busy()
-        self.assertEqual(found, ought)
+        answers = (self.answer_beside(changes, passes) for passes in (6, 24, 96, 384))
+        self.assertEqual(next(filter(None, answers), "late"), ought)
 
     def test_memory_runs_out(self) -> None:
         """Where the system refuses memory a line is answered so, and the next one is served."""

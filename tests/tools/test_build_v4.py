@@ -1,4 +1,5 @@
-"""tools/build_v4.py over a toolchain of stand-ins: what is compiled for x86-64-v4, and when nothing is."""
+"""tools/build_v4.py over a toolchain of stand-ins: what is compiled for x86-64-v4, and when nothing
+is."""
 
 import sys
 
@@ -20,7 +21,10 @@ exit "$STATUS"
 """
 CLANG = r"""#!/bin/sh
 case " $* " in
-*" module.bc -S "*) for it in 0 1; do echo "attributes #$it = { \"target-cpu\"=\"$LEVEL\" }"; done > module.ll ;;
+*" module.bc -S "*)
+    for it in 0 1; do
+        echo "attributes #$it = { \"target-cpu\"=\"$LEVEL\" }"
+    done > module.ll ;;
 *" -O3 module.ll -o object ") cp module.ll object ;;
 *) exit 2 ;;
 esac
@@ -36,9 +40,20 @@ class Build(helpers.Case):
         helpers.write_files(room, {"rt": page, "bin/rattle": RATTLE, clang: CLANG}, 0o755)
         if env.pop("LACKS", False):
             (room / clang).unlink()
-        env = {"RT": str(room / "rt"), "ROOM": str(room), "LEVEL": "x86-64-v3", "SAID": PROVED, "STATUS": "0", **env}
-        said = helpers.run(sys.executable, TOP / "tools/build_v4.py", room / "v4.a", env=env, status=status)
-        return said, *((room / it).read_text() if (room / it).exists() else None for it in ("asked", "v4.a"))
+        env = {
+            "RT": str(room / "rt"),
+            "ROOM": str(room),
+            "LEVEL": "x86-64-v3",
+            "SAID": PROVED,
+            "STATUS": "0",
+            **env,
+        }
+        said = helpers.run(
+            sys.executable, TOP / "tools/build_v4.py", room / "v4.a", env=env, status=status
+        )
+        return said, *(
+            (room / it).read_text() if (room / it).exists() else None for it in ("asked", "v4.a")
+        )
 
     def test_level(self):
         """The module that was proved for x86-64-v3 says x86-64-v4 when it is compiled."""
@@ -50,13 +65,25 @@ class Build(helpers.Case):
 
     @each(
         ("no clang", {"LACKS": True}, "the toolchain has no folder toolchain"),
-        ("a module of another level", {"LEVEL": "x86-64-v2", "STATUS": "1"}, 'the module has no "target-cpu"="x86-64-v3"'),
-        ("a rattle that fails", {"SAID": f"{PROVED}\na goal stands open", "STATUS": "1"}, "a goal stands open"),
+        (
+            "a module of another level",
+            {"LEVEL": "x86-64-v2", "STATUS": "1"},
+            'the module has no "target-cpu"="x86-64-v3"',
+        ),
+        (
+            "a rattle that fails",
+            {"SAID": f"{PROVED}\na goal stands open", "STATUS": "1"},
+            "a goal stands open",
+        ),
         ("nothing proved", {"SAID": "logic=assumed target=x86_64"}, "logic=assumed"),
         ("another processor", {"SAID": PROVED.replace("x86_64", "aarch64")}, "aarch64"),
     )
     def test_refusals(self, name, env, reason):
-        """What isn't proved, or isn't compiled for that level, is no library: the status says so, and the last line why."""
+        """What isn't proved, or isn't compiled for that level, is no library: the status says so,
+        and the last line why."""
         said, _, _ = self.built(status=1, **env)
         self.assertIn(reason, said)
-        self.assertTrue(said.endswith("The library is built without x86-64-v4: the lines above say why.\n"), said)
+        self.assertTrue(
+            said.endswith("The library is built without x86-64-v4: the lines above say why.\n"),
+            said,
+        )

@@ -32,10 +32,13 @@ Options:
 TEXT
 ;;
 '- init --help') printf 'Usage: credkeep <FILE> init\n\nOptions:\n  -h, --help  Print help\n' ;;
-'- check --help') printf 'Usage: credkeep <FILE> check [OPTIONS] <NAME>\n\nOptions:\n      --echo  Asks at a terminal\n' ;;
-'- add --help') printf 'Usage: credkeep <FILE> add <NAME>\n\nOptions:\n  -h, --help  Print help\n' ;;
+'- check --help') printf 'Usage: credkeep <FILE> check [OPTIONS] <NAME>\n\nOptions:\n'
+    printf '      --echo  Asks at a terminal\n' ;;
+'- add --help') printf 'Usage: credkeep <FILE> add <NAME>\n\nOptions:\n'
+    printf '  -h, --help  Print help\n' ;;
 '- restore --help') printf 'Usage: credkeep <FILE> restore <FROM>\n' ;;
-'- backup --help') printf 'Usage: credkeep <FILE> backup <TO>\n\nOptions:\n      --most <SIZE>\n          At most this\n' ;;
+'- backup --help') printf 'Usage: credkeep <FILE> backup <TO>\n\nOptions:\n'
+    printf '      --most <SIZE>\n          At most this\n' ;;
 'users.db list') printf 'ada\nann\n' ;;
 *) exit 1 ;;
 esac
@@ -43,7 +46,8 @@ esac
 CREDBOOK = r"""#!/bin/sh
 exec >&2
 case "$*" in
---help) printf 'Usage: credbook <COMMAND>\n\nCommands:\n  run    Runs\n  help   Print this\n\nOptions:\n  -h, --help  Print help\n' ;;
+--help) printf 'Usage: credbook <COMMAND>\n\nCommands:\n  run    Runs\n  help   Print this\n'
+    printf '\nOptions:\n  -h, --help  Print help\n' ;;
 *) printf 'Usage: credbook run [OPTIONS]\n\nOptions:\n      --workers <N>  Threads\n' ;;
 esac
 exit 1
@@ -87,12 +91,17 @@ class Completions(Case):
     def setUp(self):
         super().setUp()
         self.top, self.at = self.room(), self.room()
-        programs = {f"crates/{it}/out/{it}": text for it, text in (("credkeep", CREDKEEP), ("credbook", CREDBOOK))}
+        programs = {
+            f"crates/{it}/out/{it}": text
+            for it, text in (("credkeep", CREDKEEP), ("credbook", CREDBOOK))
+        }
         write_files(self.top, programs, 0o755)
         for folder in ("tools", "completions", "bin", "python/rigzumal/server/daemon"):
             shutil.copytree(TOP / folder, self.top / folder)
         self.folders = [self.top / it for it in ("bash", "zsh", "fish")]
-        subprocess.run([sys.executable, self.top / "tools/completions.py", *self.folders], check=True)
+        subprocess.run(
+            [sys.executable, self.top / "tools/completions.py", *self.folders], check=True
+        )
         write_files(self.at, {f"users.db{end}": "" for end in ("", "-wal", "-locks")})
         path = f"{self.top}/crates/credkeep/out:{os.environ['PATH']}"
         self.env = {**os.environ, "PATH": path, "HOME": str(self.at)}
@@ -107,22 +116,27 @@ class Completions(Case):
             # bash parts words at `=` too
             words = [*line.replace("=", " = ").split(), *([""] if line.endswith(" ") else [])]
             file = self.folders[0] / words[0]
-            script = f"source {file}; COMP_WORDS=({' '.join(map(shlex.quote, words))}); COMP_CWORD={len(words) - 1}"
-            script += '; f=$(complete -p "${COMP_WORDS[0]}"); f=${f#*-F }; ${f%% *}; printf "%s\\n" "${COMPREPLY[@]}"'
+            quoted = " ".join(map(shlex.quote, words))
+            script = f"source {file}; COMP_WORDS=({quoted}); COMP_CWORD={len(words) - 1}"
+            script += '; f=$(complete -p "${COMP_WORDS[0]}"); f=${f#*-F }; ${f%% *}'
+            script += '; printf "%s\\n" "${COMPREPLY[@]}"'
             with self.subTest(line=line):
                 self.assertEqual(self.shell("bash", "--norc", "-c", script), offered)
 
-    @unittest.skipUnless(shutil.which("fish"), "no fish")
+    @unittest.skipUnless(shutil.which("fish"), "needs the program fish")
     def test_fish(self):
         sourced = "; ".join(f"source {it}" for it in sorted(self.folders[2].iterdir()))
         for line, offered in CASES:
             with self.subTest(line=line):
-                found = self.shell("fish", "--no-config", "-c", f"{sourced}; complete -C {shlex.quote(line)}")
+                found = self.shell(
+                    "fish", "--no-config", "-c", f"{sourced}; complete -C {shlex.quote(line)}"
+                )
                 self.assertEqual(found - {"--help", "-h"}, offered)
 
-    @unittest.skipUnless(shutil.which("zsh"), "no zsh")
+    @unittest.skipUnless(shutil.which("zsh"), "needs the program zsh")
     def test_zsh(self):
-        """It completes accounts, whatever stands before them, and no account where a new name is due; a list says what each word does."""
+        """It completes accounts, whatever stands before them, and no account where a new name is
+        due; a list says what each word does."""
         for line, completed, listed in (
             ("credkeep users.db check a", "credkeep users.db check ada", "ada ann"),
             ("credkeep-ask users.db check an", "credkeep-ask users.db check ann", ""),
@@ -134,8 +148,16 @@ class Completions(Case):
             ("credkeep u", "credkeep users.db", "add -- Adds one"),
             ("credkeep users.db i", "credkeep users.db init", ""),
             ("credkeep users.db restore u", "credkeep users.db restore users.db", ""),
-            ("credkeep users.db ", "credkeep users.db add", "check -- Says whether it's right init -- Begins a book"),
-            ("credkeep -", "credkeep --", "--help -- Print help --wait -- Tries for so many seconds"),
+            (
+                "credkeep users.db ",
+                "credkeep users.db add",
+                "check -- Says whether it's right init -- Begins a book",
+            ),
+            (
+                "credkeep -",
+                "credkeep --",
+                "--help -- Print help --wait -- Tries for so many seconds",
+            ),
             ("credkeep --wait ", "credkeep --wait", ""),
             ("credkeep-server u", "credkeep-server users.db", ""),
             ("credbook run --w", "credbook run --workers", ""),
@@ -153,7 +175,9 @@ class Completions(Case):
         pid, terminal = pty.fork()
         if pid == 0:
             os.chdir(self.at)
-            os.execvpe("zsh", ["zsh", "-di"], {**self.env, "ZDOTDIR": str(self.at), "TERM": "vt100"})
+            os.execvpe(
+                "zsh", ["zsh", "-di"], {**self.env, "ZDOTDIR": str(self.at), "TERM": "vt100"}
+            )
         shown, typed = b"", f"{line}\t\t\a".encode()
         with contextlib.suppress(OSError):  # the terminal's end
             while more := os.read(terminal, 4096):
@@ -168,5 +192,10 @@ class Completions(Case):
     def test_remove(self):
         for folder in self.folders:
             (folder / "of-another").touch()
-        subprocess.run([sys.executable, self.top / "tools/completions.py", "--remove", *self.folders], check=True)
-        self.assertEqual([[it.name for it in folder.iterdir()] for folder in self.folders], [["of-another"]] * 3)
+        subprocess.run(
+            [sys.executable, self.top / "tools/completions.py", "--remove", *self.folders],
+            check=True,
+        )
+        self.assertEqual(
+            [[it.name for it in folder.iterdir()] for folder in self.folders], [["of-another"]] * 3
+        )

@@ -6,6 +6,7 @@ import unittest
 from unittest import mock
 
 from tests.helpers import TOP, Case, each, run
+from tests.needs import lacking
 
 sys.path[:0] = [str(TOP / it) for it in ("bench/c", "bench")]
 import libraries  # noqa: E402
@@ -70,9 +71,14 @@ print(run.huge_pages())
     def test_who_has_huge_pages(self):
         allowed = pathlib.Path("/sys/kernel/mm/transparent_hugepage/enabled").read_text()
         if "[never]" in allowed:
-            self.skipTest("this system has no huge pages")
+            raise lacking("huge pages")
         folders, always = [str(TOP / it) for it in ("bench/c", "bench")], "[always]" in allowed
-        for whose, asks, has_some in (("own", False, always), ("own", True, True), ("none", True, False), ("all", False, True)):
+        for whose, asks, has_some in (
+            ("own", False, always),
+            ("own", True, True),
+            ("none", True, False),
+            ("all", False, True),
+        ):
             with self.subTest(whose, asks=asks):
                 script = self.room() / "maps.py"
                 script.write_text(self.MAPS.format(folders=folders, whose=whose, asks=asks))

@@ -8,8 +8,18 @@ from tests.helpers import TOP, Case
 sys.path.insert(0, str(TOP / "tools"))
 import promises  # noqa: E402
 
-LISTED = {"low": ("low", ["sha2"]), "high": ("high", ["low", "sqlite"]), "high_tests": ("high_tests", ["low", "hex"])}
-BUILT_ON = {"sha2": ["std"], "sqlite": ["std", "sqlite_wal"], "sqlite_wal": ["os"], "hex": ["memchr"], "std": []}
+LISTED = {
+    "low": ("low", ["sha2"]),
+    "high": ("high", ["low", "sqlite"]),
+    "high_tests": ("high_tests", ["low", "hex"]),
+}
+BUILT_ON = {
+    "sha2": ["std"],
+    "sqlite": ["std", "sqlite_wal"],
+    "sqlite_wal": ["os"],
+    "hex": ["memchr"],
+    "std": [],
+}
 CRATES = {"os", "sha2", "sqlite", "sqlite_wal", "std"}
 
 
@@ -24,8 +34,10 @@ class Trusted(Case):
             self.assertEqual(promises.reached(room), CRATES)
 
     def test_list(self):
-        """A crate that the list lacks is told, and one that no crate is built on; other names in code are no crates."""
-        whole = "- `std`, `os`: the prover.\n- `sha2`: SHA-256, and not `hex`.\n- `serve` of a file: that.\n- `sqlite`, `sqlite_*`: files.\n"
+        """A crate that the list lacks is told, and one that no crate is built on; other names in
+        code are no crates."""
+        whole = "- `std`, `os`: the prover.\n- `sha2`: SHA-256, and not `hex`.\n"
+        whole += "- `serve` of a file: that.\n- `sqlite`, `sqlite_*`: files.\n"
         for text, wrong in (
             (whole, []),
             (whole.replace("`std`, ", ""), ["lacks `std`"]),
@@ -35,5 +47,10 @@ class Trusted(Case):
             ("", [f"lacks `{it}`" for it in sorted(CRATES)]),
         ):
             with self.subTest(text=text):
-                found = promises.trusted(f"- `rand`: elsewhere.\n\n## What is trusted\n\n{text}", CRATES)
-                self.assertEqual([it for it in found if it], [f"the list of what is trusted {it}" for it in wrong])
+                found = promises.trusted(
+                    f"- `rand`: elsewhere.\n\n## What is trusted\n\n{text}", CRATES
+                )
+                self.assertEqual(
+                    [it for it in found if it],
+                    [f"the list of what is trusted {it}" for it in wrong],
+                )

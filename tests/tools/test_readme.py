@@ -19,8 +19,8 @@ class Readme(unittest.TestCase):
         (SESSION, None),
     )
     def test_sessions(self, page, wanted):
-        """A text belongs to the session right above, and to none that another heading or block parts
-        from it."""
+        """A text belongs to the session right above, and to none that another heading or block
+        parts from it."""
         self.assertEqual([*readme.sessions_of(f"# Head\n\n{page}")], [(3, "echo a\n", wanted)])
 
     @each(

@@ -80,13 +80,13 @@ class WrongBodies(Case):
         return sorted(f"high/{it}: refused, in {functions.get(it, it)}: `returns`" for it in names)
 
     def test_all(self):
-        """One check as the crate stands; one, two and three at once, of whom three waits for one and
-        is tried alone; one-otherwise; and the limit alone, since other functions see it."""
+        """One check as the crate stands; one, two and three at once, of whom three waits for one
+        and is tried alone; one-otherwise; and the limit alone, since other functions see it."""
         self.assertEqual(self.tried("high"), (0, self.refused(*EDITS), 5))
 
     def test_sums(self):
-        """What was refused is tried again if it's named, or if its crate, a wrong body of the crate,
-        or what can be cited below has changed, but not for a comment."""
+        """What was refused is tried again if it's named, or if its crate, a wrong body of the
+        crate, or what can be cited below has changed, but not for a comment."""
         self.assertEqual(self.tried()[1], self.refused(*EDITS))
         self.assertEqual(self.tried(), (0, self.refused("one"), 2))
         self.assertEqual(self.tried("--all")[1], self.refused(*EDITS))
@@ -111,8 +111,8 @@ class WrongBodies(Case):
         ("file: src/lib.rt\nold: { 2 }\nnew: { 2 }\n", "or the new one is the same"),
     )
     def test_not_refused(self, text, why):
-        """A body that is right, one whose text no file has or several have, and one that changes nothing
-        are named, and the status is 1, at the next run too."""
+        """A body that is right, one whose text no file has or several have, and one that changes
+        nothing are named, and the status is 1, at the next run too."""
         self.write({"crates/high/wrong-bodies/two.edit": f"fn: two\n{text}"})
         for _ in range(2):
             status, lines, _ = self.tried()
@@ -123,8 +123,8 @@ class WrongBodies(Case):
 
     @each(EDITS["limit"].replace("three", "two"), EDITS["limit"].replace("three", "four"))
     def test_refused_elsewhere(self, text):
-        """A body that only a caller of its function refuses, or a function that the body adds, is tried
-        alone, and the whole crate is looked at."""
+        """A body that only a caller of its function refuses, or a function that the body adds, is
+        tried alone, and the whole crate is looked at."""
         self.write({"crates/high/wrong-bodies/two.edit": text})
         status, lines, _ = self.tried()
         name = text[4:].split()[0]
@@ -132,11 +132,13 @@ class WrongBodies(Case):
         self.assertEqual((status, lines[-1]), (0, why))
 
     def test_what_is_kept(self):
-        """The first check of a crate begins with what an earlier run kept, if its functions were proved;
-        no wrong body's check is kept."""
+        """The first check of a crate begins with what an earlier run kept, if its functions were
+        proved; no wrong body's check is kept."""
         for before in (0, 1, 2):
             self.tried("high")
-            self.assertEqual([it.split()[0] for it in self.checks[:2]], [str(before), str(before + 1)])
+            self.assertEqual(
+                [it.split()[0] for it in self.checks[:2]], [str(before), str(before + 1)]
+            )
         self.write({"crates/high/src/lib.rt": SOURCE.replace("{ 2 }", "{ wrong 2 }")})
         for _ in range(2):
             self.tried("high")

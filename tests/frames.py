@@ -1,0 +1,77 @@
+"""What a reporter of errors keeps of an exception: the variables of its frames, and its text."""
+
+from __future__ import annotations
+
+import ctypes
+import functools
+import pathlib
+from collections.abc import Collection, Iterator, Mapping
+from typing import Any
+
+TOP = pathlib.Path(__file__).resolve().parent.parent
+TESTS = tuple(str(TOP / it) for it in ("tests", "python/tests"))
+# The names that Sentry's scrubber hides by default (sentry_sdk.scrubber.DEFAULT_DENYLIST).
+HIDDEN = frozenset(
+    "password passwd secret api_key apikey auth credentials mysql_pwd privatekey private_key token"
+    " session csrftoken sessionid x_csrftoken x_forwarded_for set_cookie cookie authorization"
+    " proxy-authorization x_api_key aiohttp_session connect.sid csrf_token csrf _csrf _csrf_token"
+    " PHPSESSID _session symfony user_session _xsrf XSRF-TOKEN".split()
+)
+
+
+def shown(error: BaseException, *secrets: str) -> list[str]:
+    """Where a report of an exception, and of those behind it, has one of the secrets. What tests
+    themselves have in their variables doesn't count."""
+    found = []
+    for raised in _chain(error):
+        if _has((str(raised), repr(raised), raised.args), secrets):
+            found.append(f"the text of {type(raised).__name__}")
+        trace = raised.__traceback__
+        while trace is not None:
+            code, variables = trace.tb_frame.f_code, trace.tb_frame.f_locals
+            if not code.co_filename.startswith(TESTS):
+                names = (it for it in variables if it not in HIDDEN)
+                shows = (it for it in names if _has(variables[it], secrets))
+                found += [f"{code.co_name}.{it}" for it in shows]
+            trace = trace.tb_next
+    return found
+
+
+def _chain(error: BaseException) -> Iterator[BaseException]:
+    """An exception, and those that it came of."""
+    waiting, seen = [error], set()
+    while waiting:
+        raised = waiting.pop()
+        if raised is not None and id(raised) not in seen:
+            seen.add(id(raised))
+            yield raised
+            waiting += raised.__cause__, raised.__context__
+
+
+def _has(value: Any, secrets: Collection[str]) -> bool:
+    """Whether a value shows a secret: in what it holds, or in the repr of anything else."""
+    if isinstance(value, (bytes, bytearray, memoryview)):
+        value = bytes(value).decode("latin1")
+    if isinstance(value, str):
+        return any(it in value for it in secrets)
+    if isinstance(value, (Mapping, list, tuple, set, frozenset)):
+        return any(_has(it, secrets) for it in _held(value))
+    return _has(repr(value), secrets) or any(_has(it, secrets) for it in _held(value))
+
+
+def _held(value: Any) -> Iterator[Any]:
+    """The parts of a container, or of a structure or a buffer of C."""
+    if isinstance(value, Mapping):
+        yield from (it for pair in value.items() if pair[0] not in HIDDEN for it in pair)
+    elif isinstance(value, (list, tuple, set, frozenset)):
+        yield from value
+    elif isinstance(value, functools.partial):
+        yield from (value.args, value.keywords)
+    elif isinstance(value, ctypes.Structure):
+        yield from (getattr(value, it[0]) for it in value._fields_ if it[0] not in HIDDEN)
+    elif isinstance(value, ctypes.Array):
+        yield bytes(value)
+    elif isinstance(value, ctypes._SimpleCData):
+        yield value.value
+    elif isinstance(value, ctypes._Pointer) and value:
+        yield value.contents

@@ -1,0 +1,102 @@
+"""Runs the tests of a module by unittest, and writes down what comes of each, for
+tools/run_tests.py.
+
+    python3 tests/told.py TOLD MODULE [PART PARTS]
+
+MODULE is a file, below the folder in which this runs. Where PARTS processes share its tests, the
+PARTth runs each PARTSth of them. A line of the file TOLD is a word, a test's name and, of a skip,
+its reason, with tabs between. The words are `begun`, `passed`, `failed` and `skipped`. The last
+line is `all` and the module, so whoever reads it knows that nothing ended the process before.
+"""
+
+from __future__ import annotations
+
+import importlib
+import os
+import sys
+import unittest
+from collections.abc import Iterator
+from typing import Any
+
+
+def name_of(test: Any) -> str:
+    """A test's name; of a subtest that of its test, since a test is counted once."""
+    return str(getattr(test, "test_case", test).id())
+
+
+def write(word: str, name: str, reason: str = "") -> None:
+    with open(sys.argv[1], "a") as file:
+        file.write("\t".join((word, name, " ".join(reason.split()))) + "\n")
+
+
+class Told(unittest.TextTestResult):
+    """What unittest prints, and a line in the file for each test that begins and ends."""
+
+    def __init__(self, *given: Any, **named: Any) -> None:
+        super().__init__(*given, **named)
+        self.others: set[str] = set()  # those that don't pass
+
+    def startTest(self, test: Any) -> None:
+        super().startTest(test)
+        write("begun", name_of(test))
+
+    def stopTest(self, test: Any) -> None:
+        super().stopTest(test)
+        if name_of(test) not in self.others:
+            write("passed", name_of(test))
+
+    def fail(self, test: Any) -> None:
+        self.others.add(name_of(test))
+        write("failed", name_of(test))
+
+    def addSkip(self, test: Any, reason: str) -> None:
+        super().addSkip(test, reason)
+        self.others.add(name_of(test))
+        write("skipped", name_of(test), reason)
+
+    def addError(self, test: Any, err: Any) -> None:
+        super().addError(test, err)
+        self.fail(test)
+
+    def addFailure(self, test: Any, err: Any) -> None:
+        super().addFailure(test, err)
+        self.fail(test)
+
+    def addSubTest(self, test: Any, subtest: Any, err: Any) -> None:
+        super().addSubTest(test, subtest, err)
+        if err is not None:
+            self.fail(test)
+
+    def addUnexpectedSuccess(self, test: Any) -> None:
+        super().addUnexpectedSuccess(test)
+        self.fail(test)
+
+
+def tests_in(suite: Any) -> Iterator[unittest.TestCase]:
+    for test in suite:
+        yield from tests_in(test) if isinstance(test, unittest.TestSuite) else [test]
+
+
+def main() -> int | str:
+    _, module, *part = sys.argv[1:]
+    sys.path[0] = os.getcwd()
+    try:
+        found = importlib.import_module(module[: -len(".py")].replace("/", "."))
+    except unittest.SkipTest as skip:
+        if not part or part[0] == "1":  # the others have the same module
+            write("skipped", module, str(skip))
+        write("all", module)
+        return 0
+    tests = [*tests_in(unittest.defaultTestLoader.loadTestsFromModule(found))]
+    if not tests:
+        return f"{module}: no test is in it"
+    if part:
+        tests = tests[int(part[0]) - 1 :: int(part[1])]
+    runner = unittest.TextTestRunner(resultclass=Told, verbosity=2)
+    done = runner.run(unittest.TestSuite(tests))
+    write("all", module)
+    return 0 if done.wasSuccessful() else 1
+
+
+if __name__ == "__main__":
+    sys.exit(main())

@@ -1,0 +1,76 @@
+"""tools/pages.py: README's times beside BUILDING's, and the order of crates in ARCHITECTURE."""
+
+import sys
+from unittest import mock
+
+from tests.helpers import TOP, Case, each, write_files
+
+sys.path.insert(0, str(TOP / "tools"))
+import pages  # noqa: E402
+import tree  # noqa: E402
+
+README = "They need, from nothing on four processors,\n7 to 16 and 34 to 79 minutes.\n"
+BUILDING = """These are of virtual machines with four processors. Others are slower.
+
+| What | Elapsed |
+|---|--:|
+| README's first command from nothing, nothing else running | 7 min 23 s to 15 min 47 s |
+| `.ci/run` from nothing, nothing else running | 33 min 40 s to 1 h 19 min |
+| `.ci/run` from nothing on two processors | 52 min 9 s |
+"""
+SAID = "README.md doesn't say `{}`, as docs/BUILDING.md has it of its commands"
+CRATES = {"low": ("low", []), "other": ("other", ["std"]), "high": ("high", ["low", "other"])}
+ROW = "| [{0}](../crates/{0}) | what it gives |\n"
+TESTS = "| [high](../crates/high), [low](../crates/low) | both |\n"
+
+
+class Pages(Case):
+    @each(
+        (README, BUILDING, []),
+        (README, BUILDING.replace("15 min 47", "15 min 20"), ["7 to 15 and 34 to 79 minutes"]),
+        (README, BUILDING.replace("7 min 23 s to ", ""), ["16 and 34 to 79 minutes"]),
+        (README, BUILDING.replace(" to 1 h 19 min", ""), ["7 to 16 and 34 minutes"]),
+        (README.replace("34", "39"), BUILDING, ["7 to 16 and 34 to 79 minutes"]),
+        (README.replace("four", "some"), BUILDING, ["four processors"]),
+        (README, BUILDING.replace("`.ci/run`", "It"), ["no time of `.ci/run` from nothing"]),
+        (README, BUILDING.replace("processors", "cores"), ["no time of some number of processors"]),
+    )
+    def test_times(self, readme: str, building: str, wrong: list[str]) -> None:
+        """Minutes are rounded, and both ends of a range count, and the processors."""
+        room = self.room()
+        write_files(room, {"README.md": readme, "BUILDING.md": building})
+        places = {"README": room / "README.md", "BUILDING": room / "BUILDING.md"}
+        with mock.patch.multiple(pages, **places):
+            found = [it for it in pages.times() if it]
+        no_time = [f"docs/BUILDING.md has {it}" for it in wrong if it.startswith("no ")]
+        self.assertEqual(found, no_time or [SAID.format(it) for it in wrong])
+
+    @each(
+        (["low", "other", "high"], []),
+        (["other", "low", "high"], []),
+        (["low", "high", "other"], ["high above other, which it uses"]),
+        (["high", "low", "other"], ["high above low, other, which it uses"]),
+        (["low", "high"], ["no other"]),
+    )
+    def test_order(self, rows: list[str], wrong: list[str]) -> None:
+        """A crate stands below what it uses."""
+        page = "".join(map(ROW.format, rows))
+        self.assertEqual(
+            self.order(page), [f"docs/ARCHITECTURE.md's table has {it}" for it in wrong]
+        )
+
+    def order(self, page: str) -> list[str]:
+        room = self.room()
+        write_files(room, {"docs/ARCHITECTURE.md": page})
+        patched = mock.patch.object(pages, "TOP", room)
+        with patched, mock.patch.object(pages, "listed", lambda: CRATES):
+            with mock.patch.object(tree, "listed", lambda: CRATES):
+                return [it for it in pages.order() if it]
+
+    def test_statements(self) -> None:
+        """The promises are among what is compared."""
+        self.assertIn(pages.statements.check, pages.OF_TREE)
+
+    def test_two_in_a_row(self) -> None:
+        """Crates of one row stand beside each other."""
+        self.assertEqual(self.order(ROW.format("other") + TESTS), [])

@@ -1,0 +1,238 @@
+"""tools/run_tests.py: what it counts, what it takes for a failure, and what it ends."""
+
+import os
+import pathlib
+import re
+import shutil
+import signal
+import subprocess
+import sys
+import time
+import unittest
+from collections.abc import Callable
+from unittest import mock
+
+from tests import helpers, needs
+from tests.helpers import TOP, Case, Ended, each, ended, write_files
+
+sys.path.insert(0, str(TOP / "tools"))
+import jobs  # noqa: E402
+
+HEAD = "import os, subprocess, sys, time, unittest, warnings\nclass Tests(unittest.TestCase):\n"
+# A module of tests by its place in a copy of the tree, and what it does.
+MODULES = {
+    "tests/tools/test_well.py": """
+    def test_one(self): pass
+    def test_two(self): pass
+    def test_skipped(self): self.skipTest("needs the program no-such-program")
+    def test_skipped_in_part(self):
+        for name in "ab":
+            with self.subTest(name):
+                self.skipTest("needs the file /no/such/file")
+""",
+    "tests/credbook/test_false.py": """
+    def test_fails(self): self.fail("as it should")
+    def test_fails_in_part(self):
+        for name in "ab":
+            with self.subTest(name):
+                self.assertEqual(name, "a")
+    def test_error(self): raise OSError
+    def test_skipped_without_a_reason(self): self.skipTest("it is Monday")
+    def test_skipped_for_what_is_there(self): self.skipTest("needs the program sh")
+    def test_well(self): pass
+""",
+    "tests/credbook/test_dies.py": """
+    def test_dies(self): os._exit(0)
+""",
+    "tests/credkeep/test_hangs.py": """
+    def test_hangs(self):
+        sleeper = subprocess.Popen(["sleep", "1000"], start_new_session=True)
+        print("the sleeper is", sleeper.pid, flush=True)
+        time.sleep(1000)
+""",
+    "tests/server/test_turns.py": """
+    def test_has_no_class_above(self): time.sleep(1); print("turned", file=open("../../order", "a"))
+""",
+    "tests/server/test_clients.py": """
+    def test_quiet(self): print("quiet", file=open("../../order", "a"))
+""",
+    "c/tests/test_calls.py": """
+    def test_one(self): pass
+    def test_two(self): pass
+    def test_three(self): pass
+""",
+    "python/tests/hashers/test_values.py": """
+    def test_warns(self): warnings.warn("that nobody hears")
+""",
+}
+# A job that tells the processes that are at work for it, and doesn't end.
+SLOW = """
+    def test_sleeps(self):
+        sleeper = subprocess.Popen(["sleep", "600"], start_new_session=True)
+        with open("at_work.new", "w") as file: file.write(f"{os.getpid()} {sleeper.pid}")
+        os.rename("at_work.new", "at_work")
+        sleeper.wait()
+"""
+# What stands in place of whole modules.
+TEXTS = {
+    "tests/packages/test_install.py": "import no_such_module\n",
+    "docs/tests/test_pages.py": "import unittest\nraise unittest.SkipTest('needs huge pages')\n",
+    "tests/credkeep/test_large.py": "raise SystemExit('a long one ran')\n",
+    "c/Makefile": "all check-proved:\n\t@test ! -e broken || { echo this is broken; exit 1; }\n",
+    "c/pam/Makefile": "all:\n",
+}
+# What is copied of the tree.
+COPIED = {
+    "tools": ("run_tests.py", "jobs.py", "tree.py"),
+    "tests": ("told.py", "helpers.py", "needs.py"),
+}
+FAILED = {
+    "tests/credbook/test_false": {
+        "tests.credbook.test_false.Tests.test_error",
+        "tests.credbook.test_false.Tests.test_fails",
+        "tests.credbook.test_false.Tests.test_fails_in_part",
+        "tests.credbook.test_false.Tests.test_skipped_for_what_is_there",
+        "tests.credbook.test_false.Tests.test_skipped_without_a_reason",
+    },
+    "tests/credbook/test_dies": {"tests.credbook.test_dies.Tests.test_dies"},
+    "tests/packages/test_install": {"tests/packages/test_install"},
+    "python/tests/hashers/test_values": {"test_values.Tests.test_warns"},
+}
+
+
+class RunTests(Case):
+    def setUp(self) -> None:
+        super().setUp()
+        self.top = self.room()
+        write_files(self.top, {name: HEAD + text for name, text in MODULES.items()} | TEXTS)
+        (self.top / "tools").mkdir()
+        for folder, names in COPIED.items():
+            for name in names:
+                shutil.copy(TOP / folder / name, self.top / folder)
+        for folder in (
+            "tests",
+            "tests/tools",
+            "tests/credbook",
+            "tests/credkeep",
+            "tests/packages",
+        ):
+            (self.top / folder / "__init__.py").touch()
+
+    def wait_until(self, is_so: Callable[[], bool]) -> None:
+        end = time.monotonic() + helpers.LONGEST
+        while not is_so():
+            self.assertLess(time.monotonic(), end)
+            time.sleep(0.05)
+
+    def run_tests(self, *words: str, **more: str) -> Ended:
+        command = [sys.executable, str(self.top / "tools/run_tests.py"), *words]
+        return ended(command, env={**os.environ, **more})
+
+    def test_what_comes_of_all(self) -> None:
+        """Each test is counted once, and a skip needs a reason that holds."""
+        done = self.run_tests("tests/tools", "book", "server", "c/", "python", "docs", "packages")
+        self.assertEqual(done.faults, "")
+        lines = done.written.splitlines()
+        self.assertEqual(lines[-1], "tests: 8 passed, 8 failed, 3 skipped")
+        found = re.findall(r"^FAILED: (\S+): (\S+)$", done.written, re.M)
+        wanted = {(job, name) for job, names in FAILED.items() for name in names}
+        self.assertEqual({*found}, wanted)
+        for text in ("as it should", "missing: it is Monday", "test_dies: has not ended"):
+            self.assertIn(text, done.written)
+        self.assertEqual(done.status, 1)
+        self.assertEqual((self.top / "order").read_text(), "turned\nquiet\n")
+
+    def test_what_hangs(self) -> None:
+        """It is ended with all that it started, and what it printed is printed."""
+        done = self.run_tests("hangs", JOB_LIMIT="30")
+        self.assertEqual(done.written.splitlines()[-1], "tests: 0 passed, 1 failed, 0 skipped")
+        self.assertRegex(done.written, r"the sleeper is \d+\n")
+        sleeper = re.search(r"the sleeper is (\d+)", done.written)[1]
+        # No words are left of one that has ended, whether it was waited for or not.
+        words = pathlib.Path("/proc", sleeper, "cmdline")
+        self.assertEqual(words.read_bytes() if words.exists() else b"", b"")
+
+    @each(signal.SIGINT, signal.SIGTERM, signal.SIGHUP)
+    def test_interrupted(self, number: int) -> None:
+        """A signal ends a run at once, with all that a job has started."""
+        write_files(self.top, {"tests/credbook/test_slow.py": HEAD + SLOW})
+        run = subprocess.Popen(
+            [sys.executable, str(self.top / "tools/run_tests.py"), "test_slow"],
+            stdout=subprocess.PIPE,
+            text=True,
+        )
+        at_work = self.top / "at_work"
+        self.wait_until(at_work.exists)
+        run.send_signal(number)
+        written, _ = run.communicate(timeout=helpers.LONGEST)
+        self.assertEqual(written, "tests: interrupted\n")
+        self.assertEqual(run.returncode, 128 + number)
+        for process in at_work.read_text().split():
+            words = pathlib.Path("/proc", process, "cmdline")
+            self.wait_until(lambda it=words: not it.exists() or not it.read_bytes())
+        at_work.unlink()
+
+    def test_what_passes(self) -> None:
+        done = self.run_tests("c/tests", "tests/tools")
+        self.assertEqual(done.written.splitlines()[-1], "tests: 5 passed, 0 failed, 2 skipped")
+        self.assertEqual(done.status, 0)
+        skipped = {"the program no-such-program: 1", "the file /no/such/file: 1"}
+        self.assertEqual({*re.findall(r"^skipped needs (.*)$", done.written, re.M)}, skipped)
+
+    def test_nothing_that_passes(self) -> None:
+        """A word that no job has is no success, nor are skips alone."""
+        for word in ("no-such-job", "docs/tests"):
+            self.assertEqual(self.run_tests(word).status, 1)
+
+    def test_long_ones(self) -> None:
+        done = self.run_tests("--long", "credkeep")
+        self.assertIn("a long one ran", done.written)
+        self.assertEqual(done.status, 1)
+
+    def test_what_is_not_built(self) -> None:
+        (self.top / "c/broken").touch()
+        done = self.run_tests("tests/tools")
+        self.assertIn("this is broken\n", done.written)
+        self.assertEqual(done.written.splitlines()[-1], "tests: 0 passed, 1 failed, 0 skipped")
+        self.assertEqual(done.status, 1)
+
+
+class Excuses(unittest.TestCase):
+    @each(
+        ("needs the program no-such-program", True),
+        ("needs the program sh", False),
+        ("needs Python's module no_such_module", True),
+        ("needs Python's module unittest", False),
+        ("needs the file /no/such/*", True),
+        ("needs the file /etc/pass*", False),
+        ("needs the user no-such-user", True),
+        ("needs the user nobody", False),
+        ("needs the library no-such-library", True),
+        ("needs the library c", False),
+        ("needs the variable HOME", False),
+        ("needs no variable HOME", True),
+        ("needs huge pages", True),
+        ("needs more time", False),
+        ("the machine is busy", False),
+        ("it needs the program no-such-program", False),
+        ("", False),
+    )
+    def test_excuses(self, reason: str, ought: bool) -> None:
+        with mock.patch.dict(os.environ, HOME="/"):
+            self.assertEqual(needs.excuse(reason), ought)
+
+
+class Jobs(unittest.TestCase):
+    def test_every_module_is_in_one(self) -> None:
+        """Each test_*.py of the tree is run by a job, of every run or a long one."""
+        every = [*jobs.jobs(), *jobs.jobs(is_long=True)]
+        known = {str(TOP / it.name.partition(":")[0]) for it in every}
+        for path in TOP.rglob("test_*.py"):
+            if "out" not in path.parts:
+                self.assertIn(str(path.with_suffix("")), known)
+
+    def test_named_modules_are_there(self) -> None:
+        for folder in jobs.FOLDERS:
+            for word in (*folder.parts, *folder.quiet, *folder.packing, *folder.long):
+                with self.subTest(folder.path, word=word):
+                    self.assertTrue((TOP / folder.path / f"test_{word}.py").exists())

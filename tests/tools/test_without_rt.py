@@ -1,0 +1,114 @@
+"""What the commands of the tree say where the toolchain isn't there, in a clean copy: each that
+needs rt looks for it first. tests/packages tries what a C compiler builds then."""
+
+import os
+import pathlib
+import shutil
+import subprocess
+import sys
+
+from tests import helpers
+from tests.helpers import TOP, each, ended, run
+
+# The folders of programs, but for those with an rt; and this Python.
+PATH = ":".join(
+    it for it in os.environ["PATH"].split(":") if not (pathlib.Path(it) / "rt").exists()
+)
+RT = "rt isn't there: only the Rattle toolchain, which isn't published, can"
+BESIDE = "Without it `make -C c` builds the library for C, Python, Rust and PHP"
+LIBRARY = "librigzumal.so.1 can't be loaded: build it by `make -C c` with a C compiler alone"
+
+# A command, its status, what its lines begin with.
+NEEDING = [
+    ("make programs", 2, [f"{RT} prove and build credbook", BESIDE, "make: ***"]),
+    ("python tools/build.py -- run", 1, [f"{RT} prove and build credbook", BESIDE]),
+    ("python tools/build.py credkeep", 1, [f"{RT} prove and build credkeep", BESIDE]),
+    ("python tools/build.py --built credkeep", 1, ["credkeep isn't built for "]),
+    ("python tools/wrong_bodies.py", 1, [f"{RT} try wrong bodies", BESIDE]),
+    ("python tools/wrong_bodies.py cred_pool -- rt ci", 1, [f"{RT} try wrong bodies", BESIDE]),
+    ("python tools/promises.py", 1, [f"{RT} tell which of its crates", BESIDE]),
+    ("python tools/build_v4.py out.a", 1, [f"{RT} compile the library for", BESIDE]),
+    (
+        "python tools/refuse_memory.py",
+        1,
+        ["{top}/crates/book_tests/out/book_tests_tests isn't there"],
+    ),
+    (
+        "python tools/peak_memory.py",
+        1,
+        ["{top}/crates/hash_tests/out/hash_tests_tests isn't there"],
+    ),
+    ("python tools/tree.py run the gate", 1, [f"{RT} run the gate", BESIDE]),
+    ("python bench/keep/run.py", 1, ["{top}/crates/credkeep/out/credkeep is not there"]),
+    ("python tools/statements.py", 0, ["docs/STATEMENTS.txt has the line of each promise"]),
+]
+
+
+class WithoutRt(helpers.Case):
+    @classmethod
+    def setUpClass(cls) -> None:
+        """A copy of the committed files as they stand, as a clone has them."""
+        cls.top = helpers.common_folder() / "a copy"
+        git = ["git", "-c", f"safe.directory={TOP}", "ls-files", "-z"]
+        names = subprocess.run(git, cwd=TOP, capture_output=True, text=True, check=True).stdout
+        for name in filter(None, names.split("\0")):
+            (cls.top / name).parent.mkdir(parents=True, exist_ok=True)
+            shutil.copy(TOP / name, cls.top / name)
+        subprocess.run(["git", "init", "-q"], cwd=cls.top, check=True)
+        subprocess.run(["git", "add", "."], cwd=cls.top, check=True)
+
+    def ended(self, command: str) -> helpers.Ended:
+        """How a command ends in the copy, where `python` is this one."""
+        words = [sys.executable if it == "python" else it for it in command.split()]
+        env = {"PATH": PATH, "HOME": str(self.room()), "LANG": "C.UTF-8"}
+        return ended(words, cwd=self.top, env=env)
+
+    @each(*NEEDING)
+    def test_needing(self, command: str, status: int, heads: list[str]) -> None:
+        """A few lines say what is missing, that it isn't published, and what works without it."""
+        done = self.ended(command)
+        lines = [it for it in (done.written + done.faults).splitlines() if it]
+        found = [line[: len(head)] for line, head in zip(lines, self.filled(heads))]
+        self.assertEqual((done.status, len(lines), found), (status, len(heads), self.filled(heads)))
+
+    def filled(self, heads: list[str]) -> list[str]:
+        return [it.format(top=self.top) for it in heads]
+
+    def test_pages(self) -> None:
+        """What the toolchain tells is left out, and named; the rest is compared."""
+        lines = self.ended("python tools/pages.py").written.splitlines()
+        self.assertRegex(lines[-1], r"^\d{4} passed, \d+ failed, 2 left out$")
+        left_out = [it for it in lines if it.startswith("left out, as rt isn't there: ")]
+        self.assertEqual(len(left_out), 2)
+
+    def test_gate(self) -> None:
+        """The gate ends before it works, and without a traceback."""
+        done = self.ended(".ci/run")
+        self.assertEqual(done.status, 1)
+        self.assertNotIn("Traceback", done.faults)
+
+    @each("tests/credbook", "tests/credkeep")
+    def test_programs(self, folder: str) -> None:
+        """The tests of a program are skipped, and say for want of what."""
+        done = self.ended(f"python -m unittest discover -v -t . -s {folder} -k test_s")
+        self.assertEqual((done.status, "Traceback" in done.faults), (0, False))
+        self.assertRegex(done.faults, r"skipped .*\brt\b")
+
+    @each("import rigzumal", "import runpy; runpy.run_module('rigzumal')")
+    def test_package(self, code: str) -> None:
+        """The package without its library says how it is built."""
+        env = {"PATH": PATH, "PYTHONPATH": str(self.top / "python")}
+        done = ended([sys.executable, "-c", code], cwd=self.room(), env=env)
+        self.assertEqual(done.status, 1)
+        self.assertIn(f"\nImportError: {LIBRARY}", done.faults)
+
+    def test_archive(self) -> None:
+        """Compiled code that differs from what was taken before is taken anew."""
+        self.assertEqual(self.ended("make -s -C c out/v1.a").status, 0)
+        proved = self.top / "c/proved"
+        for file in (proved / "x86_64/v1.a", proved / "archives.sum"):
+            self.addCleanup(file.write_bytes, file.read_bytes())
+        (proved / "x86_64/v1.a").write_bytes(b"mended")
+        run("sh", "-c", "sha256sum */*.a > archives.sum", at=proved)
+        self.assertEqual(self.ended("make -s -C c out/v1.a").status, 0)
+        self.assertEqual((self.top / "c/out/v1.a").read_bytes(), b"mended")

@@ -1,0 +1,234 @@
+"""The definitions of the crates' `specs/`, and which of them a text of antt rests on.
+
+A definition is known by its place, ("cred_many", "Served", "HasCause"): its crate, its module, its
+name. What is compared of it are its words, and where it has those names from that aren't
+definitions of ours. So a comment, the layout, the order of imports, and the file that it stands in
+change nothing.
+"""
+
+from __future__ import annotations
+
+import dataclasses
+import hashlib
+import pathlib
+import re
+from collections.abc import Iterator
+
+from tree import CRATES, source
+
+Place = tuple[str, ...]
+# Each local name of a file, with all paths that it is imported from.
+Names = dict[str, set[Place]]
+
+NAME = r"[^\s(){}.;,@\"«»]+"
+# A name with the fields or modules behind its dots, a text, or a mark.
+WORD = re.compile(rf'"(?:\\.|[^"\\])*"|(?:«{NAME}»|{NAME})(?:\.{NAME})*|[(){{}}.;,@]')
+COMMENT = re.compile(r"(^|(?<=\s))--.*", re.M)
+MARKS = {"pattern", "unfoldable", "abbrev", "pub", "axiom"}
+DECLARED = {"record", "data", "ruleset"}
+# The modules of a crate that the toolchain makes of its code.
+MADE = {"declared", "contracts"}
+
+
+def words(text: str) -> list[str]:
+    """The words of antt, without a comma or semicolon that only the layout has before a bracket."""
+    found = WORD.findall(COMMENT.sub("", text))
+    behind = [*found[1:], ""]
+    pairs = zip(found, behind)
+    return [it for it, after in pairs if it not in (",", ";") or after not in (")", "}")]
+
+
+def closing(found: list[str], start: int) -> int:
+    """Where the brace closes that opens at a word."""
+    depth = 0
+    for at in range(start, len(found)):
+        depth += (found[at] == "{") - (found[at] == "}")
+        if depth == 0:
+            return at
+    raise ValueError(f"a brace that doesn't close: {' '.join(found[start : start + 9])}")
+
+
+def entries(found: list[str]) -> Iterator[list[str]]:
+    """What stands between the commas outside of braces."""
+    entry: list[str] = []
+    at = 0
+    while at < len(found):
+        end = closing(found, at) + 1 if found[at] == "{" else at + 1
+        if found[at] == ",":
+            yield entry
+            entry = []
+        else:
+            entry += found[at:end]
+        at = end
+    yield entry
+
+
+def imported(path: list[str], front: Place = ()) -> Iterator[tuple[str, Place]]:
+    """What `A.B.{c, d as e}` imports: each local name, with the path that it is from."""
+    for entry in entries([part for it in path for part in it.split(".") if part]):
+        if "{" in entry:
+            opens = entry.index("{")
+            yield from imported(entry[opens + 1 : -1], (*front, *entry[:opens]))
+        elif "as" in entry:
+            yield entry[-1], (*front, *entry[:-2])
+        elif entry:
+            yield entry[-1], (*front, *entry)
+
+
+def parts(name: str) -> list[str]:
+    """A name, and if it is an operator's, `◌+◌`, what stands for it between its arguments."""
+    return [name, *(it for it in name.split("◌") if it and it != name)]
+
+
+def add_names(names: Names, path: list[str]) -> None:
+    """Adds what a path imports."""
+    for local, place in imported(path):
+        for name in parts(local):
+            names.setdefault(name, set()).add(place)
+
+
+def pieces(text: str) -> list[str]:
+    """The parts of a file that begin in its first column, but for brackets that close there."""
+    found = re.split(r"^(?=[^\s)}\]])", COMMENT.sub("", text), flags=re.M)
+    return [it for it in found if it.strip()]
+
+
+def name_declared(piece: list[str]) -> str | None:
+    """The name that a piece declares; none if it is a case of the definition above it."""
+    rest = piece[next(at for at, it in enumerate(piece) if it not in MARKS) :]
+    if rest[0] in DECLARED:
+        return rest[1]
+    if rest[0].startswith("infix"):
+        return rest[-1]
+    behind = closing(rest, 1) + 1 if rest[1:2] == ["{"] else 1
+    return rest[0] if rest[behind : behind + 1] == [":"] else None
+
+
+def constructors(piece: str) -> list[str]:
+    """The constructors that a piece declares, if it declares some data."""
+    return re.findall(rf"^\s+({NAME}) :", piece, re.M) if "data" in words(piece)[:2] else []
+
+
+@dataclasses.dataclass
+class Text:
+    """Some words of antt or of Rattle, and the names of the file that they stand in."""
+
+    words: list[str]
+    names: Names
+
+
+@dataclasses.dataclass
+class Meaning:
+    """What a text says by itself, and the definitions that it names."""
+
+    said: str
+    below: set[Place]
+
+
+class Definitions:
+    """All definitions of a tree, and what a text rests on."""
+
+    def __init__(self, crates: pathlib.Path = CRATES) -> None:
+        self.crates = {it.name for it in crates.iterdir()}
+        self.found: dict[Place, Text] = {}
+        # The type of a constructor, and where a module has a name from that it hands on.
+        self.types: dict[Place, Place] = {}
+        self.handed_on: dict[Place, Place] = {}
+        self.meanings: dict[Place, Meaning] = {}
+        for file in sorted(crates.glob("*/specs/**/*.antt")):
+            crate, _, *modules = file.relative_to(crates).with_suffix("").parts
+            self.read(crate, (*modules,), source(file))
+
+    def read(self, crate: str, modules: Place, text: str) -> None:
+        """Reads the file of a module."""
+        names: Names = {}
+        current: list[str] = []
+        for piece in pieces(text):
+            found = words(piece)
+            if "use" in found[:2]:
+                path = found[found.index("use") + 1 :]
+                add_names(names, path)
+                if found[0] == "pub":
+                    self.handed_on |= {(crate, *modules, it): at for it, at in imported(path)}
+            elif "mod" not in found[:2]:
+                if name := name_declared(found):
+                    place = (crate, *modules, name)
+                    inner = constructors(piece)
+                    self.types |= {(crate, *modules, it): place for it in inner}
+                    for local in (name, *inner):
+                        add_names(names, ["Rattle", crate, "specs", *modules, local])
+                    current = self.found.setdefault(place, Text([], names)).words
+                current += found
+
+    def add_constant(self, crate: str, modules: Place, name: str, text: Text) -> Place:
+        """Adds a constant of the code, and gives the path by which definitions name it."""
+        place = ("declared", *modules, "TheConstants", name)
+        self.found[(crate, *place)] = text
+        return ("Rattle", crate, "specs", *place)
+
+    def origin(self, path: Place) -> Place:
+        """A path of a definition, from the module that has it: others may hand it on."""
+        rest = path[3:]
+        for end in range(len(rest), 0, -1):
+            if further := self.handed_on.get((path[1], *rest[:end])):
+                return self.origin((*further, *rest[end:]))
+        return path
+
+    def at(self, path: Place) -> Place | None:
+        """The definition that a path leads to; behind its name fields may stand."""
+        rest = path[3:]
+        for end in range(len(rest), 0, -1):
+            place = (path[1], *rest[:end])
+            place = self.types.get(place, place)
+            if place in self.found:
+                return place
+        return None
+
+    def is_ours(self, path: Place) -> bool:
+        """Whether a path leads into a crate of the tree."""
+        return path[0] == "Rattle" and path[1] in self.crates
+
+    def named(self, path: Place) -> str:
+        """How a name is told that is no definition of ours: the toolchain's by its whole path."""
+        if not self.is_ours(path):
+            return ".".join(path)
+        if path[2] == "specs" and path[3] not in MADE:
+            raise LookupError(f"{'.'.join(path)} is named, and isn't there")
+        return ".".join([path[1], *(it for it in path[3:] if not it[0].islower())])
+
+    def meaning(self, text: Text) -> Meaning:
+        """What a text says by itself: its words, and what each name stands for, since an import may
+        give a name to another definition: one of ours by its own name and words, and another by
+        its path."""
+        below, others = set(), set()
+        for word in text.words:
+            first, *fields = word.split(".")
+            for imported_path in text.names.get(first, ()):
+                path = self.origin((*imported_path, *fields))
+                place = self.at(path) if self.is_ours(path) else None
+                if place:
+                    below.add(place)
+                    others.add(f"{word} = {path[-1]} of {' '.join(self.found[place].words)}")
+                else:
+                    others.add(f"{first} = {self.named(path)}")
+        return Meaning(" ".join([*text.words, *sorted(others)]), below)
+
+    def meaning_at(self, place: Place) -> Meaning:
+        if place not in self.meanings:
+            self.meanings[place] = self.meaning(self.found[place])
+        return self.meanings[place]
+
+    def below(self, text: Text) -> set[Place]:
+        """All definitions that a text rests on."""
+        found: set[Place] = set()
+        left = self.meaning(text).below
+        while left:
+            found |= left
+            left = {low for it in left for low in self.meaning_at(it).below} - found
+        return found
+
+    def sum_of(self, text: Text) -> str:
+        """A sum over what a text says, and over all that it rests on."""
+        said = sorted(self.meaning_at(it).said for it in self.below(text))
+        whole = "\n".join([self.meaning(text).said, *said])
+        return hashlib.sha256(whole.encode()).hexdigest()[:16]

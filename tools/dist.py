@@ -1,0 +1,88 @@
+#!/usr/bin/env python3
+"""Writes out/rigzumal-VERSION.tar.xz, and its sum beside it: `make dist` runs it.
+
+    python3 tools/dist.py
+
+The tarball holds each committed file, the objects of the programs that tools/build.py --object kept
+(see tools/programs.py), and a list of what is compiled in it, with licences. It needs rt no more:
+a C compiler, make and Python build and install it. One commit and its objects give the same bytes,
+wherever, whenever and by whomever they are packed.
+"""
+
+import hashlib
+import io
+import lzma
+import subprocess
+import sys
+import tarfile
+
+import programs
+from tree import TOP
+
+sys.path.insert(0, str(TOP / "packaging"))
+import components  # noqa: E402
+
+VERSION = (TOP / "VERSION").read_text().strip()
+NAME = f"rigzumal-{VERSION}"
+OUT = TOP / "out"
+
+
+def git(*words):
+    """What git writes, whatever its configuration says of line ends and owners."""
+    words = ["git", "-c", f"safe.directory={TOP}", "-c", "core.autocrlf=false", *words]
+    return subprocess.run(words, cwd=TOP, stdout=subprocess.PIPE, check=True).stdout
+
+
+def committed():
+    """Each committed file by its name, with its bytes, and whether it may be run."""
+    if git("status", "--porcelain"):
+        sys.exit("make dist packs what is committed: commit your changes first")
+    with tarfile.open(fileobj=io.BytesIO(git("archive", "--format=tar", "HEAD"))) as archive:
+        files = [it for it in archive if it.isfile()]
+        return {it.name: (archive.extractfile(it).read(), bool(it.mode & 0o100)) for it in files}
+
+
+def objects():
+    """The objects of the programs, and of which sources they are."""
+    for level in (*programs.LEVELS, programs.ARM64):
+        for program in programs.PROGRAMS:
+            if programs.is_kept(program, level):
+                folder = programs.kept(program) / level
+                for name in (f"{program}.o", f"{program}.sum"):
+                    packed = programs.PACKED.relative_to(TOP) / level / name
+                    yield str(packed), ((folder / name).read_bytes(), False)
+            elif level == programs.ARM64:
+                print(
+                    f"{program} for {level} isn't built, and is left out: make programs ARCH=arm64"
+                )
+            else:
+                sys.exit(f"{program} for {level} isn't built: make dist does it")
+
+
+def tarball(files, seconds):
+    """A tarball of these files in the order of their names, which belong to nobody."""
+    packed = io.BytesIO()
+    with tarfile.open(fileobj=packed, mode="w", format=tarfile.USTAR_FORMAT) as archive:
+        for name, (data, is_program) in sorted(files.items()):
+            entry = tarfile.TarInfo(f"{NAME}/{name}")
+            entry.size, entry.mtime = len(data), seconds
+            entry.mode = 0o755 if is_program else 0o644
+            archive.addfile(entry, io.BytesIO(data))
+    return lzma.compress(packed.getvalue(), preset=9)
+
+
+def main():
+    files = {**committed(), **dict(objects())}
+    compiled = {name: data for name, (data, _) in files.items() if name.endswith((".a", ".o"))}
+    files[f"{NAME}.spdx.json"] = (components.spdx("rigzumal", compiled), False)
+    OUT.mkdir(exist_ok=True)
+    written = OUT / f"{NAME}.tar.xz"
+    data = tarball(files, components.source_date())
+    written.write_bytes(data)
+    summed = f"{hashlib.sha256(data).hexdigest()}  {written.name}\n"
+    (OUT / f"{written.name}.sha256").write_text(summed)
+    print(f"{written}: {len(data)} bytes of {len(files)} files")
+
+
+if __name__ == "__main__":
+    main()

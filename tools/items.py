@@ -1,0 +1,189 @@
+"""The items of a file of Rattle, with their contracts."""
+
+from __future__ import annotations
+
+import dataclasses
+import re
+
+# A text, a letter, a lifetime, a name (of antt too), or a mark.
+TOKEN = re.compile(
+    r"""//[^\n]* | /\*.*?\*/ | b?"(?:\\.|[^"\\])*" | b?'(?:\\[^']*|[^'\\])' | '\w+
+    | «[^»]*» | \w[\w']* | :: | -> | => | \S""",
+    re.X | re.S,
+)
+COMMENT = re.compile(r"//[^\n]*|/\*.*?\*/", re.S)
+CLOSES = {"(": ")", "[": "]", "{": "}"}
+KINDS = {"fn", "struct", "enum", "trait", "impl", "mod", "use", "ghost", "const", "static", "type"}
+CLAUSES = {"requires", "ensures", "ghost"}
+WITHOUT_BODY = {"use", "const", "static", "type"}
+# What ends the words before an item's contract and braces.
+ENDS_HEAD = {it: {"{", ";", *(CLAUSES if it == "fn" else ())} for it in KINDS}
+# What an attribute says to the prover, to the compiler or to a reader alone.
+UNSEEN = {"tactic", "cycle", "inline", "allow", "doc"}
+
+
+@dataclasses.dataclass
+class Token:
+    text: str
+    start: int
+    end: int
+
+
+@dataclasses.dataclass
+class Clause:
+    """A clause of a contract, or a ghost item, in antt; a lone clause has no name."""
+
+    kind: str
+    name: str
+    text: str
+
+
+@dataclasses.dataclass
+class Item:
+    """An item: what stands before its braces, and what stands in them."""
+
+    kind: str
+    name: str
+    is_public: bool
+    attributes: list[str] = dataclasses.field(default_factory=list)
+    head: list[str] = dataclasses.field(default_factory=list)
+    clauses: list[Clause] = dataclasses.field(default_factory=list)
+    # The words between its braces, if it has some.
+    body: list[str] | None = None
+    inner: list[Item] = dataclasses.field(default_factory=list)
+
+
+class File:
+    """The tokens of a file."""
+
+    def __init__(self, text: str) -> None:
+        self.text = text
+        found = (Token(it[0], it.start(), it.end()) for it in TOKEN.finditer(text))
+        self.tokens = [it for it in found if not COMMENT.fullmatch(it.text)]
+        self.closing = self.brackets()
+
+    def brackets(self) -> dict[int, int]:
+        """Where each bracket closes."""
+        found, opened = {}, []
+        for at, token in enumerate(self.tokens):
+            if token.text in CLOSES:
+                opened.append(at)
+            elif token.text in CLOSES.values():
+                start = opened.pop()
+                if CLOSES[self.tokens[start].text] != token.text:
+                    raise ValueError(f"brackets: {self.text[self.tokens[start].start : token.end]}")
+                found[start] = at
+        return found
+
+    def words(self, start: int, end: int) -> list[str]:
+        """Some words, without a comma that only the layout has before a bracket."""
+        found = [it.text for it in self.tokens[start:end]]
+        behind = [*found[1:], ""]
+        return [it for it, after in zip(found, behind) if it != "," or after not in (")", "}", "]")]
+
+    def text_of(self, start: int, end: int) -> str:
+        """The text of some words, without comments."""
+        if start == end:
+            return ""
+        return COMMENT.sub("", self.text[self.tokens[start].start : self.tokens[end - 1].end])
+
+    def between(self, start: int) -> str:
+        """The text between a brace and the one that closes it."""
+        return self.text_of(start + 1, self.closing[start])
+
+    def until(self, start: int, end: int, stops: set[str]) -> int:
+        """The first of some words behind a place, outside of brackets."""
+        at = start
+        while at < end and self.tokens[at].text not in stops:
+            at = self.closing.get(at, at) + 1
+        return at
+
+    def items(self) -> list[Item]:
+        return self.items_in(0, len(self.tokens))
+
+    def items_in(self, at: int, end: int) -> list[Item]:
+        """The items between two places."""
+        found = []
+        while at < end:
+            at, attributes = self.attributes(at, end)
+            if at < end:
+                item, at = self.item(at, end)
+                item.attributes = attributes
+                found.append(item)
+        return [it for it in found if it.kind != ";"]
+
+    def attributes(self, at: int, end: int) -> tuple[int, list[str]]:
+        """The place behind some attributes, and those that change what an item means."""
+        found = []
+        while at < end and self.tokens[at].text == "#":
+            opens = self.until(at, end, {"["})
+            found.append(self.words(opens + 1, self.closing[opens]))
+            at = self.closing[opens] + 1
+        return at, [" ".join(it) for it in found if it[0] not in UNSEEN]
+
+    def item(self, at: int, end: int) -> tuple[Item, int]:
+        """The item at a place, and the place behind it."""
+        kind_at = self.until(at, end, KINDS | {";"})
+        kind = self.tokens[kind_at].text if kind_at < end else ";"
+        words = self.words(at, min(kind_at + 1, end))
+        if "!" in words[:2]:
+            raise ValueError(f"a macro among items, whose items aren't seen: {words[0]}!")
+        if kind == "const" and self.tokens[kind_at + 1].text == "fn":
+            kind, kind_at = "fn", kind_at + 1
+        name = self.tokens[kind_at + 1].text if kind_at + 1 < end else ""
+        item = Item(kind, name, self.is_public(at))
+        if kind in WITHOUT_BODY:
+            stop = self.until(at, end, {";"})
+            item.head = self.words(at, stop)
+        elif kind == "ghost":
+            stop = self.until(at, end, {";"})
+            item.kind = "ghost use" if name == "use" else kind
+            item.clauses = [Clause(item.kind, name, self.text_of(kind_at + 2, stop))]
+        elif kind == ";":
+            stop = kind_at
+        else:
+            stop = self.with_body(item, kind_at, end)
+            item.head = self.words(at, self.until(kind_at, end, ENDS_HEAD[kind]))
+        return item, stop + 1
+
+    def is_public(self, at: int) -> bool:
+        """Whether an item or a field is everybody's."""
+        return self.tokens[at].text == "pub" and self.tokens[at + 1].text != "("
+
+    def with_body(self, item: Item, at: int, end: int) -> int:
+        """Reads the contract and the body of an item, and gives its end."""
+        stop = self.until(at, end, ENDS_HEAD[item.kind])
+        while stop < end and self.tokens[stop].text in CLAUSES:
+            opens = self.until(stop, end, {"{"})
+            name = "".join(it for it in self.words(stop + 1, opens) if it not in ("*", ":"))
+            item.clauses.append(Clause(self.tokens[stop].text, name, self.between(opens)))
+            stop = self.closing[opens] + 1
+            stop += stop < end and self.tokens[stop].text == ","
+        if stop < end and self.tokens[stop].text == "{":
+            item.body = self.words(stop + 1, self.closing[stop])
+            if item.kind in ("impl", "trait", "mod"):
+                item.inner = self.items_in(stop + 1, self.closing[stop])
+            elif item.kind == "struct":
+                item.inner = self.fields(stop + 1, self.closing[stop])
+            stop = self.closing[stop]
+        return stop
+
+    def fields(self, at: int, end: int) -> list[Item]:
+        """The fields of a struct, and the facts that it keeps of them."""
+        found = []
+        while at < end:
+            at, attributes = self.attributes(at, end)
+            stop, depth = at, 0
+            while stop < end and (depth or self.tokens[stop].text != ","):
+                depth += {"<": 1, ">": -1}.get(self.tokens[stop].text, 0)
+                stop = self.closing.get(stop, stop) + 1
+            words = self.words(at, stop)
+            field = Item("field", "", bool(words) and self.is_public(at), attributes, words)
+            if "ghost" in words[:2]:
+                name_at = at + words.index("ghost") + 1
+                name, text = self.tokens[name_at].text, self.text_of(name_at + 1, stop)
+                field.clauses = [Clause("ghost", name, text)]
+            if words:
+                found.append(field)
+            at = stop + 1
+        return found

@@ -1,0 +1,124 @@
+"""Which tests there are, and how those of each folder are run: what tools/run_tests.py goes by."""
+
+from __future__ import annotations
+
+import dataclasses
+import json
+import sys
+from collections.abc import Collection, Iterator, Mapping
+from pathlib import Path
+
+from tree import TOP
+
+SECONDS = TOP / "tools/job_seconds.json"
+TOLD = TOP / "tests/told.py"
+
+
+@dataclasses.dataclass(frozen=True)
+class Folder:
+    """A folder with modules of tests, which are named by what is between `test_` and `.py`."""
+
+    path: str
+    # Whether its modules are of the package `tests`, and not found from their own folder.
+    is_package: bool = False
+    # What Python is told, such as that a warning is an error.
+    options: tuple[str, ...] = ()
+    # Modules that are long: among how many processes their tests are shared.
+    parts: Mapping[str, int] = dataclasses.field(default_factory=dict)
+    # Modules that bound a time from above, and wait more than they compute: they run when all else
+    # is done.
+    quiet: Collection[str] = ()
+    # Modules that write into the folders out/ of c/ and python/: no two of them run at once.
+    packing: Collection[str] = ()
+    # Modules that are too long for every run: `make test` runs them.
+    long: Collection[str] = ()
+
+
+FOLDERS = (
+    Folder("tests/credbook", is_package=True),
+    Folder(
+        "tests/credkeep",
+        is_package=True,
+        parts={"refused_memory": 4, "refused_calls": 4, "work": 2, "kills": 2, "import": 2},
+        long=["large"],
+    ),
+    Folder(
+        "tests/server",
+        parts={"sites": 2, "logins": 2},
+        quiet=["starts_and_ends", "clients"],
+        long=["booted", "torture"],
+    ),
+    Folder("tests/tools", is_package=True),
+    Folder("tests/packages", is_package=True, packing=["install"]),
+    Folder("c/tests", packing=["package"], parts={"programs": 3, "secrets": 3, "calls": 2}),
+    Folder("c/pam/tests", quiet=["answers"]),
+    Folder("python/tests/hashers", options=("-W", "error")),
+    Folder("python/tests/package", options=("-W", "error"), packing=["package"]),
+    Folder("python/tests/accounts", parts={"engines": 4}),
+    Folder("python/tests/frameworks", parts={"on_their_own": 2}),
+    Folder("docs/tests", parts={"pages": 2}),
+    Folder("rust/tests"),
+)
+
+# Programs of tools/ that are tests too, with their words.
+PROGRAMS = {"refuse_memory": (), "peak_memory": (), "readme": ("README.md",)}
+
+
+@dataclasses.dataclass(frozen=True)
+class Job:
+    """What is run as one process."""
+
+    name: str
+    folder: str
+    command: tuple[str, ...]
+    at: Path
+    is_quiet: bool = False
+    is_packing: bool = False
+    is_long: bool = False
+
+    @property
+    def is_told(self) -> bool:
+        """Whether it writes down what comes of each test."""
+        return str(TOLD) in self.command
+
+
+def modules_of(folder: Folder) -> Iterator[Job]:
+    """The jobs of a folder: one for each module, or each part of it."""
+    at = TOP if folder.is_package else TOP / folder.path
+    for file in sorted((TOP / folder.path).glob("test_*.py")):
+        word = file.stem.partition("_")[2]
+        count = folder.parts.get(word, 1)
+        for part in range(1, count + 1):
+            shared = (str(part), str(count)) if count > 1 else ()
+            yield Job(
+                name=f"{folder.path}/{file.stem}" + (f":{part}" if shared else ""),
+                folder=folder.path,
+                command=(*folder.options, str(TOLD), "{told}", str(file.relative_to(at)), *shared),
+                at=at,
+                is_quiet=word in folder.quiet,
+                is_packing=word in folder.packing,
+                is_long=word in folder.long,
+            )
+
+
+def programs() -> Iterator[Job]:
+    for name, words in PROGRAMS.items():
+        yield Job(f"tools/{name}", "tools", (str(TOP / f"tools/{name}.py"), *words), TOP)
+
+
+def seconds() -> dict[str, float]:
+    """How long each job took when the file was written, by its name."""
+    known: dict[str, float] = json.loads(SECONDS.read_text()) if SECONDS.exists() else {}
+    return known
+
+
+def jobs(words: Collection[str] = (), is_long: bool = False) -> list[Job]:
+    """The jobs with one of these words in their names, of every run or the long ones; what takes
+    longest comes first, and what nobody knows."""
+    every = [*programs(), *(job for folder in FOLDERS for job in modules_of(folder))]
+    found = [it for it in every if any(word in it.name for word in words or ("",))]
+    known = seconds()
+    return sorted(
+        (it for it in found if it.is_long == is_long),
+        key=lambda it: -known.get(it.name, sys.maxsize),
+    )

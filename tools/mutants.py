@@ -1,0 +1,259 @@
+"""The standard changes of a file in Python, C or Rust, one at a time, for tools/mutate.py."""
+
+import re
+from typing import NamedTuple
+
+
+class Mutant(NamedTuple):
+    """The bytes from start to end are replaced by new."""
+
+    start: int
+    end: int
+    operator: str
+    new: str
+
+
+class Language(NamedTuple):
+    """How a language parts its tokens, and how it writes what takes the place of another thing."""
+
+    gap: str
+    text: str
+    negation: str
+    constants: list
+    value: str
+    statement: str
+    lists: str
+
+
+C_GAP = r"\s+|//[^\n]*|/\*.*?\*/|^[ \t]*#(?:\\\n|[^\n])*"
+C_TEXT = r"\w?\"(?:\\.|[^\"\\])*\"|b?'(?:\\[^']+|[^'\\])'"
+PYTHON_GAP = r"[ \t]+|\\\n|\#[^\n]*"
+PYTHON_TEXT = r"\w{0,2}(?:\"{3}.*?\"{3}|'{3}.*?'{3}|\"(?:\\.|[^\"\\\n])*\"|'(?:\\.|[^'\\\n])*')"
+C = Language(C_GAP, C_TEXT, "(!{})", ["(0)", "(1)"], "0", "", "{")
+RUST = Language(C_GAP, C_TEXT, "!({})", ["false", "true"], "Default::default()", "", "[")
+PYTHON = Language(PYTHON_GAP, PYTHON_TEXT, "not ({})", ["False", "True"], "None", "pass", "([{")
+LANGUAGES = {".c": C, ".h": C, ".rs": RUST, ".py": PYTHON}
+
+SIGN = r"<<=|>>=|\*\*|\.\.=|->|=>|::|&&|\|\||<<|>>|[-+*/%&|^=<>!:]=|//|\n\s*|."
+SWAPPED = {
+    "<": "<=",
+    ">": ">=",
+    "==": "!=",
+    "&&": "||",
+    "and": "or",
+    "+": "-",
+    "*": "/",
+    "<<": ">>",
+    "&": "|",
+}
+SWAPPED |= {new: old for old, new in SWAPPED.items()}
+LOGIC = {"&&", "||", "and", "or"}
+NEGATED = {"in": "not in", "is": "is not"}
+FLIPPED = {"true": "false", "True": "False"}
+FLIPPED |= {new: old for old, new in FLIPPED.items()}
+OPENING = {")": "(", "]": "[", "}": "{"}
+TESTED = {"if", "while", "elif", "assert"}
+AFTER_A_TEST = {"{", ":", "else", "for", "if", ",", "\n"}
+ENDS = (
+    LOGIC
+    | TESTED
+    | AFTER_A_TEST
+    | {";", "?", "}", "=", "=>", "return", "let", "not", "in", "is", "+=", "-=", "*=", "|="}
+)
+NO_STATEMENT = {
+    "let",
+    "use",
+    "typedef",
+    "static",
+    "extern",
+    "pub",
+    "struct",
+    "const",
+    "type",
+    "else",
+    "import",
+    "from",
+}
+NO_CALL = TESTED | {"for", "switch", "sizeof", "return", "match", "pub", "in", "import", "except"}
+
+
+class Tokens:
+    """The tokens of a file and, of each, the bracket that it stands in."""
+
+    def __init__(self, source, language):
+        self.source, self.language = source.decode("latin-1"), language
+        kinds = {
+            "gap": language.gap,
+            "text": language.text,
+            "number": r"\d\w*",
+            "logic": r"\b(?:and|or|not)\b",
+        }
+        kinds |= {"word": r"[A-Za-z_]\w*", "sign": SIGN}
+        form = "|".join(f"(?P<{kind}>{it})" for kind, it in kinds.items())
+        self.found, self.texts, self.pair, self.within, opened = [], [], {}, [], []
+        for token in re.finditer(form, self.source, re.S | re.M):
+            at, text = len(self.found), token.group()
+            # only outside of brackets the end of a line means something
+            if token.lastgroup == "gap" or text[0] == "\n" and opened:
+                continue
+            if text in OPENING and opened:
+                self.pair[at] = opened.pop()
+                self.pair[self.pair[at]] = at
+            self.found.append(token)
+            self.texts.append("\n" if text[0] == "\n" else text)
+            self.within.append(opened[-1] if opened else -1)
+            if text in OPENING.values():
+                opened.append(at)
+
+    def mutant(self, operator, first, last, new):
+        return Mutant(self.found[first].start(), self.found[last].end(), operator, new)
+
+    def constant(self, first, last):
+        return self.mutant("expression made a constant", first, last, self.language.value)
+
+    def text(self, first, last):
+        return self.source[self.found[first].start() : self.found[last].end()]
+
+    def edge(self, at, step, ends):
+        """The last token, in one direction, of the operand beside the token at a place."""
+        while 0 <= at + step < len(self.texts):
+            text, jumps = self.texts[at + step], OPENING if step < 0 else OPENING.values()
+            if text in ends or text not in jumps and self.within[at + step] != self.within[at]:
+                break
+            at = self.pair.get(at + step, at + step) if text in jumps else at + step
+        return at
+
+    def parts(self, opening):
+        """First and last token of what commas part inside a bracket."""
+        closing = self.pair.get(opening, opening)
+        commas = [
+            it
+            for it in range(opening, closing)
+            if self.texts[it] == "," and self.within[it] == opening
+        ]
+        edges = [opening, *commas, closing]
+        return [(low + 1, high - 1) for low, high in zip(edges, edges[1:]) if low + 1 < high]
+
+    def mutants(self):
+        made = {"number": self.of_number, "text": self.of_text, "word": self.of_word}
+        for at, token in enumerate(self.found):
+            yield from made.get(token.lastgroup, self.of_sign)(at, token.group())
+
+    def of_number(self, at, text):
+        digits = re.match(r"0[xX][0-9a-fA-F]+|\d+", text)[0]
+        more = hex(int(digits, 16) + 1) if "x" in digits.lower() else str(int(digits) + 1)
+        yield self.mutant("constant changed", at, at, more + text[len(digits) :])
+
+    def of_text(self, at, text):
+        front = text[: text.index(text[-1])]
+        new = '"x"' if len(text) == len(front) + 2 else '""'
+        is_doc = self.language is PYTHON and {
+            *self.texts[max(at - 1, 0) : at],
+            *self.texts[at + 1 : at + 2],
+        } <= {"\n"}
+        if not is_doc:
+            is_letter = text[-1] == "'" and self.language is not PYTHON
+            yield self.mutant("constant changed", at, at, front + ("'~'" if is_letter else new))
+
+    def of_word(self, at, text):
+        if text in FLIPPED:
+            yield self.mutant("constant changed", at, at, FLIPPED[text])
+        if text in TESTED and self.texts[at + 1] != "let":
+            last = self.pair[at + 1] if self.language is C else self.edge(at, 1, AFTER_A_TEST)
+            yield self.mutant(
+                "condition negated",
+                at + 1,
+                last,
+                self.language.negation.format(self.text(at + 1, last)),
+            )
+            for constant in self.language.constants[: 1 if text == "while" else 2]:
+                yield self.mutant("expression made a constant", at + 1, last, constant)
+        if text == "return" and self.texts[at + 1] not in ";\n":
+            yield self.constant(at + 1, self.edge(at, 1, {";", "}", "\n"}))
+        if text in NEGATED and self.language is PYTHON and "not" not in self.texts[at - 1 : at + 2]:
+            if self.texts[self.edge(at, -1, ENDS - {","}) - 1] != "for":
+                yield self.mutant("comparison swapped", at, at, NEGATED[text])
+            else:
+                yield self.mutant(
+                    "expression made a constant", at + 1, self.edge(at, 1, AFTER_A_TEST), "()"
+                )
+
+    def of_sign(self, at, text):
+        around = (
+            self.source[self.found[at - 1].end() : self.found[at].start()],
+            self.source[self.found[at].end() :][:1],
+        )
+        is_name = self.found[at - 1].lastgroup == "word" and self.texts[at - 1] not in NO_CALL
+        if text in SWAPPED and all(map(str.isspace, around)):
+            yield from self.of_operator(at, text)
+        if text in ("!", "not") and not is_name:
+            yield self.mutant("condition negated", at, at, "")
+        if (
+            text == ";"
+            and self.texts[self.within[at]] == "{"
+            or text[0] == "\n"
+            and self.texts[at - 1] != ":"
+        ):
+            first = self.edge(at, -1, {";", "{", "}", "\n", ":"})
+            if (
+                first < at
+                and self.texts[first] not in NO_STATEMENT
+                and not self.found[first].lastgroup == "text"
+            ):
+                yield self.mutant("statement dropped", first, at - 1, self.language.statement)
+        if text == "[" and is_name and ":" in self.texts[at : self.pair.get(at, at)]:
+            yield self.mutant("operand dropped", at, self.pair[at], "")
+        if text == "(" and is_name and self.texts[at - 2] not in ("fn", "def", "class"):
+            # outside of all brackets C and Rust have parameters
+            yield from self.of_call(
+                self.parts(at) if self.language is PYTHON or self.within[at] >= 0 else []
+            )
+        elif text in self.language.lists and not is_name and len(self.parts(at)) > 1:
+            yield from (
+                self.without("element dropped", *it)
+                for it in self.parts(at)
+                if ";" not in self.texts[it[0] : it[1]]
+            )
+
+    def without(self, operator, first, last):
+        return self.mutant(operator, first, last + (self.texts[last + 1] == ","), "")
+
+    def of_operator(self, at, text):
+        yield self.mutant(
+            "comparison swapped" if text in "<= >= == !=" else "operator swapped",
+            at,
+            at,
+            SWAPPED[text],
+        )
+        ends = ENDS if text in LOGIC else ENDS | SWAPPED.keys()
+        first, last = self.edge(at, -1, ends), self.edge(at, 1, ends)
+        if first < at < last:
+            left, right = self.text(first, at - 1), self.text(at + 1, last)
+            yield self.mutant("operand dropped", first, last, left)
+            yield self.mutant("operand dropped", first, last, right)
+            if text in ("-", "/", "<<", ">>"):
+                yield self.mutant("operands swapped", first, last, f"{right} {text} {left}")
+
+    def of_call(self, arguments):
+        # the order of arguments with names says nothing
+        plain = [it for it in arguments if "=" not in self.texts[it[0] : it[1]]]
+        for (first, end), (second, last) in zip(plain, plain[1:]):
+            yield self.mutant(
+                "operands swapped",
+                first,
+                last,
+                f"{self.text(second, last)}, {self.text(first, end)}",
+            )
+        for argument in arguments:
+            yield self.without(
+                "argument dropped", *argument
+            ) if self.language is PYTHON else self.constant(*argument)
+
+
+def mutants_of(path):
+    """The mutants of a file, each once, and none that leaves it as it is."""
+    source = path.read_bytes()
+    places = {
+        (it.start, it.end, it.new): it for it in Tokens(source, LANGUAGES[path.suffix]).mutants()
+    }
+    return sorted(it for it in places.values() if it.new.encode() != source[it.start : it.end])

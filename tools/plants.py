@@ -1,0 +1,188 @@
+#!/usr/bin/env python3
+"""Plants a mistake in each folder that ships, one at a time, and looks that the tests refuse it.
+
+    python3 tools/plants.py [WORD..]
+
+A maintainer runs it before a release, once the gate has built all. Each plant of the table below
+goes into a copy of the tree with what is built, and tools/run_tests.py runs there the jobs that the
+plant names. If they pass, or the file lacks the text that is replaced, the plant is NOT REFUSED.
+With words only plants with one of them in their file's name are tried. The last line is `N refused,
+M not`, and the status is 1 if one wasn't.
+"""
+
+from __future__ import annotations
+
+import pathlib
+import re
+import shutil
+import subprocess
+import sys
+import tempfile
+from typing import Any, NamedTuple
+
+from tree import TOP
+
+# What is built, and the tests stand on.
+BUILT = ["c/out/*", "c/pam/out/*.so", "crates/*/out/*_tests"]
+BUILT += [f"crates/{name}/out/{name}" for name in ("credbook", "credkeep")]
+
+
+class Plant(NamedTuple):
+    """A file, a text of it, what stands in its place, and the jobs that must fail."""
+
+    file: str
+    old: str
+    new: str
+    jobs: str
+
+
+PLANTS = (
+    # The library for C, its libargon2, and the PAM module
+    Plant("c/src/rigzumal.c", "#include ", "int broken(\n#include ", "tests/tools/test_readme"),
+    Plant(
+        "c/src/step.c",
+        "is_right ? RIGZUMAL_REPLY_YES : RIGZUMAL_REPLY_NO",
+        "is_right ? RIGZUMAL_REPLY_NO : RIGZUMAL_REPLY_NO",
+        "c/tests/test_programs",
+    ),
+    Plant(
+        "c/src/libargon2_strings.c",
+        "size > 10 || (**text == '0' && size > 1)",
+        "size > 10",
+        "c/tests/test_libargon2",
+    ),
+    Plant(
+        "c/Makefile",
+        "$(TO_LIBDIR)/rigzumal\n\trm -f",
+        "$(TO_LIBDIR)\n\trm -f",
+        "c/tests/test_package",
+    ),
+    Plant(
+        "c/pam/pam_rigzumal.c",
+        'strcmp(answer, "later") == 0 ? PAM_MAXTRIES : PAM_AUTHINFO_UNAVAIL',
+        "PAM_AUTHINFO_UNAVAIL",
+        "c/pam/tests/test_answers",
+    ),
+    # The package for Python
+    Plant(
+        "python/rigzumal/accounts/_accounts.py",
+        "class Accounts",
+        "class = Accounts",
+        "accounts/test_operations",
+    ),
+    Plant(
+        "python/rigzumal/django/checks.py",
+        "    if not is_used:\n",
+        "    if is_used:\n",
+        "frameworks/test_django_checks",
+    ),
+    Plant(
+        "python/rigzumal/passlib.py",
+        "parallelism=self.parallelism,\n            hash_len",
+        "parallelism=1,\n            hash_len",
+        "frameworks/test_passlib",
+    ),
+    Plant(
+        "python/rigzumal/argon2_cffi/exceptions.py",
+        "number: int = MISMATCH",
+        "number: int = 1",
+        "hashers/test_argon2_cffi",
+    ),
+    Plant("python/build_backend.py", "manylinux_2_", "manylinux_", "python/tests/package"),
+    Plant(
+        "examples/login_page/login_page.py",
+        "    g.store.count(signup=request.remote_addr)\n",
+        "",
+        "frameworks/test_login_page",
+    ),
+    Plant("completions/rigzumal/bash", "import export list", "export list", "test_commands"),
+    # The server and its clients
+    Plant(
+        "python/rigzumal/server/daemon/web.py",
+        'b"denied": 403, b"later": 429',
+        'b"denied": 403, b"later": 403',
+        "tests/server/test_web",
+    ),
+    Plant(
+        "bin/credkeep-ask",
+        'end(6, "the two new passwords differ")',
+        'end(0, "the two new passwords differ")',
+        "tests/server/test_ask",
+    ),
+    Plant("units/credkeep-server@.service", "UMask=0077\n", "", "tests/server/test_units"),
+    # The crate for Rust, pages, packages and tools
+    Plant(
+        "rust/src/ffi.rs",
+        "rigzumal_check_threads(text, pw, len, threads),",
+        "rigzumal_check_threads(text, pw, len - 1, threads),",
+        "rust/tests",
+    ),
+    Plant(
+        "examples/php/accounts.php",
+        "WHERE id = ? AND record = ?",
+        "WHERE id = ? AND record <> ?",
+        "docs/tests/test_pages",
+    ),
+    Plant("docs/SERVERS.md", "smtp\nauth  ", "smtp\nauht  ", "test_logins"),
+    Plant(
+        "Makefile",
+        "\tinstall -m 755 bin/credkeep-ask $(TO_PREFIX)/bin\n",
+        "",
+        "tests/packages",
+    ),
+    Plant("packaging/librigzumal1/shlibs", "librigzumal 1", "librigzumal 2", "tests/packages"),
+    Plant("tools/mutants.py", '"&&", "||", ', '"&&", ', "tests/tools/test_mutate"),
+    Plant(
+        "tests/needs.py", "        if lacks_program(name):\n", "        if True:\n", "test_units"
+    ),
+)
+
+
+def copied(room: pathlib.Path) -> pathlib.Path:
+    """A copy of the files of the tree, and of what is built."""
+    listed = ["git", "ls-files", "--cached", "--others", "--exclude-standard"]
+    names = subprocess.run(listed, cwd=TOP, capture_output=True, text=True, check=True).stdout
+    built = [it for form in BUILT for it in TOP.glob(form) if it.is_file()]
+    for path in [*(TOP / name for name in names.splitlines()), *built]:
+        to = room / path.relative_to(TOP)
+        to.parent.mkdir(parents=True, exist_ok=True)
+        shutil.copy2(path, to)
+    return room
+
+
+def refusal(top: pathlib.Path, plant: Plant) -> str:
+    """What refuses a plant, or nothing."""
+    path = top / plant.file
+    text = path.read_text()
+    if plant.old not in text:
+        return ""
+    path.write_text(text.replace(plant.old, plant.new, 1))
+    command = [sys.executable, str(top / "tools/run_tests.py"), plant.jobs]
+    try:
+        pipes: dict[str, Any] = {"stdout": subprocess.PIPE, "stderr": subprocess.STDOUT}
+        quiet = subprocess.DEVNULL
+        done = subprocess.run(command, cwd=top, stdin=quiet, text=True, errors="replace", **pipes)
+    finally:
+        path.write_text(text)
+    return next(iter(re.findall(r"^FAILED: (.*)$", done.stdout, re.M)), "")
+
+
+def main() -> int:
+    chosen = [it for it in PLANTS if any(word in it.file for word in sys.argv[1:] or [""])]
+    counts = {True: 0, False: 0}
+    with tempfile.TemporaryDirectory(prefix="rigzumal-plants-") as folder:
+        room = pathlib.Path(folder)
+        room.chmod(0o755)
+        top = copied(room)
+        for plant in chosen:
+            refused = refusal(top, plant)
+            counts[bool(refused)] += 1
+            print(
+                f"{plant.file}: {f'refused by {refused}' if refused else 'NOT REFUSED'}", flush=True
+            )
+    print(f"{counts[True]} refused, {counts[False]} not")
+    return 1 if counts[False] or not chosen else 0
+
+
+if __name__ == "__main__":
+    sys.exit(main())

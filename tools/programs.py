@@ -1,0 +1,97 @@
+"""The objects of the programs, as rt compiled what it proved, and how a C compiler links them.
+
+An object lies in LEVEL/NAME.o of a folder, beside NAME.sum with the sum of each source that it was
+compiled of. tools/build.py keeps those that it builds in crates/NAME/out/objects, and `make dist`
+packs them into a tarball's c/proved/programs, for machines without rt. c/programs/calls.c has the
+seven calls that the objects need of the toolchain's part in C.
+"""
+
+import hashlib
+import os
+import re
+import shlex
+import shutil
+import subprocess
+
+from tree import CRATES, TOP, all_below, source
+
+PROGRAMS = ("credbook", "credkeep")
+# What a tarball has; ARM64 if it was built.
+LEVELS = ("x86-64", "x86-64-v3")
+ARM64 = "arm64"
+PACKED = TOP / "c/proved/programs"
+CALLS = TOP / "c/programs/calls.c"
+FLAGS = "-O2 -std=c11 -Wall -Wextra -Wpedantic -Werror -pie -pthread"
+FLAGS += " -Wl,-z,relro,-z,now -Wl,-z,noexecstack"
+
+
+def sources(program):
+    """All that rt reads of a program's crate and of those below it, but for their lines."""
+    crates = [CRATES / it for it in [*all_below(program), program]]
+    folders = [crate / part for crate in crates for part in ("src", "specs", "proofs")]
+    return [it for folder in folders for it in sorted(folder.rglob("*")) if it.is_file()]
+
+
+def sums(program):
+    """The crates' lines of crates.txt as comments, and the sum of each source, for sha256sum -c."""
+    names = "|".join([*all_below(program), program])
+    lines = re.findall(rf"^(?:{names})[ :].*\n", source(TOP / "crates.txt"), re.M)
+    summed = [(hashlib.sha256(it.read_bytes()).hexdigest(), it) for it in sources(program)]
+    lines = [f"# {line}" for line in lines]
+    return "".join([*lines, *(f"{sum_}  {it.relative_to(TOP)}\n" for sum_, it in summed)])
+
+
+def kept(program):
+    """The folder with the objects that were built here."""
+    return CRATES / program / "out/objects"
+
+
+def keep(program, level, compiled):
+    """Keeps an object that was compiled of the sources as they are."""
+    folder = kept(program) / level
+    folder.mkdir(parents=True, exist_ok=True)
+    shutil.copyfile(compiled, folder / f"{program}.o")
+    (folder / f"{program}.sum").write_text(sums(program))
+
+
+def other_source(program, level, folder):
+    """A source that isn't as it was when the object was compiled, or nothing."""
+    was, now = (folder / level / f"{program}.sum").read_text(), sums(program)
+    changed = sorted({*was.splitlines()} ^ {*now.splitlines()})
+    if not changed:
+        return None
+    return "crates.txt" if changed[0].startswith("# ") else changed[0].split()[-1]
+
+
+def has_object(program, level, folder):
+    """Whether the folder has the program's object for a level, of whatever sources."""
+    return (folder / level / f"{program}.o").is_file()
+
+
+def is_kept(program, level):
+    """Whether the object of the sources as they are was kept here."""
+    folder = kept(program)
+    return has_object(program, level, folder) and not other_source(program, level, folder)
+
+
+def link(compiled, built, level):
+    """Links a program's object with our calls."""
+    compiler = "aarch64-linux-gnu-gcc" if level == ARM64 else os.environ.get("CC", "cc")
+    built.parent.mkdir(parents=True, exist_ok=True)
+    words = [*shlex.split(compiler), *FLAGS.split(), compiled, CALLS, "-o", built]
+    subprocess.run(words, check=True)
+
+
+def link_packed(program, level, built):
+    """Links the packed object of a program, unless it is of other sources than these."""
+    if not has_object(program, level, PACKED):
+        raise SystemExit(
+            f"{program}: there is no object for {level} in {PACKED.relative_to(TOP)}, and only "
+            "the toolchain's rt compiles one, which isn't published"
+        )
+    if other := other_source(program, level, PACKED):
+        raise SystemExit(
+            f"{program}: its object in {PACKED.relative_to(TOP)} is of other sources than these "
+            f"({other} differs), and only the toolchain's rt compiles them, which isn't published"
+        )
+    link(PACKED / level / f"{program}.o", built, level)

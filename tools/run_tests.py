@@ -1,0 +1,231 @@
+#!/usr/bin/env python3
+"""Runs the tests over what `rt ci` built, as many side by side as there are processors.
+
+    python3 tools/run_tests.py [--long] [--note] [WORD..]
+
+First `make` builds the library and the PAM module from what was proved. Then the jobs of
+tools/jobs.py run, those with one of the words in their names: each module of tests is a
+process of its own, and so are some tools. What a failed one printed is printed. Each half minute a
+line says what is at work. A test may be skipped only if tests/needs.py finds that what it names is
+missing. The last line is `tests: N passed, M failed, K skipped`, and the status is 1 if one failed.
+A signal ends the run with all that its jobs started; its last line is `tests: interrupted` then.
+
+--long runs the modules that every run leaves out. --note keeps how long each job took in
+tools/job_seconds.json, by which the longest begin first.
+"""
+
+from __future__ import annotations
+
+import argparse
+import collections
+import concurrent.futures
+import contextlib
+import json
+import os
+import pathlib
+import signal
+import subprocess
+import sys
+import tempfile
+import threading
+import time
+from typing import Any
+
+from jobs import SECONDS, Job, jobs, seconds
+from tree import TOP, tell_each
+
+sys.path.insert(0, str(TOP))
+from tests import helpers, needs  # noqa: E402
+
+# A job that hasn't ended after so many seconds is ended.
+LIMIT = int(os.environ.get("JOB_LIMIT", 10 * helpers.LONGEST))
+EVERY = 30
+# What a process's environment has that a job started, so that it can be found whoever is its
+# parent.
+MARK = "RIGZUMAL_JOB"
+# Of a whole run, and what ends one.
+RUN = f"run-{os.getpid()}"
+SIGNALS = (signal.SIGINT, signal.SIGTERM, signal.SIGHUP)
+INTERRUPTED = threading.Event()
+# The second has rt compile the proved code, and compares c/proved byte for byte.
+BUILDS = [["make", "-s", "-C", "c"], ["make", "-s", "-C", "c", "check-proved"]]
+if pathlib.Path("/usr/include/security/pam_modules.h").exists():
+    BUILDS.append(["make", "-s", "-C", "c/pam"])
+
+
+def end_all(mark: str) -> None:
+    """Kills every process that has this mark."""
+    for place in pathlib.Path("/proc").glob("[0-9]*/environ"):
+        with contextlib.suppress(OSError):
+            if f"{mark};".encode() in place.read_bytes():
+                os.kill(int(place.parent.name), signal.SIGKILL)
+
+
+def interrupt(number: int, _: Any) -> None:
+    """Ends the run with all that its jobs have started; what those print then is lost."""
+    INTERRUPTED.set()
+    os.write(sys.stdout.fileno(), b"tests: interrupted\n")
+    os.dup2(os.open(os.devnull, os.O_WRONLY), sys.stdout.fileno())
+    end_all(RUN)
+    end_all(RUN)  # what one of them started meanwhile
+    os._exit(128 + number)
+
+
+class Done:
+    """What came of a job: its tests by their words, its output, and what it took."""
+
+    def __init__(self, job: Job) -> None:
+        self.job = job
+        self.tests: dict[str, str] = {}
+        self.output = ""
+        self.is_whole = not job.is_told
+        with tempfile.TemporaryDirectory(prefix="rigzumal-job-") as room:
+            told, printed = pathlib.Path(room, "told"), pathlib.Path(room, "printed")
+            self.run(told, printed)
+            self.output += printed.read_text(errors="replace")
+            if told.exists():
+                for line in told.read_text().splitlines():
+                    self.note(*line.split("\t"))
+        self.judge()
+
+    def run(self, told: pathlib.Path, printed: pathlib.Path) -> None:
+        """Runs it to its end, or ends it with all that it started."""
+        mark, began = f"{os.getpid()}-{told}", time.monotonic()
+        command = [sys.executable, *(it.format(told=told) for it in self.job.command)]
+        with open(printed, "wb") as output:
+            process = subprocess.Popen(
+                command,
+                cwd=self.job.at,
+                env={**os.environ, MARK: f"{os.environ.get(MARK, '')}{RUN};{mark};"},
+                stdin=subprocess.DEVNULL,
+                stdout=output,
+                stderr=subprocess.STDOUT,
+                start_new_session=True,
+            )
+        limit = threading.Timer(LIMIT, end_all, [mark])
+        limit.start()
+        _, status, used = os.wait4(process.pid, 0)
+        limit.cancel()
+        end_all(mark)
+        self.seconds = time.monotonic() - began
+        self.processor = used.ru_utime + used.ru_stime
+        self.status = process.returncode = os.waitstatus_to_exitcode(status)
+
+    def note(self, word: str, name: str, reason: str) -> None:
+        """What is known of a test by one line more: that it failed is never forgotten."""
+        if word == "all":
+            self.is_whole = True
+            return
+        if word == "skipped" and not needs.excuse(reason):
+            self.output += f"{name}: skipped, and nothing of that is missing: {reason}\n"
+            word, reason = "failed", ""
+        if self.tests.get(name) != "failed":
+            self.tests[name] = f"{word} {reason}".strip()
+
+    def judge(self) -> None:
+        """A test that has begun must have ended, and a module must have told of all its tests. What
+        is no module of tests is one test itself."""
+        for name, word in self.tests.items():
+            if word == "begun":
+                self.output += f"{name}: has not ended after {self.seconds:.0f} s\n"
+                self.tests[name] = "failed"
+        is_well = self.status == 0 and self.is_whole
+        if not self.job.is_told or not is_well and "failed" not in self.tests.values():
+            self.tests[self.job.name] = "passed" if is_well else "failed"
+
+    def failed(self) -> list[str]:
+        return [name for name, word in self.tests.items() if word == "failed"]
+
+
+class Progress:
+    """What is at work, told each half minute, and what came of the jobs that are done."""
+
+    def __init__(self, count: int) -> None:
+        self.count, self.done = count, list[Done]()
+        self.running: dict[str, float] = {}
+        tell_each(EVERY, self.tell)
+
+    def tell(self) -> None:
+        longest = ", ".join(sorted({**self.running}, key=self.running.__getitem__)[:4])
+        print(f"tests: {len(self.done)} of {self.count} jobs; at work: {longest}", flush=True)
+
+    def run_beside(self, chosen: list[Job]) -> None:
+        """Runs jobs side by side, but those that write into the same folders one after another."""
+        packing = [it for it in chosen if it.is_packing]
+        queues = [packing, *([it] for it in chosen if not it.is_packing)]
+        with concurrent.futures.ThreadPoolExecutor(len(os.sched_getaffinity(0))) as pool:
+            list(pool.map(self.run, queues))
+
+    def run(self, queue: list[Job]) -> None:
+        """Runs jobs one after another."""
+        for job in queue:
+            if INTERRUPTED.is_set():
+                return
+            self.running[job.name] = time.monotonic()
+            done = Done(job)
+            del self.running[job.name]
+            self.done.append(done)
+            if done.failed():
+                print(f"{done.output}\n{job.name}: FAILED, {done.seconds:.0f} s", flush=True)
+
+    def note(self) -> None:
+        """Keeps how long each job took."""
+        known = seconds() | {it.job.name: round(it.seconds) for it in self.done}
+        SECONDS.write_text(json.dumps(known, indent=1, sort_keys=True) + "\n")
+
+    def tell_folders(self) -> None:
+        """A line for each folder: its tests, and what they took."""
+        for folder in sorted({it.job.folder for it in self.done}):
+            of_it = [it for it in self.done if it.job.folder == folder]
+            tests, used = sum(len(it.tests) for it in of_it), sum(it.processor for it in of_it)
+            print(f"{folder}: {tests} tests, {used:.0f} processor seconds")
+
+    def end(self) -> int:
+        """Says what was skipped, what failed, and the last line; the status of the program."""
+        words = [word for done in self.done for word in done.tests.values()]
+        skips = collections.Counter(it for it in words if it.startswith("skipped"))
+        for reason, count in sorted(skips.items()):
+            print(f"{reason}: {count}")
+        failed = [(done.job.name, name) for done in self.done for name in done.failed()]
+        for job, name in failed:
+            print(f"FAILED: {job}: {name}")
+        passed = words.count("passed")
+        print(f"tests: {passed} passed, {len(failed)} failed, {sum(skips.values())} skipped")
+        return 1 if failed or not passed else 0
+
+
+def build() -> str:
+    """What a build that fails says, or nothing."""
+    for command in BUILDS if helpers.IS_NATIVE else []:
+        pipes: dict[str, Any] = {"stdout": subprocess.PIPE, "stderr": subprocess.STDOUT}
+        done = subprocess.run(command, cwd=TOP, stdin=subprocess.DEVNULL, text=True, **pipes)
+        if done.returncode:
+            return (
+                f"{done.stdout}\nFAILED: {' '.join(command)}\ntests: 0 passed, 1 failed, 0 skipped"
+            )
+    return ""
+
+
+def main() -> int:
+    reader = argparse.ArgumentParser(usage=(__doc__ or "").split("\n\n")[1].strip())
+    reader.add_argument("--long", action="store_true")
+    reader.add_argument("--note", action="store_true")
+    reader.add_argument("words", nargs="*")
+    asked = reader.parse_args()
+    for it in SIGNALS:
+        signal.signal(it, interrupt)
+    if fault := build():
+        print(fault)
+        return 1
+    chosen = jobs(asked.words, asked.long)
+    progress = Progress(len(chosen))
+    progress.run_beside([it for it in chosen if not it.is_quiet])
+    progress.run_beside([it for it in chosen if it.is_quiet])
+    if asked.note:
+        progress.note()
+    progress.tell_folders()
+    return progress.end()
+
+
+if __name__ == "__main__":
+    sys.exit(main())

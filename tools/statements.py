@@ -1,0 +1,308 @@
+#!/usr/bin/env python3
+"""Compares what the crates promise with docs/STATEMENTS.txt, which has a line for each promise.
+
+    python3 tools/statements.py [--write]
+
+A line is a sum and a name. The sum is over the words of the promise, and over all definitions in
+`specs/` and constants of the code that it rests on, in whatever crate. So a clause that is weakened
+changes its own line, and a definition those of the promises that rest on it. There is a line for
+
+- each clause, `requires` and `ensures`, of a public function, of a trait and of an impl of a trait;
+- each ghost item, and each fact that a struct keeps of its fields;
+- each public function: its signature with its bounds, and whether its body is empty, as a law's is.
+  Those in RUNS count with their bodies, since their clauses tell what happens to the run in them;
+- each public type, with its derives, texts of errors, variants and public fields; each impl of a
+  trait; each public constant;
+- each crate: the names that it hands out, and its line in crates.txt; and HANDLES.
+
+A signature, and what a crate hands out, count with what their imported names stand for. A macro
+among items is refused, since no line would tell what it writes.
+
+No line changes by a comment, the layout, the order of imports, a proof, another body, or where a
+file stands. A binder's or a definition's new name does change lines, as words are compared. What no
+line tells: the toolchain's own definitions, for which its logic stands; what is private in a type;
+and the crates of tests and examples, which promise nothing.
+
+--write writes the file anew. Without, the names are printed whose lines differ, and the status is 1
+if there are some.
+"""
+
+from __future__ import annotations
+
+import argparse
+import collections
+import dataclasses
+import pathlib
+import re
+import sys
+from collections.abc import Iterable, Iterator
+
+import definitions
+from definitions import Definitions, Names, Place, Text
+from items import File, Item
+from tree import CRATES, TOP, is_test_or_example, listed, source
+
+STATEMENTS = TOP / "docs/STATEMENTS.txt"
+HEAD = """\
+# A sum over each promise of the crates and all that it rests on. tools/statements.py says which,
+# and writes this file. A second person reads what changed behind each line (CONTRIBUTING.md).
+"""
+# Whose bodies are the runs that their clauses tell of: functions, and all those of a crate.
+RUNS = {"crash_laws", "cred_file::crash_and_open", "cred_file::reopen", "credbook::main"}
+# The items that have a line of their own, beside those of their clauses.
+TOLD = {"fn", "struct", "enum", "trait", "const", "static", "type"}
+WRITE = "python3 tools/statements.py --write"
+
+
+def joined(words: Iterable[str]) -> str:
+    """Some words of Rattle as a name: `<FileBook<S> as Keeper>`."""
+    text = re.sub(r" ?(::|[<(\[]) ?", r"\1", " ".join(words))
+    return re.sub(r"(&) | ([,>)\]])", r"\1\2", text)
+
+
+def without_generics(words: list[str]) -> list[str]:
+    """Some words, without the `<..>` that they begin with."""
+    depth = 0
+    for at, word in enumerate(words):
+        depth += {"<": 1, ">": -1}.get(word, 0)
+        if depth == 0:
+            return words[at + 1 :] if word == ">" else words[at:]
+    return []
+
+
+def header_of(impl: Item) -> list[str]:
+    """What an impl is for, without its parameters and their bounds."""
+    words = without_generics(impl.head[impl.head.index("impl") + 1 :])
+    return words[: words.index("where")] if "where" in words else words
+
+
+def is_of_trait(item: Item) -> bool:
+    """Whether an item is a trait, or an impl of one."""
+    return item.kind == "trait" or item.kind == "impl" and "for" in header_of(item)
+
+
+def name_of(item: Item) -> str:
+    """The name of an item; that of an impl is `FileBook`, or `<FileBook<S> as Keeper>`."""
+    if item.kind in ("ghost", "field", "mod"):
+        return ""
+    if item.kind != "impl":
+        return item.name
+    words = header_of(item)
+    if "for" not in words:
+        return joined(words).partition("<")[0]
+    at = words.index("for")
+    return f"<{joined(words[at + 1 :])} as {joined(words[:at])}>"
+
+
+@dataclasses.dataclass
+class Source:
+    """A file of a crate's code, with the constants and all names that its clauses may use."""
+
+    crate: str
+    modules: Place
+    items: list[Item]
+    constants: Names = dataclasses.field(default_factory=dict)
+    names: Names = dataclasses.field(default_factory=dict)
+    # What its code has under another name than where it is from, or from other crates.
+    others: Names = dataclasses.field(default_factory=dict)
+
+
+def is_for_tests(item: Item) -> bool:
+    return any(it.startswith("cfg ( test") for it in item.attributes)
+
+
+def all_items(items: list[Item]) -> Iterator[Item]:
+    """Items, and those in their braces."""
+    for item in items:
+        yield item
+        yield from all_items(item.inner)
+
+
+def sources_of(crate: str, crates: pathlib.Path) -> Iterator[Source]:
+    """The files of a crate's code, but for those that only its tests have."""
+    top = crates / crate / "src"
+    found = {}
+    for file in sorted(top.glob("**/*.rt")):
+        path = file.relative_to(top).with_suffix("").parts
+        found[() if path in (("lib",), ("main",)) else path] = File(source(file)).items()
+    tests = {(*at, it.name) for at, items in found.items() for it in items if is_for_tests(it)}
+    for modules, items in found.items():
+        if not any(modules[: len(it)] == it for it in tests):
+            yield Source(crate, modules, [it for it in items if not is_for_tests(it)])
+
+
+def imports_of(item: Item) -> list[tuple[str, Place]]:
+    """What a `use` of code imports: each local name, with its path."""
+    path = item.head[item.head.index("use") + 1 :]
+    return [*definitions.imported(["." if it == "::" else it for it in path])]
+
+
+def stated(item: Item, owner: Item | None, is_run: bool) -> list[str]:
+    """What the line of an item itself is over: all that others see of it but its clauses."""
+    words = [*item.attributes, *item.head]
+    if item.kind == "fn" and owner is not None and owner.kind == "impl":
+        words = [*owner.head, *words]
+    if item.kind == "enum" or is_run:
+        words += item.body or []
+    elif item.kind == "fn" and item.body == []:
+        words.append("{}")
+    for field in item.inner:
+        if item.kind == "struct" and field.is_public and not field.clauses:
+            words += [*field.attributes, *field.head, ","]
+    return words
+
+
+class Statements:
+    """A line for each thing that some crates promise: its name, and its sum."""
+
+    def __init__(self, names: list[str], crates: pathlib.Path = CRATES) -> None:
+        self.found = Definitions(crates)
+        self.lines: list[tuple[str, str]] = []
+        self.constants: dict[tuple[str, str], list[Place]] = collections.defaultdict(list)
+        sources = [it for name in names for it in sources_of(name, crates)]
+        for file in sources:
+            self.add_constants(file)
+        self.modules: dict[tuple[str, str], set[Place]] = collections.defaultdict(set)
+        for file in sources:
+            for item in file.items:
+                if item.kind in TOLD | {"mod"}:
+                    self.modules[file.crate, item.name].add(file.modules)
+        for file in sources:
+            self.add_names(file)
+            self.add_others(file)
+        for file in sources:
+            for item in file.items:
+                self.read(file, item)
+        for name in names:
+            self.say(f"{name} pub use", self.exported([it for it in sources if it.crate == name]))
+
+    def add_constants(self, file: Source) -> None:
+        """Adds a file's constants to the definitions."""
+        for item in file.items:
+            if item.kind in ("const", "static"):
+                text = Text(item.head[item.head.index(item.kind) :], file.constants)
+                path = self.found.add_constant(file.crate, file.modules, item.name, text)
+                self.constants[file.crate, item.name].append(path)
+                file.constants[item.name] = {path}
+
+    def add_names(self, file: Source) -> None:
+        """Adds the names that a file imports, in code for constants and for ghost text."""
+        for item in all_items(file.items):
+            if item.kind == "use":
+                for local, path in imports_of(item):
+                    crate = path[0] if path[0] in self.found.crates else file.crate
+                    for constant in self.constants[crate, path[-1]]:
+                        file.constants.setdefault(local, set()).add(constant)
+        file.names = {name: {*paths} for name, paths in file.constants.items()}
+        for item in all_items(file.items):
+            if item.kind == "ghost use":
+                definitions.add_names(file.names, definitions.words(item.clauses[0].text))
+
+    def add_others(self, file: Source) -> None:
+        """Adds what stands behind a name of the code: an import from another crate or under another
+        name, and a type's other name. A crate's own file may have any name."""
+        for item in all_items(file.items):
+            if item.kind == "use":
+                for local, path in imports_of(item):
+                    file.others.setdefault(local, set()).add(self.whence(file, path))
+            elif item.kind == "type" and not item.is_public:
+                file.others.setdefault(item.name, set()).add(("type", *item.head))
+
+    def whence(self, file: Source, path: Place) -> Place:
+        """Where an import is from: its crate and its name there, and its module too if several of
+        the crate have that name. Of a library of the toolchain all is told."""
+        is_own = path[0] in ("crate", "self", "super") or (file.crate, path[0]) in self.modules
+        crate = file.crate if is_own else path[0]
+        if crate not in self.found.crates:
+            return path
+        several = len(self.modules.get((crate, path[-1]), ())) > 1
+        return (crate, *(path[1:-1] if several else ()), path[-1])
+
+    def exported(self, sources: list[Source]) -> list[str]:
+        """The names that a crate hands out, with where each is from, and its public modules."""
+        public = [(file, it) for file in sources for it in all_items(file.items) if it.is_public]
+        names = {
+            f"{'.'.join(self.whence(file, path))} as {local}"
+            for file, it in public
+            if it.kind == "use"
+            for local, path in imports_of(it)
+        }
+        return sorted(names | {f"mod {it.name}" for _, it in public if it.kind == "mod"})
+
+    def say(self, name: str, words: list[str], names: Names | None = None) -> None:
+        """Adds the line of a promise."""
+        self.lines.append((name, self.found.sum_of(Text(words, names or {}))))
+
+    def read(self, file: Source, item: Item, owner: Item | None = None) -> None:
+        """Adds the lines of an item, whose owner is the impl, trait or struct that it stands in."""
+        if item.kind in ("use", "ghost use") or is_for_tests(item):
+            return
+        names = (file.crate, name_of(owner) if owner else "", name_of(item))
+        name = "::".join(it for it in names if it)
+        is_run = item.kind == "fn" and (file.crate in RUNS or name in RUNS)
+        of_trait = owner is not None and is_of_trait(owner)
+        is_method = owner is not None and owner.kind == "impl" and item.kind == "fn"
+        is_public = item.is_public or is_run or of_trait and not is_method
+        if is_public and item.kind in TOLD or is_of_trait(item):
+            names_of_code = {**file.others, **file.constants}
+            self.say(f"{name} {item.kind}", stated(item, owner, is_run), names_of_code)
+        if is_public or of_trait or item.kind != "fn":
+            for it in item.clauses:
+                words = definitions.words(it.text)
+                self.say(f"{name} {it.kind} {it.name}".rstrip(), words, file.names)
+        for inner in item.inner:
+            self.read(file, inner, None if item.kind == "mod" else item)
+
+
+def promises() -> list[tuple[str, str]]:
+    """The name and the sum of each promise of the tree, by name."""
+    names = [it for it in listed() if not is_test_or_example(it)]
+    found = Statements(names)
+    for name in names:
+        words, below = listed()[name]
+        found.say(f"crates.txt {name}", [*words.split(), *sorted(below)])
+    found.say("HANDLES", source(TOP / "HANDLES").split())
+    return sorted(found.lines)
+
+
+def differences(text: str, lines: list[tuple[str, str]]) -> list[str]:
+    """What became of each promise whose line a text doesn't have."""
+    was, now = collections.defaultdict(list), collections.defaultdict(list)
+    for line in text.splitlines():
+        if not line.startswith("#"):
+            was[line.partition(" ")[2]].append(line.partition(" ")[0])
+    for name, found in lines:
+        now[name].append(found)
+    differing = sorted(it for it in {*was, *now} if sorted(was[it]) != sorted(now[it]))
+    return [
+        f"{'new' if not was[it] else 'gone' if not now[it] else 'changed'}: {it}"
+        for it in differing
+    ]
+
+
+def check() -> list[str | None]:
+    """What is wrong with docs/STATEMENTS.txt."""
+    try:
+        found = differences(source(STATEMENTS), promises())
+    except (LookupError, ValueError) as wrong:
+        return [f"docs/STATEMENTS.txt: {wrong}"]
+    if not found:
+        return [None]
+    count = "1 promise isn't" if len(found) == 1 else f"{len(found)} promises aren't"
+    told = f"{count} as in docs/STATEMENTS.txt: if you mean that, `{WRITE}` brings it up to date"
+    return ["\n".join([*found, told])]
+
+
+def main() -> int:
+    reader = argparse.ArgumentParser(usage="python3 tools/statements.py [--write]")
+    reader.add_argument("--write", action="store_true", help="write docs/STATEMENTS.txt anew")
+    if reader.parse_args().write:
+        STATEMENTS.write_text(HEAD + "".join(f"{found} {name}\n" for name, found in promises()))
+        return 0
+    [wrong] = check()
+    print(wrong or "docs/STATEMENTS.txt has the line of each promise")
+    return 1 if wrong else 0
+
+
+if __name__ == "__main__":
+    sys.exit(main())
