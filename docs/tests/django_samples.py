@@ -23,8 +23,8 @@ class SamplesTest(TestCase):
         self.assertTrue(User.objects.get().check_password(password))
 
     def test_settings(self):
-        """The page's hashers alone log in, since argon2-cffi isn't there; nothing is amiss, the URLs
-        have Django's names, and the admin knows the model."""
+        """The page's hashers alone log in, since argon2-cffi isn't there; nothing is amiss, the
+        URLs have Django's names, and the admin knows the model."""
         for algorithm in ("argon2", "scrypt"):
             hasher = type(hashers.get_hasher(algorithm))
             self.assertEqual(hasher.__module__, "rigzumal.django.hashers")

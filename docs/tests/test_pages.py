@@ -3,11 +3,8 @@ compiled or run.
 
     /usr/bin/python3 docs/tests/test_pages.py [-k NAME ..]
 
-They need `make -C c`. A test is skipped where this machine lacks what it needs. Debian's packages
-for all of it: cargo, python3-django, python3-psycopg, python3-sqlalchemy, postgresql, php-cli,
-php-sqlite3, php-laravel-framework, php-symfony-security-http, php-symfony-password-hasher,
-apache2-utils, dovecot-core, python3-passlib, python3-argon2, python3-bcrypt; and credkeep, if it
-is built.
+They need `make -C c`, and credkeep for some. A test is skipped where this machine lacks what it
+needs: tools/debian-packages.txt has Debian's packages.
 """
 
 import functools
@@ -19,17 +16,19 @@ import sys
 import unittest
 
 HERE = pathlib.Path(__file__).resolve().parent
-sys.path.insert(0, str(HERE.parent.parent))
+sys.path[:0] = [str(HERE), str(HERE.parent.parent)]
 
+import services  # noqa: E402
 from tests.helpers import LIBRARIES, PYTHON, TOP, Case  # noqa: E402
 from tests.helpers import need, need_module, run, write_files  # noqa: E402
+from tests.needs import lacking, need_file  # noqa: E402
 
 OVER_PACKAGE = {"PYTHONPATH": str(PYTHON)}
 BLOCK = re.compile(r"^```(c|python|rust)\n(.*?)^```$", re.MULTILINE | re.DOTALL)
 FROM_FILE = re.compile(r"^<!-- from \S+ -->\n```.*?^```$", re.MULTILINE | re.DOTALL)
 
-# The tests of each piece, page by page and in their order. What a page takes from a file is compared
-# with that file by tools/pages.py.
+# The tests of each piece, page by page and in their order. What a page takes from a file is
+# compared with that file by tools/pages.py.
 TESTED = {
     "README.md": (
         ("python", "test_samples_of_hashing"),
@@ -41,12 +40,16 @@ TESTED = {
         *(("python", "test_samples_of_django"),) * 7,
     ),
     "docs/SCALE.md": (("python", "test_sample_of_a_transaction"),),
-    "docs/SERVERS.md": (("python", "tests/server/test_clients.py"),),
+    "docs/SERVERS.md": (("python", "tests/server/test_client_fields.py"),),
     "docs/SERVING.md": (
-        ("python", "tests/credkeep/test_tagged.py"),
+        ("python", "tests/server/test_client_fields.py"),
         ("python", "test_sample_of_a_co_process"),
     ),
-    "python/README.md": (("python", "test_samples_of_hashing"),),
+    "python/README.md": (
+        ("python", "test_samples_of_hashing"),
+        *(("python", "test_samples_of_asyncio"),) * 3,
+        ("python", "test_sample_of_flask"),
+    ),
     "rust/README.md": (("rust", "test_sample_of_rust"),),
 }
 
@@ -61,8 +64,8 @@ def sample_for(page, test):
     return [code for (_, code), (_, named) in zip(samples(page), TESTED[page]) if named == test]
 
 
-# Of docs/DJANGO.md's pieces: what hashers, a model and URLs import, and settings of a project with a model of
-# its own, as where argon2-cffi isn't installed.
+# Of docs/DJANGO.md's pieces: what hashers, a model and URLs import, and settings of a project with
+# a model of its own, as where argon2-cffi isn't installed.
 HASHER_IMPORTS = """from django.contrib.auth.hashers import MD5PasswordHasher
 from people.models import User
 from rigzumal.django.hashers import Argon2PasswordHasher
@@ -158,8 +161,25 @@ assert hasher.check_needs_rehash(record) is {is_old}
 """
                     self.assertEqual(run(sys.executable, "-c", text, env=OVER_PACKAGE), said)
 
+    def check_logins(self, code, program):
+        """A page's service, over a table in which Ada has a password, by a program that asks it."""
+        text = f"{services.BEFORE}{code}{program}"
+        run(sys.executable, "-c", text, env=OVER_PACKAGE, at=self.folder)
+
+    def test_samples_of_asyncio(self):
+        """By a right password and a wrong one, by names of nobody's, and as a hash alone."""
+        need_module("aiosqlite", "fastapi", "httpx")
+        code = "\n".join(sample_for("python/README.md", "test_samples_of_asyncio"))
+        self.check_logins(code, services.ASYNCIO)
+
+    def test_sample_of_flask(self):
+        need_module("flask")
+        (code,) = sample_for("python/README.md", "test_sample_of_flask")
+        self.check_logins(code, services.FLASK)
+
     def check_c(self, code, rehashes):
-        """A sample of C lets in by the right password alone, and rehashes old records alone then."""
+        """A sample of C lets in by the right password alone, and rehashes old records alone
+        then."""
         self.assertEqual(code.count("RIGZUMAL_ARGON2_COSTS"), 1 + rehashes)
         code = code.replace("RIGZUMAL_ARGON2_COSTS", "costs", 1)
         source, program = self.folder / "sample.c", self.folder / "sample"
@@ -235,7 +255,7 @@ assert hasher.check_needs_rehash(record) is {is_old}
         path = os.pathsep.join(map(str, (PYTHON, PYTHON / "tests/accounts")))
         said = run(sys.executable, HERE / "sample_of_accounts.py", page, env={"PYTHONPATH": path})
         if said.startswith("not there: "):
-            self.skipTest(said.strip())
+            self.skipTest(said.removeprefix("not there: ").strip())
 
     def test_sample_of_accounts(self):
         (code,) = sample_for("README.md", "test_sample_of_accounts")
@@ -246,7 +266,8 @@ assert hasher.check_needs_rehash(record) is {is_old}
         self.check_accounts("\n".join(re.findall(r"^    (.*)$", head, re.M)))
 
     def test_sample_of_a_transaction(self):
-        """A change commits with rows of the caller's in the transaction of an ORM, or not at all."""
+        """A change commits with rows of the caller's in the transaction of an ORM, or not at
+        all."""
         need_module("sqlalchemy")
         (code,) = sample_for("docs/SCALE.md", "test_sample_of_a_transaction")
         page, program = self.folder / "transaction.py", HERE / "sample_of_a_transaction.py"
@@ -292,8 +313,7 @@ assert hasher.check_needs_rehash(record) is {is_old}
         """The page's co-process over a new book, where credkeep is built."""
         built = TOP / "crates/credkeep/out"
         env = {"PATH": os.pathsep.join((str(built), os.environ["PATH"]))}
-        if shutil.which("credkeep", path=env["PATH"]) is None:
-            self.skipTest("credkeep isn't built")
+        need_file(built / "credkeep")
         (code,) = sample_for("docs/SERVING.md", "test_sample_of_a_co_process")
         run("credkeep", "users.db", "init", env=env, at=self.folder)
         self.assertEqual(run(sys.executable, "-c", code, env=env, at=self.folder), "ok\nnone\n")
@@ -327,14 +347,19 @@ assert hasher.check_needs_rehash(record) is {is_old}
     def need_php(self, page=None):
         need("php")
         if "pdo_sqlite" not in run("php", "-m"):
-            self.skipTest("PHP's pdo_sqlite isn't installed")
-        if page and not pathlib.Path("/usr/share/php", page).exists():
-            self.skipTest(f"PHP's {page} isn't installed")
+            raise lacking("a PHP with pdo_sqlite")
+        if page:
+            need_file(f"/usr/share/php/{page}")
 
     def test_php(self):
         """The plain code, on SQLite."""
         self.need_php()
         self.php(TOP / "examples/php/accounts.php", "php_accounts.php")
+
+    def test_php_tokens(self):
+        """Each token of a reset is accepted, and no altered one."""
+        self.need_php()
+        self.php(TOP / "examples/php/accounts.php", "php_tokens.php")
 
     def test_laravel(self):
         """The provider for Laravel, on SQLite."""
@@ -358,6 +383,17 @@ assert hasher.check_needs_rehash(record) is {is_old}
         need_module("django", "passlib", "argon2", "bcrypt")
         said = run(sys.executable, TOP / "tools/readme.py", "docs/MIGRATING.md")
         self.assertNotIn("not run", said)
+
+    def test_hook_of_htpasswd(self):
+        """docs/MIGRATING.md's hook lets in by the right password alone, whatever a visitor
+        sends."""
+        need_module("passlib", "bcrypt")
+        text = (HERE.parent / "MIGRATING.md").read_text()
+        (code,) = re.findall(r"^cat > from_htpasswd.py <<'END'\n(.*?)^END$", text, re.S | re.M)
+        page, program = self.folder / "from_htpasswd.py", HERE / "sample_of_a_hook.py"
+        page.write_text(code)
+        env = {"PYTHONPATH": os.pathsep.join(map(str, (PYTHON, TOP)))}
+        run(sys.executable, program, page, env=env, at=self.folder)
 
 
 if __name__ == "__main__":
