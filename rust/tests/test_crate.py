@@ -1,5 +1,5 @@
 """Tests of the crate for Rust, after `make -C c`: what cargo, clippy and rustfmt say. They need
-those of Rust 1.70 or later, as Debian 13 has them."""
+those of Rust 1.70 or later, as Debian 13 has them; Debian 12's own are older."""
 
 import pathlib
 import re
@@ -11,10 +11,20 @@ CRATE = pathlib.Path(__file__).resolve().parent.parent
 sys.path.insert(0, str(CRATE.parent))
 
 from tests.helpers import LIBRARIES, common_folder, need, run
+from tests.needs import lacking
 
 ROOM = common_folder()
 ROOM_OF_CARGO = {"CARGO_TARGET_DIR": str(ROOM / "cargo"), "RIGZUMAL_LIB_DIR": str(LIBRARIES)}
 STRICT = {"RUSTDOCFLAGS": "-D warnings", **ROOM_OF_CARGO}
+
+
+def need_cargo():
+    """Skips a test whose cargo is older than the crate's `rust-version`."""
+    need("cargo")
+    wanted = re.search(r'^rust-version = "1\.(\d+)"', (CRATE / "Cargo.toml").read_text(), re.M)
+    found = re.match(r"cargo 1\.(\d+)\.", run("cargo", "--version"))
+    if int(found[1]) < int(wanted[1]):
+        raise lacking("a newer cargo")
 
 
 def cargo(*words, env=None, at=CRATE):
@@ -62,9 +72,11 @@ rigzumal = {{ path = "{CRATE}", default-features = false }}
 class Crate(unittest.TestCase):
     """The crate, over the built library."""
 
+    def setUp(self):
+        need_cargo()
+
     def test_rust(self):
         """The crate's own tests and the examples of its pages."""
-        need("cargo")
         said = cargo("test", "--locked")
         counts = [int(it) for it in re.findall(r"test result: ok. (\d+) passed; 0 failed", said)]
         if sum(counts) < 20 or "0 ignored" not in said:
@@ -73,7 +85,7 @@ class Crate(unittest.TestCase):
     def test_the_library_that_is_named_is_linked(self):
         """The folder that RIGZUMAL_LIB_DIR names comes first; it has the shared library alone
         here."""
-        need("cargo", "ldd")
+        need("ldd")
         folder, target = ROOM / "named", ROOM / "cargo-of-named"
         self.copy_shared_library(folder)
         env = {"RIGZUMAL_LIB_DIR": str(folder), "CARGO_TARGET_DIR": str(target)}
@@ -90,7 +102,7 @@ class Crate(unittest.TestCase):
 
     def test_the_library_that_pkg_config_finds_is_linked(self):
         """In its libdir, and not in its prefix; the crate stands by itself here."""
-        need("cargo", "ldd", "pkg-config")
+        need("ldd", "pkg-config")
         folder, crate, target = ROOM / "found/lib", ROOM / "moved", ROOM / "cargo-of-moved"
         self.copy_shared_library(folder)
         shutil.copytree(CRATE, crate, ignore=shutil.ignore_patterns("target"))
@@ -101,7 +113,6 @@ class Crate(unittest.TestCase):
 
     def test_a_missing_library(self):
         """Where none is found the build says how to build one, and links it once it is built."""
-        need("cargo")
         crate, built = ROOM / "alone/rust", ROOM / "alone/c/out"
         shutil.copytree(CRATE, crate, ignore=shutil.ignore_patterns("target"))
         env = {"CARGO_TARGET_DIR": str(ROOM / "cargo-alone"), "PKG_CONFIG_LIBDIR": str(ROOM)}
@@ -112,17 +123,15 @@ class Crate(unittest.TestCase):
 
     def test_secrets_are_cleared_when_optimised(self):
         """In what cargo builds for a release, where the compiler drops writes that nobody reads."""
-        need("cargo")
         self.assertIn("1 passed", cargo("test", "--locked", "--release", "--test", "cleared"))
 
     def test_comparison(self):
         """No jump depends on where two records differ, in what cargo builds for a release."""
-        need("cargo", "valgrind")
+        need("valgrind")
         run("valgrind", "-q", program_of("compared", "--release"))
 
     def test_without_std(self):
         """Without its features the crate is one for programs without std."""
-        need("cargo")
         room = ROOM / "no-std"
         room.mkdir()
         (room / "lib.rs").write_text(NO_STD)
@@ -132,7 +141,7 @@ class Crate(unittest.TestCase):
     def test_rust_layout(self):
         """rustfmt leaves the crate as it is, clippy and rustdoc say nothing, and no line is
         long."""
-        need("cargo", "cargo-clippy", "cargo-fmt")
+        need("cargo-clippy", "cargo-fmt")
         cargo("fmt", "--check")
         for targets in (["--all-targets"], ["--no-default-features"]):
             cargo("clippy", "--locked", *targets, "--", "-D", "warnings")
