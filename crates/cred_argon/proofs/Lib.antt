@@ -1,5 +1,5 @@
 -- The lemmas of Argon2, and the vectors that pin the definitions.
-pub mod QuadLemmas
+pub mod LayoutLemmas
 pub mod Whole
 pub mod Ranges
 pub mod Sets

@@ -3,8 +3,8 @@ use Rattle.std.proofs.Common.{◌≡◌, ℕ, ◌<◌, ◌≤◌, ◌+◌, ◌*�
 use Rattle.std.proofs.{lemmas.Bool.cases_lt, lemmas.Bool.lt-ltb, lemmas.Bool.le-ltb, lemmas.List.FromFn.fill_by_all, lemmas.List.FromFn.get_or-map-range_with_len}
 use Rattle.std.specs.List.{range_with_len}
 use Rattle.cred_argon.specs.Compress.{permutation, row, column, rows, columns, xor_words, compress}
-use Rattle.cred_argon.specs.Quads.{slot_at, row_list, column_list, half_word, IsRows, IsHalf}
-use Rattle.cred_argon.proofs.QuadLemmas.{below_sixteen}
+use Rattle.cred_argon.specs.Layout.{slot_at, list_of, column_of_rows, column_of_halves, half_word, IsRows, IsHalf}
+use Rattle.cred_argon.proofs.LayoutLemmas.{below_sixteen}
 
 xor_words_at : (x y : List ℕ) (n : ℕ) → n < 128 → slice_index (xor_words x y) n ≡ bit_xor (slice_index x n) (slice_index y n)
 unfolding xor_words
@@ -20,80 +20,93 @@ unfolding columns
 columns_at v n h =
     get_or-map-range_with_len (λ (k : ℕ). slice_index (permutation (column v (k % 16 / 2))) (2 * (k / 16) + k % 2)) 0 128 n n 0 h (omega arith)
 
-row_list_at : (j : ℕ) (x : List (List ℕ)) (k : ℕ) → k < 16 → slice_index (row_list j x) k ≡ slot_at x (4 * j + k / 4) (k % 4)
-row_list_at j x = below_sixteen _ refl refl refl refl refl refl refl refl refl refl refl refl refl refl refl refl
+list_of_at : (j : ℕ) (x : List (List ℕ)) (k : ℕ) → k < 16
+    → slice_index (list_of j x) k ≡ slot_at x (4 * (j / 2) + k / 4) (4 * (j % 2) + k % 4)
+list_of_at j x = below_sixteen _ refl refl refl refl refl refl refl refl refl refl refl refl refl refl refl refl
 
-column_list_at : (j : ℕ) (x : List (List ℕ)) (k : ℕ) → k < 16
-    → slice_index (column_list j x) k ≡ slot_at x (2 * (k / 2) + j % 2) (2 * (j / 2) + k % 2)
-column_list_at j x = below_sixteen _ refl refl refl refl refl refl refl refl refl refl refl refl refl refl refl refl
+column_of_rows_at : (j : ℕ) (x : List (List ℕ)) (k : ℕ) → k < 16
+    → slice_index (column_of_rows j x) k ≡ slot_at x (4 * (j / 2) + k / 4) (2 * (j % 2) + (4 * (k % 4 / 2) + k % 2))
+column_of_rows_at j x = below_sixteen _ refl refl refl refl refl refl refl refl refl refl refl refl refl refl refl refl
+
+column_of_halves_at : (j : ℕ) (x : List (List ℕ)) (k : ℕ) → k < 16
+    → slice_index (column_of_halves j x) k ≡ slot_at x (k / 2) (2 * j + k % 2)
+column_of_halves_at j x = below_sixteen _ refl refl refl refl refl refl refl refl refl refl refl refl refl refl refl refl
 
 -- the words of four rows under P, from those of the rows of the XOR of two blocks
 pub rows_words : (a b : List ℕ) (x z : List (List ℕ)) (first : ℕ) → first + 4 ≤ 8
-    → ((m : ℕ) → m < 16 → (e : ℕ) → e < 4
-    → slot_at x m e ≡ bit_xor (slice_index a (16 * first + 4 * m + e)) (slice_index b (16 * first + 4 * m + e)))
-    → ((j : ℕ) → j < 4 → row_list j z ≡ permutation (row_list j x))
+    → ((m : ℕ) → m < 8 → (e : ℕ) → e < 8
+    → slot_at x m e
+    ≡ bit_xor (slice_index a (16 * first + (32 * (m / 4) + 8 * (m % 4 / 2)) + 4 * (m % 2) + 16 * (e / 4) + e % 4))
+    (slice_index b (16 * first + (32 * (m / 4) + 8 * (m % 4 / 2)) + 4 * (m % 2) + 16 * (e / 4) + e % 4)))
+    → ((j : ℕ) → j < 4 → list_of j z ≡ permutation (list_of j x))
     → IsRows (rows (xor_words a b)) first z
 rows_words a b x z first four held by_row m hm e he =
     let r = xor_words a b in
-    let j = m / 4 in
-    let k = 4 * (m % 4) + e in
-    let n = 16 * first + 4 * m + e in
+    let j = 2 * (m / 4) + e / 4 in
+    let k = 4 * (m % 4) + e % 4 in
+    let n = 16 * (first + 2 * (m / 4) + e / 4) + 4 * (m % 4) + e % 4 in
     let below : j < 4 = omega arith in
-    let row_is : row_list j x ≡ row r (first + j) =
-    fill_by_all (λ (i : ℕ). slice_index r (16 * (first + j) + i)) (row_list j x) 16 0 refl (λ i h.
-    row_list_at j x i h ∙ held (4 * j + i / 4) (omega arith) (i % 4) (omega arith)
-    ∙ sym (xor_words_at a b (16 * first + 4 * (4 * j + i / 4) + i % 4) (omega arith)) ∙ ap (λ (t : ℕ). slice_index r t) (omega arith)) in
-    let at_m : 4 * j + k / 4 ≡ m = omega arith in
-    let at_e : k % 4 ≡ e = omega arith in
+    let row_is : list_of j x ≡ row r (first + j) =
+    fill_by_all (λ (i : ℕ). slice_index r (16 * (first + j) + i)) (list_of j x) 16 0 refl (λ i h.
+    let q = 4 * (j / 2) + i / 4 in
+    let s = 4 * (j % 2) + i % 4 in
+    list_of_at j x i h ∙ held q (omega arith) s (omega arith)
+    ∙ sym (xor_words_at a b (16 * first + (32 * (q / 4) + 8 * (q % 4 / 2)) + 4 * (q % 2) + 16 * (s / 4) + s % 4) (omega arith))
+    ∙ ap (λ (t : ℕ). slice_index r t) (omega arith)) in
+    let at_m : 4 * (j / 2) + k / 4 ≡ m = omega arith in
+    let at_e : 4 * (j % 2) + k % 4 ≡ e = omega arith in
     let at_row : n / 16 ≡ first + j = omega arith in
     let at_place : n % 16 ≡ k = omega arith in
     ap₂ (λ (k i : ℕ). slot_at z k i) (sym at_m) (sym at_e)
-    ∙ sym (row_list_at j z k (omega arith))
+    ∙ sym (list_of_at j z k (omega arith))
     ∙ ap (λ (v : List ℕ). slice_index v k) (by_row j below ∙ ap permutation row_is)
     ∙ rw (rows_at r n (omega arith), at_row, at_place) refl
 
--- half h of each row of a block, of which the rows before and from row 4 on are these vectors
+-- the vectors for half h of each row, of a block whose rows before and from row 4 on are these
 abbrev pub half_of : List (List ℕ) → List (List ℕ) → ℕ → List (List ℕ)
 half_of top low h =
-    map (λ m. slice_index_or (if nat_lt m 8 then top else low) (4 * (m % 8 / 2) + 2 * h + m % 2) []) (range_with_len 0 16)
+    map (λ m. slice_index_or (if nat_lt (m % 4) 2 then top else low) (4 * (m % 2) + (2 * h + m / 4)) []) (range_with_len 0 8)
 
 pub half_at : (v : List ℕ) (top low : List (List ℕ)) (h : ℕ) → h < 2 → IsRows v 0 top → IsRows v 4 low
-    → (m : ℕ) → m < 16 → (e : ℕ) → e < 4 → slot_at (half_of top low h) m e ≡ slice_index v (16 * (m / 2) + 8 * h + 4 * (m % 2) + e)
+    → (m : ℕ) → m < 8 → (e : ℕ) → e < 8
+    → slot_at (half_of top low h) m e ≡ slice_index v (16 * (2 * (m % 4) + e / 4) + 4 * (2 * h + m / 4) + e % 4)
 half_at v top low h two is_top is_low m hm e he =
-    let k = 4 * (m % 8 / 2) + 2 * h + m % 2 in
+    let k = 4 * (m % 2) + (2 * h + m / 4) in
     ap (λ (x : List ℕ). slice_index x e)
-    (get_or-map-range_with_len (λ m. slice_index_or (if nat_lt m 8 then top else low) (4 * (m % 8 / 2) + 2 * h + m % 2) []) 0 16 m m [] hm (omega arith))
-    ∙ elim (cases_lt m 8) [
-      | inl front ↦ rw (lt-ltb m 8 front) (is_top k (omega arith) e he ∙ ap (λ (t : ℕ). slice_index v t) (omega arith))
-      | inr back ↦ rw (le-ltb m 8 back) (is_low k (omega arith) e he ∙ ap (λ (t : ℕ). slice_index v t) (omega arith))
+    (get_or-map-range_with_len (λ m. slice_index_or (if nat_lt (m % 4) 2 then top else low) (4 * (m % 2) + (2 * h + m / 4)) []) 0 8 m m [] hm (omega arith))
+    ∙ elim (cases_lt (m % 4) 2) [
+      | inl front ↦ rw (lt-ltb (m % 4) 2 front) (is_top k (omega arith) e he ∙ ap (λ (t : ℕ). slice_index v t) (omega arith))
+      | inr back ↦ rw (le-ltb (m % 4) 2 back) (is_low k (omega arith) e he ∙ ap (λ (t : ℕ). slice_index v t) (omega arith))
     ]
 
--- the words of four columns under P, from those of the columns: half h has two vectors of each row
+-- the words of four columns under P, from those of the columns: half h of each row
 pub columns_words : (v : List ℕ) (x q : List (List ℕ)) (h : ℕ) → h < 2
-    → ((m : ℕ) → m < 16 → (e : ℕ) → e < 4 → slot_at x m e ≡ slice_index v (16 * (m / 2) + 8 * h + 4 * (m % 2) + e))
-    → ((j : ℕ) → j < 4 → column_list j q ≡ permutation (column_list j x))
-    → (i : ℕ) → i < 8 → (e : ℕ) → e < 8 → slot_at q (2 * i + e / 4) (e % 4) ≡ slice_index (columns v) (16 * i + 8 * h + e)
+    → ((m : ℕ) → m < 8 → (e : ℕ) → e < 8
+    → slot_at x m e ≡ slice_index v (16 * (2 * (m % 4) + e / 4) + 4 * (2 * h + m / 4) + e % 4))
+    → ((j : ℕ) → j < 4 → column_of_halves j q ≡ permutation (column_of_rows j x))
+    → (i : ℕ) → i < 8 → (e : ℕ) → e < 8 → slot_at q i e ≡ slice_index (columns v) (16 * i + 8 * h + e)
 columns_words v x q h two held by_column i hi e he =
-    let j = 2 * (e % 4 / 2) + e / 4 in
+    let j = e / 2 in
     let k = 2 * i + e % 2 in
-    let c = 4 * h + 2 * (j % 2) + j / 2 in
+    let c = 4 * h + j in
     let n = 16 * i + 8 * h + e in
     let below : j < 4 = omega arith in
-    let column_is : column_list j x ≡ column v c =
-    fill_by_all (λ (t : ℕ). slice_index v (16 * (t / 2) + 2 * c + t % 2)) (column_list j x) 16 0 refl (λ t ht.
-    column_list_at j x t ht ∙ held (2 * (t / 2) + j % 2) (omega arith) (2 * (j / 2) + t % 2) (omega arith) ∙ ap (λ (w : ℕ). slice_index v w) (omega arith)) in
-    let at_m : 2 * (k / 2) + j % 2 ≡ 2 * i + e / 4 = omega arith in
-    let at_e : 2 * (j / 2) + k % 2 ≡ e % 4 = omega arith in
+    let column_is : column_of_rows j x ≡ column v c =
+    fill_by_all (λ (t : ℕ). slice_index v (16 * (t / 2) + 2 * c + t % 2)) (column_of_rows j x) 16 0 refl (λ t ht.
+    column_of_rows_at j x t ht ∙ held (4 * (j / 2) + t / 4) (omega arith) (2 * (j % 2) + (4 * (t % 4 / 2) + t % 2)) (omega arith)
+    ∙ ap (λ (w : ℕ). slice_index v w) (omega arith)) in
+    let at_i : k / 2 ≡ i = omega arith in
+    let at_e : 2 * j + k % 2 ≡ e = omega arith in
     let at_column : n % 16 / 2 ≡ c = omega arith in
     let at_place : 2 * (n / 16) + n % 2 ≡ k = omega arith in
-    ap₂ (λ (a b : ℕ). slot_at q a b) (sym at_m) (sym at_e)
-    ∙ sym (column_list_at j q k (omega arith))
+    ap₂ (λ (a b : ℕ). slot_at q a b) (sym at_i) (sym at_e)
+    ∙ sym (column_of_halves_at j q k (omega arith))
     ∙ ap (λ (u : List ℕ). slice_index u k) (by_column j below ∙ ap permutation column_is)
     ∙ rw (columns_at v n (omega arith), at_column, at_place) refl
 
 -- a word of G, from those of the columns
 pub half_words : (x y : List ℕ) (q : List (List ℕ)) (h i e : ℕ) → h < 2 → i < 8 → e < 8
-    → slot_at q (2 * i + e / 4) (e % 4) ≡ slice_index (columns (rows (xor_words x y))) (16 * i + 8 * h + e)
+    → slot_at q i e ≡ slice_index (columns (rows (xor_words x y))) (16 * i + 8 * h + e)
     → half_word x y q (8 * h) i e ≡ slice_index (compress x y) (16 * i + 8 * h + e)
 unfolding compress
 half_words x y q h i e hh hi he word =

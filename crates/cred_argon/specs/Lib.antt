@@ -4,7 +4,7 @@ pub mod Parameters
 pub mod Errors
 pub mod Faults
 pub mod Compress
-pub mod Quads
+pub mod Layout
 pub mod Places
 pub mod Times
 pub mod Cells

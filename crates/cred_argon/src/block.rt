@@ -1,10 +1,10 @@
 //! A block of the memory, and the compression function G (RFC 9106, section 3.5).
-ghost use Rattle.std.specs.Prelude.{◌≡◌, ℕ, ◌+◌, ◌*◌, ◌<◌, ◌≤◌, ◌⊎◌, List, length, bit_xor, slice_index};
-ghost use Rattle.cred_argon.specs.{Compress.compress, Compress.rows, Compress.columns, Compress.xor_words, Quads.half_word, Quads.IsRows, Quads.IsHalf};
+ghost use Rattle.std.specs.Prelude.{◌≡◌, ℕ, ◌+◌, ◌*◌, ◌/◌, ◌%◌, ◌<◌, ◌≤◌, ◌⊎◌, List, length, bit_xor, slice_index};
+ghost use Rattle.cred_argon.specs.{Compress.compress, Compress.rows, Compress.columns, Compress.xor_words, Layout.half_word, Layout.IsRows, Layout.IsHalf};
 
-use crate::permutation::xor;
-use crate::rows_columns::{four_columns, four_rows};
-use std::simd::u64x4;
+use crate::permutation::{permuted, xor};
+use crate::rows_columns::{four_columns, side_by_side};
+use std::simd::u64x8;
 
 /// A block of 1024 bytes, as 128 words of 64 bits.
 #[repr(C)]
@@ -53,56 +53,59 @@ pub(crate) fn compress_onto(x: &Block, y: &Block, out: &mut Block)
 
 /// P on the columns that make the left half of each row.
 #[inline(always)]
-fn left_columns(top: [u64x4; 16], low: [u64x4; 16]) -> [u64x4; 16]
+fn left_columns(top: [u64x8; 8], low: [u64x8; 8]) -> [u64x8; 8]
     ensures { (v : List ℕ) → IsRows v 0 top → IsRows v 4 low → IsHalf (columns v) 0 result }
 {
     four_columns([
-        top[0], top[1], top[4], top[5], top[8], top[9], top[12], top[13], low[0], low[1], low[4],
-        low[5], low[8], low[9], low[12], low[13],
+        top[0], top[4], low[0], low[4], top[1], top[5], low[1], low[5],
     ])
 }
 
 /// P on the columns that make the right half of each row.
 #[inline(always)]
-fn right_columns(top: [u64x4; 16], low: [u64x4; 16]) -> [u64x4; 16]
+fn right_columns(top: [u64x8; 8], low: [u64x8; 8]) -> [u64x8; 8]
     ensures { (v : List ℕ) → IsRows v 0 top → IsRows v 4 low → IsHalf (columns v) 8 result }
 {
     four_columns([
-        top[2], top[3], top[6], top[7], top[10], top[11], top[14], top[15], low[2], low[3], low[6],
-        low[7], low[10], low[11], low[14], low[15],
+        top[2], top[6], low[2], low[6], top[3], top[7], low[3], low[7],
     ])
 }
 
 /// Four rows of the XOR of two blocks, with P on each.
 #[inline(always)]
-fn rows_from(x: &[u64; 128], y: &[u64; 128], row: usize) -> [u64x4; 16]
+fn rows_from(x: &[u64; 128], y: &[u64; 128], row: usize) -> [u64x8; 8]
     requires { row + 4 ≤ 8 }
     ensures { IsRows (rows (xor_words x.now y.now)) row result }
 {
-    four_rows([
-        xored(x, y, 16 * row + 0),
-        xored(x, y, 16 * row + 4),
-        xored(x, y, 16 * row + 8),
-        xored(x, y, 16 * row + 12),
-        xored(x, y, 16 * row + 16),
-        xored(x, y, 16 * row + 20),
-        xored(x, y, 16 * row + 24),
-        xored(x, y, 16 * row + 28),
-        xored(x, y, 16 * row + 32),
-        xored(x, y, 16 * row + 36),
-        xored(x, y, 16 * row + 40),
-        xored(x, y, 16 * row + 44),
-        xored(x, y, 16 * row + 48),
-        xored(x, y, 16 * row + 52),
-        xored(x, y, 16 * row + 56),
-        xored(x, y, 16 * row + 60),
-    ])
+    let (a, b) = two_rows(x, y, 16 * row + 0);
+    let (c, d) = two_rows(x, y, 16 * row + 8);
+    let (e, f) = two_rows(x, y, 16 * row + 32);
+    let (g, h) = two_rows(x, y, 16 * row + 40);
+    permuted([a, b, c, d, e, f, g, h])
+}
+
+/// Eight words of a row of the XOR of two blocks, and those of the next row, as two vectors: the
+/// first four of both, and the others of both.
+#[inline(always)]
+fn two_rows(x: &[u64; 128], y: &[u64; 128], at: usize) -> (u64x8, u64x8)
+    requires { at + 24 ≤ 128 }
+    ensures first { (e : ℕ) → e < 8
+        → slice_index result.0 e
+        ≡ bit_xor (slice_index x.now (at + 0 + 16 * (e / 4) + e % 4))
+        (slice_index y.now (at + 0 + 16 * (e / 4) + e % 4)) }
+    ensures second { (e : ℕ) → e < 8
+        → slice_index result.1 e
+        ≡ bit_xor (slice_index x.now (at + 4 + 16 * (e / 4) + e % 4))
+        (slice_index y.now (at + 4 + 16 * (e / 4) + e % 4)) }
+{
+    side_by_side(xored(x, y, at), xored(x, y, at + 16))
 }
 
 /// Writes the XOR of three blocks over half of each row of a block: the third comes as its half, in
-/// vectors.
+/// vectors. The rows aren't in a loop. Behind one LLVM would put the steps of P list by list, and
+/// the lists would no longer be mixed side by side.
 #[inline(always)]
-fn write_half(x: &[u64; 128], y: &[u64; 128], out: &mut [u64; 128], at: usize, half: [u64x4; 16])
+fn write_half(x: &[u64; 128], y: &[u64; 128], out: &mut [u64; 128], at: usize, half: [u64x8; 8])
     requires { at ≤ 8 }
     ensures len { length out.new ≡ 128 }
     ensures written { (i : ℕ) → i < 8 → (e : ℕ) → e < 8
@@ -110,16 +113,19 @@ fn write_half(x: &[u64; 128], y: &[u64; 128], out: &mut [u64; 128], at: usize, h
     ensures kept { (i : ℕ) → i < 8 → (r : ℕ) → r < 16 → (r < at) ⊎ (at + 8 ≤ r)
         → slice_index out.new (16 * i + r) ≡ slice_index out.old (16 * i + r) }
 {
-    'rows: for i in 0..8 {
-        let start = 16 * i + at;
-        write(out, start, xor(xored(x, y, start), half[2 * i]));
-        write(out, start + 4, xor(xored(x, y, start + 4), half[2 * i + 1]));
-    }
+    write_row(x, y, out, 16 * 0 + at, half[0]);
+    write_row(x, y, out, 16 * 1 + at, half[1]);
+    write_row(x, y, out, 16 * 2 + at, half[2]);
+    write_row(x, y, out, 16 * 3 + at, half[3]);
+    write_row(x, y, out, 16 * 4 + at, half[4]);
+    write_row(x, y, out, 16 * 5 + at, half[5]);
+    write_row(x, y, out, 16 * 6 + at, half[6]);
+    write_row(x, y, out, 16 * 7 + at, half[7]);
 }
 
-/// Adds the same to half of each row of a block by XOR.
+/// Adds the same to half of each row of a block by XOR. There is no loop for the same reason.
 #[inline(always)]
-fn add_half(x: &[u64; 128], y: &[u64; 128], out: &mut [u64; 128], at: usize, half: [u64x4; 16])
+fn add_half(x: &[u64; 128], y: &[u64; 128], out: &mut [u64; 128], at: usize, half: [u64x8; 8])
     requires { at ≤ 8 }
     ensures len { length out.new ≡ 128 }
     ensures added { (i : ℕ) → i < 8 → (e : ℕ) → e < 8
@@ -128,65 +134,110 @@ fn add_half(x: &[u64; 128], y: &[u64; 128], out: &mut [u64; 128], at: usize, hal
     ensures kept { (i : ℕ) → i < 8 → (r : ℕ) → r < 16 → (r < at) ⊎ (at + 8 ≤ r)
         → slice_index out.new (16 * i + r) ≡ slice_index out.old (16 * i + r) }
 {
-    'rows: for i in 0..8 {
-        let start = 16 * i + at;
-        add(out, start, xor(xored(x, y, start), half[2 * i]));
-        add(out, start + 4, xor(xored(x, y, start + 4), half[2 * i + 1]));
-    }
+    add_row(x, y, out, 16 * 0 + at, half[0]);
+    add_row(x, y, out, 16 * 1 + at, half[1]);
+    add_row(x, y, out, 16 * 2 + at, half[2]);
+    add_row(x, y, out, 16 * 3 + at, half[3]);
+    add_row(x, y, out, 16 * 4 + at, half[4]);
+    add_row(x, y, out, 16 * 5 + at, half[5]);
+    add_row(x, y, out, 16 * 6 + at, half[6]);
+    add_row(x, y, out, 16 * 7 + at, half[7]);
 }
 
-/// The XOR of four words of each of two blocks.
-#[inline(always)]
-fn xored(x: &[u64; 128], y: &[u64; 128], at: usize) -> u64x4
-    requires { at + 4 ≤ 128 }
-    ensures { (j : ℕ) → j < 4
-        → slice_index result j ≡ bit_xor (slice_index x.now (at + j)) (slice_index y.now (at + j)) }
-{
-    xor(four_words(x, at), four_words(y, at))
-}
-
-/// Four words of a block. Words that are added before they are gathered would not be read as one
+/// Writes the XOR of eight words of three blocks over those of a block: the third's come as a
 /// vector.
 #[inline(always)]
-fn four_words(x: &[u64; 128], at: usize) -> u64x4
-    requires { at + 4 ≤ 128 }
-    ensures { (j : ℕ) → j < 4 → slice_index result j ≡ slice_index x.now (at + j) }
-{
-    u64x4::from_array([x[at], x[at + 1], x[at + 2], x[at + 3]])
-}
-
-/// Writes four words into a block.
-#[inline(always)]
-fn write(out: &mut [u64; 128], at: usize, words: u64x4)
-    requires { at + 4 ≤ 128 }
+fn write_row(x: &[u64; 128], y: &[u64; 128], out: &mut [u64; 128], start: usize, words: u64x8)
+    requires { start + 8 ≤ 128 }
     ensures len { length out.new ≡ 128 }
-    ensures written { (j : ℕ) → j < 4 → slice_index out.new (at + j) ≡ slice_index words j }
-    ensures kept { (n : ℕ) → (n < at) ⊎ (at + 4 ≤ n)
+    ensures written { (e : ℕ) → e < 8
+        → slice_index out.new (start + e)
+        ≡ bit_xor (bit_xor (slice_index x.now (start + e)) (slice_index y.now (start + e)))
+        (slice_index words e) }
+    ensures kept { (n : ℕ) → (n < start) ⊎ (start + 8 ≤ n)
         → slice_index out.new n ≡ slice_index out.old n }
 {
-    let [w0, w1, w2, w3] = words.to_array();
+    write(out, start, xor(xored(x, y, start), words));
+}
+
+/// Adds the same to them by XOR.
+#[inline(always)]
+fn add_row(x: &[u64; 128], y: &[u64; 128], out: &mut [u64; 128], start: usize, words: u64x8)
+    requires { start + 8 ≤ 128 }
+    ensures len { length out.new ≡ 128 }
+    ensures added { (e : ℕ) → e < 8
+        → slice_index out.new (start + e)
+        ≡ bit_xor (slice_index out.old (start + e))
+        (bit_xor (bit_xor (slice_index x.now (start + e)) (slice_index y.now (start + e)))
+        (slice_index words e)) }
+    ensures kept { (n : ℕ) → (n < start) ⊎ (start + 8 ≤ n)
+        → slice_index out.new n ≡ slice_index out.old n }
+{
+    add(out, start, xor(xored(x, y, start), words));
+}
+
+/// The XOR of eight words of each of two blocks.
+#[inline(always)]
+fn xored(x: &[u64; 128], y: &[u64; 128], at: usize) -> u64x8
+    requires { at + 8 ≤ 128 }
+    ensures { (j : ℕ) → j < 8
+        → slice_index result j ≡ bit_xor (slice_index x.now (at + j)) (slice_index y.now (at + j)) }
+{
+    xor(eight_words(x, at), eight_words(y, at))
+}
+
+/// Eight words of a block. Words that are added before they are gathered would not be read as one
+/// vector.
+#[inline(always)]
+fn eight_words(x: &[u64; 128], at: usize) -> u64x8
+    requires { at + 8 ≤ 128 }
+    ensures { (j : ℕ) → j < 8 → slice_index result j ≡ slice_index x.now (at + j) }
+{
+    u64x8::from_array([
+        x[at],
+        x[at + 1],
+        x[at + 2],
+        x[at + 3],
+        x[at + 4],
+        x[at + 5],
+        x[at + 6],
+        x[at + 7],
+    ])
+}
+
+/// Writes eight words into a block.
+#[inline(always)]
+fn write(out: &mut [u64; 128], at: usize, words: u64x8)
+    requires { at + 8 ≤ 128 }
+    ensures len { length out.new ≡ 128 }
+    ensures written { (j : ℕ) → j < 8 → slice_index out.new (at + j) ≡ slice_index words j }
+    ensures kept { (n : ℕ) → (n < at) ⊎ (at + 8 ≤ n)
+        → slice_index out.new n ≡ slice_index out.old n }
+{
+    let [w0, w1, w2, w3, w4, w5, w6, w7] = words.to_array();
     out[at] = w0;
     out[at + 1] = w1;
     out[at + 2] = w2;
     out[at + 3] = w3;
+    out[at + 4] = w4;
+    out[at + 5] = w5;
+    out[at + 6] = w6;
+    out[at + 7] = w7;
 }
 
-/// Adds four words to those of a block by XOR.
+/// Adds eight words to those of a block by XOR.
 #[inline(always)]
-fn add(out: &mut [u64; 128], at: usize, words: u64x4)
-    requires { at + 4 ≤ 128 }
+fn add(out: &mut [u64; 128], at: usize, words: u64x8)
+    requires { at + 8 ≤ 128 }
     ensures len { length out.new ≡ 128 }
-    ensures added { (j : ℕ) → j < 4
+    ensures added { (j : ℕ) → j < 8
         → slice_index out.new (at + j)
         ≡ bit_xor (slice_index out.old (at + j)) (slice_index words j) }
-    ensures kept { (n : ℕ) → (n < at) ⊎ (at + 4 ≤ n)
+    ensures kept { (n : ℕ) → (n < at) ⊎ (at + 8 ≤ n)
         → slice_index out.new n ≡ slice_index out.old n }
 {
-    let [w0, w1, w2, w3] = words.to_array();
-    out[at] ^= w0;
-    out[at + 1] ^= w1;
-    out[at + 2] ^= w2;
-    out[at + 3] ^= w3;
+    let sum = xor(eight_words(out, at), words);
+    write(out, at, sum);
 }
 
 /// Adds a block to another by XOR.

@@ -1,91 +1,176 @@
-//! The permutation P of Argon2 on four lists of sixteen words at once: list j lies in slot j
-//! of sixteen vectors (RFC 9106, section 3.6).
-ghost use Rattle.std.specs.{Prelude.◌≡◌, Prelude.ℕ, Prelude.◌<◌, Prelude.bit_xor, Prelude.slice_index, Int.w64, Int.rotate_right};
-ghost use Rattle.cred_argon.specs.{Compress.add_product, Compress.mixing, Compress.column_step, Compress.diagonal_step, Quads.slot_list};
+//! The permutation P of Argon2 on four lists of sixteen words at once (RFC 9106, section 3.6).
+//!
+//! A list is four rows of four words. Two lists lie side by side in four vectors of eight words,
+//! and two more in another four:
+//!
+//!     vector          list 0      list 1     vector          list 2      list 3
+//!        0   (a)    0  1  2  3  0  1  2  3      4   (e)    0  1  2  3  0  1  2  3
+//!        1   (b)    4  5  6  7  4  5  6  7      5   (f)    4  5  6  7  4  5  6  7
+//!        2   (c)    8  9 10 11  8  9 10 11      6   (g)    8  9 10 11  8  9 10 11
+//!        3   (d)   12 13 14 15 12 13 14 15      7   (h)   12 13 14 15 12 13 14 15
+//!
+//! So the words of a column are in one slot of four vectors, and P's first half mixes these. For
+//! the second half the rows of each list are rotated, until a slot has the words of a diagonal, and
+//! rotated back afterwards:
+//!
+//!        a   left by three     3  0  1  2
+//!        b   as it is          4  5  6  7
+//!        c   left by one       9 10 11  8
+//!        d   left by two      14 15 12 13
+//!
+//! Row b stays, since a mixing ends with b and the next one begins with it: no step waits for a
+//! rotation.
+ghost use Rattle.std.specs.{Prelude.◌≡◌, Prelude.ℕ, Prelude.◌<◌, Prelude.[], Prelude.◌∷◌, Prelude.bit_xor, Prelude.slice_index, Prelude.slice_index_or, Int.w64, Int.rotate_right};
+ghost use Rattle.cred_argon.specs.{Compress.add_product, Compress.mixing, Compress.column_step, Compress.diagonal_step, Compress.permutation, Layout.list_of};
 
-use std::simd::u64x4;
+use std::simd::u64x8;
 
 /// The exclusive or, word by word.
 #[inline(always)]
-pub(crate) fn xor(x: u64x4, y: u64x4) -> u64x4
-    ensures { (j : ℕ) → j < 4 → slice_index result j ≡ bit_xor (slice_index x j) (slice_index y j) }
+pub(crate) fn xor(x: u64x8, y: u64x8) -> u64x8
+    ensures { (j : ℕ) → j < 8 → slice_index result j ≡ bit_xor (slice_index x j) (slice_index y j) }
 {
     x ^ y
 }
 
 /// The sum and twice the product of the low halves, word by word.
 #[inline(always)]
-#[tactic(auto, using(crate::proofs::QuadLemmas::slots_add))]
-fn add_product(x: u64x4, y: u64x4) -> u64x4
-    ensures { (j : ℕ) → j < 4
+#[tactic(auto, using(crate::proofs::LayoutLemmas::slots_add))]
+fn add_product(x: u64x8, y: u64x8) -> u64x8
+    ensures { (j : ℕ) → j < 8
         → slice_index result j ≡ add_product (slice_index x j) (slice_index y j) }
 {
-    let low = u64x4::splat(0xffff_ffff);
+    let low = u64x8::splat(0xffff_ffff);
     let product = (x & low) * (y & low);
     x + y + product + product
 }
 
 /// Each word rotated to the right by `by` bits.
 #[inline(always)]
-#[tactic(auto, using(crate::proofs::QuadLemmas::slots_rotate))]
-fn rotate(x: u64x4, by: u64) -> u64x4
+#[tactic(auto, using(crate::proofs::LayoutLemmas::slots_rotate))]
+fn rotate(x: u64x8, by: u64) -> u64x8
     requires few { by < 64 }
     requires some { 0 < by }
-    ensures { (j : ℕ) → j < 4 → slice_index result j ≡ rotate_right w64 (slice_index x j) by }
+    ensures { (j : ℕ) → j < 8 → slice_index result j ≡ rotate_right w64 (slice_index x j) by }
 {
-    (x >> u64x4::splat(by)) | (x << u64x4::splat(64 - by))
+    (x >> u64x8::splat(by)) | (x << u64x8::splat(64 - by))
 }
 
-/// Four words mixed (GB of RFC 9106, section 3.6), slot by slot.
+/// Four words mixed (GB of RFC 9106, section 3.6) in each slot of the vectors a to d, and of e to
+/// h. The two mixings go on side by side, a step of each: a step waits for the one before, and a
+/// processor doesn't look past a whole mixing for other work.
 #[inline(always)]
 #[tactic(auto, unfolding(crate::specs::Compress::mixing))]
-fn mixing(a: u64x4, b: u64x4, c: u64x4, d: u64x4) -> (u64x4, u64x4, u64x4, u64x4)
-    ensures { (j : ℕ) → j < 4
+fn mixed(x: [u64x8; 8]) -> [u64x8; 8]
+    ensures first { (j : ℕ) → j < 8
         → (
-          slice_index result.0 j,
-          slice_index result.1 j,
-          slice_index result.2 j,
-          slice_index result.3 j,
+          slice_index (slice_index_or result 0 []) j,
+          slice_index (slice_index_or result 1 []) j,
+          slice_index (slice_index_or result 2 []) j,
+          slice_index (slice_index_or result 3 []) j,
         )
-        ≡ mixing (slice_index a j) (slice_index b j) (slice_index c j) (slice_index d j) }
+        ≡ mixing (slice_index (slice_index_or x 0 []) j) (slice_index (slice_index_or x 1 []) j)
+        (slice_index (slice_index_or x 2 []) j) (slice_index (slice_index_or x 3 []) j) }
+    ensures second { (j : ℕ) → j < 8
+        → (
+          slice_index (slice_index_or result 4 []) j,
+          slice_index (slice_index_or result 5 []) j,
+          slice_index (slice_index_or result 6 []) j,
+          slice_index (slice_index_or result 7 []) j,
+        )
+        ≡ mixing (slice_index (slice_index_or x 4 []) j) (slice_index (slice_index_or x 5 []) j)
+        (slice_index (slice_index_or x 6 []) j) (slice_index (slice_index_or x 7 []) j) }
 {
+    let [a, b, c, d, e, f, g, h] = x;
     let a1 = add_product(a, b);
+    let e1 = add_product(e, f);
     let d1 = rotate(xor(d, a1), 32);
+    let h1 = rotate(xor(h, e1), 32);
     let c1 = add_product(c, d1);
+    let g1 = add_product(g, h1);
     let b1 = rotate(xor(b, c1), 24);
+    let f1 = rotate(xor(f, g1), 24);
     let a2 = add_product(a1, b1);
+    let e2 = add_product(e1, f1);
     let d2 = rotate(xor(d1, a2), 16);
+    let h2 = rotate(xor(h1, e2), 16);
     let c2 = add_product(c1, d2);
+    let g2 = add_product(g1, h2);
     let b2 = rotate(xor(b1, c2), 63);
-    (a2, b2, c2, d2)
+    let f2 = rotate(xor(f1, g2), 63);
+    [a2, b2, c2, d2, e2, f2, g2, h2]
 }
 
-/// The four words of each column of a list, seen as four rows of four.
+/// A row of each of two lists, rotated to the left by one place.
 #[inline(always)]
-#[tactic(auto, unfolding(crate::specs::Compress::column_step))]
-pub(crate) fn column_step(x: [u64x4; 16]) -> [u64x4; 16]
-    ensures { (j : ℕ) → j < 4 → slot_list j result ≡ column_step (slot_list j x) }
+fn left_by_one(x: u64x8) -> u64x8
+    ensures { result
+        ≡ slice_index x 1 ∷ slice_index x 2 ∷ slice_index x 3 ∷ slice_index x 0
+        ∷ slice_index x 5 ∷ slice_index x 6 ∷ slice_index x 7 ∷ slice_index x 4 ∷ [] }
 {
-    let (x0, x4, x8, x12) = mixing(x[0], x[4], x[8], x[12]);
-    let (x1, x5, x9, x13) = mixing(x[1], x[5], x[9], x[13]);
-    let (x2, x6, x10, x14) = mixing(x[2], x[6], x[10], x[14]);
-    let (x3, x7, x11, x15) = mixing(x[3], x[7], x[11], x[15]);
+    x.swizzle([1, 2, 3, 0, 5, 6, 7, 4])
+}
+
+/// Rotated by two places.
+#[inline(always)]
+fn left_by_two(x: u64x8) -> u64x8
+    ensures { result
+        ≡ slice_index x 2 ∷ slice_index x 3 ∷ slice_index x 0 ∷ slice_index x 1
+        ∷ slice_index x 6 ∷ slice_index x 7 ∷ slice_index x 4 ∷ slice_index x 5 ∷ [] }
+{
+    x.swizzle([2, 3, 0, 1, 6, 7, 4, 5])
+}
+
+/// Rotated by three places.
+#[inline(always)]
+fn left_by_three(x: u64x8) -> u64x8
+    ensures { result
+        ≡ slice_index x 3 ∷ slice_index x 0 ∷ slice_index x 1 ∷ slice_index x 2
+        ∷ slice_index x 7 ∷ slice_index x 4 ∷ slice_index x 5 ∷ slice_index x 6 ∷ [] }
+{
+    x.swizzle([3, 0, 1, 2, 7, 4, 5, 6])
+}
+
+/// The first half of P: the four words of each column of each list are mixed.
+#[inline(always)]
+fn column_step(x: [u64x8; 8]) -> [u64x8; 8]
+    ensures { (j : ℕ) → j < 4 → list_of j result ≡ column_step (list_of j x) }
+{
+    mixed(x)
+}
+
+/// The second half of P: the four words of each diagonal.
+#[inline(always)]
+fn diagonal_step(x: [u64x8; 8]) -> [u64x8; 8]
+    ensures { (j : ℕ) → j < 4 → list_of j result ≡ diagonal_step (list_of j x) }
+{
+    let [a, b, c, d, e, f, g, h] = x;
+    let [a, b, c, d, e, f, g, h] = mixed([
+        left_by_three(a),
+        b,
+        left_by_one(c),
+        left_by_two(d),
+        left_by_three(e),
+        f,
+        left_by_one(g),
+        left_by_two(h),
+    ]);
     [
-        x0, x1, x2, x3, x4, x5, x6, x7, x8, x9, x10, x11, x12, x13, x14, x15,
+        left_by_one(a),
+        b,
+        left_by_three(c),
+        left_by_two(d),
+        left_by_one(e),
+        f,
+        left_by_three(g),
+        left_by_two(h),
     ]
 }
 
-/// The four words of each diagonal.
+/// P on each of the four lists.
 #[inline(always)]
-#[tactic(auto, unfolding(crate::specs::Compress::diagonal_step))]
-pub(crate) fn diagonal_step(x: [u64x4; 16]) -> [u64x4; 16]
-    ensures { (j : ℕ) → j < 4 → slot_list j result ≡ diagonal_step (slot_list j x) }
+pub(crate) fn permuted(x: [u64x8; 8]) -> [u64x8; 8]
+    ensures { (j : ℕ) → j < 4 → list_of j result ≡ permutation (list_of j x) }
 {
-    let (x0, x5, x10, x15) = mixing(x[0], x[5], x[10], x[15]);
-    let (x1, x6, x11, x12) = mixing(x[1], x[6], x[11], x[12]);
-    let (x2, x7, x8, x13) = mixing(x[2], x[7], x[8], x[13]);
-    let (x3, x4, x9, x14) = mixing(x[3], x[4], x[9], x[14]);
-    [
-        x0, x1, x2, x3, x4, x5, x6, x7, x8, x9, x10, x11, x12, x13, x14, x15,
-    ]
+    diagonal_step(column_step(x))
 }

@@ -1,106 +1,97 @@
-//! The permutation P on the rows and the columns of a block, four at a time (RFC 9106, section
-//! 3.5). A block's words lie four to a vector, so that a row is four vectors.
+//! A block's rows and columns as the lists of sixteen words that P takes (RFC 9106, section 3.5).
+//!
+//! A block has eight rows of sixteen words, and eight columns, each of two words of every row. Two
+//! rows r and s lie side by side in four vectors: each vector has four words of both, which are
+//! those of two columns. With its inner pairs exchanged these columns lie side by side:
+//!
+//!     four words of two rows       r0 r1 r2 r3 s0 s1 s2 s3
+//!     the same, of two columns     r0 r1 s0 s1 r2 r3 s2 s3
+//!
+//! After P such vectors, of four columns, become half of row r and half of row s:
+//!
+//!     of columns 0 and 1     r0 r1 s0 s1 r2 r3 s2 s3     half of r     r0 r1 r2 r3 r4 r5 r6 r7
+//!     of columns 2 and 3     r4 r5 s4 s5 r6 r7 s6 s7     half of s     s0 s1 s2 s3 s4 s5 s6 s7
 ghost use Rattle.std.specs.Prelude.{◌≡◌, ℕ, ◌<◌, [], ◌∷◌, slice_index};
-ghost use Rattle.cred_argon.specs.{Compress.permutation, Quads.slot_list, Quads.row_list, Quads.column_list};
+ghost use Rattle.cred_argon.specs.{Compress.permutation, Layout.list_of, Layout.column_of_rows, Layout.column_of_halves};
 
-use crate::permutation::{column_step, diagonal_step};
-use std::simd::u64x4;
+use crate::permutation::permuted;
+use std::simd::u64x8;
 
-/// Four vectors with rows and columns exchanged.
+/// The first halves of two vectors side by side, and the second halves.
 #[inline(always)]
-fn transpose(a: u64x4, b: u64x4, c: u64x4, d: u64x4) -> (u64x4, u64x4, u64x4, u64x4)
+pub(crate) fn side_by_side(a: u64x8, b: u64x8) -> (u64x8, u64x8)
     ensures first { result.0
-        ≡ slice_index a 0 ∷ slice_index b 0 ∷ slice_index c 0 ∷ slice_index d 0 ∷ [] }
+        ≡ slice_index a 0 ∷ slice_index a 1 ∷ slice_index a 2 ∷ slice_index a 3
+        ∷ slice_index b 0 ∷ slice_index b 1 ∷ slice_index b 2 ∷ slice_index b 3 ∷ [] }
     ensures second { result.1
-        ≡ slice_index a 1 ∷ slice_index b 1 ∷ slice_index c 1 ∷ slice_index d 1 ∷ [] }
-    ensures third { result.2
-        ≡ slice_index a 2 ∷ slice_index b 2 ∷ slice_index c 2 ∷ slice_index d 2 ∷ [] }
-    ensures fourth { result.3
-        ≡ slice_index a 3 ∷ slice_index b 3 ∷ slice_index c 3 ∷ slice_index d 3 ∷ [] }
+        ≡ slice_index a 4 ∷ slice_index a 5 ∷ slice_index a 6 ∷ slice_index a 7
+        ∷ slice_index b 4 ∷ slice_index b 5 ∷ slice_index b 6 ∷ slice_index b 7 ∷ [] }
 {
-    let even_front = a.shuffle(b, [0, 4, 2, 6]);
-    let odd_front = a.shuffle(b, [1, 5, 3, 7]);
-    let even_back = c.shuffle(d, [0, 4, 2, 6]);
-    let odd_back = c.shuffle(d, [1, 5, 3, 7]);
     (
-        even_front.shuffle(even_back, [0, 1, 4, 5]),
-        odd_front.shuffle(odd_back, [0, 1, 4, 5]),
-        even_front.shuffle(even_back, [2, 3, 6, 7]),
-        odd_front.shuffle(odd_back, [2, 3, 6, 7]),
+        a.shuffle(b, [0, 1, 2, 3, 8, 9, 10, 11]),
+        a.shuffle(b, [4, 5, 6, 7, 12, 13, 14, 15]),
     )
 }
 
-/// Four rows that lie one after another, as the four slots of sixteen vectors.
+/// A vector whose inner pairs of words have changed places.
 #[inline(always)]
-fn slots_of_rows(x: [u64x4; 16]) -> [u64x4; 16]
-    ensures { (j : ℕ) → j < 4 → slot_list j result ≡ row_list j x }
+fn inner_pairs_exchanged(x: u64x8) -> u64x8
+    ensures { result
+        ≡ slice_index x 0 ∷ slice_index x 1 ∷ slice_index x 4 ∷ slice_index x 5
+        ∷ slice_index x 2 ∷ slice_index x 3 ∷ slice_index x 6 ∷ slice_index x 7 ∷ [] }
 {
-    let (w0, w1, w2, w3) = transpose(x[0], x[4], x[8], x[12]);
-    let (w4, w5, w6, w7) = transpose(x[1], x[5], x[9], x[13]);
-    let (w8, w9, w10, w11) = transpose(x[2], x[6], x[10], x[14]);
-    let (w12, w13, w14, w15) = transpose(x[3], x[7], x[11], x[15]);
+    x.swizzle([0, 1, 4, 5, 2, 3, 6, 7])
+}
+
+/// Four columns, whose words lie in vectors of two rows, as four lists.
+#[inline(always)]
+fn lists_of_columns(x: [u64x8; 8]) -> [u64x8; 8]
+    ensures { (j : ℕ) → j < 4 → list_of j result ≡ column_of_rows j x }
+{
     [
-        w0, w1, w2, w3, w4, w5, w6, w7, w8, w9, w10, w11, w12, w13, w14, w15,
+        inner_pairs_exchanged(x[0]),
+        inner_pairs_exchanged(x[1]),
+        inner_pairs_exchanged(x[2]),
+        inner_pairs_exchanged(x[3]),
+        inner_pairs_exchanged(x[4]),
+        inner_pairs_exchanged(x[5]),
+        inner_pairs_exchanged(x[6]),
+        inner_pairs_exchanged(x[7]),
     ]
 }
 
-/// The four slots of sixteen vectors, as rows that lie one after another.
+/// Half of a row and half of the next one, from the vectors of four columns.
 #[inline(always)]
-fn rows_of_slots(w: [u64x4; 16]) -> [u64x4; 16]
-    ensures { (j : ℕ) → j < 4 → row_list j result ≡ slot_list j w }
-{
-    let (x0, x4, x8, x12) = transpose(w[0], w[1], w[2], w[3]);
-    let (x1, x5, x9, x13) = transpose(w[4], w[5], w[6], w[7]);
-    let (x2, x6, x10, x14) = transpose(w[8], w[9], w[10], w[11]);
-    let (x3, x7, x11, x15) = transpose(w[12], w[13], w[14], w[15]);
-    [
-        x0, x1, x2, x3, x4, x5, x6, x7, x8, x9, x10, x11, x12, x13, x14, x15,
-    ]
-}
-
-/// P on each of four rows.
-#[inline(always)]
-pub(crate) fn four_rows(x: [u64x4; 16]) -> [u64x4; 16]
-    ensures { (j : ℕ) → j < 4 → row_list j result ≡ permutation (row_list j x) }
-{
-    rows_of_slots(diagonal_step(column_step(slots_of_rows(x))))
-}
-
-/// Two vectors of pairs to the vector of the pairs' first words and that of the second words, or
-/// back.
-#[inline(always)]
-fn pairs(a: u64x4, b: u64x4) -> (u64x4, u64x4)
+fn two_half_rows(a: u64x8, b: u64x8) -> (u64x8, u64x8)
     ensures first { result.0
-        ≡ slice_index a 0 ∷ slice_index b 0 ∷ slice_index a 2 ∷ slice_index b 2 ∷ [] }
+        ≡ slice_index a 0 ∷ slice_index a 1 ∷ slice_index a 4 ∷ slice_index a 5
+        ∷ slice_index b 0 ∷ slice_index b 1 ∷ slice_index b 4 ∷ slice_index b 5 ∷ [] }
     ensures second { result.1
-        ≡ slice_index a 1 ∷ slice_index b 1 ∷ slice_index a 3 ∷ slice_index b 3 ∷ [] }
+        ≡ slice_index a 2 ∷ slice_index a 3 ∷ slice_index a 6 ∷ slice_index a 7
+        ∷ slice_index b 2 ∷ slice_index b 3 ∷ slice_index b 6 ∷ slice_index b 7 ∷ [] }
 {
-    (a.shuffle(b, [0, 4, 2, 6]), a.shuffle(b, [1, 5, 3, 7]))
+    (
+        a.shuffle(b, [0, 1, 4, 5, 8, 9, 12, 13]),
+        a.shuffle(b, [2, 3, 6, 7, 10, 11, 14, 15]),
+    )
 }
 
-/// Four columns, whose words lie in pairs, as the four slots of sixteen vectors, and back.
+/// Four lists, which are four columns, as half of each row.
 #[inline(always)]
-fn unpaired(x: [u64x4; 16]) -> [u64x4; 16]
-    ensures slots { (j : ℕ) → j < 4 → slot_list j result ≡ column_list j x }
-    ensures columns { (j : ℕ) → j < 4 → column_list j result ≡ slot_list j x }
+fn half_rows_of_lists(w: [u64x8; 8]) -> [u64x8; 8]
+    ensures { (j : ℕ) → j < 4 → column_of_halves j result ≡ list_of j w }
 {
-    let (w0, w1) = pairs(x[0], x[1]);
-    let (w2, w3) = pairs(x[2], x[3]);
-    let (w4, w5) = pairs(x[4], x[5]);
-    let (w6, w7) = pairs(x[6], x[7]);
-    let (w8, w9) = pairs(x[8], x[9]);
-    let (w10, w11) = pairs(x[10], x[11]);
-    let (w12, w13) = pairs(x[12], x[13]);
-    let (w14, w15) = pairs(x[14], x[15]);
-    [
-        w0, w1, w2, w3, w4, w5, w6, w7, w8, w9, w10, w11, w12, w13, w14, w15,
-    ]
+    let (x0, x1) = two_half_rows(w[0], w[4]);
+    let (x2, x3) = two_half_rows(w[1], w[5]);
+    let (x4, x5) = two_half_rows(w[2], w[6]);
+    let (x6, x7) = two_half_rows(w[3], w[7]);
+    [x0, x1, x2, x3, x4, x5, x6, x7]
 }
 
-/// P on each of four columns, whose words lie in pairs.
+/// P on each of four columns, which come in vectors of two rows and go as half of each row.
 #[inline(always)]
-pub(crate) fn four_columns(x: [u64x4; 16]) -> [u64x4; 16]
-    ensures { (j : ℕ) → j < 4 → column_list j result ≡ permutation (column_list j x) }
+pub(crate) fn four_columns(x: [u64x8; 8]) -> [u64x8; 8]
+    ensures { (j : ℕ) → j < 4 → column_of_halves j result ≡ permutation (column_of_rows j x) }
 {
-    unpaired(diagonal_step(column_step(unpaired(x))))
+    half_rows_of_lists(permuted(lists_of_columns(x)))
 }
