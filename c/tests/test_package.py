@@ -118,7 +118,9 @@ class Package(unittest.TestCase):
             (room / name).symlink_to(TOP.parent / name)
         out = room / "c" / OUT.relative_to(TOP)
         (out / "taken").unlink(missing_ok=True)  # where rt is missing
-        names = ("build_v4.sum", "proved.sum", "v1.a", "v2.a", "v3.a", "v4.a")
+        names = ["compile_proved.sum", "proved.sum", *(f"v{it}.a" for it in (1, 2, 3, 4))]
+        if (out / "libraries").exists():  # where rt is there
+            names.insert(2, "libraries")
         for at, name in enumerate(names):
             os.utime(out / name, (at, at))  # older than all sources
 

@@ -27,7 +27,11 @@ NEEDING = [
     ("python tools/wrong_bodies.py", 1, [f"{RT} try wrong bodies", BESIDE]),
     ("python tools/wrong_bodies.py cred_pool -- rt ci", 1, [f"{RT} try wrong bodies", BESIDE]),
     ("python tools/promises.py", 1, [f"{RT} tell which of its crates", BESIDE]),
-    ("python tools/build_v4.py out.a", 1, [f"{RT} compile the library for", BESIDE]),
+    (
+        "python tools/compile_proved.py x86-64-v4 out.a",
+        1,
+        [f"{RT} compile the library for", BESIDE],
+    ),
     (
         "python tools/refuse_memory.py",
         1,

@@ -8,6 +8,7 @@ pub mod CellLaw
 pub mod Distances
 pub mod Steps
 pub mod Working
+pub mod Neighbours
 pub mod SliceWork
 pub mod Filling
 pub mod FirstCells

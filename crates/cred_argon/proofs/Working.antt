@@ -1,21 +1,9 @@
 -- A segment while it is worked.
-use Rattle.std.proofs.Common.{◌≡◌, ℕ, ◌<◌, ◌≤◌, List, Option, Vec, length, slice_index_or, vec_len, vec_capacity, inl, inr, arith}
+use Rattle.std.proofs.Common.{◌≡◌, ℕ, ◌<◌, ◌≤◌, List, Option, Vec, length, slice_index_or, vec_len, inl, inr, arith}
 use Rattle.std.proofs.lemmas.Bool.{cases_lt}
 use Rattle.cred_argon.specs.{declared.block.Block.Block, declared.segment.Segment.Segment, declared.segment.Shared.Shared}
 use Rattle.cred_argon.specs.{declared.address.AddressBlock.AddressBlock, Parameters.Parameters, Parameters.segment_len, Addresses.KeepsAddresses}
-use Rattle.cred_argon.specs.{SegmentWork.VecHolds, Segments.SharedHolds, Turns.OwnHolds, Turns.first_offset}
-
-pub record IsWorking {A : Type 0} (c : Shared (Vec Segment A)) (start now : Segment) (addresses : Option AddressBlock) (s k : ℕ) : Type 0 where
-  pub lane : now.lane ≡ start.lane
-  pub length_is : s ≡ segment_len c.turn.params
-  pub some : 2 ≤ s
-  pub begun : first_offset c.turn ≤ k
-  pub inside : k ≤ s
-  pub room : s ≤ vec_capacity now.blocks
-  pub first : c.turn.pass ≡ 0 → vec_len now.blocks ≡ k
-  pub later : 0 < c.turn.pass → vec_len now.blocks ≡ s
-  pub kept : KeepsAddresses c.turn now.lane addresses
-  pub own : (h : List ℕ) → SharedHolds VecHolds h c → OwnHolds h c.turn start.lane (first_offset c.turn) start.blocks.items → OwnHolds h c.turn now.lane k now.blocks.items
+use Rattle.cred_argon.specs.{SegmentWork.IsWorking, Segments.SharedHolds, Turns.OwnHolds, Turns.first_offset}
 
 -- as many blocks are there as were worked before
 at_least : {A : Type 0} (c : Shared (Vec Segment A)) (start now : Segment) (addresses : Option AddressBlock) (s k : ℕ) → IsWorking c start now addresses s k → k ≤ vec_len now.blocks

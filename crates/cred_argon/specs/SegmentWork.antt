@@ -1,5 +1,6 @@
 -- What the work on a lane's segment needs, and what it does.
-use Rattle.std.specs.Prelude.{◌≡◌, ℕ, ◌<◌, ◌≤◌, List, Vec, vec_len, vec_capacity}
+use Rattle.std.specs.Prelude.{◌≡◌, ℕ, ◌<◌, ◌≤◌, List, Option, Vec, vec_len, vec_capacity}
+use Rattle.cred_argon.specs.{declared.address.AddressBlock.AddressBlock, Addresses.KeepsAddresses}
 use Rattle.cred_argon.specs.{declared.segment.Segment.Segment, declared.segment.Shared.Shared, Parameters.Parameters, Parameters.segment_len}
 use Rattle.cred_argon.specs.{Turns.OwnHolds, Turns.first_offset, Turns.begun_len, Segments.IsFull, Segments.HoldsSlice, Segments.IsShaped, Segments.SharedHolds}
 
@@ -25,3 +26,19 @@ Works c p q =
     × ((h : List ℕ) → SharedHolds VecHolds h c
     → OwnHolds h c.turn p.lane (first_offset c.turn) p.blocks.items
     → OwnHolds h c.turn q.lane (segment_len c.turn.params) q.blocks.items)
+
+-- a segment that has been worked up to column k of s, and what is at hand of its addresses
+pub record IsWorking {A : Type 0} (c : Shared (Vec Segment A)) (start now : Segment)
+    (addresses : Option AddressBlock) (s k : ℕ) : Type 0 where
+  pub lane : now.lane ≡ start.lane
+  pub length_is : s ≡ segment_len c.turn.params
+  pub some : 2 ≤ s
+  pub begun : first_offset c.turn ≤ k
+  pub inside : k ≤ s
+  pub room : s ≤ vec_capacity now.blocks
+  pub first : c.turn.pass ≡ 0 → vec_len now.blocks ≡ k
+  pub later : 0 < c.turn.pass → vec_len now.blocks ≡ s
+  pub kept : KeepsAddresses c.turn now.lane addresses
+  pub own : (h : List ℕ) → SharedHolds VecHolds h c
+      → OwnHolds h c.turn start.lane (first_offset c.turn) start.blocks.items
+      → OwnHolds h c.turn now.lane k now.blocks.items

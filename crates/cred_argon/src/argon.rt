@@ -5,12 +5,13 @@ ghost use denote.Param.Send.{IsSync};
 
 use crate::error::ArgonError;
 use crate::inputs::{Inputs, first_hash, is_any_too_long};
+use crate::interleaved::Interleaved;
 use crate::params::Params;
 use crate::scratch::ArgonScratch;
 use crate::segment::{Segment, Shared};
 use crate::start::start;
 use crate::tag::tag_of;
-use cred_pool::{Alone, Crew, CrewFn, Gate, run_parts};
+use cred_pool::{Crew, CrewFn, Gate, run_parts};
 use std::alloc::Global;
 use std::marker::Sync;
 use std::thread::Threads;
@@ -53,10 +54,11 @@ pub fn argon2<R: Threads + Sync, G: Gate + Sync>(
     argon2_by(&CrewFn { work_each }, alloc, params, &inputs)
 }
 
-/// The same tag with all work on the caller's thread, so that no runtime is needed: each lane of a
-/// slice in turn, behind the gate. The memory is kept from hash to hash, up to the scratch's bound.
-/// So a thread that makes many hashes doesn't have the system take it back each time. A hash never
-/// reads what an earlier one left there.
+/// The same tag with all work on the caller's thread, so that no runtime is needed: two lanes of a
+/// slice at a time, a block of each in turn, between the gate's `enter` and `leave` of both. The
+/// memory is kept from hash to hash, up to the scratch's bound. So a thread that makes many hashes
+/// doesn't have the system take it back each time. A hash never reads what an earlier one left
+/// there.
 ///
 /// Beside the memory that is kept, at most that of the parameters is taken, and some KiB. The
 /// errors are the same, and leave the scratch good for the next hash.
@@ -71,7 +73,7 @@ pub fn argon2_in<G: Gate>(
         inputs.now.pw.now inputs.now.salt.now inputs.now.secret.now inputs.now.assoc.now result }
     ensures most { scratch.new ≡ scratch.old }
 {
-    argon2_with(scratch, &Alone::new(gate), alloc, params, inputs)
+    argon2_with(scratch, &Interleaved { gate }, alloc, params, inputs)
 }
 
 /// The same with the lanes of each slice worked by this crew, in memory that is given back.

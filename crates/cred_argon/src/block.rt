@@ -16,38 +16,64 @@ impl Block {
     pub(crate) const ZERO: Block = Block([0; 128]);
 }
 
+/// What G calls as soon as the new block's first word is there, which names the block that the next
+/// one refers to: it may prefetch that block, so that the memory brings it while G goes on.
+pub(crate) trait Prefetch {
+    ghost can_prefetch: { Self → Type 0 };
+
+    fn prefetch(&self, first_word: u64)
+        requires { can_prefetch self.now };
+}
+
+/// Where no block follows that is known: nothing is prefetched.
+#[derive(Clone, Copy, Drop)]
+struct NoPrefetch;
+
+impl Prefetch for NoPrefetch {
+    ghost use Rattle.std.specs.Prelude.{⊤};
+
+    ghost can_prefetch = { λ _. ⊤ };
+
+    fn prefetch(&self, _first_word: u64) {}
+}
+
 /// The compression function G of two blocks (RFC 9106, section 3.5).
 pub fn compress(x: &Block, y: &Block) -> Block
     ensures { result.0 ≡ compress x.now.0 y.now.0 }
 {
     let mut out = Block::ZERO;
-    compress_over(x, y, &mut out);
+    compress_over(x, y, &mut out, &NoPrefetch);
     out
 }
 
-/// Writes G of two blocks over a third.
+/// Writes G of two blocks over a third. The left half of each row is written before the right one's
+/// columns are begun, so that what the next block refers to is known early.
 #[inline(always)]
-pub(crate) fn compress_over(x: &Block, y: &Block, out: &mut Block)
+pub(crate) fn compress_over<F: Prefetch>(x: &Block, y: &Block, out: &mut Block, next: &F)
+    requires { F.can_prefetch next.now }
     ensures { out.new.0 ≡ compress x.now.0 y.now.0 }
 {
     let top = rows_from(&x.0, &y.0, 0);
     let low = rows_from(&x.0, &y.0, 4);
     let left = left_columns(top, low);
-    let right = right_columns(top, low);
     write_half(&x.0, &y.0, &mut out.0, 0, left);
+    next.prefetch(out.0[0]);
+    let right = right_columns(top, low);
     write_half(&x.0, &y.0, &mut out.0, 8, right);
 }
 
 /// Adds G of two blocks to a third by XOR.
 #[inline(always)]
-pub(crate) fn compress_onto(x: &Block, y: &Block, out: &mut Block)
+pub(crate) fn compress_onto<F: Prefetch>(x: &Block, y: &Block, out: &mut Block, next: &F)
+    requires { F.can_prefetch next.now }
     ensures { out.new.0 ≡ xor_words out.old.0 (compress x.now.0 y.now.0) }
 {
     let top = rows_from(&x.0, &y.0, 0);
     let low = rows_from(&x.0, &y.0, 4);
     let left = left_columns(top, low);
-    let right = right_columns(top, low);
     add_half(&x.0, &y.0, &mut out.0, 0, left);
+    next.prefetch(out.0[0]);
+    let right = right_columns(top, low);
     add_half(&x.0, &y.0, &mut out.0, 8, right);
 }
 
@@ -239,6 +265,11 @@ fn add(out: &mut [u64; 128], at: usize, words: u64x8)
     let sum = xor(eight_words(out, at), words);
     write(out, at, sum);
 }
+
+/// Prefetches a block. Rattle has no such instruction, so the body is empty: in its place
+/// tools/compile_proved.py puts the processor's prefetches, which change no value.
+#[inline(never)]
+pub(crate) fn prefetch_block(_block: &Block) {}
 
 /// Adds a block to another by XOR.
 pub(crate) fn add_onto(x: &Block, out: &mut Block)

@@ -2,14 +2,16 @@
 //! as parts that threads work (RFC 9106, section 3.4).
 ghost use Rattle.std.specs.Prelude.{◌≡◌, ℕ, [], ◌∷◌, ◌++◌, ◌+◌, ◌-◌, ◌*◌, ◌/◌, ◌%◌, ◌^◌, ◌<◌, ◌≤◌, List, length, slice_index, slice_index_or, vec_len, vec_capacity, if◌then◌else◌};
 ghost use Rattle.cred_argon.specs.{declared.block.Block.Block, declared.place.Place.Place, declared.segment.Segment.Segment};
+ghost use Rattle.cred_argon.specs.declared.params.TheConstants.{MAX_MEMORY};
 ghost use Rattle.cred_argon.specs.{Parameters.Parameters, Parameters.segment_len, Places.place, Places.reference_place, Times.IsBefore};
 ghost use Rattle.cred_argon.specs.Cells.{cell, is_dependent, is_fresh, previous, older};
-ghost use Rattle.cred_argon.specs.{Addresses.KeepsAddresses, Addresses.ServesOffset, Addresses.word_from, SegmentWork.CanWork, SegmentWork.Works};
+ghost use Rattle.cred_argon.specs.{Addresses.KeepsAddresses, Addresses.ServesOffset, Addresses.word_from, SegmentWork.CanWork, SegmentWork.Works, SegmentWork.VecIsFull, SegmentWork.IsWorking};
 ghost use Rattle.cred_argon.specs.Turns.{first_offset, number, place_in, position_in, OwnHolds, DoneHolds, IsReadable};
 ghost use Rattle.cred_argon.specs.Segments.{IsFull, HoldsSlice, IsShaped, SharedHolds};
 
 use crate::address::AddressBlock;
 use crate::block::{Block, compress_onto, compress_over};
+use crate::next_reference::NextReference;
 use crate::params::Params;
 use crate::position::{Position, Reference};
 use crate::reference_block::reference_from;
@@ -44,11 +46,55 @@ impl Part<Shared<Vec<Segment>>> for Segment {
         let segment_len = shared.turn.params.segment_len();
         let mut addresses = None;
         'columns: for offset in shared.turn.first_offset()..segment_len {
-            extend(&shared.turn, &mut self.blocks);
-            refresh(&shared.turn, self.lane, offset, &mut addresses);
-            work_offset(shared, self.lane, offset, &addresses, &mut self.blocks);
+            work_column(shared, offset, &mut addresses, self);
         }
     }
+}
+
+/// Works the segments of two lanes interleaved, a block of each in turn. While one lane's block is
+/// computed, the memory brings the block that the other lane's next one refers to.
+pub(crate) fn work_interleaved(
+    shared: &Shared<Vec<Segment>>,
+    first: &mut Segment,
+    second: &mut Segment,
+)
+    requires first { CanWork shared.now first.old }
+    requires second { CanWork shared.now second.old }
+    ensures first { Works shared.now first.old first.new }
+    ensures second { Works shared.now second.old second.new }
+{
+    let segment_len = shared.turn.params.segment_len();
+    let mut of_first = None;
+    let mut of_second = None;
+    'columns: for offset in shared.turn.first_offset()..segment_len {
+        work_column(shared, offset, &mut of_first, first);
+        work_column(shared, offset, &mut of_second, second);
+    }
+}
+
+/// Works the block of a column that is due in a segment.
+fn work_column(
+    shared: &Shared<Vec<Segment>>,
+    offset: u32,
+    addresses: &mut Option<AddressBlock>,
+    segment: &mut Segment,
+)
+    requires shaped { IsShaped VecIsFull shared.now }
+    requires some { 2 ≤ segment_len shared.now.turn.params }
+    requires lane { segment.old.lane < shared.now.turn.params.lanes }
+    requires offset { offset < segment_len shared.now.turn.params }
+    requires computed { first_offset shared.now.turn ≤ offset }
+    requires room { segment_len shared.now.turn.params ≤ vec_capacity segment.old.blocks }
+    requires first { shared.now.turn.pass ≡ 0 → vec_len segment.old.blocks ≡ offset }
+    requires later { 0 < shared.now.turn.pass
+        → vec_len segment.old.blocks ≡ segment_len shared.now.turn.params }
+    ensures { (start : Segment) (s : ℕ)
+        → IsWorking shared.now start segment.old addresses.old s offset
+        → IsWorking shared.now start segment.new addresses.new s (offset + 1) }
+{
+    extend(&shared.turn, &mut segment.blocks);
+    refresh(&shared.turn, segment.lane, offset, addresses);
+    work_offset(shared, segment.lane, offset, addresses, &mut segment.blocks);
 }
 
 impl Slice for Vec<Segment> {
@@ -164,10 +210,17 @@ fn work_block<S: Slice>(
     let (j1, j2) = halves(word);
     let reference = reference_from(&shared.turn.params, position, j1, j2);
     let other = block_at(shared, position.lane, done, &reference);
+    let next = NextReference {
+        shared,
+        lane: position.lane,
+        offset: position.offset,
+        done,
+        addresses,
+    };
     if shared.turn.is_fresh() {
-        compress_over(before, other, due);
+        compress_over(before, other, due, &next);
     } else {
-        compress_onto(before, other, due);
+        compress_onto(before, other, due, &next);
     }
 }
 
@@ -182,7 +235,7 @@ fn word_at(before: &Block, addresses: &Option<AddressBlock>, offset: u32) -> u64
 }
 
 /// The low and the high half of a word.
-fn halves(word: u64) -> (u32, u32)
+pub(crate) fn halves(word: u64) -> (u32, u32)
     ensures low { result.0 ≡ word % 2 ^ 32 }
     ensures high { result.1 ≡ word / 2 ^ 32 }
 {
@@ -208,6 +261,30 @@ fn block_before<'a, S: Slice>(shared: &'a Shared<S>, lane: u32, done: &'a [Block
     }
 }
 
+/// The slice of a column, and its offset there: a division by few comparisons.
+pub(crate) fn slice_and_offset(column: u32, segment_len: u32) -> (u32, u32)
+    requires some { 0 < segment_len }
+    requires column { column < 4 * segment_len }
+    requires fits { 4 * segment_len ≤ MAX_MEMORY }
+    ensures few { result.0 < 4 }
+    ensures slice { result.0 ≡ column / segment_len }
+    ensures offset { result.1 ≡ column % segment_len }
+{
+    let (pairs, rest) = past(column, 2 * segment_len);
+    let (more, offset) = past(rest, segment_len);
+    (2 * pairs + more, offset)
+}
+
+/// Whether a number below two bounds has reached the first, as 0 or 1, and what it has beyond.
+fn past(x: u32, bound: u32) -> (u32, u32)
+    requires { x < 2 * bound }
+    ensures few { result.0 ≤ 1 }
+    ensures below { result.1 < bound }
+    ensures sum { result.0 * bound + result.1 ≡ x }
+{
+    if x < bound { (0, x) } else { (1, x - bound) }
+}
+
 /// The block that the due one refers to.
 fn block_at<'a, S: Slice>(
     shared: &'a Shared<S>,
@@ -227,32 +304,55 @@ fn block_at<'a, S: Slice>(
         → result.now.0 ≡ cell shared.now.turn.params h p }
 {
     let segment_len = shared.turn.params.segment_len();
-    let slice = reference.column / segment_len;
-    let offset = reference.column % segment_len;
+    let (slice, offset) = slice_and_offset(reference.column, segment_len);
     let back = (shared.turn.slice + 4 - slice) % 4;
     if back == 0 {
         &done[offset as usize]
     } else {
-        earlier_block(shared, back, reference.lane, offset)
+        earlier_block(shared, slice, back, reference.lane, offset)
     }
 }
 
-/// A block of the slice so many slices back.
-fn earlier_block<S: Slice>(shared: &Shared<S>, back: u32, lane: u32, offset: u32) -> &Block
+/// A block of another slice, so many slices back.
+pub(crate) fn earlier_block<S: Slice>(
+    shared: &Shared<S>,
+    slice: u32,
+    back: u32,
+    lane: u32,
+    offset: u32,
+) -> &Block
     requires shaped { IsShaped S.is_full shared.now }
     requires lane { lane < shared.now.turn.params.lanes }
     requires offset { offset < segment_len shared.now.turn.params }
+    requires slice { slice < 4 }
+    requires back { back ≡ (shared.now.turn.slice + 4 - slice) % 4 }
     requires some { 0 < back }
-    requires few { back < 4 }
     requires worked { back ≤ number shared.now.turn }
     ensures { (h : List ℕ) → SharedHolds S.holds h shared.now
         → result.now.0 ≡ cell shared.now.turn.params h
         (place ((number shared.now.turn - back) / 4) lane
         ((number shared.now.turn - back) % 4 * segment_len shared.now.turn.params + offset)) }
 {
-    match back {
-        1 => shared.newest.block_of(&shared.turn.params, lane, offset),
-        2 => shared.middle.block_of(&shared.turn.params, lane, offset),
-        _ => shared.oldest.block_of(&shared.turn.params, lane, offset),
+    earlier_slice(shared, slice, back).block_of(&shared.turn.params, lane, offset)
+}
+
+/// The slice itself, by comparisons with numbers that the compiler doesn't know. Of a `match` on
+/// `back` it would make a jump, which a processor predicts wrong three times of four.
+fn earlier_slice<S: Slice>(shared: &Shared<S>, slice: u32, back: u32) -> &S
+    requires shaped { IsShaped S.is_full shared.now }
+    requires slice { slice < 4 }
+    requires back { back ≡ (shared.now.turn.slice + 4 - slice) % 4 }
+    requires some { 0 < back }
+    requires worked { back ≤ number shared.now.turn }
+    ensures full { S.is_full shared.now.turn.params result.now }
+    ensures holds { (h : List ℕ) → SharedHolds S.holds h shared.now
+        → S.holds shared.now.turn.params h (number shared.now.turn - back) result.now }
+{
+    if slice == (shared.turn.slice + 3) % 4 {
+        &shared.newest
+    } else if slice == (shared.turn.slice + 2) % 4 {
+        &shared.middle
+    } else {
+        &shared.oldest
     }
 }

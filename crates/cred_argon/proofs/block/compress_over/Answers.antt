@@ -3,7 +3,7 @@ use Rattle.cred_argon.proofs.Whole.{compress_is, halves_put}
 use Rattle.cred_argon.proofs.block.compress_over.Goals as goal
 
 pub returns : goal.returns
-returns c =
+returns g c =
     let x = c.args.x.now.0 in
     let y = c.args.y.now.0 in
     let v = rows (xor_words x y) in

@@ -1,4 +1,4 @@
-use Rattle.cred_argon.proofs.Working.{IsWorking}
+use Rattle.cred_argon.specs.SegmentWork.{IsWorking}
 use Rattle.cred_argon.proofs.segment.SegmentPartSharedVecSegment.work.Given as goal
 
 abbrev pub invariant-columns : goal.invariant-columns
