@@ -1,5 +1,6 @@
 -- Lemmas on the entries of a tree, on times and waits, and on histories.
 pub mod Counted
+pub mod Judged
 pub mod Kept
 pub mod Limited
 pub mod Seldom

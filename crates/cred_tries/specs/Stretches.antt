@@ -51,6 +51,17 @@ FailsSeldom limit history =
     → IsUncleared stretch → failed stretch
     ≤ limit + short_waits + (last_failure stretch - first_failure stretch) / longest_wait
 
+-- The right answers, the failures and the forgivings of a history, as its answers tell them: without
+-- the tries that begin, are sent away or aren't judged.
+abbrev pub judgements : List Event → List Event
+judgements [] = []
+judgements (Right t ∷ before) = Right t ∷ judgements before
+judgements (Wrong t ∷ before) = Wrong t ∷ judgements before
+judgements (Forgiven t ∷ before) = Forgiven t ∷ judgements before
+judgements (Begun t ∷ before) = judgements before
+judgements (Unjudged t ∷ before) = judgements before
+judgements (Sent t ∷ before) = judgements before
+
 -- no right answer and no forgiving, and less than a day from each failure to the next, and from the
 -- last to `now`
 abbrev pub IsFailing : ℕ → List Event → Type 0

@@ -7,7 +7,7 @@ ghost use Rattle.cred_tries.specs.Counts.{longest_wait, most_tries};
 ghost use Rattle.cred_tries.specs.Histories.{IsLimited};
 ghost use Rattle.cred_tries.specs.Limits.{Limits, begin_outcome, count_at};
 ghost use Rattle.cred_tries.specs.Steps.{Step, TellsTurn, after_step, clock_after, events_at, is_name_of, step_name};
-ghost use Rattle.cred_tries.specs.Stretches.{FailsBehind, FailsSeldom, QuietBegins, WaitsBehind};
+ghost use Rattle.cred_tries.specs.Stretches.{FailsBehind, FailsSeldom, QuietBegins, WaitsBehind, judgements};
 ghost use Rattle.cred_tries.specs.declared.clock.SteadyClock.{SteadyClock};
 
 use crate::turn::Turn;
@@ -17,6 +17,7 @@ use crate::turn::Turn;
 ///
 /// - `seldom`: between two right answers or forgivings at most as many tries fail at the name as
 ///   the limit says and ten, and one more for each 900 seconds between the first and the last;
+/// - `ends`: so it is of the right answers, the failures and the forgivings alone, which answers tell;
 /// - `waits`: once as many as the limit says failed, or began, the next begins only when all of
 ///   them have failed, and the wait behind the last is over;
 /// - `fails`: so each failure behind those comes that wait after the one before it;
@@ -28,6 +29,8 @@ use crate::turn::Turn;
 pub fn each_name_is_limited()
     ensures seldom { (limit : ℕ) (name : List ℕ) (steps : List Step) → 0 < limit
         → limit ≤ most_tries → FailsSeldom limit (events_at limit name steps) }
+    ensures ends { (limit : ℕ) (name : List ℕ) (steps : List Step) → 0 < limit
+        → limit ≤ most_tries → FailsSeldom limit (judgements (events_at limit name steps)) }
     ensures waits { (limit : ℕ) (name : List ℕ) (steps : List Step) → 0 < limit
         → WaitsBehind limit (events_at limit name steps) }
     ensures fails { (limit : ℕ) (name : List ℕ) (steps : List Step) → 0 < limit
