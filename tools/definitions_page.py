@@ -1,0 +1,175 @@
+#!/usr/bin/env python3
+"""Prints definitions into docs/DEFINITIONS.md, as crates/*/specs/ have them.
+
+    python3 tools/definitions_page.py [--write]
+
+A line of the page asks for the block of text behind it:
+
+    <!-- definitions of CRATE.MODULE.NAME, .. up to CRATE.MODULE.NAME, .. -->
+
+A block has the definitions that are named first, and all of ours that they rest on, each with the
+comment above it, in the order in which they are first named. Those behind `up to` are its chapters:
+they stand last, without what they rest on. What a block further up has isn't printed again. A block
+ends with the names of the code and of the toolchain's libraries that it has, but for those of
+Rattle.std.specs.Prelude.
+
+--write prints the blocks anew. Without, the blocks are told that aren't as the tree is, and the
+status is 1 if there are some.
+"""
+
+from __future__ import annotations
+
+import argparse
+import re
+import sys
+import textwrap
+from collections.abc import Iterable, Iterator
+
+from definitions import MADE, Definitions, Place, name_declared, words
+from tree import CRATES, TOP, source
+
+PAGE = TOP / "docs/DEFINITIONS.md"
+BLOCK = re.compile(r"^<!-- definitions of ([^<>]+) -->\n```text\n(.*?)^```$", re.M | re.S)
+WRITE = "python3 tools/definitions_page.py --write"
+# What a reader of any text of antt knows.
+KNOWN = ("Rattle", "std", "specs", "Prelude")
+
+
+def texts_in(file: str) -> dict[str, str]:
+    """The text of each definition of a file, with the comment right above it."""
+    found: dict[str, str] = {}
+    name = comment = ""
+    for piece in re.split(r"^(?=[^\s)}\]])", file, flags=re.M):
+        said = words(piece)
+        if piece.startswith("--"):
+            comment = "" if piece.endswith("\n\n") else comment + piece
+            continue
+        if said and not {"use", "mod"} & {*said[:2]}:
+            name = name_declared(said) or name
+            found[name] = found.get(name, "") + comment + piece
+        comment = ""
+    return {name: text.rstrip() for name, text in found.items()}
+
+
+def texts() -> Iterator[tuple[Place, str]]:
+    """The text of each definition of the tree."""
+    for file in sorted(CRATES.glob("*/specs/**/*.antt")):
+        crate, _, *module = file.relative_to(CRATES).with_suffix("").parts
+        for name, text in texts_in(source(file)).items():
+            yield (crate, *module, name), text
+
+
+def item_of(path: Place) -> str:
+    """The type or constant of the code that a path names: `cred_cli::Event` of
+    `Rattle.cred_cli.specs.declared.event.Event.TheVariants.Begin`."""
+    names = [it for it in path[3:] if it[0].isupper() and it != "TheConstants"]
+    return "::".join([path[1], *names[:1]])
+
+
+def listed_as(head: str, names: Iterable[str]) -> list[str]:
+    """A comment that lists some names, if there are any."""
+    said = f"{head}: {', '.join(sorted(names))}"
+    lines = textwrap.wrap(said, 96, break_long_words=False, break_on_hyphens=False)
+    return ["\n".join(f"-- {it}" for it in lines)] if names else []
+
+
+class Printer:
+    """Prints the blocks of a page, from its top to its end."""
+
+    def __init__(self) -> None:
+        self.found = Definitions()
+        self.texts = dict(texts())
+        self.printed: set[Place] = set()
+
+    def place(self, name: str) -> Place:
+        place = (*name.strip().split("."),)
+        if place not in self.texts:
+            raise LookupError(f"the definition {name.strip()} isn't there")
+        return place
+
+    def named_in(self, place: Place) -> Iterator[Place]:
+        """The paths that a definition names, in its order."""
+        text = self.found.found[place]
+        for word in text.words:
+            first, *fields = word.split(".")
+            for path in sorted(text.names.get(first, ())):
+                yield self.found.origin((*path, *fields))
+
+    def below(self, roots: list[Place], chapters: list[Place]) -> list[Place]:
+        """Some definitions and all that they rest on, as they are first named, but for chapters."""
+        found: dict[Place, None] = {}
+        left = [*reversed(roots)]
+        while left:
+            place = left.pop()
+            if place not in found and place not in chapters:
+                found[place] = None
+                paths = [it for it in self.named_in(place) if self.found.is_ours(it)]
+                left += [it for it in map(self.found.at, reversed(paths)) if it]
+        return [*found]
+
+    def others(self, places: list[Place]) -> list[str]:
+        """What some definitions name that isn't defined in `specs/`."""
+        paths = {it for place in places for it in self.named_in(place) if it[:4] != KNOWN}
+        ours = {it for it in paths if self.found.is_ours(it)}
+        items = {item_of(it) for it in ours if it[3] in MADE}
+        library = {".".join((it[1], *it[3:])) for it in paths - ours if it[0] == "Rattle"}
+        return [*listed_as("of the code", items), *listed_as("of the toolchain", library)]
+
+    def block(self, said: str) -> str:
+        """The text that a line of the page asks for."""
+        roots, chapters = (
+            [self.place(it) for it in part.split(",") if it.strip()]
+            for part in said.partition(" up to ")[::2]
+        )
+        places = [*self.below(roots, chapters), *chapters]
+        new = [it for it in places if it not in self.printed]
+        self.printed |= {*new}
+        parts: list[str] = []
+        module: Place = ()
+        for place in new:
+            if place[:-1] != module:
+                module = place[:-1]
+                parts.append(f"-- ---- crates/{module[0]}/specs/{'/'.join(module[1:])}.antt")
+            parts.append(self.texts[place])
+        return "\n\n".join([*parts, *self.others(new)]) + "\n"
+
+
+def printed(page: str) -> str:
+    """A page, with each of its blocks as the tree has it."""
+    printer = Printer()
+
+    def block(found: re.Match[str]) -> str:
+        return f"<!-- definitions of {found[1]} -->\n```text\n{printer.block(found[1])}```"
+
+    return BLOCK.sub(block, page)
+
+
+def check() -> Iterator[str | None]:
+    """What is wrong with each block of the page."""
+    page = source(PAGE)
+    try:
+        wanted = printed(page)
+    except (LookupError, ValueError) as wrong:
+        yield f"docs/DEFINITIONS.md: {wrong}"
+        return
+    blocks = [it[0] for it in BLOCK.finditer(wanted)]
+    yield None if blocks else "docs/DEFINITIONS.md asks for no definitions"
+    for found, block in zip(BLOCK.finditer(page), blocks):
+        said = found[1].partition(" up to ")[0]
+        wrong_block = f"docs/DEFINITIONS.md: {said} isn't as in specs/: `{WRITE}` prints it anew"
+        yield None if found[0] == block else wrong_block
+
+
+def main() -> int:
+    reader = argparse.ArgumentParser(usage="python3 tools/definitions_page.py [--write]")
+    reader.add_argument("--write", action="store_true", help="print the blocks anew")
+    if reader.parse_args().write:
+        PAGE.write_text(printed(source(PAGE)))
+        return 0
+    wrong = [it for it in check() if it]
+    print("\n".join(wrong) or "docs/DEFINITIONS.md has the definitions as they are")
+    return 1 if wrong else 0
+
+
+if __name__ == "__main__":
+    sys.exit(main())
