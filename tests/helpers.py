@@ -28,6 +28,7 @@ import sys
 import tempfile
 import termios
 import threading
+import time
 import unittest
 from collections import deque
 from collections.abc import Callable, Iterable, Iterator
@@ -166,6 +167,15 @@ def run(
     if process.returncode != status:
         raise AssertionError(f"{shlex.join(line)}: status {process.returncode}\n{text}")
     return text
+
+
+def until(fact: Callable[[], bool], said: str, seconds: float = LONGEST) -> None:
+    """Waits for something, as long as it may take on a slow and loaded machine."""
+    end, pause = time.monotonic() + seconds, 0.01
+    while not fact():
+        assert time.monotonic() < end, f"never: {said}"
+        time.sleep(pause)
+        pause = min(pause * 1.2, 0.1)
 
 
 def text_of(written: bytes) -> str:

@@ -9,8 +9,8 @@ import time
 from collections.abc import Iterator
 
 from tests.credkeep.books import BookTest
-from tests.helpers import each, need
-from tests.server.served import Client, until
+from tests.helpers import each, need, until
+from tests.server.served import Client
 
 
 def is_listening(path: pathlib.Path) -> bool:

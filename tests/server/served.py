@@ -2,15 +2,16 @@
 
 import base64
 import contextlib
+import fcntl
 import functools
 import os
 import pathlib
 import socket
 import subprocess
 import sys
-import time
+import termios
 import unittest
-from collections.abc import Callable, Iterator
+from collections.abc import Iterator
 from dataclasses import dataclass, field
 from typing import Any, Optional
 
@@ -18,7 +19,8 @@ HERE = pathlib.Path(__file__).resolve().parent
 TOP = HERE.parent.parent
 sys.path.insert(0, str(TOP))
 from tests import helpers, hostile_fields  # noqa: E402
-from tests.helpers import need, need_root, program  # noqa: E402, F401 (for the tests)
+from tests.helpers import LONGEST, program  # noqa: E402
+from tests.helpers import need, need_root, until  # noqa: E402, F401 (for the tests)
 from tests.needs import lacking  # noqa: E402
 
 FAST_BOOK = HERE / "fast_book.py"
@@ -87,14 +89,6 @@ def chosen_book() -> pathlib.Path:
         return FAST_BOOK
 
 
-def until(fact: Callable[[], bool], said: str, seconds: float = 20.0) -> None:
-    """Waits for something."""
-    end = time.monotonic() + seconds
-    while not fact():
-        assert time.monotonic() < end, f"never: {said}"
-        time.sleep(0.01)
-
-
 def cpu(pid: int) -> float:
     """Seconds of processor time that a process took so far."""
     fields = pathlib.Path(f"/proc/{pid}/stat").read_text().rpartition(")")[2].split()
@@ -104,12 +98,6 @@ def cpu(pid: int) -> float:
 def ran(*words: str) -> helpers.Ended:
     """How the program ends with these words."""
     return helpers.ended([PYTHON, SERVER, *words])
-
-
-def free_port() -> int:
-    with socket.socket() as it:
-        it.bind(("127.0.0.1", 0))
-        return int(it.getsockname()[1])
 
 
 def is_listening(path: pathlib.Path) -> bool:
@@ -140,7 +128,7 @@ class Client(contextlib.AbstractContextManager["Client"]):
 
     def __init__(self, path: pathlib.Path) -> None:
         self.socket = socket.socket(socket.AF_UNIX)
-        self.socket.settimeout(30)
+        self.socket.settimeout(LONGEST)
         self.rest, self.asked = b"", 0
         try:
             self.socket.connect(str(path))
@@ -150,6 +138,11 @@ class Client(contextlib.AbstractContextManager["Client"]):
 
     def send(self, data: bytes | str) -> None:
         self.socket.sendall(data.encode() if isinstance(data, str) else data)
+
+    def wait_until_read(self) -> None:
+        """Until the server has read all that was sent."""
+        none = bytes(4)
+        until(lambda: fcntl.ioctl(self.socket, termios.TIOCOUTQ, none) == none, "it is read")
 
     def line(self) -> bytes:
         """The next line, without its end; empty at the end."""
@@ -242,7 +235,7 @@ class Service:
 
     def wait_until_started(self) -> "Service":
         process = self.process
-        until(lambda: "start: " in self.log() or process.poll() is not None, "start", 60)
+        until(lambda: "start: " in self.log() or process.poll() is not None, "start")
         assert process.poll() is None, f"it ended: {self.log()}"
         return self
 
@@ -295,11 +288,11 @@ class Service:
     def stop(self) -> None:
         """Ends it in order."""
         self.process.terminate()
-        same(self.process.wait(timeout=40), 0, self.log())
+        same(self.process.wait(timeout=LONGEST), 0, self.log())
 
     def ended(self) -> tuple[int, str]:
         """The status with which it ends by itself, and its log."""
-        return self.process.wait(timeout=40), self.log()
+        return self.process.wait(timeout=LONGEST), self.log()
 
     def end(self) -> None:
         """Ends it, and its clients, whatever they are at."""
@@ -307,7 +300,7 @@ class Service:
             client.close()
         self.process.terminate()
         try:
-            self.process.wait(timeout=40)
+            self.process.wait(timeout=LONGEST)
         except subprocess.TimeoutExpired:
             self.process.kill()
             self.process.wait()

@@ -160,7 +160,7 @@ class Clients(ClientCase):
             await asyncio.sleep(0.3)
             await client.close()
             with self.assertRaises(self.server.Unavailable):
-                await asyncio.wait_for(waiting, 20)
+                await asyncio.wait_for(waiting, 120)
 
         asyncio.run(closes(self.peer(b"", "waits")))
 

@@ -189,7 +189,7 @@ class Foreign(ForeignCase):
     def test_removed_amid_a_login(self) -> None:
         """Whoever leaves the file while a right login is being judged is refused, and doesn't
         move."""
-        self.file.write_text(f"ada:{made_by('htpasswd -niBC 13 u', 'secret')}\n")
+        self.file.write_text(f"ada:{made_by('htpasswd -niBC 15 u', 'secret')}\n")
         service = self.over()
         login, admin = service.both()
         login.send(f"a verify ada {SECRET}\n")

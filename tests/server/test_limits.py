@@ -241,14 +241,14 @@ class Limits(Case):
             time.sleep(0.5)
             return len(service.asked()) == count
 
-        until(is_still, "no more lines", 60)
+        until(is_still, "no more lines")
         self.assertLess(len(service.asked()) - begun, 4 * 400, "lines for who reads no answer")
         status = pathlib.Path(f"/proc/{service.process.pid}/status").read_text()
         (resident,) = re.findall(r"VmRSS:\s+(\d+)", status)
         self.assertLess(int(resident), 100_000)
         time.sleep(2.5)
         for client in slow:
-            client.socket.settimeout(5)
+            client.socket.settimeout(60)
             with contextlib.suppress(ConnectionError):
                 while client.socket.recv(1 << 20):
                     pass
@@ -256,4 +256,4 @@ class Limits(Case):
         service.client().talk("known ada -> noaccount")
         begun_to_end = time.monotonic()
         service.stop()
-        self.assertLess(time.monotonic() - begun_to_end, 10, "it waited for who has gone")
+        self.assertLess(time.monotonic() - begun_to_end, 15, "it waited for who has gone")

@@ -11,11 +11,12 @@ import urllib.request
 from unittest import mock
 
 from machine import is_open, shell
-from served import SECRET, TOP, WRONG, Case, Client, Service, field_of, free_port, need, ran, until
+from served import SECRET, TOP, WRONG, Case, Client, Service, field_of, need, ran, until
 from daemon import tries
 from daemon.options import OPERATIONS, Options
 from tests.helpers import Peer, run
 from tests.needs import need_file
+from tests.ports import free_port
 
 
 def noted(path: pathlib.Path) -> list[dict[str, object]]:
@@ -108,7 +109,7 @@ class Seen(Case):
         self.addCleanup(exporter.wait)
         self.addCleanup(exporter.terminate)
         until(lambda: is_open(port), "the exporter")
-        with urllib.request.urlopen(f"http://127.0.0.1:{port}/metrics", timeout=20) as answer:
+        with urllib.request.urlopen(f"http://127.0.0.1:{port}/metrics", timeout=120) as answer:
             text = answer.read().decode()
         found = re.findall(r'^credkeep_changes_total{book="tmp-\S+-(\w+)"} (\d+)$', text, re.M)
         self.assertEqual(sorted(found), [("mail", "2"), ("users", "1")])
@@ -361,7 +362,7 @@ class Audited(Case):
         service.client("admin").talk(asked)
         until(lambda: len(noted(room / "audit")) == 3, "the line of the login")
         shell(f"pkill -TERM -P {service.process.pid}")
-        service.process.wait(timeout=60)
+        service.ended()
         calls = r'sendto\(\d+, "\S+ (\w+)\\n"|write\(\d+, "\{.*operation\\": \\"(\w+)'
         found = ["".join(it) for it in re.findall(calls, (room / "trace").read_text())]
         self.assertEqual(found, ["account", "ok", "enrol", "enrolled", "yes", "verify"])

@@ -55,7 +55,7 @@ def run_apache(room: pathlib.Path, configuration: str, modules: str) -> Service:
 
 
 def imap(user: str, password: str) -> bool:
-    with imaplib.IMAP4("127.0.0.1", timeout=60) as client:
+    with imaplib.IMAP4("127.0.0.1", timeout=120) as client:
         try:
             client.login(user, password)
             same(client.select()[0], "OK")
@@ -102,7 +102,7 @@ def status_of(port: int, user: str, password: str) -> int:
         basic = base64.b64encode(f"{user}:{password}".encode()).decode()
         request.add_header("Authorization", f"Basic {basic}")
     try:
-        with urllib.request.urlopen(request, timeout=30) as answer:
+        with urllib.request.urlopen(request, timeout=120) as answer:
             return int(answer.status)
     except urllib.error.HTTPError as fault:
         return fault.code
@@ -281,7 +281,7 @@ class Mail(Case):
         until(lambda: is_open(25), "postfix")
 
         def sent(user: str, password: str) -> str:
-            with smtplib.SMTP("127.0.0.1", timeout=60) as client:
+            with smtplib.SMTP("127.0.0.1", timeout=120) as client:
                 client.ehlo("me.example.org")
                 try:
                     if user:

@@ -119,7 +119,7 @@ class Units(Case):
             login.talk("verify ada {secret} -> yes\nknown ada -> yes\nverify bob {secret} -> yes")
             login.talk("change ada {secret} {fresh} -> replaced")
         shell(f"pkill -TERM -P {service.process.pid}")
-        service.process.wait(timeout=60)
+        service.ended()
         self.assertIn("bob ", (room / "old.moved").read_text(), service.log())
         lines = (room / "trace").read_text().splitlines()
         begun = next(at for at, line in enumerate(lines) if "execve(" in line and PYTHON in line)

@@ -7,9 +7,7 @@ import shutil
 import signal
 import subprocess
 import sys
-import time
 import unittest
-from collections.abc import Callable
 from unittest import mock
 
 from tests import helpers, needs
@@ -118,12 +116,6 @@ class RunTests(Case):
         ):
             (self.top / folder / "__init__.py").touch()
 
-    def wait_until(self, is_so: Callable[[], bool]) -> None:
-        end = time.monotonic() + helpers.LONGEST
-        while not is_so():
-            self.assertLess(time.monotonic(), end)
-            time.sleep(0.05)
-
     def run_tests(self, *words: str, **more: str) -> Ended:
         command = [sys.executable, str(self.top / "tools/run_tests.py"), *words]
         return ended(command, env={**os.environ, **more})
@@ -162,14 +154,14 @@ class RunTests(Case):
             text=True,
         )
         at_work = self.top / "at_work"
-        self.wait_until(at_work.exists)
+        helpers.until(at_work.exists, "it is at work")
         run.send_signal(number)
         written, _ = run.communicate(timeout=helpers.LONGEST)
         self.assertEqual(written, "tests: interrupted\n")
         self.assertEqual(run.returncode, 128 + number)
         for process in at_work.read_text().split():
             words = pathlib.Path("/proc", process, "cmdline")
-            self.wait_until(lambda it=words: not it.exists() or not it.read_bytes())
+            helpers.until(lambda it=words: not it.exists() or not it.read_bytes(), "it has ended")
         at_work.unlink()
 
     def test_what_passes(self) -> None:

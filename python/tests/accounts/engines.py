@@ -7,7 +7,7 @@ import uuid
 
 import servers
 from galera import Galera
-from support import CHECK_FAILED, HIGH, LOW, Awaiting, Base, module
+from support import CHECK_FAILED, HIGH, LOW, PATIENCE, Awaiting, Base, module
 from rigzumal import ScryptHasher
 from rigzumal.accounts import AsyncAccounts, MariaDB, MySQL, Postgres, Sqlite
 from rigzumal.accounts.pools import PerUse
@@ -242,7 +242,7 @@ class OnSqliteTasks(OnSqlite):
         return Awaiting(self.connect())
 
     def over(self, pool, hasher=LOW, dialect=None, **more):
-        given = {"patience": 5.0, **more}
+        given = {"patience": PATIENCE, **more}
         return Awaited(AsyncAccounts(pool, dialect or self.dialect, hasher, **given))
 
     def accounts(self, hasher=LOW, dialect=None, **more):

@@ -9,12 +9,17 @@ LIBRARY = "/usr/lib/galera/libgalera_smm.so"
 
 
 class Node(MariaServer):
+    # How long a node may say nothing until the others take it for dead, in seconds: on a slow
+    # machine it may have to wait for the processor.
+    silence = 60
     cluster = ()
 
     @property
     def more_lines(self):
         base, port = self.port + 1, self.port
         nodes = ",".join(f"127.0.0.1:{it.port + 1}" for it in self.cluster)
+        short, long = f"PT{self.silence}S", f"PT{self.silence * 3}S"
+        silence = f"evs.suspect_timeout={short};evs.inactive_timeout={long}"
         return [
             *("binlog_format=ROW", "innodb_autoinc_lock_mode=2"),
             *("wsrep_on=ON", f"wsrep_provider={LIBRARY}", "wsrep_sst_method=rsync"),
@@ -23,7 +28,7 @@ class Node(MariaServer):
             f"wsrep_node_address=127.0.0.1:{base}",
             f"wsrep_sst_receive_address=127.0.0.1:{port + 4}",
             f'wsrep_provider_options="base_port={base};gcache.size=32M;'
-            f"ist.recv_addr=127.0.0.1:{port + 3};"
+            f"ist.recv_addr=127.0.0.1:{port + 3};{silence};pc.wait_prim_timeout=PT300S;"
             f'gmcast.listen_addr=tcp://127.0.0.1:{base}"',
         ]
 
@@ -36,14 +41,14 @@ class Node(MariaServer):
 class Galera:
     """A cluster's nodes, whose connections are of each by turns and read what was committed."""
 
-    def __init__(self, name, count=2):
+    def __init__(self, name, count=2, silence=Node.silence):
         need_file(LIBRARY)
         need(pymysql, "pymysql", "rsync")
         self.nodes = [Node(f"{name}{number}") for number in range(count)]
         places = ",".join(f"127.0.0.1:{node.port}" for node in self.nodes)
         self.turns, self.url = itertools.cycle(self.nodes), f"mysql://store:store@{places}/store"
         for node in self.nodes:
-            node.cluster = self.nodes
+            node.cluster, node.silence = self.nodes, silence
 
     def start(self):
         first, *others = self.nodes

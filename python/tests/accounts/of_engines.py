@@ -104,7 +104,7 @@ class LostAnswers:
         for is_done, error, times in itertools.product((0, 1), self.unknown, (1, 3)):
             reply, is_record = (undone, done)[is_done]
             record = self.give(stands)
-            accounts = self.losing(not is_done, times, error, hasher=self.high, patience=5.0)
+            accounts = self.losing(not is_done, times, error, hasher=self.high)
             with self.subTest(done=is_done, error=error, times=times):
                 if reply is OutcomeUnknown:
                     self.assertRaises(OutcomeUnknown, called, accounts, text)
@@ -184,7 +184,7 @@ class Confirmed:
     def test_a_commit_without_an_answer(self, stands, reply):
         """Nothing was changed, so it is sent again; the answer is no unknown one."""
         self.give(stands)
-        accounts = self.losing(True, 2, self.lost_look, confirm=True, patience=5.0)
+        accounts = self.losing(True, 2, self.lost_look, confirm=True)
         self.assertIs(accounts.verify("ann", "one"), reply)
 
 

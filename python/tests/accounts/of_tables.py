@@ -121,7 +121,7 @@ class Connections:
         settings = {self.lock_timeout, self.statement_timeout}
         for setting, stands in itertools.product(settings, ("one", None)):
             connect, made, record = self.setting(setting), [], self.give(stands)
-            patient = self.accounts(connect=lambda: made.append(1) or connect(), patience=20.0)
+            patient = self.accounts(connect=lambda: made.append(1) or connect(), patience=60.0)
             impatient = self.accounts(self.high, connect=connect, patience=0.8)
             holder = self.another()
             self.execute(self.dialect.begin, conn=holder)

@@ -15,6 +15,7 @@ from galera import Galera
 from support import server
 import torture
 from rigzumal.accounts import Accounts, MariaDB, PerThread, Reply
+from tests.helpers import LONGEST, until
 from torture import logs
 from torture._torture import LOW, hasher
 
@@ -85,7 +86,8 @@ postgres, maria, maria_without_log = (
     functools.partial(server, it)
     for it in (servers.PostgresServer, servers.MariaServer, WithoutLog)
 )
-galera = functools.cache(lambda: Galera("galera", 3).start())
+# As by Galera's defaults, since a node is killed.
+galera = functools.cache(lambda: Galera("galera", 3, silence=5).start())
 SQLITE = lambda: servers.SqliteFile().url
 POSTGRES = lambda: postgres().url
 MARIADB = lambda: maria().url
@@ -115,8 +117,7 @@ class Pair:
         if is_synchronous:
             name = self.standby.folder.name
             self.primary.set(synchronous_standby_names=name, synchronous_commit="on")
-        while not self.is_streaming():
-            time.sleep(0.1)
+        until(self.is_streaming, "the standby follows")
 
     def is_streaming(self):
         with self.primary.connect() as conn:
@@ -138,6 +139,7 @@ class Pair:
         self.standby.promote()
 
     def fail_over_with_lag(self):
+        until(self.is_streaming, "the standby follows")
         with self.standby.connect() as conn:
             ((receiver,),) = conn.execute("SELECT pid FROM pg_stat_wal_receiver").fetchall()
         os.kill(receiver, signal.SIGSTOP)
@@ -225,7 +227,7 @@ class Crashes:
 
     def turn(self, answered, changer):
         """The number of the password that stands after a kill."""
-        looking, end = self.accounts(confirm=self.confirm), time.monotonic() + 20
+        looking, end = self.accounts(confirm=self.confirm), time.monotonic() + LONGEST
         while time.monotonic() < end:
             now = answered.value
             said = looking.verify("ann", f"p{now + 1}")

@@ -9,15 +9,15 @@ import pathlib
 import pwd
 import shutil
 import signal
-import socket
 import sqlite3
 import subprocess
 import sys
 import tempfile
-import time
 
 sys.path.insert(0, str(pathlib.Path(__file__).resolve().parents[3]))
 from tests import needs  # noqa: E402
+from tests.helpers import LONGEST, until  # noqa: E402
+from tests.ports import free_port  # noqa: E402
 
 try:
     import psycopg
@@ -39,18 +39,6 @@ def clear():
     """Removes the folder, after all servers were ended."""
     if os.getpid() == MAIN and not os.environ.get("RIGZUMAL_KEEP"):
         shutil.rmtree(ROOM, ignore_errors=True)
-
-
-def free_port(count=1):
-    """The first of so many ports that nothing listens on."""
-    while True:
-        with contextlib.ExitStack() as stack, contextlib.suppress(OSError, OverflowError):
-            port = 0
-            for place in range(count):
-                probe = stack.enter_context(socket.socket())
-                probe.bind(("127.0.0.1", port and port + place))
-                port = port or probe.getsockname()[1]
-            return port
 
 
 def need(driver, name, *programs):
@@ -77,6 +65,15 @@ def descendants(pid):
         for child in children.split():
             found += descendants(int(child))
     return found
+
+
+def is_running(pid):
+    """Whether a process has its memory and its files yet, which one that was killed may have."""
+    try:
+        state = pathlib.Path(f"/proc/{pid}/stat").read_text().rpartition(") ")[2][:1]
+    except OSError:
+        return False
+    return state not in ("Z", "X")
 
 
 class Server:
@@ -108,25 +105,34 @@ class Server:
         return self
 
     def wait(self):
-        """Until it answers, for two minutes at most."""
-        end = time.monotonic() + 120
-        while not self.ready():
-            if self.process.poll() is not None or time.monotonic() > end:
-                tail = self.log.read_text(errors="replace")[-3000:]
-                raise RuntimeError(f"{self.folder.name} doesn't answer: {tail}")
-            time.sleep(0.1)
+        """Until it answers."""
+        has_ended = lambda: self.process.poll() is not None
+        try:
+            until(lambda: has_ended() or self.ready(), "it answers", 3 * LONGEST)
+        except AssertionError:
+            pass
+        else:
+            if not has_ended():
+                return
+        tail = self.log.read_text(errors="replace")[-3000:]
+        raise RuntimeError(f"{self.folder.name} doesn't answer: {tail}")
 
     def kill(self):
-        """As a crash: all of its processes end at once."""
-        for pid in descendants(self.process.pid):
+        """As a crash: all of its processes end at once, and are gone."""
+        if self.process.poll() is not None:
+            return
+        self.process.send_signal(signal.SIGSTOP)  # so that it makes no more of them
+        pids = descendants(self.process.pid)
+        for pid in pids:
             with contextlib.suppress(ProcessLookupError):
                 os.kill(pid, signal.SIGKILL)
         self.process.wait()
+        until(lambda: not any(map(is_running, pids)), "all of its processes are gone")
 
     def end(self, number=None):
         self.process.send_signal(number or self.stop)
         try:
-            self.process.wait(30)
+            self.process.wait(LONGEST)
         except subprocess.TimeoutExpired:
             self.kill()
 
@@ -165,12 +171,12 @@ class OfPostgres(Server):
         return f"postgresql://store@127.0.0.1:{self.port}/postgres"
 
     def connect(self, **more):
-        return psycopg.connect(self.url, **{"autocommit": True, "connect_timeout": 5, **more})
+        return psycopg.connect(self.url, **{"autocommit": True, "connect_timeout": 60, **more})
 
     def ready(self):
         try:
             self.connect().close()
-        except psycopg.OperationalError:
+        except (psycopg.Error, OSError):
             return False
         return True
 
@@ -211,15 +217,20 @@ class PostgresServer(OfPostgres):
         return [self.bin / "postgres", "-D", self.folder]
 
     def set(self, **settings):
-        """Changes settings of the server while it runs."""
+        """Changes settings of the server while it runs; new sessions have them then."""
         with self.connect() as conn:
             for name, value in settings.items():
                 conn.execute(f"ALTER SYSTEM SET {name} = '{value}'")
             conn.execute("SELECT pg_reload_conf()")
-        time.sleep(0.5)
+        until(lambda: self.shown(*settings) == [*settings.values()], f"{settings}")
+
+    def shown(self, *names):
+        """What a new session has these settings at."""
+        with self.connect() as conn:
+            return [conn.execute(f"SHOW {name}").fetchone()[0] for name in names]
 
     def promote(self):
-        self.run(self.bin / "pg_ctl", "-D", self.folder, "-w", "promote")
+        self.run(self.bin / "pg_ctl", "-D", self.folder, "-w", "-t", "600", "promote")
 
 
 class PooledPostgres(OfPostgres):
@@ -255,7 +266,7 @@ class PooledPostgres(OfPostgres):
 class OfMySql(Server):
     """What speaks MySQL's protocol on `port`; the user `store` has all of the database `store`."""
 
-    password, more_grants = "store", ()
+    password, more_grants, has_store = "store", (), False
 
     @property
     def url(self):
@@ -263,7 +274,7 @@ class OfMySql(Server):
 
     def connect(self, **more):
         place = {"host": "127.0.0.1", "port": self.port, "user": "store", "password": self.password}
-        given = {"database": "store", "autocommit": True, "connect_timeout": 5, **more}
+        given = {"database": "store", "autocommit": True, "connect_timeout": 60, **more}
         return pymysql.connect(**{**place, **given})
 
     def as_root(self, *statements):
@@ -277,21 +288,22 @@ class OfMySql(Server):
     def ready(self):
         """Whether it answers: while it starts, any question to it may be refused or cut."""
         with contextlib.suppress(pymysql.err.Error, OSError):
-            return self.answers()
+            if self.answers():
+                self.has_store = self.has_store or self.make_store()
+                return True
         return False
 
     def answers(self):
         return bool(self.as_root("SELECT 1"))
 
-    def start(self, *more):
-        super().start(*more)
+    def make_store(self):
         self.as_root("CREATE DATABASE IF NOT EXISTS store CHARACTER SET utf8mb4")
         for owner in ("store@'127.0.0.1'", "store@'localhost'"):
             self.as_root(
                 f"CREATE USER IF NOT EXISTS {owner} IDENTIFIED BY '{self.password}'",
                 *(f"GRANT {it} TO {owner}" for it in ("ALL ON store.*", *self.more_grants)),
             )
-        return self
+        return True
 
 
 class MariaServer(OfMySql):

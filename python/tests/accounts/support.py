@@ -31,6 +31,8 @@ CHECK_FAILED, FOREIGN_KEY_FAILED = (
     f"SQLITE_CONSTRAINT_{it}" if sys.version_info >= (3, 11) else ""
     for it in ("CHECK", "FOREIGNKEY")
 )
+# Seconds that an operation goes on which the test expects to succeed, on a slow machine too.
+PATIENCE = 60.0
 LOW = PasswordHasher(time_cost=1, memory_cost=64, parallelism=1)
 HIGH = PasswordHasher(time_cost=1, memory_cost=128, parallelism=1)
 # Made by the reference program, of the older version.
@@ -132,7 +134,7 @@ class Base(unittest.TestCase):
         return connect
 
     def over(self, pool, hasher=LOW, dialect=None, **more):
-        return Accounts(pool, dialect or self.dialect, hasher, **{"patience": 5.0, **more})
+        return Accounts(pool, dialect or self.dialect, hasher, **{"patience": PATIENCE, **more})
 
     def accounts(self, hasher=LOW, dialect=None, connect=None, **more):
         pool = PerThread(connect or self.connect)
@@ -149,7 +151,7 @@ class Base(unittest.TestCase):
     def losing(self, before, times=1, error=None, **more):
         """Accounts whose first COMMITs break: before they are done, or after."""
         dialect = losing(self.another_dialect(), before, times, error or self.broken)
-        return self.accounts(dialect=dialect, **{"patience": 0.5, **more})
+        return self.accounts(dialect=dialect, **more)
 
     def assert_given_up(self, pool, *kinds):
         """A connection is kept for the next use, and given up after each of these exceptions."""
@@ -163,6 +165,11 @@ class Base(unittest.TestCase):
                 raise kind
             with pool() as conn:
                 self.assertIsNot(conn, made[0])
+
+    def no_pause(self, accounts):
+        """Fails where an operation waits, for a `with`."""
+        raises = mock.AsyncMock(side_effect=AssertionError("it waits"))
+        return mock.patch.object(accounts._runtime, "pause", raises)
 
     def give(self, password, name="ann"):
         """Gives an account this password, or no record; the record."""

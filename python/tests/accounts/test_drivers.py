@@ -3,7 +3,6 @@
 import asyncio
 import contextlib
 import threading
-import time
 import unittest
 from unittest import mock
 
@@ -168,7 +167,7 @@ class EnginesOfMariaDB(Engines, engines.OnMariaDB, support.Base):
 
     def test_a_restart(self):
         """The server is waited for: its refusals are the driver's, not SQLAlchemy's."""
-        accounts = self.over(self.engine(), patience=20.0)
+        accounts = self.over(self.engine())
         self.assert_replies("login ann one yes", accounts)
         self.server.end()
         timer = threading.Timer(1.0, self.server.start)
@@ -248,15 +247,15 @@ class StatementMode(support.Base):
         self.put(record)
         self.put(None, "ben")
         accounts, dearer = self.accounts(), self.accounts(HIGH)
-        also, begun = mock.Mock(side_effect=AssertionError), time.monotonic()
+        also = mock.Mock(side_effect=AssertionError)
         confirming, own = self.accounts(confirm=True), {"also": also}
         for of, text, more in (
             *((accounts, it, {}) for it in ("enrol ben one", "remove ann one")),
             *((accounts, it, own) for it in ("login ann one", "change ann one two")),
             (confirming, "verify ann one", {}),
         ):
-            self.assertRaisesRegex(StoreFault, self.named, called, of, text, **more)
-        self.assertLess(time.monotonic() - begun, accounts._connections.patience)
+            with self.no_pause(of):
+                self.assertRaisesRegex(StoreFault, self.named, called, of, text, **more)
         self.assertEqual((self.stands(), self.stands("ben")), (record, None))
         # A look and a change are one statement each.
         self.assert_replies("login ann one yes; change ann one two replaced", accounts)

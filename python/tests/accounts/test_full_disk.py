@@ -46,11 +46,6 @@ class FullDisk(Base):
         yield
         os.remove(path)
 
-    def no_pause(self, accounts):
-        """Fails where an operation waits, for a `with`."""
-        raises = mock.AsyncMock(side_effect=AssertionError("it waits"))
-        return mock.patch.object(accounts._runtime, "pause", raises)
-
     @each("WAL", "DELETE")
     def test_what_each_operation_answers(self, mode):
         """Logins go on, each change is a fault, and what stood stands."""

@@ -18,6 +18,7 @@ from rigzumal.accounts import parts, types
 from rigzumal.accounts._session import Result, run
 from rigzumal.accounts._table import Undone
 from rigzumal.accounts.types import Answer, Kind, NoConnection, Request, Ticket, Worked
+from tests.helpers import LONGEST
 
 
 ENROLLED = "remove ann one removed; enrol ann x enrolled"
@@ -225,7 +226,7 @@ class Operations(Base):
 
     def test_a_login_goes_on(self):
         """What is unknown of the upgrade is no matter of the answer."""
-        accounts = self.losing(before=True, times=1000, hasher=HIGH)
+        accounts = self.losing(before=True, times=1000, hasher=HIGH, patience=0.5)
         self.assert_replies("login ann one yes; login ann two no", accounts)
         self.assertIn("m=64,", self.stands())
         full = self.accounts(HIGH)
@@ -250,7 +251,7 @@ class Tasks(engines.OnSqliteTasks, Base):
         """It is made in another thread, one operation's beside the next one's."""
         accounts, threads = self.accounts().core, set()
         work = accounts._judge.work
-        both = threading.Barrier(2, timeout=20)
+        both = threading.Barrier(2, timeout=LONGEST)
 
         def noted(ticket):
             threads.add(threading.current_thread())
@@ -318,7 +319,7 @@ class Tasks(engines.OnSqliteTasks, Base):
             accounts = self.accounts(**more).core
             login = accounts.login("ann", "one", also=hook)
             with self.subTest(more=more), self.assertRaises(RuntimeError):
-                asyncio.run(asyncio.wait_for(login, 10))
+                asyncio.run(asyncio.wait_for(login, LONGEST))
 
     def test_a_nested_call(self):
         """It is refused within `also`; a task that was begun there may go on after it."""

@@ -17,6 +17,7 @@ from rigzumal import InvalidRecordError
 from rigzumal.accounts import AsyncAccounts, OutcomeUnknown, PerThread, Reply
 from rigzumal.accounts import StoreFault, Unavailable, _connections, _import
 from rigzumal.accounts.types import Kind
+from tests.helpers import until
 from torture import _torture
 
 
@@ -215,15 +216,28 @@ class OnPostgres(engines.OnPostgres, Base):
         thread = threading.Thread(target=cancel)
         thread.start()
         try:
+            until(self.does_wait, "a COMMIT waits")
+            cancelled.clear()
             yield cancelled
         finally:
             stop.set()
             thread.join()
 
+    def does_wait(self):
+        """Whether a COMMIT waited, and was cancelled: settings come to the server one after
+        another of its processes."""
+        notices, conn = [], self.another()
+        conn.add_notice_handler(lambda it: notices.append(it.severity))
+        self.execute("CREATE TABLE IF NOT EXISTS waits ()", conn=conn)
+        self.execute("DROP TABLE waits", conn=conn)
+        return "WARNING" in notices
+
     def test_a_wait_for_the_standby_that_is_cancelled(self):
         """COMMIT answers with a warning: what was put isn't safe, and never passes."""
         with self.cancelled_waits() as cancelled, self.assertRaises(OutcomeUnknown):
-            self.accounts(patience=2.0).change("ann", "one", "two")
+            are_over = property(lambda waits: len(cancelled) > 1)
+            with mock.patch.object(_connections.Waits, "are_over", are_over):
+                self.accounts().change("ann", "one", "two")
         self.assertGreater(len(cancelled), 1)
 
     def test_it_waits_for_the_standby(self):
@@ -269,7 +283,7 @@ class OnPostgres(engines.OnPostgres, Base):
 
         with contextlib.redirect_stderr(io.StringIO()):
             with self.assertRaisesRegex(StoreFault, "1 processes ended"):
-                self.torture("broken", alter=broken, seconds=2.0)
+                self.torture("broken", alter=broken, seconds=6.0)
         silent, seconds = [], 2.0
         while not silent:
             with mock.patch.object(_torture, "HASTY", 0.002):
