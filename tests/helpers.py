@@ -262,6 +262,17 @@ def small_files(size: int) -> dict[str, Any]:
     return {"preexec_fn": limited(resource.RLIMIT_FSIZE, size), "restore_signals": False}
 
 
+@contextlib.contextmanager
+def small_disk(folder: pathlib.Path, options: str, kind: str = "tmpfs") -> Iterator[pathlib.Path]:
+    """A filesystem in memory with these options, such as size=65536, which only root can make."""
+    folder.mkdir()
+    subprocess.run(["mount", "-t", kind, "-o", options, kind, str(folder)], check=True)
+    try:
+        yield folder
+    finally:
+        subprocess.run(["umount", str(folder)], check=True)
+
+
 # How a command ended that was stopped at its call of a number, or nothing if it made fewer.
 Stop = Callable[..., Optional[Ended]]
 

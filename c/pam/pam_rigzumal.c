@@ -202,6 +202,8 @@ static int result_of(pam_handle_t *pamh, const struct operation *operation, cons
         return refused(pamh, "The new password is too short.");
     if (strcmp(answer, "same") == 0)
         return refused(pamh, "The new password is the old one.");
+    if (strcmp(answer, "bad 19 disk") == 0)
+        return refused(pamh, "The server's disk is full: the password stays as it was.");
     if (strcmp(answer, "noaccount") == 0 || strcmp(answer, "bad 3 name") == 0)
         return PAM_USER_UNKNOWN;
     return strcmp(answer, "later") == 0 ? PAM_MAXTRIES : PAM_AUTHINFO_UNAVAIL;

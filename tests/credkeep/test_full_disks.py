@@ -1,36 +1,19 @@
 """Disks that are full and files that can't grow: what was answered is kept, and what failed is
 named."""
 
-import contextlib
-import pathlib
-import subprocess
-from collections.abc import Iterator
-
 from tests.credkeep.books import RECORD, Accounts, Book, BookTest, lined
-from tests.helpers import Ended, each, need_root, small_files
+from tests.helpers import Ended, each, need_root, small_disk, small_files
 
 # How many accounts a script adds, far more than there is room for.
 COUNT = 4000
 LINES = lined(f"account new{at}" for at in range(COUNT))
 
 
-@contextlib.contextmanager
-def small_disk(folder: pathlib.Path, size: int) -> Iterator[pathlib.Path]:
-    """A disk of so many bytes, which only root can make."""
-    folder.mkdir()
-    options = ["-t", "tmpfs", "-o", f"size={size}"]
-    subprocess.run(["mount", *options, "tmpfs", str(folder)], check=True)
-    try:
-        yield folder
-    finally:
-        subprocess.run(["umount", str(folder)], check=True)
-
-
 class LostTest(BookTest):
     def on_full_disk(self, order: str, size: int) -> tuple[Ended, Book]:
         """How a script ended on a copy of the book whose disk has so many bytes, and the copy."""
         need_root()
-        with small_disk(self.room / "small", size) as folder:
+        with small_disk(self.room / "small", f"size={size}") as folder:
             book, left = Book(folder / "users.db"), self.file("left.db")
             self.book.move_to(book)
             done = book(order, given=LINES)

@@ -85,8 +85,16 @@ class Book:
         """Keeps a record, none or "gone", and returns what is said."""
         if not (self.loses and record[:1] == "$" and next(self.puts) % self.loses == 0):
             self.set(name, record)
-            self.file.write(f"{name} {record}\n".encode())
+            self.write(f"{name} {record}\n".encode())
         return said
+
+    def write(self, line: bytes) -> None:
+        """Appends a line. If the disk has no room it ends, and may have a part of it."""
+        try:
+            while line:
+                line = line[self.file.write(line) :]
+        except OSError:
+            os._exit(5)
 
     def made(self, password: bytes, setting: str) -> str:
         """A record of a password; the setting may end before its salt."""

@@ -48,7 +48,7 @@ class Seen(Case):
         grown = {name: after[name] - before[name] for name in after if name != "waited"}
         ought = {"yes": 3, "no": 2, "later": 1, "noaccount": 1, "changes": 1, "denied": 2}
         ought |= {"absent": 0, "refused": 0, "clients": 0, "waits": 1, "upgraded": 0}
-        ought["memory"] = 0
+        ought |= {"memory": 0, "disk": 0}
         self.assertEqual(grown, ought)
         self.assertEqual((before["changes"], before["clients"]), (2, 3))
 

@@ -150,10 +150,14 @@ class Changes(Case):
 
     def test_refused_passwords(self) -> None:
         """The user is told why the server refuses a new password."""
-        for answer, why in ((b"short", "too short"), (b"same", "the old one")):
+        for answer, why in (
+            (b"short", "The new password is too short."),
+            (b"same", "The new password is the old one."),
+            (b"bad 19 disk", "The server's disk is full: the password stays as it was."),
+        ):
             said, sent = changed(FRESH, change=answer)
             self.assertEqual((said.codes, len(sent)), ([Pam.AUTHTOK_ERR], 2))
-            self.assertIn(f"The new password is {why}.", said.prompts)
+            self.assertIn(why, said.prompts)
 
     def test_names_of_another_module(self) -> None:
         """At a name that the book lacks no old password is asked for; the new one is, for a module

@@ -107,11 +107,18 @@ class Foreign:
             if may_end and not self.moved.has(name) and not await self.end(operation, name):
                 return UNAVAILABLE
             answer = await self.service.ask(request)
-            if line.record and answer in LACKS:
-                answer = await self.answer_alone(request, line, answer)
-            if line.record and request.kind.hashes and answer in HAS and not self.moved.has(name):
-                await self.moved.put(name)
-            return answer
+            if not line.record:
+                return answer
+            if answer in LACKS:
+                return await self.answer_alone(request, line, answer)
+            return await self.moving(request, answer)
+
+    async def moving(self, request: Request, answer: bytes) -> bytes:
+        """The book's answer, after which a name has moved if the book has its record."""
+        name = request.words[1]
+        if request.kind.hashes and answer in HAS and not self.moved.has(name):
+            await self.moved.put(name)
+        return answer
 
     async def end(self, operation: bytes, name: bytes) -> bool:
         """Has a name moved before its record goes: else the file decides, also once it is back."""
@@ -131,6 +138,9 @@ class Foreign:
             is_same = await self.line(name) == line  # as before that hash
             if not is_known or not is_same or line.why_shut(today()):
                 return request.kind.wrong
+            is_login = not request.kind.changes
+            if is_login and not self.service.has_room():  # the user moves another day
+                return known(line)
             if line.must_change(today()) and not await self.service.locks.put(name, b"expire"):
                 return UNAVAILABLE
         elif operation not in (b"disable", b"reset"):
@@ -145,7 +155,7 @@ class Foreign:
             await self.moved.put(name)
             if line.must_change(today()) and keeps_password(request.words):
                 return b"same"
-        return await self.service.ask(request)
+        return await self.moving(request, await self.service.ask(request))
 
 
 def version_of(path: str) -> tuple[int, ...]:

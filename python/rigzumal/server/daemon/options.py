@@ -30,6 +30,7 @@ class Kind:
     new: int = 0  # which field is a new password, if any
     setting: int = 0  # which field gives costs and a salt, if a line may have one
     is_own: bool = False  # it is answered by the server, and not by the book
+    is_mark: bool = False  # its change is beside the book, and not in it
 
 
 KINDS = {
@@ -38,7 +39,8 @@ KINDS = {
     "upgrade": Kind(hashes=True, tries=True, changes=True, setting=3),
     "remove": Kind(hashes=True, tries=True, changes=True),
     "enrol reset": Kind(hashes=True, changes=True, new=2, setting=3),
-    "account load disable delete lock unlock expire": Kind(changes=True),
+    "account load disable delete": Kind(changes=True),
+    "lock unlock expire": Kind(changes=True, is_mark=True),
     "rename": Kind(changes=True, names=2),
     "known show": Kind(),
     "list": Kind(names=0),

@@ -4,6 +4,7 @@ import asyncio
 import base64
 import hashlib
 import json
+import os
 import random
 import re
 import time
@@ -14,6 +15,7 @@ from typing import TYPE_CHECKING, Any, Optional
 
 from .book import UNAVAILABLE, Book, Places, Rounds, decoded
 from .clients import LONGEST, Client, Door
+from .disk import FULL, NEEDED, has_room
 from .journal import UNDOES, Journal, Marks, log_seldom, utc
 from .options import OPERATIONS, Kind, Options
 from .tries import LATER, TRIED, Tally
@@ -51,6 +53,7 @@ class Service:
 
     def __init__(self, options: Options) -> None:
         self.options, self.book, self.tally = options, Book(), Tally(options)
+        self.folder = os.path.dirname(os.path.abspath(options.file))
         self.turns, self.hashes = Places(TURNS), Places(options.workers())
         self.changes, self.looks = Places(CHANGES), Places(LOOKS)
         self.logins, self.rounds = 0, Rounds(self.book, lambda: self.logins > 0)
@@ -149,7 +152,7 @@ class Service:
         tally.waited += time.monotonic() - came
         try:
             if kind.changes or not client.has_gone():
-                answering = partial(self.locks.answer, request)
+                answering = partial(self.answer_if_room, request)
                 judging = partial(tally.names.judge, name, answering)
                 answer = await (tally.users.judge(user, judging) if kind.tries else answering())
         finally:
@@ -169,13 +172,29 @@ class Service:
         if answer == b"yes" and self.options.upgrade and request.words[0] == b"verify":
             await self.upgrade(request)
 
+    def has_room(self) -> bool:
+        """Whether the book's disk has room for a change: one that finds none ends the book."""
+        if has_room(self.folder):
+            return True
+        text = "%s: its disk has under %d KiB left, so the book isn't changed"
+        log_seldom("disk", text, self.options.file, NEEDED // 1024)
+        return False
+
+    async def answer_if_room(self, request: Request) -> bytes:
+        """The answer to a request, which is FULL for a change of the book without room."""
+        is_of_book = request.kind.changes and not request.kind.is_mark
+        if is_of_book and not self.has_room():
+            return FULL
+        return await self.locks.answer(request)
+
     async def ask(self, request: Request) -> bytes:
         operation, *fields = request.words
         if operation == b"known":
             answer = await self.book.ask(b"show", *fields)
             return b"yes" if answer[:1] == b"$" else KNOWN.get(answer, answer)
         if request.kind.tries and not request.kind.changes:
-            return await self.log_in(*request.words)
+            is_upgrading = operation == b"login" and self.has_room()
+            return await self.log_in(b"login" if is_upgrading else b"verify", *fields)
         if request.places is self.changes:
             return await self.rounds.ask(request.words, is_alone=not request.kind.hashes)
         return await self.book.ask(*request.words)
@@ -216,7 +235,7 @@ class Service:
 
     async def upgrade(self, request: Request) -> None:
         """Upgrades a record of other costs, after its password was right; one at a time."""
-        if self.upgrading.locked():
+        if self.upgrading.locked() or not self.has_room():
             return
         async with self.upgrading:
             name, password = request.words[1:3]

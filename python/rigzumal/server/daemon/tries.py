@@ -26,6 +26,7 @@ METRICS = {
     "changes_total": ("changes", "Changes that were made."),
     "upgraded_total": ("upgraded", "Records that --upgrade upgraded."),
     "memory_total": ("memory", "Lines that found no memory for a hash."),
+    "disk_total": ("disk", "Changes that found no room on the book's disk."),
     "denied_total": ("denied", "Lines that their socket doesn't take."),
     "refused_total": ("refused", "Connections that had no room."),
     "clients": ("clients", "Connections."),
@@ -127,6 +128,7 @@ class Tally:
         """Counts an answer, and the failed try that it may be, at its name and its user."""
         self.counts["later"] += answer == "later"
         self.counts["changes"] += kind.changes and answer in CHANGED
+        self.counts["disk"] += answer == "bad 19 disk"
         if answer == "bad 4 memory":
             self.counts["memory"] += 1
             log_seldom(answer, "no memory for a hash: see --memory, and the machine's")

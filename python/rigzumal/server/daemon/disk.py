@@ -1,0 +1,22 @@
+"""The room on the book's disk: a change that finds none ends the book, for all of its users."""
+
+import os
+
+# What changes may write before the server looks again, in bytes: SQLite's log grows to 1,000 pages
+# of 4 KiB, with 256 KiB of zeros ahead, and then the file itself, by the pages of new accounts.
+NEEDED = 8 << 20
+FULL = b"bad 19 disk"  # the answer to a change that isn't tried
+
+
+def has_room(folder: str) -> bool:
+    """Whether a change may be tried in a folder, as far as its filesystem tells.
+
+    Blocks that are reserved for root don't count, for root either. A user's quota can't be seen.
+    """
+    try:
+        found = os.statvfs(folder)
+    except OSError:
+        return True  # the book has the files open, and may know better
+    if found.f_blocks == 0:  # a filesystem without a size, such as ramfs
+        return True
+    return found.f_bavail * found.f_frsize >= NEEDED

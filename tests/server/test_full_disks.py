@@ -1,0 +1,133 @@
+"""Tests of bin/credkeep-server: a full disk under the book refuses changes, and lets users in."""
+
+import base64
+import hashlib
+import os
+import pathlib
+from typing import Any
+
+from served import CHEAP, FAST_BOOK, TOP, Case, Service, chosen_book, need_module, need_root
+from tests.helpers import ended, small_disk
+
+SIZE = 24 << 20  # bytes
+# Each change of the book, of an account with the password `secret`.
+CHANGES = """
+    admin account bob -> bad 19 disk
+    admin change ada {secret} {fresh} -> bad 19 disk
+    admin change ada {wrong} {fresh} -> bad 19 disk
+    admin reset ada {fresh} -> bad 19 disk
+    admin enrol ada {fresh} -> bad 19 disk
+    admin upgrade ada {secret} -> bad 19 disk
+    admin remove ada {secret} -> bad 19 disk
+    admin disable ada -> bad 19 disk
+    admin disable ada show -> bad 19 disk
+    admin delete ada -> bad 19 disk
+    admin rename ada eve -> bad 19 disk
+    login change zoe {secret} {fresh} -> bad 19 disk
+"""
+LOGINS = """
+    login verify ada {secret} -> yes
+    login verify ada {wrong} -> no
+    login verify zoe {wrong} -> noaccount
+    login known ada -> yes
+    admin login ada {secret} -> yes
+"""
+
+
+def fill(folder: pathlib.Path, left: int) -> None:
+    """Leaves so many bytes of a disk, or a page fewer."""
+    with open(folder / "filler", "ab") as filler:
+        found = os.statvfs(folder)
+        size = max(0, found.f_bavail * found.f_frsize - left)
+        os.posix_fallocate(filler.fileno(), os.fstat(filler.fileno()).st_size, max(size, 1))
+
+
+class FullDisks(Case):
+    def disk(self, options: str = f"size={SIZE}", kind: str = "tmpfs") -> pathlib.Path:
+        """A small disk, which goes once the servers over it have ended."""
+        need_root()
+        return self.enterContext(small_disk(self.room() / "disk", options, kind))
+
+    def over(self, folder: pathlib.Path, *options: str, **fields: Any) -> Service:
+        given = {"program": chosen_book(), "file": folder / "users.db", **fields}
+        return self.serving("--setting", CHEAP, "--tries", "0", *options, **given)
+
+    def test_changes_are_refused(self) -> None:
+        """Each change that the book would make is refused while it might find no room, also on a
+        disk without a free block; logins go on, and so does the server once there is room."""
+        folder = self.disk()
+        service = self.over(folder).enrol(ada="secret")
+        for left in (4 << 20, 0):
+            with self.subTest(left=left):
+                fill(folder, left)
+                service.talk(CHANGES)
+                service.talk(LOGINS)
+        self.assertEqual(service.stats()["disk"], 2 * 12)
+        self.assertEqual(service.log().count("its disk has under 8192 KiB left"), 1)
+        ask = [str(TOP / "bin/credkeep-ask"), "--server", str(service.path("admin"))]
+        refused = "credkeep-ask: disable is refused: disk (19; see docs/ERRORS.md)\n"
+        self.assertEqual(ended([*ask, "disable", "ada"]), (5, "", refused))
+        (folder / "filler").unlink()
+        service.talk("login change ada {secret} {fresh} -> replaced")
+        service.stop()
+
+    def test_locks(self) -> None:
+        """A lock is a line beside the book: it finds room where a change of the book may not."""
+        folder = self.disk()
+        service = self.over(folder).enrol(ada="secret")
+        fill(folder, 1 << 20)
+        service.talk(
+            """
+            admin lock ada -> locked
+            login verify ada {secret} -> no
+            admin unlock ada -> unlocked
+            admin expire ada -> expired
+            login verify ada {secret} -> expired
+            """
+        )
+
+    def test_upgrades(self) -> None:
+        """A login whose record would be upgraded is answered; the upgrade comes another day."""
+        costs = "$fast$c=2"
+        fast: Any = {"program": FAST_BOOK}
+        folder = self.disk()
+        self.over(folder, **fast).enrol(ada="secret").stop()
+        fill(folder, 0)
+        service = self.over(folder, "--upgrade", costs, **fast)
+        for _ in range(3):
+            service.talk(LOGINS)
+        self.assertEqual(service.stats()["upgraded"], 0)
+        (folder / "filler").unlink()
+        service.talk("admin login ada {secret} -> yes")
+        self.assertTrue(service.client("admin").ask("show ada").startswith(costs))
+
+    def test_users_of_an_old_file(self) -> None:
+        """They log in by their old records, and move once there is room."""
+        need_module("passlib.hash")
+        digest = base64.b64encode(hashlib.sha1(b"secret").digest()).decode()
+        old = self.room() / "htpasswd"
+        old.write_text(f"ada:{{SHA}}{digest}\nann:{{SHA}}{digest}:1:0:1:::\n")
+        folder = self.disk()
+        service = self.over(folder, "--foreign", str(old))
+        fill(folder, 0)
+        service.talk(
+            """
+            login verify ada {secret} -> yes
+            login verify ada {wrong} -> no
+            login verify ann {secret} -> expired
+            login change ann {secret} {fresh} -> bad 19 disk
+            admin disable ada -> bad 19 disk
+            login verify ada {secret} -> yes
+            admin show ada -> bad 5 noaccount
+            """
+        )
+        self.assertEqual((old.parent / "htpasswd.moved").read_text(), "")
+        (folder / "filler").unlink()
+        service.talk("login verify ada {secret} -> yes")
+        self.assertTrue(service.client("admin").ask("show ada").startswith("$"))
+
+    def test_a_disk_without_a_size(self) -> None:
+        """A filesystem that names no size is taken to have room."""
+        folder = self.disk("mode=0755", "ramfs")
+        self.assertEqual(os.statvfs(folder).f_bavail, 0)
+        self.over(folder).enrol(ada="secret").talk(LOGINS)
