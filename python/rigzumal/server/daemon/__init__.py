@@ -19,6 +19,7 @@ from .service import Service
 from .tries import metrics
 
 UNREAD_SECONDS, LINES_SECONDS, LAST_SECONDS = 0.5, 18.0, 20.0  # after a signal to end
+KILLED_SECONDS = 1.0  # until a killed book is gone, unless a disk holds it up
 
 
 def main() -> int:
@@ -109,6 +110,14 @@ async def end(service: Service) -> int:
     if not book.ended.done():
         log.error("the book is killed: it still runs after %d s", LAST_SECONDS)
         book.kill()
-    status = await book.ended
+        await asyncio.wait([book.ended], timeout=KILLED_SECONDS)
+    if book.ended.done():
+        status = book.ended.result()
+    else:
+        log.error("the book can't be killed: its disk hangs")
+        status = 128 + signal.SIGKILL
+    audit = service.audit
+    if lacking := audit.lacking + audit.open_lines:
+        log.error("%s lacks %d lines", audit.path, lacking)
     log.info("end: status %d, %s", status, service.tally.stats())
     return status

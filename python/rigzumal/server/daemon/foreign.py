@@ -13,7 +13,8 @@ from passlib.hash import apr_md5_crypt
 
 from .aging import Line, today
 from .book import UNAVAILABLE, decoded
-from .journal import Marks, log, log_seldom, status_of
+from .appending import status_of
+from .journal import Marks, log, log_seldom
 from .service import LACKS, Request, Service, keeps_password
 
 NAME = re.compile(rb"[a-z0-9._-]{1,32}")  # of a book

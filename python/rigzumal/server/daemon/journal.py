@@ -6,15 +6,20 @@ import logging
 import os
 import re
 import socket
-import stat
+import subprocess
+import sys
 import time
 from contextlib import suppress
 from typing import Hashable, Optional
+
+from . import appending
+from .appending import FAULT, SIZE, GrowingFile, private
 
 log = logging.getLogger("credkeep-server")
 SELDOM = 3600.0  # seconds
 logged = dict[Hashable, float]()  # when log_seldom logged what
 MARKED = re.compile(rb"([!-~]+)(?: ([a-z]+))? \d{4}-\d\d-\d\dT\d\d:\d\d:\d\dZ")
+MOST_LINES = 4096  # of a journal, that wait for its disk
 UNDOES = {b"unlock": b"lock", b"renew": b"expire"}  # a mark of these takes one back
 
 
@@ -45,61 +50,76 @@ def notify(text: str) -> None:
             log_seldom("systemd", "NOTIFY_SOCKET: %s", fault.strerror)
 
 
-def status_of(path: str) -> os.stat_result:
-    """The status of a regular file: a pipe might keep the server waiting."""
-    found = os.stat(path)
-    if not stat.S_ISREG(found.st_mode):
-        raise OSError(errno.EINVAL, "it isn't a regular file", path)
-    return found
-
-
-def private(path: str, flags: int) -> int:
-    """Opens a regular file, and no link, for its owner alone."""
-    with suppress(FileNotFoundError):
-        status_of(path)
-    return os.open(path, flags | os.O_NOFOLLOW | os.O_NONBLOCK, 0o600)
-
-
-class Journal:
-    """A private file, which is opened for each write: to rotate it, rename it."""
+class Journal(GrowingFile):
+    """A file of lines. Those that come while it is written are written together."""
 
     def __init__(self, path: str) -> None:
-        self.path, self.named = path, -1  # and the inode whose name is on the disk
+        super().__init__(path)
         self.lines, self.one_at_a_time = list[bytes](), asyncio.Lock()
+        self.open_lines = 0  # those that wait, and those that are being written
+        self.lacking = 0  # lines that it never got
+
+    def is_full(self) -> bool:
+        """Whether so many lines wait for its disk that it takes no more."""
+        return len(self.lines) >= MOST_LINES
 
     def add(self, line: bytes) -> asyncio.Future[bool]:
         """Appends a line with those that come meanwhile: whether it is on the disk."""
+        if self.is_full():
+            text = "%s: its disk hangs: %d lines wait, and the next ones are left out"
+            log_seldom((self.path, "full"), text, self.path, MOST_LINES)
+            self.lacking += 1
+            left_out: asyncio.Future[bool] = asyncio.get_running_loop().create_future()
+            left_out.set_result(False)
+            return left_out
         self.lines.append(line)
+        self.open_lines += 1
         if len(self.lines) == 1:
             self.written = asyncio.ensure_future(self.write())
         return self.written
 
     async def write(self) -> bool:
         async with self.one_at_a_time:
-            text, self.lines = b"\n".join([*self.lines, b""]), []
+            lines, self.lines = self.lines, []
             try:
-                await asyncio.to_thread(self.append, text)
+                await self.write_text(b"".join(line + b"\n" for line in lines))
                 return True
             except OSError as fault:
                 log_seldom(self.path, "%s: %s", self.path, fault.strerror)
+                self.lacking += len(lines)
                 return False
-
-    def append(self, text: bytes) -> None:
-        """Writes whole lines behind the last one, of which a fault may have left a part."""
-        with open(self.path, "ab+", buffering=0, opener=private) as file:
-            it = os.fstat(file.fileno())
-            end = os.pread(file.fileno(), 1, max(it.st_size - 1, 0))
-            text = b"\n" + text if text and end not in b"\n" else text
-            while text:
-                text = text[file.write(text) :]
-            os.fdatasync(file.fileno())
-        if self.named != it.st_ino:
-            folder = os.open(os.path.dirname(os.path.abspath(self.path)), os.O_DIRECTORY)
-            try:
-                os.fsync(folder)
             finally:
-                os.close(folder)
-            self.named = it.st_ino
+                self.open_lines -= len(lines)
+
+    async def write_text(self, text: bytes) -> None:
+        await asyncio.to_thread(self.append, text)
+
+
+class AuditLog(Journal):
+    """A journal that another process writes, so that the server can end while its disk hangs."""
+
+    def __init__(self, path: str) -> None:
+        super().__init__(path)
+        self.writer: Optional[subprocess.Popen[bytes]] = None
+
+    def begin_writer(self) -> None:
+        self.socket, other = socket.socketpair()
+        self.socket.setblocking(False)
+        words = [sys.executable, "-I", "-B", str(appending.__file__), self.path]
+        with other:  # in a session of its own: a terminal's signals are the server's
+            self.writer = subprocess.Popen(words, stdin=other.fileno(), start_new_session=True)
+
+    async def write_text(self, text: bytes) -> None:
+        loop = asyncio.get_running_loop()
+        if self.writer is None or self.writer.poll() is not None:
+            self.begin_writer()
+        await loop.sock_sendall(self.socket, SIZE.pack(len(text)) + text)
+        answer = await loop.sock_recv(self.socket, FAULT.size)
+        if len(answer) < FAULT.size:
+            raise OSError(errno.EPIPE, "the process that writes it has ended")
+        (number,) = FAULT.unpack(answer)
+        if number:
+            raise OSError(number, os.strerror(number))
 
 
 class Marks(Journal):

@@ -16,7 +16,7 @@ from typing import TYPE_CHECKING, Any, Optional
 from .book import UNAVAILABLE, Book, Places, Rounds, decoded
 from .clients import LONGEST, Client, Door
 from .disk import FULL, NEEDED, has_room
-from .journal import UNDOES, Journal, Marks, log_seldom, utc
+from .journal import UNDOES, AuditLog, Marks, log_seldom, utc
 from .options import OPERATIONS, Kind, Options
 from .tries import LATER, TRIED, Tally
 
@@ -61,7 +61,7 @@ class Service:
         self.login_seconds = deque[float](maxlen=16)  # what the last logins took
         self.clients = dict[Client, asyncio.Task[None]]()
         self.accepting, self.tasks = list[asyncio.Task[None]](), set[asyncio.Task[None]]()
-        self.audit = Journal(options.audit)
+        self.audit = AuditLog(options.audit)
         if options.audit:
             self.audit.append(b"")  # which fails now if it can't be written
         self.upgrading = asyncio.Lock()
@@ -181,7 +181,9 @@ class Service:
         return False
 
     async def answer_if_room(self, request: Request) -> bytes:
-        """The answer to a request, which is FULL for a change of the book without room."""
+        """The answer to a request. A change that can't be written, or noted, isn't made."""
+        if request.kind.changes and self.audit.is_full():
+            return UNAVAILABLE
         is_of_book = request.kind.changes and not request.kind.is_mark
         if is_of_book and not self.has_room():
             return FULL

@@ -1,0 +1,88 @@
+"""A private file that only grows, and a program that writes one.
+
+    appending.py PATH
+
+The program appends texts that come by the socket at its standard input, and answers each. It is a
+process of its own, since a thread that a disk holds up can't be ended, nor can its process.
+"""
+
+import errno
+import os
+import socket
+import stat
+import struct
+import sys
+from contextlib import suppress
+from typing import BinaryIO
+
+SIZE = struct.Struct(">Q")  # comes before each text: how many bytes it has
+FAULT = struct.Struct(">H")  # is the answer: the system's number of a fault, or 0
+
+
+def status_of(path: str) -> os.stat_result:
+    """The status of a regular file: a pipe might keep the server waiting."""
+    found = os.stat(path)
+    if not stat.S_ISREG(found.st_mode):
+        raise OSError(errno.EINVAL, "it isn't a regular file", path)
+    return found
+
+
+def private(path: str, flags: int) -> int:
+    """Opens a regular file, and no link, for its owner alone."""
+    with suppress(FileNotFoundError):
+        status_of(path)
+    return os.open(path, flags | os.O_NOFOLLOW | os.O_NONBLOCK, 0o600)
+
+
+class GrowingFile:
+    """A private file, which is opened for each text: to rotate it, rename it."""
+
+    def __init__(self, path: str) -> None:
+        self.path = path
+        self.named = -1  # the inode whose name is on the disk
+
+    def append(self, text: bytes) -> None:
+        """Writes whole lines behind the last one, of which a fault may have left a part."""
+        with open(self.path, "ab+", buffering=0, opener=private) as file:
+            found = os.fstat(file.fileno())
+            end = os.pread(file.fileno(), 1, max(found.st_size - 1, 0))
+            if text and end not in (b"", b"\n"):
+                text = b"\n" + text
+            while text:
+                text = text[file.write(text) :]
+            os.fdatasync(file.fileno())
+        if self.named != found.st_ino:
+            self.sync_name()
+            self.named = found.st_ino
+
+    def sync_name(self) -> None:
+        folder = os.open(os.path.dirname(os.path.abspath(self.path)), os.O_DIRECTORY)
+        try:
+            os.fsync(folder)
+        finally:
+            os.close(folder)
+
+
+def write_texts(file: GrowingFile, texts: BinaryIO, answers: socket.socket) -> None:
+    """Appends each text, and answers it, until no more come."""
+    while len(size := texts.read(SIZE.size)) == SIZE.size:
+        (count,) = SIZE.unpack(size)
+        text, fault = texts.read(count), 0
+        if len(text) < count:
+            return  # the server was killed amid it
+        try:
+            file.append(text)
+        except OSError as refusal:
+            fault = refusal.errno or errno.EIO
+        answers.sendall(FAULT.pack(fault))
+
+
+def main() -> None:
+    os.umask(0o177)
+    with socket.socket(fileno=0) as server, server.makefile("rb") as texts:
+        with suppress(OSError):  # the server has ended
+            write_texts(GrowingFile(sys.argv[1]), texts, server)
+
+
+if __name__ == "__main__":
+    main()
