@@ -9,6 +9,7 @@
 #     make proved                   c/proved, by rt: the proved code compiled, for machines without rt
 #     make dist                     out/rigzumal-VERSION.tar.xz, by rt: all this with the programs' compiled code, from which
 #                                   a C compiler and Python build and install it
+#     make html                     these pages as a site to search, in out/html: with the references of Python and C
 #     make bench                    the library beside libargon2, libsodium and OpenSSL
 #     make install PREFIX=/usr/local [DESTDIR=..]
 #     make uninstall PREFIX=/usr/local [DESTDIR=..]
@@ -40,7 +41,7 @@ CPU ?=
 HAS_PAM := $(wildcard /usr/include/security/pam_modules.h)
 PAM_WORDS = DESTDIR='$(DESTDIR)' PAMDIR='$(PAMDIR)' MANDIR='$(MAN)'
 
-.PHONY: build programs library test wrong-bodies deb wheel proved dist bench install install-programs uninstall
+.PHONY: build programs library test wrong-bodies deb wheel proved dist html bench install install-programs uninstall
 .DELETE_ON_ERROR:
 # Each of these works on crates side by side, and no two may work on the same ones.
 .NOTPARALLEL:
@@ -79,6 +80,10 @@ dist:
 	for level in x86-64 x86-64-v3; do for name in $(PROGRAMS); do \
 		RT='$(RT)' $(PYTHON) tools/build.py --object --cpu $$level $$name || exit 1; done; done
 	$(PYTHON) tools/dist.py
+
+# The reference of Python is of its docstrings, and the package needs the library.
+html: library
+	$(PYTHON) docs/site/build.py
 
 bench: library
 	for pages in own none all; do $(PYTHON) bench/c/run.py --pages $$pages || exit 1; done

@@ -37,14 +37,22 @@ def contract_of(text):
     return text
 
 
+def file_of(path):
+    """The file in which the function stands that a path names."""
+    crate, *modules, _ = path.split("::")
+    modules = [it for it in modules if it.islower()]
+    return CRATES / crate / "src" / f"{'/'.join(modules) or 'lib'}.rt"
+
+
+def functions(path):
+    """The places in its file where a function of this path begins."""
+    name = re.escape(path.split("::")[-1])
+    return [it.start() for it in re.finditer(rf"\bfn {name}\b", source(file_of(path)))]
+
+
 def contracts(path):
     """The contracts of the functions that a path names."""
-    crate, *modules, name = path.split("::")
-    modules = [it for it in modules if it.islower()]
-    text = source(CRATES / crate / "src" / f"{'/'.join(modules) or 'lib'}.rt")
-    return [
-        contract_of(text[it.start() :]) for it in re.finditer(rf"\bfn {re.escape(name)}\b", text)
-    ]
+    return [contract_of(source(file_of(path))[it:]) for it in functions(path)]
 
 
 def calls(text):

@@ -1,0 +1,83 @@
+"""Makes each name of docs/PROMISES.md a link to where it stands: a call, a clause, a test, a file, a
+definition. tools/promises.py checks that they are there."""
+
+import re
+
+from promises import FILES, contract_of, file_of, functions
+from tree import CRATES, TOP, listed, source
+
+CALL = re.compile(r"`(\w+(?:::\w+)+)`(\s*\((?:`\w+`(?:,\s*)?)+\))?")
+CARRIED = re.compile(r"^- \*Carried by\*.*?(?=^- |^#|^$|\Z)", re.S | re.M)
+# A name in code, outside of a link; or what says to which crate the next names belong.
+NAMED = re.compile(r"crates/(\w+)/|\[`(\w+)::[^`]*`\]|`([\w:]+)`(?!\])")
+HELD = re.compile(rf"{FILES.pattern}(\s+has\s+)((?:`\w+`(?:,|\s+and)?\s*)+)")
+
+
+def link(words, file, at=None):
+    """A link to a file, or to the line of a place in it."""
+    line = "" if at is None else f"#L-{source(file).count(chr(10), 0, at) + 1}"
+    return f"[{words}](source:{file.relative_to(TOP)}{line})"
+
+
+def place(crate, name):
+    """Where a crate has a function or a definition of this name, as a file and a place."""
+    kinds = {"src/**/*.rt": rf"\bfn {name}\b", "specs/**/*.antt": rf"^(?:\w+ )*{name}\b.*:"}
+    for files, form in kinds.items():
+        for file in sorted((CRATES / crate).glob(files)):
+            if found := re.search(form, source(file), re.M):
+                return file, found.start()
+    return None
+
+
+def call(found):
+    """A call with its clauses, or a test."""
+    path, clauses = found[1], found[2] or ""
+    crate = path.split("::")[0]
+    if crate.endswith("_tests") and (test := place(crate, path.split("::")[-1])):
+        return link(f"`{path}`", *test)
+    if crate not in listed() or not (starts := functions(path)):
+        return found[0]
+    file = file_of(path)
+
+    def clause(word):
+        for start in starts:
+            if at := re.search(rf"\bensures {word[1]}\b", contract_of(source(file)[start:])):
+                return link(word[0], file, start + at.start())
+        return word[0]
+
+    return link(f"`{path}`", file, starts[0]) + re.sub(r"`(\w+)`", clause, clauses)
+
+
+def carried(item):
+    """What carries a promise: a bare name belongs to the crate that was named before it."""
+    crate = None
+
+    def name(found):
+        nonlocal crate
+        crate = found[1] or found[2] or crate
+        if not found[3] or not crate:
+            return found[0]
+        at = place(crate, found[3].split("::")[-1])
+        return link(found[0], *at) if at else found[0]
+
+    return NAMED.sub(name, item[0])
+
+
+def held(found):
+    """A file with the definitions that it is said to have."""
+    file = TOP / found[1]
+
+    def definition(word):
+        at = re.search(rf"\b{word[1]}\b", source(file))
+        return link(word[0], file, at.start()) if at else word[0]
+
+    return found[1] + found[2] + re.sub(r"`(\w+)`", definition, found[3])
+
+
+def linked(text):
+    """The text of the page with its links."""
+    text = HELD.sub(held, text)
+    text = CALL.sub(call, text)
+    text = CARRIED.sub(carried, text)
+    # those that no link has yet
+    return re.sub(rf"(?<!source:){FILES.pattern}", lambda it: link(it[1], TOP / it[1]), text)

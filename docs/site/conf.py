@@ -1,0 +1,34 @@
+"""What Sphinx reads: how the site of these pages is built. docs/site/build.py lays the pages out."""
+
+import pathlib
+import sys
+
+HERE = pathlib.Path(__file__).resolve().parent
+TOP = HERE.parent.parent
+sys.path[:0] = [str(HERE), str(TOP / "python")]
+
+project = html_title = "Rigzumal"
+version = release = (TOP / "VERSION").read_text().strip()
+html_theme, html_theme_path = "theme", [str(HERE)]
+html_show_copyright = html_show_sphinx = html_copy_source = False
+# The search works in a folder that no server serves, where a page can't fetch others.
+html_show_search_summary = False
+# Two hyphens are an option's.
+smartquotes = False
+extensions = ["myst_parser", "sphinx.ext.autodoc", "sphinx.ext.napoleon"]
+extensions += ["docstrings", "manuals", "sources"]
+source_suffix = {".md": "markdown", ".rst": "restructuredtext"}
+
+# Anchors as forges make them, and links to a line of a source.
+myst_heading_anchors = 4
+myst_url_schemes = ("http", "https", "source")
+# Lines of a console, and a sample's two dots, are no code that a lexer knows.
+suppress_warnings = ["misc.highlighting_failure"]
+
+# In docstrings `this` is code.
+default_role = "code"
+autodoc_member_order = "bysource"
+autodoc_typehints_format = "short"
+add_module_names = False
+napoleon_use_rtype = False
+napoleon_custom_sections = [("Every operation may raise", "params_style")]

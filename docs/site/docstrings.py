@@ -1,0 +1,19 @@
+"""Has the samples of docstrings read as code: what is set in by four behind an empty line."""
+
+
+def samples(_, kind, name, thing, options, lines):
+    """Writes `::` before each sample; the parts of `Args:` begin without an empty line."""
+    found, is_before = [], True
+    for line, last in zip(lines, ["", *lines]):
+        is_set_in = line.startswith("    ")
+        if is_set_in and is_before and not last:
+            found += ["::", ""]
+        if line:
+            is_before = not is_set_in and not line.endswith(":")
+        found.append(line)
+    lines[:] = found
+
+
+def setup(app):
+    app.connect("autodoc-process-docstring", samples, priority=100)  # before napoleon
+    return {"parallel_read_safe": True}
