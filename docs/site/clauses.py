@@ -1,5 +1,5 @@
-"""Makes each name of docs/PROMISES.md a link to where it stands: a call, a clause, a test, a file, a
-definition. tools/promises.py checks that they are there."""
+"""Makes each name of docs/PROMISES.md a link to where it stands: a call, a clause, a test, a file
+or a definition. tools/promises.py checks that they are there."""
 
 import re
 

@@ -1,4 +1,4 @@
-"""What Sphinx reads: how the site of these pages is built. docs/site/build.py lays the pages out."""
+"""How Sphinx builds the site of the pages, which docs/site/build.py has laid out."""
 
 import pathlib
 import sys
