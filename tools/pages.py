@@ -21,6 +21,7 @@ import sys
 from collections.abc import Iterable, Iterator
 
 import definitions_page
+import pictures
 import promises
 import statements
 import tree
@@ -310,6 +311,7 @@ OF_TREE = (
     definitions_page.check,
     walks,
     versions,
+    pictures.check,
     promises.check,
     statements.check,
 )

@@ -1,22 +1,36 @@
 #!/usr/bin/env python3
 """Draws the pictures of docs/pictures from text: the tree's own, and docs/pictures/*.txt.
 
-    /usr/bin/python3 tools/pictures.py
+    /usr/bin/python3 tools/pictures.py [NAME..]                    (without a name, all of them)
 
-overtaken.svg, server.svg and kept-change.svg are drawn from the text beside them, and crates.svg by
-graphviz's dot from crates.txt and around-the-crates.txt.
+overtaken.svg, server.svg and kept-change.svg are drawn from the text beside them, speed.svg from
+the first table of bench/RESULTS.md, and crates.svg by graphviz's dot from crates.txt and
+around-the-crates.txt. tools/pages.py compares all but crates.svg with what they are drawn from.
 """
 
 import html
 import re
 import subprocess
+import sys
 
 from tree import CRATES, TOP, all_below, below, is_test_or_example, listed
 
-PICTURES = TOP / "docs/pictures"
+PICTURES, RESULTS = TOP / "docs/pictures", TOP / "bench/RESULTS.md"
 FONT = 'font-family="Helvetica, Arial, sans-serif" font-size="14"'
 INK, PALE, SHADE = "#1f2a37", "#8793a3", "#eef2f7"
 PROVED, TESTED, TRUSTED = "#e2f2e4", "#fdf1d0", "#e9e9ee"
+GROUND = "#ffffff"
+# Of bars: ours, and two others.
+BARS = ("#1a4f8b", "#b35900", "#6b7685")
+# What each colour is where the reader's system is dark.
+DARK = {
+    INK: "#e4e8ee",
+    GROUND: "#14181d",
+    SHADE: "#252c36",
+    TESTED: "#4d3f10",
+    PROVED: "#1c4128",
+    **dict(zip(BARS, ("#7fb2f0", "#e39a4f", "#9aa5b3"))),
+}
 
 LOOKS = (
     "rankdir=TB; nodesep=0.2; ranksep=0.35; compound=true;"
@@ -52,11 +66,18 @@ def svg(width, height, title, parts):
     arrow = '<marker id="arrow" viewBox="0 0 10 10" refX="9" refY="5" markerWidth="8"'
     arrow += ' markerHeight="8" orient="auto-start-reverse">'
     arrow += f'<path d="M0 0 L10 5 L0 10 z" fill="{INK}"/></marker>'
-    ground = f'<rect width="{width}" height="{height}" fill="#ffffff"/>'
+    rules = "".join(
+        f'[{part}="{light}"] {{ {part}: {dark} }} '
+        for light, dark in DARK.items()
+        for part in ("fill", "stroke")
+    )
+    looks = f"<style>@media (prefers-color-scheme: dark) {{ {rules}}}</style>"
+    ground = f'<rect width="{width}" height="{height}" fill="{GROUND}"/>'
     return "\n".join(
         [
             head,
             f"<title>{html.escape(title)}</title>",
+            looks,
             f"<defs>{arrow}</defs>",
             ground,
             *parts,
@@ -103,7 +124,7 @@ def steps(name):
     title, heads, *rows = [[it.strip() for it in line.split("|")] for line in lines_of(name)]
     width, row = 900, 36
     parts = [text(56, 30, heads[0], weight="bold"), text(600, 30, heads[1], weight="bold")]
-    tints = iter(["#ffffff", TESTED, PROVED])
+    tints = iter([GROUND, TESTED, PROVED])
     start = 0
     for i in range(len(rows) + 1):
         if i == len(rows) or rows[i][1] != rows[start][1]:
@@ -117,10 +138,41 @@ def steps(name):
     for i, (words, _) in enumerate(rows):
         y = 46 + row * i + row / 2
         circle = {"cx": 34, "cy": y - 2, "r": 10}
-        parts.append(element("circle", **circle, fill="#ffffff", stroke=INK, stroke_width=1.5))
+        parts.append(element("circle", **circle, fill=GROUND, stroke=INK, stroke_width=1.5))
         parts.append(text(34, y + 3, str(i + 1), "middle"))
         parts.append(text(56, y + 3, words))
     return svg(width, 60 + row * len(rows), title[0], parts)
+
+
+def setting(text):
+    """Costs as readers know them: `65536, 3, 1` is `64 MiB, t = 3, p = 1`."""
+    memory, passes, lanes = map(int, text.split(","))
+    size = f"{memory / 1024:.3g} MiB" if memory >= 1024 else f"{memory} KiB"
+    return f"{size}, t = {passes}, p = {lanes}"
+
+
+def bars():
+    """A group of bars for each row of the first table of bench/RESULTS.md, in milliseconds."""
+    table = re.search(r"^\|.*\n\|-.*\n((?:\|.*\n)+)", RESULTS.read_text(), re.M)
+    rows = [[it.strip() for it in row.strip("|").split("|")] for row in table[1].splitlines()]
+    names = [it.partition(",")[0].strip() for it in table[0].split("|")[2:5]]
+    longest = max(float(it) for row in rows for it in row[1:4] if it)
+    parts = [text(12, 30, "one Argon2id hash", weight="bold")]
+    for at, (name, colour) in enumerate(zip(["Rigzumal", *names[1:]], BARS)):
+        x = 200 + 130 * at
+        parts.append(element("rect", x=x, y=19, width=12, height=12, fill=colour))
+        parts.append(text(x + 18, 30, name))
+    y = 50
+    for costs, *times in (row[:4] for row in rows):
+        parts.append(text(12, y + 14, setting(costs)))
+        for colour, time in zip(BARS, times):
+            if time:
+                width = round(float(time) / longest * 480)
+                parts.append(element("rect", x=200, y=y, width=width, height=16, fill=colour))
+                parts.append(text(206 + width, y + 13, f"{time} ms"))
+                y += 19
+        y += 14
+    return svg(780, y, "Milliseconds of one Argon2id hash: less is better", parts)
 
 
 def crates():
@@ -182,11 +234,24 @@ DRAWN = {
     "overtaken.svg": lambda: sequence("overtaken.txt"),
     "kept-change.svg": lambda: steps("kept-change.txt"),
     "server.svg": lambda: sequence("server.txt"),
+    "speed.svg": bars,
     "crates.svg": crate_layers,
 }
 
 
+def drawn(name):
+    """The text of a picture: one line, since nobody reads it."""
+    return " ".join(DRAWN[name]().split("\n")).strip() + "\n"
+
+
+def check():
+    """What is wrong with each picture that Python alone draws."""
+    for name in DRAWN.keys() - {"crates.svg"}:
+        is_new = (PICTURES / name).read_text() == drawn(name)
+        old = f"docs/pictures/{name} is of another text: run tools/pictures.py {name}"
+        yield None if is_new else old
+
+
 if __name__ == "__main__":
-    for name, draw in DRAWN.items():
-        # in one line, since nobody reads the text of a picture
-        (PICTURES / name).write_text(" ".join(draw().split("\n")).strip() + "\n")
+    for name in sys.argv[1:] or DRAWN:
+        (PICTURES / name).write_text(drawn(name))
