@@ -99,11 +99,14 @@ TO_LIBEXEC = '$(DESTDIR)$(LIBEXEC)'
 TO_DAEMON = '$(DESTDIR)$(DAEMON)'
 TO_MAN = '$(DESTDIR)$(MAN)'
 TO_UNITS = '$(DESTDIR)$(UNIT_DIR)'
+# The folders that install made; a package has no such list.
+NOTED = '$(DESTDIR)$(PREFIX)/share/rigzumal/folders'
 TO_SHELLS = '$(DESTDIR)$(BASH_DIR)' '$(DESTDIR)$(ZSH_DIR)' '$(DESTDIR)$(FISH_DIR)'
 
 # The programs that were built, the server with its units, their pages and completions.
 install-programs:
-	install -d $(TO_LIBEXEC) $(TO_PREFIX)/bin $(TO_PREFIX)/sbin
+	packaging/folders make $(NOTED) $(TO_LIBEXEC) $(TO_PREFIX)/bin $(TO_PREFIX)/sbin $(TO_DAEMON) \
+		$(TO_MAN)/man1 $(TO_MAN)/man5 $(TO_MAN)/man8 $(TO_UNITS) $(TO_SHELLS)
 	for name in $(PROGRAMS); do \
 		install -m 755 crates/$$name/out/$$name $(TO_LIBEXEC) && \
 		sed "s|@PROGRAM@|$(LIBEXEC)/$$name|" bin/launcher.in > $(TO_PREFIX)/bin/$$name && \
@@ -111,11 +114,8 @@ install-programs:
 	done
 	install -m 755 bin/credkeep-ask $(TO_PREFIX)/bin
 	install -m 755 bin/credkeep-server $(TO_PREFIX)/sbin
-	install -d $(TO_DAEMON)
 	install -m 644 $(MODULES:%=python/rigzumal/server/daemon/%) $(TO_DAEMON)
-	install -d $(TO_MAN)/man1 $(TO_MAN)/man5 $(TO_MAN)/man8
 	for page in $(PAGES); do install -m 644 man/$${page#*/} $(TO_MAN)/$$page || exit 1; done
-	install -d $(TO_UNITS)
 	for unit in $(UNITS); do \
 		sed 's|/usr/sbin/|$(PREFIX)/sbin/|' units/$$unit > $(TO_UNITS)/$$unit && \
 		chmod 644 $(TO_UNITS)/$$unit || exit 1; \
@@ -130,7 +130,6 @@ uninstall:
 	rm -f $(TO_PREFIX)/bin/credkeep-ask $(TO_PREFIX)/sbin/credkeep-server
 	rm -f $(MODULES:%=$(TO_DAEMON)/%)
 	rm -rf $(TO_DAEMON)/__pycache__
-	for folder in $(TO_LIBEXEC) $(TO_DAEMON) $(TO_PREFIX)/share/rigzumal; do \
-		rmdir --ignore-fail-on-non-empty $$folder 2>/dev/null || true; done
 	rm -f $(PAGES:%=$(TO_MAN)/%) $(UNITS:%=$(TO_UNITS)/%)
 	$(PYTHON) tools/completions.py --remove $(TO_SHELLS)
+	packaging/folders forget $(NOTED)

@@ -142,6 +142,60 @@ class Install(helpers.Case):
         self.assertRegex(run(*words, env=env), f"^{USES}$")
 
 
+class Folders(helpers.Case):
+    """What is installed by parts below an empty folder, and uninstalled."""
+
+    seconds = 600
+
+    def setUp(self):
+        super().setUp()
+        need_file(BUILT[0])
+        self.top = self.room() / "at a path"
+        self.prefix = self.top / "usr/local"
+        self.parts = ["c", "python"]
+        if pathlib.Path("/usr/include/security/pam_modules.h").exists():
+            self.parts.append("c/pam")
+
+    def make(self, part, what):
+        folders = {"DESTDIR": self.top, "PREFIX": "/usr/local", "MANDIR": "/usr/local/share/man"}
+        words = [f"{name}={value}" for name, value in folders.items()]
+        run("make", "-s", "-C", TOP / part, what, *words)
+
+    def left(self):
+        return sorted(str(it.relative_to(self.top)) for it in self.top.rglob("*"))
+
+    def test_nothing_is_left(self):
+        """In either order of the parts, and after a second install."""
+        for parts in (self.parts, self.parts[::-1]):
+            with self.subTest(parts):
+                self.top.mkdir(exist_ok=True)
+                for part in [*self.parts, *self.parts]:
+                    self.make(part, "install")
+                self.assertTrue((self.prefix / "include/rigzumal.h").exists())
+                for part in parts:
+                    self.make(part, "uninstall")
+                self.assertEqual(self.left(), [])
+
+    def test_folders_of_others_stay(self):
+        """Those that were there before, and those in which others have put something since."""
+        (self.prefix / "share/zsh").mkdir(parents=True)
+        for part in self.parts:
+            self.make(part, "install")
+        (self.prefix / "lib/pkgconfig/other.pc").touch()
+        for part in self.parts:
+            self.make(part, "uninstall")
+        run("packaging/folders", "forget", self.prefix / "share/rigzumal/folders")
+        ours = ("lib", "lib/pkgconfig", "lib/pkgconfig/other.pc", "share", "share/zsh")
+        wanted = ["usr", "usr/local", *(f"usr/local/{it}" for it in ours)]
+        self.assertEqual(self.left(), wanted)
+
+    def test_a_package_has_no_list(self):
+        need("dpkg-shlibdeps")
+        for deb in run("make", "-s", "-C", TOP / "c", "deb").split():
+            if deb.endswith(".deb"):
+                self.assertNotIn("rigzumal/folders", run("dpkg-deb", "-c", deb))
+
+
 class Debs(helpers.Case):
     def setUp(self):
         super().setUp()
