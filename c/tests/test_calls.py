@@ -130,6 +130,21 @@ class Calls(unittest.TestCase):
                     warned = re.findall(r"uses.c:(\d+):.*ignoring return value", said)
                     self.assertEqual([lines[int(it) - 4] for it in warned], wanted)
 
+    def test_manual(self):
+        """rigzumal(3) has each call of the header, word for word, and no other."""
+
+        def declared(text):
+            form = r"^(?:int|size_t|const char \*)\s*rigzumal_\w+\([^;]*\)(?=;)"
+            found = re.findall(form, text.replace(" RIGZUMAL_CHECK_ANSWER", ""), re.MULTILINE)
+            return {" ".join(it.split()) for it in found}
+
+        header = declared((TOP / "include/rigzumal.h").read_text())
+        rows = re.findall(r"^\.BI (.*)", (TOP.parent / "man/rigzumal.3").read_text(), re.MULTILINE)
+        words = [re.findall(r'"([^"]*)"|(\S+)', row) for row in rows]
+        manual = declared("\n".join("".join(quoted + word for quoted, word in it) for it in words))
+        self.assertLess(25, len(header))
+        self.assertEqual(manual, header)
+
     def test_symbols(self):
         """The libraries show their calls and no others: those of the header, and the original's."""
 
