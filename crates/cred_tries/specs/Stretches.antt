@@ -51,8 +51,8 @@ FailsSeldom limit history =
     → IsUncleared stretch → failed stretch
     ≤ limit + short_waits + (last_failure stretch - first_failure stretch) / longest_wait
 
--- The right answers, the failures and the forgivings of a history, as its answers tell them: without
--- the tries that begin, are sent away or aren't judged.
+-- The right answers, the failures and the forgivings of a history, as its answers tell them:
+-- without the tries that begin, are sent away or aren't judged.
 abbrev pub judgements : List Event → List Event
 judgements [] = []
 judgements (Right t ∷ before) = Right t ∷ judgements before

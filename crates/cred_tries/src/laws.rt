@@ -17,7 +17,8 @@ use crate::turn::Turn;
 ///
 /// - `seldom`: between two right answers or forgivings at most as many tries fail at the name as
 ///   the limit says and ten, and one more for each 900 seconds between the first and the last;
-/// - `ends`: so it is of the right answers, the failures and the forgivings alone, which answers tell;
+/// - `ends`: so it is of the right answers, the failures and the forgivings alone, which answers
+///   tell;
 /// - `waits`: once as many as the limit says failed, or began, the next begins only when all of
 ///   them have failed, and the wait behind the last is over;
 /// - `fails`: so each failure behind those comes that wait after the one before it;
