@@ -1,5 +1,6 @@
 -- Definitions that contracts cite: names, books, whole operations, and what each call does.
 pub mod Accounts
+pub mod ByTags
 pub mod Calls
 pub mod Changes
 pub mod Commits

@@ -3,7 +3,8 @@
 
 ghost use Rattle.std.specs.Prelude.{◌≡◌, ◌≢◌, ◌↔◌, Bool, IfSome, length, List, MatchOption, Option, true, false, ℕ};
 ghost use Rattle.std.specs.FinMap as map;
-ghost use Rattle.cred_phc.specs.Values.{RecordValue};
+ghost use Rattle.cred_phc.specs.{Tags.tag, Values.RecordValue};
+ghost use Rattle.cred_book.specs.ByTags.{TagFunction, whole_by};
 ghost use Rattle.cred_book.specs.{Accounts.Accounts, Changes.change_of, Changes.judged_book, Commits.commit_outcome, Commits.judgement};
 ghost use Rattle.cred_book.specs.Passwords.{IsPasswordAt, IsPasswordOf, KeepsTags, made_setting, with_passwords};
 ghost use Rattle.cred_book.specs.Updates.{HasDone, IsConditional, IsExact, IsLog, Rows, Update, answer, operation_of, operations_done, outcome_on, replies_done, seq_after, seq_replies, standing, store_after, update_of, updated};
@@ -60,6 +61,18 @@ pub fn a_password_counts_by_its_tags()
         → IfSome now (λ stored. KeepsTags other stored.setting (length stored.tag))
         → IfSome (made_setting request) (λ setting. KeepsTags other setting 32)
         → whole (with_passwords other request) now ≡ whole request now }
+{}
+
+/// An operation sees a password in its tags alone, whatever function makes them. With other
+/// passwords it does what it does with its own, if each of these has the tags of the one in its
+/// place. Where all passwords have the same tags, all get the same answer and leave the same
+/// record.
+pub fn passwords_are_seen_by_their_tags()
+    ensures whole { (request : Request) (now : Option RecordValue)
+        → whole_by tag request now ≡ whole request now }
+    ensures by_tags { (tag_by : TagFunction) (other : List ℕ → List ℕ) (request : Request)
+        (now : Option RecordValue) → whole_by tag_by (with_passwords other request) now
+        ≡ whole_by (λ setting len pw. tag_by setting len (other pw)) request now }
 {}
 
 /// For a store of rows, such as a table in a database, whose clients do any operations. Each is a

@@ -26,7 +26,8 @@ pub use error::BookError;
 pub use keeper::Keeper;
 pub use laws::{
     a_password_counts_by_its_tags, an_answer_tells_of_one_account, change_is_committed,
-    requests_are_operations, updates_are_one_history, yes_is_the_password,
+    passwords_are_seen_by_their_tags, requests_are_operations, updates_are_one_history,
+    yes_is_the_password,
 };
 pub use name::Name;
 pub use outcome::Hashing;
