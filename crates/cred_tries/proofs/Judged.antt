@@ -1,8 +1,8 @@
 -- What is told of a history by its judgements alone.
 use Rattle.std.proofs.Common.{◌≡◌, ◌≤◌, ℕ, ◌+◌, ◌-◌, List, [], ◌∷◌, ◌++◌, refl, sym, ap, ◌∙◌, subst}
-use Rattle.std.specs.Prelude.{◌/◌}
-use Rattle.cred_tries.specs.Counts.{longest_wait, short_waits}
-use Rattle.cred_tries.specs.Histories.{Event, Begun, Sent, Right, Wrong, Unjudged, Forgiven, last_failure}
+use Rattle.std.specs.Prelude.{◌/◌, if◌then◌else◌, nat_le}
+use Rattle.cred_tries.specs.Counts.{day, longest_wait, short_waits}
+use Rattle.cred_tries.specs.Histories.{Event, Begun, Sent, Right, Wrong, Unjudged, Forgiven, failures, last_failure}
 use Rattle.cred_tries.specs.Stretches.{FailsSeldom, IsUncleared, failed, first_failure, judgements}
 
 -- the events are cut in two where their judgements are
@@ -39,7 +39,16 @@ same_failed (Begun t ∷ rest) = same_failed rest
 same_failed (Sent t ∷ rest) = same_failed rest
 same_failed (Unjudged t ∷ rest) = same_failed rest
 
-same_last : (stretch : List Event) → last_failure (judgements stretch) ≡ last_failure stretch
+pub same_failures : (history : List Event) (now : ℕ) → failures now (judgements history) ≡ failures now history
+same_failures [] now = refl
+same_failures (Wrong t ∷ rest) now = ap (λ n. if nat_le (t + day) now then 0 else n + 1) (same_failures rest t)
+same_failures (Right t ∷ rest) now = refl
+same_failures (Forgiven t ∷ rest) now = refl
+same_failures (Begun t ∷ rest) now = same_failures rest now
+same_failures (Sent t ∷ rest) now = same_failures rest now
+same_failures (Unjudged t ∷ rest) now = same_failures rest now
+
+pub same_last : (stretch : List Event) → last_failure (judgements stretch) ≡ last_failure stretch
 same_last [] = refl
 same_last (Wrong t ∷ rest) = refl
 same_last (Right t ∷ rest) = refl

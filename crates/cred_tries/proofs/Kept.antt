@@ -17,6 +17,9 @@ module _ (es : Entries) (kept : T (map.is_sorted name_cmp es)) (counts : CountMa
   pub get_of : (q : List ℕ) → map.get counts q ≡ lookup (is_at (name_cmp q)) es
   get_of q = rw (← view) (map.get-from_sorted name_cmp es q kept) ∙ sym (lookup_find name_cmp es q)
 
+  pub entries_of : map.entries counts ≡ es
+  entries_of = rw (← view) (map.entries-from_sorted name_cmp es kept)
+
   pub has_of : (q : List ℕ) → is_some (lookup (is_at (name_cmp q)) es) ≡ map.contains_key counts q
   has_of q = sym (ap is_some (get_of q))
 

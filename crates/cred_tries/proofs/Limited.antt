@@ -9,7 +9,7 @@ use Rattle.cred_tries.specs.declared.count.Place.{Place}
 use Rattle.cred_tries.specs.declared.count.Place.TheVariants.{Free, Taken, Early}
 use Rattle.cred_tries.specs.declared.turn.Ending.{Ending}
 use Rattle.cred_tries.specs.declared.turn.Ending.TheVariants as ending
-use Rattle.cred_tries.proofs.Waits.{wait_capped, wait_pos}
+use Rattle.cred_tries.proofs.Waited.{wait_capped, wait_pos}
 
 -- few run; or one, whose wait is over
 abbrev Paced : ℕ → Count → ℕ → Type 0
@@ -96,7 +96,7 @@ module _ (limit : ℕ) (count : Count) (t : ℕ) where
   answered = answered_if _ _ _ _ refl refl refl refl
 
 module _ (limit : ℕ) (count : Count) (h : List Event) (now : ℕ) (tells : Tells limit count h now) (t : ℕ) where
-  same_wait : wait (remembered_failures count t - limit) ≡ wait (failures t h - limit)
+  pub same_wait : wait (remembered_failures count t - limit) ≡ wait (failures t h - limit)
   same_wait = ap (λ n. wait (n - limit)) (sym (tells.fails t)) ∙ wait_capped limit (failures t h)
 
   may_of : MayBegin limit t h → May limit count t
@@ -269,6 +269,11 @@ Ascend [] = ⊤
 Ascend (call ∷ []) = ⊤
 Ascend (call ∷ (other ∷ before)) = (time_of other ≤ time_of call) × Ascend (other ∷ before)
 
+-- the last call came by then
+abbrev pub Until : ℕ → List Call → Type 0
+Until now [] = ⊤
+Until now (call ∷ before) = time_of call ≤ now
+
 tells_nothing : (limit t : ℕ) → Tells limit nothing [] t
 tells_nothing limit t = record {
   runs = refl;
@@ -288,6 +293,10 @@ module _ (limit : ℕ) (some : 0 < limit) where
   all_told call (other ∷ before) ascend =
       let was = all_told other before ascend.1 in
       told limit some (count_after limit (other ∷ before)) (history limit (other ∷ before)) (time_of call) (later limit _ _ (time_of other) was.1 (time_of call) ascend.0) was.0 call refl
+
+  pub tells_all : (calls : List Call) → Ascend calls → (t : ℕ) → Until t calls → Tells limit (count_after limit calls) (history limit calls) t
+  tells_all [] ascend t past = tells_nothing limit t
+  tells_all (call ∷ before) ascend t past = later limit _ _ (time_of call) (all_told call before ascend).1 t past
 
   pub limited : (calls : List Call) → Ascend calls → IsLimited limit (history limit calls)
   limited [] ascend = tt

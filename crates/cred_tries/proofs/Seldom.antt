@@ -6,7 +6,7 @@ use Rattle.std.proofs.lemmas.Bool.Decides.{leb_tells, nat_tests}
 use Rattle.cred_tries.specs.Counts.{day, longest_wait, most_tries, short_waits, wait}
 use Rattle.cred_tries.specs.Histories.{Event, Begun, Sent, Right, Wrong, Unjudged, Forgiven, IsLimited, IsRightAfter, failures, last_failure}
 use Rattle.cred_tries.specs.Stretches.{FailsSeldom, IsUncleared, failed, first_failure}
-use Rattle.cred_tries.proofs.Waits.{wait_far}
+use Rattle.cred_tries.proofs.Waited.{wait_far}
 
 -- the failures in a row at the end of a stretch
 abbrev in_a_row : List Event → ℕ

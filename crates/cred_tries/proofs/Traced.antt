@@ -1,6 +1,6 @@
 -- What is asked at one name, among all that is asked.
 use Rattle.std.proofs.Common.{◌≡◌, ◌≤◌, ◌<◌, ℕ, Bool, true, false, List, [], ◌∷◌, Option, Some, None, refl, sym, ap, ◌∙◌, ◌-◌, arith, subst}
-use Rattle.std.specs.Prelude.{⊤, nat_lt, if◌then◌else◌, unwrap_or}
+use Rattle.std.specs.Prelude.{nat_lt, if◌then◌else◌, unwrap_or}
 use Rattle.std.specs.FinMap as map
 use Rattle.std.proofs.lemmas.Bool.Decides.{nat_tests}
 use Rattle.cred_book.specs.Names.{name_cmp}
@@ -16,7 +16,7 @@ use Rattle.cred_tries.specs.declared.count.Place.TheVariants.{Free, Taken, Early
 use Rattle.cred_tries.specs.declared.turn.Ending.{Ending}
 use Rattle.cred_tries.specs.declared.turn.Turn.TheVariants as turn
 use Rattle.cred_tries.proofs.Counted.{apart_stays, asked_here, ended_here, forgiven_here, itself, same_name}
-use Rattle.cred_tries.proofs.{Limited.Ascend, Times.goes_forward, Waits.wait_most}
+use Rattle.cred_tries.proofs.{Limited.Ascend, Limited.Until, Times.goes_forward, Waited.wait_most}
 
 -- ---- the limiter has what its steps tell
 
@@ -93,11 +93,7 @@ followed most name (Forgives other ∷ before) =
 
 -- ---- time never goes back
 
-abbrev Until : ℕ → List Call → Type 0
-Until now [] = ⊤
-Until now (call ∷ before) = time_of call ≤ now
-
-later_until : (calls : List Call) (now late : ℕ) → now ≤ late → Until now calls → Until late calls
+pub later_until : (calls : List Call) (now late : ℕ) → now ≤ late → Until now calls → Until late calls
 later_until [] now late later until = tt
 later_until (call ∷ before) now late later until = omega (arith, later, until)
 
@@ -105,7 +101,7 @@ one_more : (call : Call) (calls : List Call) → Ascend calls → Until (time_of
 one_more call [] ascend until = tt
 one_more call (other ∷ before) ascend until = (until, ascend)
 
-abbrev AscendUntil : ℕ → List Call → Type 0
+abbrev pub AscendUntil : ℕ → List Call → Type 0
 AscendUntil now calls = Ascend calls × Until now calls
 
 with_more : (b : Bool) (call : Call) (calls : List Call) (was now : ℕ) → was ≤ now → time_of call ≡ now → AscendUntil was calls → AscendUntil now (with_call_if b call calls)
@@ -157,7 +153,7 @@ module _ (most : ℕ) (name : List ℕ) (steps : List Step) (now : ℕ) where
 abbrev IsShort : ℕ → Type 0
 IsShort seconds = (0 < seconds) × (seconds ≤ longest_wait)
 
-early_of : (a b : ℕ) → Early a ≡ Early b → a ≡ b
+pub early_of : (a b : ℕ) → Early a ≡ Early b → a ≡ b
 early_of a b is = cc
 
 module _ (limit : ℕ) (count : Count) (t seconds : ℕ) where
@@ -185,3 +181,7 @@ later_of name (Early other) seconds is = let same : other ≡ seconds = cc in ap
 pub later_is_short : (limits : Limits) (name : List ℕ) (now seconds : ℕ) → (begin_outcome limits name now).0 ≡ turn.Later seconds → IsShort seconds
 later_is_short limits name now seconds is =
     early_is_short limits.limit (count_at limits name) (moment limits.clock now) seconds (later_of name _ seconds is)
+
+pub told_early : (most : ℕ) (name : List ℕ) (steps : List Step) (now seconds : ℕ) → (begin_outcome (limits_after most steps) name now).0 ≡ turn.Later seconds
+    → place_of most (count_after most (calls_at name steps)) (moment (clock_after steps) now) ≡ Early seconds
+told_early most name steps now seconds is = later_of name _ seconds (same_turn most name steps now ∙ is)

@@ -1,10 +1,10 @@
 -- A limiter as contracts see it, and what its calls do.
-use Rattle.std.specs.Prelude.{ℕ, ◌<◌, ◌≤◌, Bool, false, List, Option, Some, None, refl}
+use Rattle.std.specs.Prelude.{ℕ, ◌<◌, ◌≤◌, Bool, false, List, Option, Some, None, filter_map, refl}
 use Rattle.std.specs.Coded.{Coded, code_by, coded×, coded_ℕ}
 use Rattle.std.specs.FinMap as map
 use Rattle.cred_tries.specs.contracts.clock.SteadyClock as clock_contract
 use Rattle.cred_tries.specs.Clocks.{after_reading, moment, new_clock}
-use Rattle.cred_tries.specs.Counts.{count_begun, count_ended, count_forgiven, has_failed, most_tries, place_of}
+use Rattle.cred_tries.specs.Counts.{count_begun, count_ended, count_forgiven, has_failed, most_tries, place_of, remembered_failures}
 use Rattle.cred_tries.specs.CountMaps.{CountMap, count_map_code, count_of, with_count}
 use Rattle.cred_tries.specs.declared.clock.SteadyClock.{SteadyClock}
 use Rattle.cred_tries.specs.declared.count.Count.{Count}
@@ -13,6 +13,7 @@ use Rattle.cred_tries.specs.declared.count.Place.TheVariants.{Free, Taken, Early
 use Rattle.cred_tries.specs.declared.turn.Ending.{Ending}
 use Rattle.cred_tries.specs.declared.turn.Turn.{Turn}
 use Rattle.cred_tries.specs.declared.turn.Turn.TheVariants as turn
+use Rattle.cred_tries.specs.declared.waiting.Wait.{Wait}
 
 -- how many tries may fail at a name until the next has to wait; the time; and the counts
 pub record Limits : Type 0 where
@@ -87,3 +88,23 @@ forgiveness limits name (Some count) = (
 
 abbrev pub forgive_outcome : Limits → List ℕ → Bool × Limits
 forgive_outcome limits name = forgiveness limits name (map.get limits.counts name)
+
+-- ---- who has to wait
+
+abbrev pub wait_for : List ℕ → ℕ → Place → Option Wait
+wait_for name failed (Early seconds) =
+    Some (record { name = name; failed = failed; seconds = seconds })
+wait_for name failed _ = None
+
+-- the wait at a name with this count, if a try is too early there at this moment
+abbrev pub wait_of : ℕ → ℕ → List ℕ × Count → Option Wait
+wait_of limit now (name, count) =
+    wait_for name (remembered_failures count now) (place_of limit count now)
+
+-- all waits among these names, in their order
+abbrev pub waits_among : ℕ → ℕ → List (List ℕ × Count) → List Wait
+waits_among limit now counts = filter_map (wait_of limit now) counts
+
+abbrev pub waits_at : Limits → ℕ → List Wait
+waits_at limits now =
+    waits_among limits.limit (moment limits.clock now) (map.entries limits.counts)

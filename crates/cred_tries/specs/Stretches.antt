@@ -94,3 +94,10 @@ abbrev pub QuietBegins : ℕ → List Event → Type 0
 QuietBegins limit history =
     (later before : List Event) (t : ℕ) → history ≡ later ++ (Sent t ∷ before)
     → failures t before ≡ 0 → limit ≤ running before
+
+-- A try is too early by so many seconds: as many failures count as the limit says, and the wait
+-- behind the last of them is over then.
+abbrev pub IsEarly : ℕ → ℕ → ℕ → List Event → Type 0
+IsEarly limit now seconds before =
+    (limit ≤ failures now before)
+    × (now + seconds ≡ last_failure before + wait (failures now before - limit))

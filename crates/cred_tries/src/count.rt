@@ -145,7 +145,7 @@ impl Count {
     }
 
     /// The failures in a row that aren't forgotten at the moment `now`.
-    fn remembered_failures(self, now: u64) -> u64
+    pub(crate) fn remembered_failures(self, now: u64) -> u64
         ensures { result ≡ remembered_failures self now }
     {
         if now >= self.last && now - self.last >= DAY {

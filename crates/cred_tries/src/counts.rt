@@ -1,13 +1,13 @@
 //! The counts of names.
 
-ghost use Rattle.std.specs.Prelude.{◌≡◌, IfErr, IfOk, true};
+ghost use Rattle.std.specs.Prelude.{◌≡◌, ◌<◌, ◌^◌, IfErr, IfOk, length, true};
 ghost use Rattle.std.specs.FinMap as map;
 ghost use Rattle.cred_tries.specs.CountMaps.{with_count};
 
 use crate::count::Count;
 use cred_book::Name;
 use std::alloc::{AllocError, Global};
-use std::collections::BTreeMap;
+use std::collections::{BTreeMap, btree_map};
 use std::marker::Model;
 
 /// A map from names to their counts, without those of which nothing is counted.
@@ -49,6 +49,14 @@ impl Counts {
             Some(count) => Some(*count),
             None => None,
         }
+    }
+
+    /// The names in their order, with their counts.
+    pub(crate) fn iter(&self) -> btree_map::Iter<'_, Name, Count>
+        ensures entries { result ≡ map.entries self.now }
+        ensures few { length result < 2 ^ 63 }
+    {
+        self.counts.iter()
     }
 
     /// Counts this at a name, which may be new.

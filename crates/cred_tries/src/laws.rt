@@ -6,8 +6,8 @@ ghost use Rattle.cred_tries.specs.Clocks.{after_reading, end_of_time, moment};
 ghost use Rattle.cred_tries.specs.Counts.{longest_wait, most_tries};
 ghost use Rattle.cred_tries.specs.Histories.{IsLimited};
 ghost use Rattle.cred_tries.specs.Limits.{Limits, begin_outcome, count_at};
-ghost use Rattle.cred_tries.specs.Steps.{Step, TellsTurn, after_step, clock_after, events_at, is_name_of, step_name};
-ghost use Rattle.cred_tries.specs.Stretches.{FailsBehind, FailsSeldom, QuietBegins, WaitsBehind, judgements};
+ghost use Rattle.cred_tries.specs.Steps.{Step, TellsTurn, after_step, clock_after, events_at, is_name_of, limits_after, step_name};
+ghost use Rattle.cred_tries.specs.Stretches.{FailsBehind, FailsSeldom, IsEarly, QuietBegins, WaitsBehind, judgements};
 ghost use Rattle.cred_tries.specs.declared.clock.SteadyClock.{SteadyClock};
 
 use crate::turn::Turn;
@@ -26,6 +26,8 @@ use crate::turn::Turn;
 /// - `limited`: a try begins exactly if it may;
 /// - `turn`: what `begin` answers is what happens at the name;
 /// - `later`: no answer names a wait of over 900 seconds, or of none;
+/// - `early`: a try is too early only behind as many failures as the limit says, and its answer
+///   names the seconds until the wait behind the last is over;
 /// - `apart`: what is asked at another name changes nothing at this one.
 pub fn each_name_is_limited()
     ensures seldom { (limit : ℕ) (name : List ℕ) (steps : List Step) → 0 < limit
@@ -45,6 +47,10 @@ pub fn each_name_is_limited()
     ensures later { (limits : Limits) (name : List ℕ) (now seconds : ℕ)
         → (begin_outcome limits name now).0 ≡ Turn.Later seconds
         → (0 < seconds) × (seconds ≤ longest_wait) }
+    ensures early { (limit : ℕ) (name : List ℕ) (steps : List Step) (now seconds : ℕ) → 0 < limit
+        → (begin_outcome (limits_after limit steps) name now).0 ≡ Turn.Later seconds
+        → IsEarly limit (moment (clock_after steps) now) seconds
+        (judgements (events_at limit name steps)) }
     ensures apart { (limits : Limits) (name : List ℕ) (step : Step)
         → is_name_of name (step_name step) ≡ false
         → count_at (after_step limits step) name ≡ count_at limits name }

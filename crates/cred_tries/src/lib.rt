@@ -12,8 +12,10 @@ mod counts;
 mod laws;
 mod limiter;
 mod turn;
+mod waiting;
 
 pub use count::MOST_TRIES;
 pub use laws::{each_name_is_limited, time_goes_forward};
 pub use limiter::Limiter;
 pub use turn::{Ending, Try, Turn};
+pub use waiting::{Wait, Waits};

@@ -1,14 +1,15 @@
 //! The limiter of tries at all names.
 
-ghost use Rattle.std.specs.Prelude.{◌≡◌, ◌≤◌, ◌<◌, IfErr, IfOk};
+ghost use Rattle.std.specs.Prelude.{◌≡◌, ◌≤◌, ◌<◌, ◌^◌, IfErr, IfOk, length};
 ghost use Rattle.std.specs.FinMap as map;
 ghost use Rattle.cred_tries.specs.Counts.{most_tries};
-ghost use Rattle.cred_tries.specs.Limits.{after_end, begin_outcome, count_at, forgive_outcome, new_limits};
+ghost use Rattle.cred_tries.specs.Limits.{after_end, begin_outcome, count_at, forgive_outcome, new_limits, waits_at};
 
 use crate::clock::SteadyClock;
 use crate::count::{Count, Place};
 use crate::counts::Counts;
 use crate::turn::{Ending, Try, Turn};
+use crate::waiting::Waits;
 use cred_book::Name;
 use std::alloc::{AllocError, Global};
 use std::marker::Model;
@@ -109,6 +110,14 @@ impl Limiter {
             }
             None => false,
         }
+    }
+
+    /// The waits at a reading of the clock in seconds: each name at which a try is too early.
+    pub fn waits(&self, now: u64) -> Waits<'_>
+        ensures waits { result ≡ waits_at self.now now }
+        ensures few { length result < 2 ^ 63 }
+    {
+        Waits::new(self.counts.iter(), self.limit, self.clock.moment(now))
     }
 
     /// The count of a name.

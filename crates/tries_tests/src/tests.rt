@@ -129,6 +129,25 @@ fn failures_are_cleared(rt: HostRuntime) {
     assert_eq!(rt; cleared(rt.alloc()), Ok((true, false, 1, 86401)));
 }
 
+/// After seven failures of ann's and four of bob's: the failures and the seconds of the first wait,
+/// and the numbers of waits now and four seconds later.
+fn listed(alloc: Global) -> Result<(Option<(u64, u64)>, usize, usize), BookError> {
+    let mut limiter = Limiter::new(alloc, LIMIT);
+    let last = last_of(&mut limiter, &Name::new(b"ann")?, 7, 0)?;
+    let now = last_of(&mut limiter, &Name::new(b"bob")?, 4, last)?;
+    let first = match limiter.waits(now).next() {
+        Some(wait) => Some((wait.failed, wait.seconds)),
+        None => None,
+    };
+    let later = limiter.waits(now.saturating_add(4)).count();
+    Ok((first, limiter.waits(now).count(), later))
+}
+
+#[test]
+fn waits_are_listed(rt: HostRuntime) {
+    assert_eq!(rt; listed(rt.alloc()), Ok((Some((7, 4)), 1, 0)));
+}
+
 /// The answers to two who ask for the one try that may run, of which the first may find no memory.
 fn begun_behind_refusal(alloc: Global) -> Result<(bool, Option<u64>), BookError> {
     let mut limiter = Limiter::new(alloc, 1);

@@ -1,6 +1,6 @@
 use Rattle.std.proofs.Common.{sym, arith, rules}
 use Rattle.cred_tries.specs.Counts.{wait}
-use Rattle.cred_tries.proofs.Waits.{wait_far}
+use Rattle.cred_tries.proofs.Waited.{wait_far}
 use Rattle.cred_tries.proofs.count.wait.Goals as goal
 
 pub returns-then-more-lt-SHORT_WAITS : goal.returns-then-more-lt-SHORT_WAITS

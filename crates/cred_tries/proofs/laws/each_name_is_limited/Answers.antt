@@ -1,6 +1,6 @@
 use Rattle.std.proofs.Common.{◌<◌, ℕ, List}
 use Rattle.cred_tries.specs.{Histories.IsLimited, Steps.Step, Steps.calls_at, Steps.events_at}
-use Rattle.cred_tries.proofs.{Counted.apart_stays, Judged.ends_seldom, Limited.limited, Seldom.fails_seldom, Stretched.fails_behind, Stretched.quiet_begins, Stretched.waits_behind, Traced.ascends, Traced.later_is_short, Traced.turn_told}
+use Rattle.cred_tries.proofs.{Counted.apart_stays, Earlier.early_behind, Judged.ends_seldom, Limited.limited, Seldom.fails_seldom, Stretched.fails_behind, Stretched.quiet_begins, Stretched.waits_behind, Traced.ascends, Traced.later_is_short, Traced.turn_told}
 use Rattle.cred_tries.proofs.laws.each_name_is_limited.Goals as goal
 
 limited_at : (limit : ℕ) (name : List ℕ) (steps : List Step) → 0 < limit → IsLimited limit (events_at limit name steps)
@@ -16,5 +16,6 @@ returns c = record {
   limited = limited_at;
   turn = turn_told;
   later = later_is_short;
+  early = early_behind;
   apart = apart_stays;
 }
