@@ -13,12 +13,12 @@ import time
 from collections.abc import AsyncIterator
 from unittest import mock
 
-from served import PYTHON, Case, Client
-from daemon import clients
-from daemon.book import share_of
+from served import PYTHON, Case, Client, need_root
+from daemon import clients, shares
 from daemon.clients import FEW, Door
 from daemon.options import Options
 from daemon.service import TURNS, Service
+from daemon.shares import owner_of, share_of
 
 # What a client may send that costs the book nothing, and the end of each answer.
 IDLE_LINES = {
@@ -158,11 +158,75 @@ class Floods(Case):
                 share_of.assert_called_with(os.getuid(), process.pid)
                 return sum(door.counts.values())
 
-        with mock.patch.multiple(clients, CLIENTS=64, share_of=share_of):
+        with mock.patch.multiple(clients, CLIENTS=64, KEPT=4, share_of=share_of):
             self.assertEqual(asyncio.run(let_in()), 49)
+
+    def test_many_users(self) -> None:
+        """However many connections many users have between them, one who has none comes in."""
+        many = [f"user {number}" for number in range(20) for _ in range(16)]
+
+        async def are_let_in(*others: str) -> list[int]:
+            """How many of each come in, once many users have what they get."""
+            share_of = mock.Mock(side_effect=[*many, *others])
+            with mock.patch.multiple(clients, CLIENTS=256, KEPT=32, share_of=share_of):
+                async with self.door(Service(Options())) as (door, stack):
+                    for _ in range(len(many) + len(others)):
+                        stack.enter_context(Client(pathlib.Path(door.path)))
+                        await self.all_let_in(door)
+                    return [door.counts["a", it] for it in others]
+
+        self.assertEqual(asyncio.run(are_let_in("other")), [1])
+        self.assertEqual(asyncio.run(are_let_in("user 1", "other", "third")), [16, 1, 1])
 
 
 class Shares(Case):
+    def test_subordinate_uids(self) -> None:
+        """They are those of the person who has them, by subuid(5), and count as one user."""
+        file = self.room() / "subuid"
+        file.write_text("1000:100000:65536\nroot:200000:10\nnobody.here:300000:10\nodd\n:::\n")
+        with mock.patch.object(shares, "SUBORDINATE", str(file)):
+            for uid, owner in {
+                0: 0,
+                33: 33,
+                1000: 1000,
+                60001: 60001,
+                99999: 99999,
+                100000: 1000,
+                165535: 1000,
+                165536: 165536,
+                200009: 0,
+                200010: 200010,
+                300000: 300000,
+            }.items():
+                self.assertEqual(owner_of(uid), owner)
+            file.write_text("1001:100000:65536\n\n")
+            self.assertEqual(owner_of(100000), 1001, "the file has changed")
+            file.unlink()
+            self.assertEqual(owner_of(100000), 100000)
+
+    def test_a_peer_with_a_subordinate_uid(self) -> None:
+        """Its connections are its owner's."""
+        need_root()
+        file = self.room() / "subuid"
+        file.write_text("1000:100000:65536\n")
+
+        async def users() -> dict[object, int]:
+            async with Floods.door(self, Service(Options())) as (door, stack):
+                os.chmod(door.path, 0o666)
+                for uid in (1000, 100000, 165535, 165536):
+                    os.seteuid(uid)
+                    try:
+                        stack.enter_context(Client(pathlib.Path(door.path)))
+                    finally:
+                        os.seteuid(0)
+                while select.select([door.listener], [], [], 0)[0]:
+                    await asyncio.sleep(0)
+                return dict(door.counts)
+
+        with mock.patch.object(shares, "SUBORDINATE", str(file)):
+            ought = {("a", "uid 1000"): 3, ("a", "uid 165536"): 1}
+            self.assertEqual(asyncio.run(users()), ought)
+
     def test_shares(self) -> None:
         """A uid's, and of root's processes the service's, or the user's who logged in."""
         sshd, person = "/system.slice/ssh.service", "/user.slice/user-1000.slice"

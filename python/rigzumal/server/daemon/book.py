@@ -17,8 +17,6 @@ from .journal import log_seldom
 LONGEST_ANSWER = 65536  # bytes
 UNAVAILABLE = b"unavailable"
 REST, LONGEST_REST = 1.5, 0.1  # of the time that a round took, and seconds
-# The first two names of a control group: /system.slice/ssh.service, /user.slice/user-1000.slice.
-GROUP = re.compile(rb"^\d+:(?:name=systemd)?:((?:/[^/\n]+){1,2})", re.M)
 
 
 def decoded(field: bytes) -> Optional[bytes]:
@@ -76,15 +74,6 @@ class Book(asyncio.SubprocessProtocol):
         if self.process.get_returncode() is None:
             with suppress(ProcessLookupError):
                 os.kill(self.process.get_pid(), signal.SIGKILL)
-
-
-def share_of(uid: int, pid: int) -> str:
-    """The user whose share a process uses: its uid, or the service where that is root's."""
-    found = None
-    if uid == 0:
-        with suppress(OSError), open(f"/proc/{pid}/cgroup", "rb", buffering=0) as file:
-            found = GROUP.search(file.read(4096))
-    return f"uid {uid} in {found[1].decode(errors='replace')}" if found else f"uid {uid}"
 
 
 class Places:

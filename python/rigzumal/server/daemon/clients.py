@@ -15,13 +15,14 @@ from contextlib import suppress
 from dataclasses import dataclass, field
 from typing import TYPE_CHECKING, Hashable, Optional
 
-from .book import share_of
 from .journal import Problem, log_seldom
+from .shares import owner_of, share_of
 
 if TYPE_CHECKING:
     from .service import Service
 
 CLIENTS, FEW = 1024, 64  # a door's, and how many wait to be let in
+KEPT = 64  # places of a door, the last ones, for users that have none
 ACCEPTED = 16  # clients in a pass of the loop: then others have their turn
 AT_ONCE = 32  # requests of a client
 LONGEST = 960  # bytes of a line
@@ -39,7 +40,8 @@ class Client:
         self.service, self.door, self.socket = service, door, sock
         peer = sock.getsockopt(socket.SOL_SOCKET, socket.SO_PEERCRED, 12)
         self.pid, self.uid, _ = struct.unpack("3i", peer)
-        self.user = (door.name, share_of(self.uid, self.pid))  # whose turn it is
+        self.owner = owner_of(self.uid)
+        self.user = (door.name, share_of(self.owner, self.pid))  # whose turn it is
         self.running, self.active = 0, time.monotonic()
         self.queues = defaultdict[object, asyncio.Lock](asyncio.Lock)  # for each kind of places
         self.answered, self.writing = asyncio.Event(), asyncio.Lock()
@@ -211,15 +213,22 @@ class Door:
                 except OSError:  # no descriptor is free
                     await asyncio.sleep(0.1)
 
+    def has_place(self, own: int) -> bool:
+        """Whether a user who has so many places may have one more: of those that the others leave
+        at most half, and of the last ones the first alone."""
+        taken = sum(self.counts.values())
+        is_at_most_half = own + taken < CLIENTS - 1
+        return is_at_most_half and (own == 0 or taken < CLIENTS - KEPT)
+
     def let_in(self, service: Service, sock: socket.socket) -> bool:
-        """Whether it stays: a user has at most half of the places that others leave."""
+        """Whether it stays, in a place that its user may have; it is told otherwise."""
         with suppress(OSError):  # if nothing has come
             if not sock.recv(1, socket.MSG_PEEK):
                 sock.close()
                 return False
         client = self.client(service, self, sock)
         own = self.counts[client.user]
-        if own + sum(self.counts.values()) < CLIENTS - 1:
+        if self.has_place(own):
             service.clients[client] = asyncio.ensure_future(client.run())
             self.counts[client.user] += 1
             return True

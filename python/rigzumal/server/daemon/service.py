@@ -145,7 +145,7 @@ class Service:
         """Has a request answered, unless its client has gone and it changes nothing."""
         client, kind, tally, answer = request.client, request.kind, self.tally, b""
         name = request.words[1].decode(errors="replace")
-        user = f"uid={client.uid}" if client.uid in PEOPLE else ""
+        user = f"uid={client.owner}" if client.owner in PEOPLE else ""
         came = time.monotonic()
         async with client.queues[request.places]:  # one of its lines waits at a time
             await request.places.take(client.user)

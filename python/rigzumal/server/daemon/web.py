@@ -71,7 +71,7 @@ class WebClient(Client):
             headers.append(("Remote-User", self.service.folded(self.name)))
         if status == 429:
             name = self.service.in_book(self.name).decode(errors="replace")
-            tally, user = self.service.tally, f"uid={self.uid}"
+            tally, user = self.service.tally, f"uid={self.owner}"
             seconds = max(tally.names.rest(name), tally.users.rest(user))
             headers.append(("Retry-After", str(max(1, math.ceil(seconds)))))
         head = h11.Response(status_code=status, headers=headers)
