@@ -152,6 +152,17 @@ class CredkeepAsk(Case):
             self.assertEqual((status, faults), (0 if shows else 7, ""), words)
             self.assertEqual(self.noted("given"), "" if shows else "as it is", words)
 
+    def test_a_backup(self) -> None:
+        """It says what it leaves out: the locks of names, which lie beside the book."""
+        said = "credkeep-ask: users.db-locks, which has the locks of names, isn't in the copy"
+        for has_locks in (False, True):
+            if has_locks:
+                (self.folder / "users.db-locks").touch()
+            words = [str(ASK), "users.db", "backup", "copy.db"]
+            done = ended(words, env=self.environment(RECORD), cwd=self.folder)
+            self.assertEqual((done.status, said in done.faults), (7, has_locks), done)
+            self.assertEqual(self.noted("words"), "users.db|backup|copy.db|\n")
+
     def test_any_bytes(self) -> None:
         """A password is what was typed, whatever the shell makes of such letters elsewhere."""
         odd = [" a b ", "a\\n\\", "-n", "-e", "%s%n", "*", "$HOME `id` $(id)", "", "'\"", "passé"]
@@ -206,8 +217,10 @@ check bob | | absent 4
 reset bob | secret secret | enrolled 0
 lock bob | | locked 0
 lock zoe | | noaccount 4
-check bob | | absent 4
+check bob | | locked 4
 locks | | bob:locked 0
+locks bob | | bob:locked 0
+locks cid | | 0
 unlock bob | | unlocked 0
 unlock bob | | none 4
 expire bob | | expired 0
@@ -228,6 +241,7 @@ MISTAKES = {
     "add ada bob": "add takes 1 name",
     "rename ada": "rename takes 2 names",
     "list ada": "list takes no names",
+    "locks ada bob": "locks takes a name or none",
     "frob ada": "no such command",
     "add 'a b'": "a name has no spaces",
     "add ''": "a name has no spaces",

@@ -2,7 +2,12 @@
 
 import time
 
-from served import SECRET, WRONG, Case, Service, need
+from served import SECRET, TOP, WRONG, Case, Service, need
+from daemon.options import Options
+from daemon.tries import Tally
+from tests.helpers import ended
+
+ASK = str(TOP / "bin/credkeep-ask")
 
 LOCKED = """
 admin lock ada -> locked
@@ -57,9 +62,41 @@ login verify ada {secret} -> yes
 """
 
 
+# More names than an answer shows.
+MANY, SHOWN = 1003, 1000
+
+
 class Locks(Case):
     def over(self, *options: str, **fields: object) -> Service:
         return self.serving("--tries", "0", *options, **fields).enrol(ada="secret", bob="other")
+
+    def test_many(self) -> None:
+        """A thousand are shown, and how many more there are; those of one name are among them or
+        not."""
+        names = [f"n{number:04}" for number in range(MANY)]
+        room = self.room()
+        marks = room / "users.db-locks"
+        marks.write_text("".join(f"{it} lock 2026-01-01T00:00:00Z\n" for it in names))
+        marks.chmod(0o600)
+        service = self.over(folder=room)
+        admin, path = service.client("admin"), str(service.path("admin"))
+        said = [f"{it}:locked" for it in names]
+        self.assertEqual(admin.ask("locks").split(), ["locks", *said[:SHOWN], "more=3"])
+        admin.talk(f"locks {names[-1]} -> locks {said[-1]}\nlocks ada -> locks")
+        shown = "".join(f"{it}\n" for it in said[:SHOWN])
+        more = "credkeep-ask: 3 more aren't shown\n"
+        self.assertEqual(ended([ASK, "--server", path, "locks"]), (0, shown, more))
+        self.assertEqual(
+            ended([ASK, "--server", path, "locks", names[-1]]), (0, said[-1] + "\n", "")
+        )
+
+    def test_many_waits(self) -> None:
+        """They have the same bound."""
+        tally = Tally(Options(tries=1))
+        for number in range(MANY):
+            tally.names.fail(f"n{number}")
+        waits = tally.answer(b"waits", "").split()
+        self.assertEqual((len(waits), waits[-1]), (1 + SHOWN + 1, "more=3"))
 
     def test_locked(self) -> None:
         """Each try at a locked name is answered as a wrong one, and its record stays."""

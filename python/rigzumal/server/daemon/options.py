@@ -44,8 +44,8 @@ KINDS = {
     "rename": Kind(changes=True, names=2),
     "known show": Kind(),
     "list": Kind(names=0),
-    "stats waits locks": Kind(names=0, is_own=True),
-    "forgive last": Kind(is_own=True),
+    "stats waits": Kind(names=0, is_own=True),
+    "forgive last locks": Kind(is_own=True),
 }
 OPERATIONS = {word.encode(): it for key, it in KINDS.items() for word in key.split()}
 

@@ -18,7 +18,7 @@ from .clients import LONGEST, Client, Door
 from .disk import FULL, NEEDED, has_room
 from .journal import UNDOES, AuditLog, Marks, log_seldom, utc
 from .options import OPERATIONS, Kind, Options
-from .tries import LATER, TRIED, Tally
+from .tries import LATER, TRIED, Tally, listed
 
 if TYPE_CHECKING:
     from .foreign import Foreign
@@ -106,7 +106,7 @@ class Service:
         if sum(map(len, words)) + len(words) > LONGEST:  # with names that became longer
             return LONG
         if words[0] == b"locks":
-            return self.locks.shown()
+            return self.locks.shown(words[1])
         if kind.is_own:
             return self.tally.answer(words[0], words[1].decode(errors="replace")).encode()
         return self.why_refused(kind, words) if 0 < kind.new < len(words) else b""
@@ -273,11 +273,14 @@ class Locks(Marks):
         self.service = service
         self.marking = asyncio.Lock()  # else a mark is put at a name that is just going
 
-    def shown(self) -> bytes:
+    def shown(self, name: bytes) -> bytes:
+        """The answer to `locks`, of a name or of all."""
         barred = self.service.foreign.barred() if self.service.foreign else set[bytes]()
-        pairs = self.pairs | {(name, b"lock") for name in barred}  # else an export has them
-        said = [b"%b:%b" % (name, MARKS[mark]) for name, mark in sorted(pairs)]
-        return b" ".join([b"locks", *said])
+        pairs = self.pairs | {(it, b"lock") for it in barred}  # else an export has them
+        if name:
+            pairs = {it for it in pairs if it[0] == name}
+        said = [b"%b:%b" % (it, MARKS[mark]) for it, mark in sorted(pairs)]
+        return listed(b"locks", said)
 
     async def is_locked(self, name: bytes) -> bool:
         """Whether a name is locked, or an old file bars its user."""

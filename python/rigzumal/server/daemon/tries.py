@@ -15,7 +15,7 @@ from .options import Kind, Options, folder_of
 LATER = b"later"  # for this try it is too early
 REMEMBERED = 65536  # names and users
 LONGEST_WAIT, FORGOTTEN = 900.0, 3600.0  # seconds
-MOST_SHOWN, LONGEST_STATS = 1000, 4096  # names in an answer, letters of one
+MOST_SHOWN, LONGEST_STATS = 1000, 4096  # items in an answer, letters of one
 TRIED = dict.fromkeys("yes expired replaced upgraded kept removed".split(), "yes")  # of tries
 TRIED |= {"no": "no", "wrong": "no", "absent": "absent", "noaccount": "noaccount"}
 CHANGED = "ok enrolled replaced upgraded removed disabled deleted renamed".split()
@@ -160,13 +160,21 @@ class Tally:
         """What the server itself knows; `last` is the time of a right password."""
         if operation == b"waits":
             waits = [*self.names.waits(), *self.users.waits()]
-            return " ".join(["waits", *waits[:MOST_SHOWN]])
+            return listed(b"waits", [it.encode() for it in waits]).decode()
         if operation == b"forgive":
             limiter = self.users if "=" in name else self.names
             return "forgiven" if limiter.forgive(name, "an administrator forgave it") else "none"
         if operation == b"last":
             return f"last {utc(self.logins[name])}" if name in self.logins else "none"
         return self.stats()
+
+
+def listed(operation: bytes, items: list[bytes]) -> bytes:
+    """An answer with up to MOST_SHOWN items, which says how many more there are."""
+    words = [operation, *items[:MOST_SHOWN]]
+    if len(items) > MOST_SHOWN:
+        words.append(b"more=%d" % (len(items) - MOST_SHOWN))
+    return b" ".join(words)
 
 
 def metrics(path: str) -> str:
