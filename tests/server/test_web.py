@@ -59,6 +59,20 @@ class Connection(http.client.HTTPConnection):
         return answer.status, dict(answer.getheaders())
 
 
+RIGHT = b"Host: a\r\nAuthorization: " + basic(b"ada", b"secret") + b"\r\n"
+CHUNKED, SIZED = b"Transfer-Encoding: chunked\r\n", b"Content-Length: 5\r\n"
+LAST_CHUNK = b"\r\n0\r\n\r\n"
+# Requests that two servers might read differently, each with the status after which no more come.
+REFUSED = {
+    b"GET / HTTP/1.1\r\n" + RIGHT + CHUNKED + SIZED + LAST_CHUNK: "400",
+    b"GET / HTTP/1.1\r\n" + RIGHT + SIZED + CHUNKED + LAST_CHUNK: "400",
+    b"GET / HTTP/1.0\r\n" + RIGHT + CHUNKED + LAST_CHUNK: "400",
+    b"GET / HTTP/0.9\r\n" + RIGHT + b"\r\n": "505",
+    b"GET / HTTP/1.2\r\n" + RIGHT + b"\r\n": "505",
+    b"GET / HTTP/2.0\r\n" + RIGHT + b"\r\n": "505",
+}
+
+
 class Web(Case):
     def serving_web(self, *options: str, **fields: Any) -> Service:
         need_module("h11")
@@ -169,7 +183,7 @@ class Web(Case):
     def test_requests(self) -> None:
         """What is no request, or too much of one, is refused, and its connection closed."""
         service = self.serving_web().enrol(ada="secret")
-        login = b"Host: a\r\nAuthorization: " + basic(b"ada", b"secret") + b"\r\n"
+        login = RIGHT
         for text, statuses in (
             (b"GET / HTTP/1.1\r\n" + login + b"\r\n", "200"),
             (b"GET / HTTP/1.0\r\n" + login + b"\r\n", "200"),
@@ -183,6 +197,7 @@ class Web(Case):
             (b"GET / HTTP/1.1\r\n" + login + b"Transfer-Encoding: chunked\r\n\r\n", "413"),
             (b"GET / HTTP/1.1\r\n" + login + login[9:] + b"\r\n", "401"),
             (b"GET / HTTP/1.1\r\n\r\n", "400"),  # without its host
+            *((request * 2, ought) for request, ought in REFUSED.items()),
             (b"1 verify ada c2VjcmV0\n\n", "400"),
             (b"\x16\x03\x01" * 100 + b"\r\n\r\n", "400"),
             (b"GET / HTTP/1.1\r\n" + b"X: y\r\n" * 9000, "431"),

@@ -15,7 +15,9 @@ STATUSES = {b"yes": 200, b"expired": 403, b"denied": 403, b"later": 429}
 # Also of a name or a password that no book has, or a line that is too long: 401.
 NOBODY = (b"no", b"absent", b"bad 3 ", b"bad 13 ", b"bad 16 ")
 CHALLENGE = ("WWW-Authenticate", 'Basic realm="book", charset="UTF-8"')
-HEADERS = {401: [CHALLENGE], 405: [("Allow", "GET, HEAD")]}
+CLOSE = ("Connection", "close")
+HEADERS = {400: [CLOSE], 401: [CHALLENGE], 405: [("Allow", "GET, HEAD")], 505: [CLOSE]}
+VERSIONS = (b"1.0", b"1.1")
 BASIC = re.compile(rb"basic +([A-Za-z0-9+/]+={0,2})", re.I)
 
 
@@ -31,6 +33,15 @@ def credentials(headers: Sequence[tuple[bytes, bytes]]) -> Optional[bytes]:
     if not colon or not re.fullmatch(rb"[!-~\x80-\xff]+", name):
         return None
     return name + b" " + (base64.b64encode(password).rstrip(b"=") or b"-")
+
+
+def why_refused(request: Any) -> int:
+    """The status of a request that no server can be sure of; 0 for others. RFC 9112, 6.1."""
+    names = {name for name, _ in request.headers}
+    is_framed_twice = b"content-length" in names or request.http_version == b"1.0"
+    if request.http_version not in VERSIONS:
+        return 505
+    return 400 if b"transfer-encoding" in names and is_framed_twice else 0
 
 
 class WebClient(Client):
@@ -54,6 +65,8 @@ class WebClient(Client):
             await self.respond(fault.error_status_hint)
 
     async def take(self, request: Any, is_whole: bool) -> None:
+        if status := why_refused(request):
+            return await self.respond(status)
         fields, is_read = credentials(request.headers), request.method in (b"GET", b"HEAD")
         if fields and is_whole and is_read:
             self.name = fields.split(b" ")[0]
