@@ -1,15 +1,18 @@
 """Tests of the PAM module: what is sent, what each answer means, and what goes wrong on the way."""
 
+import importlib
 import pathlib
 import socket
+import sys
 import threading
 import time
 
 from driven import PLAIN, ROOM, Case, Pam, Question
 from driven import answers, asked, line_of, peer, sends
-from tests.helpers import each
+from tests.helpers import TOP, each
 from tests.hostile_fields import NAMES, PASSWORDS, text_of
 
+sys.path.insert(0, str(TOP / "python/rigzumal/server"))  # where the server's table is
 YES, NO_ROOM = b"1 yes\n", b"* unavailable\n"
 VERIFY, KNOWN = line_of("verify", "ada", b"secret"), line_of("known", "ada")
 
@@ -48,6 +51,11 @@ class Answers(Case):
             self.check(b"1 " + answer + b"\n", ought, line, task=task)
         said = self.check(YES, Pam.SUCCESS, task="setcred")  # there are no credentials to set
         self.assertEqual(said.prompts, [])
+
+    def test_all_answers(self) -> None:
+        """What comes of a password at each answer that the server has."""
+        for answer, meaning in importlib.import_module("daemon.answers").ANSWERS.items():
+            self.check(f"1 {answer}\n".encode(), Pam[meaning.pam], VERIFY)
 
     def test_no_answers(self) -> None:
         """What isn't exactly an answer to this line lets nobody in, and lets the stack go on."""

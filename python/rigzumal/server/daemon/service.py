@@ -13,12 +13,13 @@ from dataclasses import dataclass, replace
 from functools import partial
 from typing import TYPE_CHECKING, Any, Optional
 
+from .answers import ANSWERS, NO_ANSWER, RIGHT
 from .book import UNAVAILABLE, Book, Places, Rounds, decoded
 from .clients import LONGEST, Client, Door
 from .disk import FULL, NEEDED, has_room
 from .journal import UNDOES, AuditLog, Marks, log_seldom, utc
 from .options import OPERATIONS, Kind, Options
-from .tries import LATER, TRIED, Tally, listed
+from .tries import LATER, Tally, listed
 
 if TYPE_CHECKING:
     from .foreign import Foreign
@@ -223,8 +224,9 @@ class Service:
     async def note(self, request: Request, answer: bytes) -> bool:
         """Adds an answered change or a right password to the audit log; false if it can't."""
         is_refused, kind = answer.startswith(REFUSED), request.kind
-        tried = TRIED.get(answer.decode()) if kind.tries else None
-        is_noted = tried == "yes" or tried and self.options.audit_tries
+        meaning = ANSWERS.get(answer.decode(), NO_ANSWER)
+        tried = meaning.tried if kind.tries else ""
+        is_noted = tried == RIGHT or tried and self.options.audit_tries
         if not self.audit.path or not (is_noted or kind.changes and not is_refused):
             return True
         client, (operation, *fields) = request.client, request.words

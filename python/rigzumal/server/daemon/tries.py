@@ -9,6 +9,7 @@ from collections import Counter, OrderedDict
 from collections.abc import Awaitable, Callable, Iterator
 from dataclasses import dataclass
 
+from .answers import ANSWERS, NO_ANSWER, RIGHT
 from .journal import Problem, log, log_seldom, utc
 from .options import Kind, Options, folder_of
 
@@ -16,24 +17,41 @@ LATER = b"later"  # for this try it is too early
 REMEMBERED = 65536  # names and users
 LONGEST_WAIT, FORGOTTEN = 900.0, 3600.0  # seconds
 MOST_SHOWN, LONGEST_STATS = 1000, 4096  # items in an answer, letters of one
-TRIED = dict.fromkeys("yes expired replaced upgraded kept removed".split(), "yes")  # of tries
-TRIED |= {"no": "no", "wrong": "no", "absent": "absent", "noaccount": "noaccount"}
-CHANGED = "ok enrolled replaced upgraded removed disabled deleted renamed".split()
-CHANGED += "locked unlocked expired".split()
-# Of each metric what is counted, in samples by their answers if there are many.
-METRICS = {
-    "tries_total": ("yes no absent noaccount later", "Tries by their answer."),
-    "changes_total": ("changes", "Changes that were made."),
-    "upgraded_total": ("upgraded", "Records that --upgrade upgraded."),
-    "memory_total": ("memory", "Lines that found no memory for a hash."),
-    "disk_total": ("disk", "Changes that found no room on the book's disk."),
-    "denied_total": ("denied", "Lines that their socket doesn't take."),
-    "refused_total": ("refused", "Connections that had no room."),
-    "clients": ("clients", "Connections."),
-    "waits": ("waits", "Names that have to wait after failed tries."),
-    "waited_seconds_total": ("waited", "Seconds that lines waited for their turn."),
-}
-COUNTED = [*" ".join(counts for counts, _ in METRICS.values()).split(), "book"]  # by `stats`
+
+
+@dataclass(frozen=True)
+class Metric:
+    """What Prometheus gets: its name and a text, and which counts of `stats` are its samples."""
+
+    name: str
+    text: str
+    counts: tuple[str, ...]
+
+    def lines(self, counted: dict[str, str]) -> Iterator[str]:
+        """In Prometheus' text format, each sample with its answer if there are several."""
+        kind = "counter" if self.name.endswith("_total") else "gauge"
+        yield f"# HELP credkeep_{self.name} {self.text}"
+        yield f"# TYPE credkeep_{self.name} {kind}"
+        for count in self.counts:
+            answer = f',answer="{count}"' if len(self.counts) > 1 else ""
+            book = counted["book"]
+            yield f'credkeep_{self.name}{{book="{book}"{answer}}} {counted[count]}'
+
+
+TRIES = ("yes", "no", "absent", "noaccount", "later")
+METRICS = (
+    Metric("tries_total", "Tries by their answer.", TRIES),
+    Metric("changes_total", "Changes that were made.", ("changes",)),
+    Metric("upgraded_total", "Records that --upgrade upgraded.", ("upgraded",)),
+    Metric("memory_total", "Lines that found no memory for a hash.", ("memory",)),
+    Metric("disk_total", "Changes that found no room on the book's disk.", ("disk",)),
+    Metric("denied_total", "Lines that their socket doesn't take.", ("denied",)),
+    Metric("refused_total", "Connections that had no room.", ("refused",)),
+    Metric("clients", "Connections.", ("clients",)),
+    Metric("waits", "Names that have to wait after failed tries.", ("waits",)),
+    Metric("waited_seconds_total", "Seconds that lines waited for their turn.", ("waited",)),
+)
+COUNTED = [*(count for metric in METRICS for count in metric.counts), "book"]  # by `stats`
 
 
 @dataclass
@@ -127,17 +145,19 @@ class Tally:
     def count(self, kind: Kind, name: str, user: str, answer: str) -> None:
         """Counts an answer, and the failed try that it may be, at its name and its user."""
         self.counts["later"] += answer == "later"
-        self.counts["changes"] += kind.changes and answer in CHANGED
+        meaning = ANSWERS.get(answer, NO_ANSWER)
+        has_changed = kind.changes and meaning.changed
+        self.counts["changes"] += has_changed
         self.counts["disk"] += answer == "bad 19 disk"
         if answer == "bad 4 memory":
             self.counts["memory"] += 1
             log_seldom(answer, "no memory for a hash: see --memory, and the machine's")
         if not kind.tries:
-            if kind.hashes and answer in CHANGED:
+            if kind.hashes and has_changed:
                 self.names.forgive(name, "a new password")
-        elif tried := TRIED.get(answer):
+        elif tried := meaning.tried:
             self.counts[tried] += 1
-            if tried == "yes":
+            if tried == RIGHT:
                 self.names.forgive(name, "a right password")
                 self.users.lower(user)
                 self.logins[name] = time.time()
@@ -190,11 +210,4 @@ def metrics(path: str) -> str:
     found = dict(re.findall(r" (\w+)=([\w.-]+)", answer))
     if found.keys() != set(COUNTED):
         raise Problem(f"{path}: its clients may not ask for stats")
-    lines = list[str]()
-    for name, (counts, said) in METRICS.items():
-        kind = "counter" if name.endswith("_total") else "gauge"
-        lines += [f"# HELP credkeep_{name} {said}", f"# TYPE credkeep_{name} {kind}"]
-        for count in counts.split():
-            answered = f',answer="{count}"' if " " in counts else ""
-            lines.append(f'credkeep_{name}{{book="{found["book"]}"{answered}}} {found[count]}')
-    return "\n".join([*lines, ""])
+    return "".join(f"{line}\n" for metric in METRICS for line in metric.lines(found))

@@ -8,12 +8,9 @@ from typing import Any, Optional
 
 import h11
 
+from .answers import ANSWERS, NO_ANSWER
 from .clients import READ, Client
 
-# A right password that must be changed is `expired`; what is in none of these is 503.
-STATUSES = {b"yes": 200, b"expired": 403, b"denied": 403, b"later": 429}
-# Also of a name or a password that no book has, or a line that is too long: 401.
-NOBODY = (b"no", b"absent", b"bad 3 ", b"bad 13 ", b"bad 16 ")
 CHALLENGE = ("WWW-Authenticate", 'Basic realm="book", charset="UTF-8"')
 CLOSE = ("Connection", "close")
 HEADERS = {400: [CLOSE], 401: [CHALLENGE], 405: [("Allow", "GET, HEAD")], 505: [CLOSE]}
@@ -75,7 +72,8 @@ class WebClient(Client):
         await self.pause()
 
     async def reply(self, tag: bytes, answer: bytes) -> None:
-        await self.respond(401 if answer.startswith(NOBODY) else STATUSES.get(answer, 503))
+        meaning = ANSWERS.get(answer.decode(), NO_ANSWER)
+        await self.respond(meaning.http)
 
     async def respond(self, status: int) -> None:
         """Sends a status, and goes on with the next request if there may be one."""
