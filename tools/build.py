@@ -103,18 +103,37 @@ class Progress:
             self.done[name] = seconds
             self.say(f"{name}: {what}, {seconds:.0f} s")
 
+    def pace(self, done):
+        """How many times as long as expected a crate takes here. The last ones count most, since a
+        build's first ones also prepare what all need; a minute as expected stands before them."""
+        taken = foreseen = 60
+        weight = 1
+        for name in reversed(done):
+            taken += weight * done[name]
+            foreseen += weight * self.expected[name]
+            weight /= 2
+        return taken / foreseen
+
     def rest(self):
-        """Seconds until all are done, if each takes as long as expected at the pace of those that
-        are done."""
-        now, done, running = time.monotonic(), {**self.done}, {**self.running}
-        pace = sum(done.values()) / sum(self.expected[it] for it in done) if done else 1
+        """Seconds until all are done, AT_ONCE side by side and each after those below it, if each
+        takes as long as expected at the pace here."""
+        now, done, begun = time.monotonic(), {**self.done}, {**self.running}
+        pace, at = self.pace(done), 0
         left = {
-            it: max(pace * self.expected[it] - now + running.get(it, now), EVERY)
+            it: max(pace * self.expected[it] - now + begun.get(it, now), EVERY)
             for it in self.names
             if it not in done
         }
-        chain = lambda name: left.get(name, 0) + max(map(chain, below(name)), default=0)
-        return max([sum(left.values()) / AT_ONCE, *map(chain, left)])
+        waiting = [it for it in left if it not in begun]
+        ends = {it: left[it] for it in begun if it in left}
+        while waiting or ends:
+            ready = [it for it in waiting if not {*below(it)} & {*waiting, *ends}]
+            for name in ready[: max(AT_ONCE - len(ends), 0)]:
+                waiting.remove(name)
+                ends[name] = at + left[name]
+            at = min(ends.values())
+            ends = {it: end for it, end in ends.items() if end > at}
+        return at
 
     def say(self, what, end="\n"):
         """What happened, how much is done, and how long the rest takes."""

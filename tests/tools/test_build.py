@@ -52,12 +52,8 @@ mv linked "$last"
 
 
 class Clock(unittest.TestCase):
-    @each(
-        ({}, {}, 1800), ({}, {"low": 300}, 1500), ({}, {"low": 900}, 1225), ({"low": 300}, {}, 600)
-    )
-    def test_rest(self, done, running, wanted):
-        """Of crates of 600 s each, by what those that are done took and others run so long."""
-        below = {"low": [], "other": [], "high": ["low"], "program": ["low", "other", "high"]}
+    def rest(self, below, done, running):
+        """What is left of crates of 600 s each."""
         known = mock.patch.multiple(
             build, below=below.get, expected=lambda _: 600, tell_each=mock.Mock()
         )
@@ -65,7 +61,27 @@ class Clock(unittest.TestCase):
             progress = build.Progress([*below])
             progress.done = done
             progress.running = {it: time.monotonic() - seconds for it, seconds in running.items()}
-            self.assertAlmostEqual(progress.rest(), wanted, delta=20)
+            return progress.rest()
+
+    @each(
+        ({}, {}, 1800),
+        ({}, {"low": 300}, 1500),
+        ({}, {"low": 900}, 1225),
+        ({"low": 300}, {}, 655),
+        ({"low": 1200, "other": 600}, {}, 1575),
+        ({"low": 600, "other": 1200}, {}, 1950),
+    )
+    def test_rest(self, done, running, wanted):
+        """By what those that are done took, of which the last count most, and others run so
+        long."""
+        below = {"low": [], "other": [], "high": ["low"], "program": ["low", "other", "high"]}
+        self.assertAlmostEqual(self.rest(below, done, running), wanted, delta=20)
+
+    @each((1, 600), (2, 600), (3, 1200), (5, 1800))
+    def test_rest_at_once(self, count, wanted):
+        """Two are worked side by side, and a third one waits for a place."""
+        below = {f"crate{it}": [] for it in range(count)}
+        self.assertAlmostEqual(self.rest(below, {}, {}), wanted, delta=20)
 
 
 class Build(Case):
