@@ -71,21 +71,26 @@ class Locks(Case):
         return self.serving("--tries", "0", *options, **fields).enrol(ada="secret", bob="other")
 
     def test_many(self) -> None:
-        """A thousand are shown, and how many more there are; those of one name are among them or
-        not."""
+        """An answer has a thousand, and says how many more there are. credkeep-ask asks for all:
+        who moves away leaves out each name that it tells."""
         names = [f"n{number:04}" for number in range(MANY)]
         room = self.room()
         marks = room / "users.db-locks"
-        marks.write_text("".join(f"{it} lock 2026-01-01T00:00:00Z\n" for it in names))
+        kinds = {it: ["lock"] for it in names} | {names[SHOWN - 1]: ["expire", "lock"]}
+        marks.write_text(
+            "".join(f"{it} {kind} 2026-01-01T00:00:00Z\n" for it in names for kind in kinds[it])
+        )
         marks.chmod(0o600)
         service = self.over(folder=room)
         admin, path = service.client("admin"), str(service.path("admin"))
         said = [f"{it}:locked" for it in names]
-        self.assertEqual(admin.ask("locks").split(), ["locks", *said[:SHOWN], "more=3"])
+        last, rest = f"{names[SHOWN - 1]}:expired", said[SHOWN - 1 :]
+        shown = [*said[: SHOWN - 1], last, said[SHOWN - 1]]
+        self.assertEqual(admin.ask("locks").split(), ["locks", *shown, "more=3"])
+        admin.talk(f"locks after {names[SHOWN - 1]} -> locks {' '.join(rest[1:])}")
         admin.talk(f"locks {names[-1]} -> locks {said[-1]}\nlocks ada -> locks")
-        shown = "".join(f"{it}\n" for it in said[:SHOWN])
-        more = "credkeep-ask: 3 more aren't shown\n"
-        self.assertEqual(ended([ASK, "--server", path, "locks"]), (0, shown, more))
+        whole = "".join(f"{it}\n" for it in [*shown, *rest[1:]])
+        self.assertEqual(ended([ASK, "--server", path, "locks"]), (0, whole, ""))
         self.assertEqual(
             ended([ASK, "--server", path, "locks", names[-1]]), (0, said[-1] + "\n", "")
         )

@@ -8,7 +8,7 @@ import os
 import random
 import re
 import time
-from collections import deque
+from collections import defaultdict, deque
 from dataclasses import dataclass, replace
 from functools import partial
 from typing import TYPE_CHECKING, Any, Optional
@@ -107,7 +107,7 @@ class Service:
         if sum(map(len, words)) + len(words) > LONGEST:  # with names that became longer
             return LONG
         if words[0] == b"locks":
-            return self.locks.shown(words[1])
+            return self.locks.shown(*words[1:3])
         if kind.is_own:
             return self.tally.answer(words[0], words[1].decode(errors="replace")).encode()
         return self.why_refused(kind, words) if 0 < kind.new < len(words) else b""
@@ -275,14 +275,18 @@ class Locks(Marks):
         self.service = service
         self.marking = asyncio.Lock()  # else a mark is put at a name that is just going
 
-    def shown(self, name: bytes) -> bytes:
-        """The answer to `locks`, of a name or of all."""
+    def shown(self, name: bytes, first: bytes = b"") -> bytes:
+        """The answer to `locks`: of all names, of one, or by `locks after NAME` of those behind."""
         barred = self.service.foreign.barred() if self.service.foreign else set[bytes]()
         pairs = self.pairs | {(it, b"lock") for it in barred}  # else an export has them
-        if name:
-            pairs = {it for it in pairs if it[0] == name}
-        said = [b"%b:%b" % (it, MARKS[mark]) for it, mark in sorted(pairs)]
-        return listed(b"locks", said)
+        marks = defaultdict[bytes, list[bytes]](list)
+        for marked, mark in sorted(pairs):
+            marks[marked].append(b"%b:%b" % (marked, MARKS[mark]))
+        if name == b"after" and first:
+            chosen = [it for it in marks if it > first]
+        else:
+            chosen = [it for it in marks if name in (b"", it)]
+        return listed(b"locks", [b" ".join(marks[it]) for it in chosen])
 
     async def is_locked(self, name: bytes) -> bool:
         """Whether a name is locked, or an old file bars its user."""
