@@ -81,7 +81,8 @@ class Waiting(IsolatedAsyncioTestCase):
         door, replies = SimpleNamespace(operations=OPERATIONS, name="login"), mock.AsyncMock()
         with mock.patch.object(service.locks, "answer", judge):
             for name, uid, count in asked:
-                client: Any = SimpleNamespace(door=door, uid=uid, user=uid, reply=replies)
+                client: Any = SimpleNamespace(door=door, uid=uid, owner=uid, user=uid)
+                client.reply = replies
                 client.running, client.answered = 0, asyncio.Event()
                 client.has_gone = lambda: False
                 client.queues = defaultdict(asyncio.Lock)

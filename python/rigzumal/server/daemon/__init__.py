@@ -18,7 +18,13 @@ from .options import Options, parse
 from .service import Service
 from .tries import metrics
 
-UNREAD_SECONDS, LINES_SECONDS, LAST_SECONDS = 0.5, 18.0, 20.0  # after a signal to end
+HASHES = 3  # of no account, at the start: the quickest tells how long a hash takes
+UNWATCHED_SECONDS = 30.0  # between two looks at the book, if systemd asks for no watchdog
+# After a signal to end: until a client that reads no answers is closed, until the lines that have
+# no answer are dropped, and until the book is killed.
+UNREAD_SECONDS = 0.5
+LINES_SECONDS = 18.0
+LAST_SECONDS = 20.0
 KILLED_SECONDS = 1.0  # until a killed book is gone, unless a disk holds it up
 
 
@@ -74,19 +80,26 @@ async def open_doors(service: Service) -> None:
     service.accepting = [asyncio.create_task(door.accept(service, it)) for door, it in doors]
     log.info("start: %s", service.options.file)
     notify("READY=1")
-    asyncio.gather(*(service.log_in(b"verify", b"-", b"-") for _ in range(3)))  # times hashes
+    timing = [service.log_in(b"verify", b"-", b"-") for _ in range(HASHES)]
+    service.timing = asyncio.gather(*timing)  # of names that no book has
     idle = service.options.idle or float("inf")
-    usec = os.environ.get("WATCHDOG_USEC", "")
-    beat = float(usec) / 2e6 if usec.isdecimal() and float(usec) else 30.0
+    beat = beat_seconds()
     while await asyncio.shield(service.book.ask(b"show", b"-")):
         notify("WATCHDOG=1")
         service.tally.names.drop_expired()
         service.tally.users.drop_expired()
-        for it in list(service.clients):
-            is_waiting = it.running and not it.writing.locked()
-            if it.active < time.monotonic() - idle and not is_waiting:
-                it.end(socket.SHUT_RDWR)
+        for client in list(service.clients):
+            is_waiting = client.running and not client.writing.locked()
+            if client.active < time.monotonic() - idle and not is_waiting:
+                client.end(socket.SHUT_RDWR)
         await asyncio.sleep(min(beat, idle / 10))
+
+
+def beat_seconds() -> float:
+    """How often systemd is told that the server goes on: in half of the time that it gives."""
+    given = os.environ.get("WATCHDOG_USEC", "")
+    microseconds = int(given) if given.isdecimal() else 0
+    return microseconds / 2e6 if microseconds else UNWATCHED_SECONDS
 
 
 async def end(service: Service) -> int:

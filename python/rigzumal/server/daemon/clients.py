@@ -26,7 +26,9 @@ KEPT = 64  # places of a door, the last ones, for users that have none
 ACCEPTED = 16  # clients in a pass of the loop: then others have their turn
 AT_ONCE = 32  # requests of a client
 LONGEST = 960  # bytes of a line
+FIRST_HANDED = 3  # the descriptor of systemd's first socket: sd_listen_fds(3)
 READ, WRITTEN = 4096, 16384  # bytes at a time
+PEER = struct.Struct("3i")  # the peer's pid, uid and gid
 PAUSE = 0.001  # seconds behind an answer without the book's work, times a user's clients
 
 
@@ -37,14 +39,18 @@ class Client:
     is_ending = is_watched = False
 
     def __init__(self, service: Service, door: Door, sock: socket.socket) -> None:
-        self.service, self.door, self.socket = service, door, sock
-        peer = sock.getsockopt(socket.SOL_SOCKET, socket.SO_PEERCRED, 12)
-        self.pid, self.uid, _ = struct.unpack("3i", peer)
+        self.service = service
+        self.door = door
+        self.socket = sock
+        peer = sock.getsockopt(socket.SOL_SOCKET, socket.SO_PEERCRED, PEER.size)
+        self.pid, self.uid, _gid = PEER.unpack(peer)
         self.owner = owner_of(self.uid)
         self.user = (door.name, share_of(self.owner, self.pid))  # whose turn it is
-        self.running, self.active = 0, time.monotonic()
+        self.running = 0  # requests without an answer
+        self.active = time.monotonic()  # when it last was answered
         self.queues = defaultdict[object, asyncio.Lock](asyncio.Lock)  # for each kind of places
-        self.answered, self.writing = asyncio.Event(), asyncio.Lock()
+        self.answered = asyncio.Event()
+        self.writing = asyncio.Lock()
         self.loop = asyncio.get_running_loop()
         sock.setsockopt(socket.SOL_SOCKET, socket.SO_SNDBUF, WRITTEN)
 
@@ -160,16 +166,25 @@ class Door:
     def prepare(self) -> None:
         """Finds systemd's socket; or its group, and the lock of its own, to the process's end."""
         if os.environ.get("LISTEN_PID") == str(os.getpid()):
-            names = os.environ.get("LISTEN_FDNAMES", "").split(":")
-            it = socket.socket(fileno=3 + names.index(self.name)) if self.name in names else None
-            if not it or (it.type, it.family) != (socket.SOCK_STREAM, socket.AF_UNIX):
-                raise Problem(f"systemd handed over no stream socket with the name {self.name}")
-            self.listener = it
+            self.listener = self.handed_over()
             return
         try:
             self.gid = -1 if self.group == "-" else grp.getgrnam(self.group).gr_gid
         except KeyError:
             raise Problem(f"there is no group {self.group}, for {self.path}") from None
+        self.lock()
+
+    def handed_over(self) -> socket.socket:
+        """The socket that systemd hands over under this name."""
+        names = os.environ.get("LISTEN_FDNAMES", "").split(":")
+        if self.name in names:
+            found = socket.socket(fileno=FIRST_HANDED + names.index(self.name))
+            if (found.type, found.family) == (socket.SOCK_STREAM, socket.AF_UNIX):
+                return found
+        raise Problem(f"systemd handed over no stream socket with the name {self.name}")
+
+    def lock(self) -> None:
+        """Makes its folder, and locks the path to the process's end."""
         folder = os.path.dirname(self.path)
         if not os.path.isdir(folder):
             os.mkdir(folder)

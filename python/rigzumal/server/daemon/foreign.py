@@ -15,7 +15,8 @@ from .aging import Line, today
 from .book import UNAVAILABLE, decoded
 from .appending import status_of
 from .journal import Marks, log, log_seldom
-from .service import LACKS, Request, Service, keeps_password
+from .locks import keeps_password
+from .service import LACKS, Request, Service
 
 NAME = re.compile(rb"[a-z0-9._-]{1,32}")  # of a book
 # Answered to a password if the book has a record.
@@ -67,7 +68,9 @@ class Foreign:
             lines.setdefault(name, line)
         self.version, self.lines, self.last = version, lines, lines
         if stuck:
-            shown = ", ".join([*stuck[:MOST_TOLD], *["..."][: len(stuck) - MOST_TOLD]])
+            shown = ", ".join(stuck[:MOST_TOLD])
+            if len(stuck) > MOST_TOLD:
+                shown += ", ..."
             text = "%s: %d of %d users can't move: %s"
             log.warning(text, self.path, len(stuck), len(lines), shown)
 
@@ -91,9 +94,11 @@ class Foreign:
         await self.refresh()
         return bool(self.last.get(name, Line()).bar(today()))
 
-    def barred(self) -> set[bytes]:
-        """The names whose users the file's lines bar, as it was last read."""
-        return {name for name, line in self.last.items() if line.bar(today())}
+    def barred(self, name: bytes) -> set[bytes]:
+        """Of a name, or of all if it is empty, those whose users the file's lines bar, as it was
+        last read."""
+        lines = {name: self.last.get(name, Line())} if name else self.last
+        return {it for it, line in lines.items() if line.bar(today())}
 
     async def answer(self, request: Request) -> bytes:
         """The answer: the book's, or the file's where the book lacks the name."""

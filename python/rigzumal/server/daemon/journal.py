@@ -103,6 +103,8 @@ class AuditLog(Journal):
         self.writer: Optional[subprocess.Popen[bytes]] = None
 
     def begin_writer(self) -> None:
+        if self.writer is not None:  # which has ended
+            self.socket.close()
         self.socket, other = socket.socketpair()
         self.socket.setblocking(False)
         words = [sys.executable, "-I", "-B", str(appending.__file__), self.path]

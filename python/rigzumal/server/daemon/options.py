@@ -33,21 +33,37 @@ class Kind:
     is_mark: bool = False  # its change is beside the book, and not in it
 
 
-KINDS = {
-    "verify login": Kind(hashes=True, tries=True, wrong=b"no"),
-    "change": Kind(hashes=True, tries=True, changes=True, new=3, setting=4),
-    "upgrade": Kind(hashes=True, tries=True, changes=True, setting=3),
-    "remove": Kind(hashes=True, tries=True, changes=True),
-    "enrol reset": Kind(hashes=True, changes=True, new=2, setting=3),
-    "account load disable delete": Kind(changes=True),
-    "lock unlock expire": Kind(changes=True, is_mark=True),
-    "rename": Kind(changes=True, names=2),
-    "known show": Kind(),
-    "list": Kind(names=0),
-    "stats waits": Kind(names=0, is_own=True),
-    "forgive last locks": Kind(is_own=True),
+LOOK = Kind()
+LOGIN = Kind(hashes=True, tries=True, wrong=b"no")
+NEW_PASSWORD = Kind(hashes=True, changes=True, new=2, setting=3)
+CHANGE = Kind(changes=True)
+MARK = Kind(changes=True, is_mark=True)
+OWN = Kind(is_own=True)
+OPERATIONS = {
+    b"verify": LOGIN,
+    b"login": LOGIN,
+    b"change": Kind(hashes=True, tries=True, changes=True, new=3, setting=4),
+    b"upgrade": Kind(hashes=True, tries=True, changes=True, setting=3),
+    b"remove": Kind(hashes=True, tries=True, changes=True),
+    b"enrol": NEW_PASSWORD,
+    b"reset": NEW_PASSWORD,
+    b"account": CHANGE,
+    b"load": CHANGE,
+    b"disable": CHANGE,
+    b"delete": CHANGE,
+    b"rename": Kind(changes=True, names=2),
+    b"lock": MARK,
+    b"unlock": MARK,
+    b"expire": MARK,
+    b"known": LOOK,
+    b"show": LOOK,
+    b"list": Kind(names=0),
+    b"locks": OWN,
+    b"forgive": OWN,
+    b"last": OWN,
+    b"stats": Kind(names=0, is_own=True),
+    b"waits": Kind(names=0, is_own=True),
 }
-OPERATIONS = {word.encode(): it for key, it in KINDS.items() for word in key.split()}
 
 
 def number(word: str, most: int) -> int:

@@ -1,4 +1,4 @@
-"""Clients' lines to the book, its answers to them, and the names that are locked."""
+"""Clients' lines to the book, and its answers to them."""
 
 import asyncio
 import base64
@@ -8,7 +8,7 @@ import os
 import random
 import re
 import time
-from collections import defaultdict, deque
+from collections import deque
 from dataclasses import dataclass, replace
 from functools import partial
 from typing import TYPE_CHECKING, Any, Optional
@@ -17,9 +17,10 @@ from .answers import ANSWERS, NO_ANSWER, RIGHT
 from .book import UNAVAILABLE, Book, Places, Rounds, decoded
 from .clients import LONGEST, Client, Door
 from .disk import FULL, NEEDED, has_room
-from .journal import UNDOES, AuditLog, Marks, log_seldom, utc
+from .journal import AuditLog, log_seldom, utc
+from .locks import Locks, keeps_password
 from .options import OPERATIONS, Kind, Options
-from .tries import LATER, Tally, listed
+from .tries import LATER, Tally
 
 if TYPE_CHECKING:
     from .foreign import Foreign
@@ -32,7 +33,6 @@ LOOKS, CHANGES = 16, 128  # places for lines that change nothing, and for quick 
 SYNC = 0.01  # seconds that a change waits for the disk, more or less
 REFUSED = (b"noaccount", b"bad ", LATER)  # changes nothing; a name may be a password
 PEOPLE = range(1000, 60001)  # uids whose failed tries count: a service logs in many
-MARKS = {b"lock": b"locked", b"unlock": b"unlocked", b"expire": b"expired"}  # and the answers
 
 
 @dataclass(eq=False)
@@ -53,15 +53,22 @@ class Service:
     """The book, its doors, and who may ask what and when."""
 
     def __init__(self, options: Options) -> None:
-        self.options, self.book, self.tally = options, Book(), Tally(options)
+        self.options = options
         self.folder = os.path.dirname(os.path.abspath(options.file))
-        self.turns, self.hashes = Places(TURNS), Places(options.workers())
-        self.changes, self.looks = Places(CHANGES), Places(LOOKS)
-        self.logins, self.rounds = 0, Rounds(self.book, lambda: self.logins > 0)
+        self.book = Book()
+        self.tally = Tally(options)
+        self.turns = Places(TURNS)
+        self.hashes = Places(options.workers())
+        self.changes = Places(CHANGES)
+        self.looks = Places(LOOKS)
+        self.logins = 0  # that the book is asked for
+        self.rounds = Rounds(self.book, lambda: self.logins > 0)
         self.hash_seconds = 1.0  # what a hash takes if nothing else waits
         self.login_seconds = deque[float](maxlen=16)  # what the last logins took
+        self.timing: Optional[asyncio.Future[Any]] = None  # the hashes of the start
         self.clients = dict[Client, asyncio.Task[None]]()
-        self.accepting, self.tasks = list[asyncio.Task[None]](), set[asyncio.Task[None]]()
+        self.accepting = list[asyncio.Task[None]]()  # a task for each door
+        self.tasks = set[asyncio.Task[None]]()  # a task for each line
         self.audit = AuditLog(options.audit)
         if options.audit:
             self.audit.append(b"")  # which fails now if it can't be written
@@ -78,33 +85,48 @@ class Service:
     def submit(self, client: Client, line: bytes) -> tuple[bytes, bytes]:
         """Begins to process a line, or returns its tag and an answer."""
         tag, *words = line.split(b" ")
-        is_tag, is_long = re.fullmatch(rb"[a-z0-9]{1,20}", tag), len(line) > LONGEST
-        if is_long or not is_tag:
-            return tag if is_tag else b"*", LONG if is_long else b"bad 11 line"
-        words += [b"", b""][len(words) :]  # an operation, and one field at least
-        if answer := self.own_answer(client, words):
+        is_tag = re.fullmatch(rb"[a-z0-9]{1,20}", tag)
+        if len(line) > LONGEST:
+            return tag if is_tag else b"*", LONG
+        if not is_tag:
+            return b"*", b"bad 11 line"
+        while len(words) < 2:  # an operation, and one field at least
+            words.append(b"")
+        if what := denied(client.door, words):
+            self.tell_denied(client, what)
+            return tag, b"denied"
+        words = self.with_names_of_book(words)
+        if answer := self.own_answer(words):
             return tag, answer
         client.running += 1
-        kind = OPERATIONS[words[0]]
-        is_quick = kind.changes and self.hash_seconds <= SYNC
-        places = self.changes if kind.changes else self.looks  # for the disk, or for neither
-        places = self.hashes if kind.hashes and not is_quick else places
-        task = asyncio.ensure_future(self.process(Request(client, tag, words, places)))
+        request = Request(client, tag, words, self.places_for(OPERATIONS[words[0]]))
+        task = asyncio.ensure_future(self.process(request))
         self.tasks.add(task)
         task.add_done_callback(self.tasks.discard)
         return tag, b""
 
-    def own_answer(self, client: Client, words: list[bytes]) -> bytes:
+    def tell_denied(self, client: Client, what: str) -> None:
+        self.tally.counts["denied"] += 1
+        values = (client.door.name, client.uid, what)
+        log_seldom(values, "denied at %s to uid %d: %s", *values)
+
+    def places_for(self, kind: Kind) -> Places:
+        """Where a line waits: for a hash, for the disk, or for neither."""
+        is_quick = kind.changes and self.hash_seconds <= SYNC
+        if kind.hashes and not is_quick:
+            return self.hashes
+        return self.changes if kind.changes else self.looks
+
+    def with_names_of_book(self, words: list[bytes]) -> list[bytes]:
+        """The words of a line, with its names as the book has them."""
+        operation, *fields = words
+        count = OPERATIONS[operation].names
+        return [operation, *map(self.in_book, fields[:count]), *fields[count:]]
+
+    def own_answer(self, words: list[bytes]) -> bytes:
         """The server's answer to a line that the book needn't be asked for, or nothing."""
-        if what := denied(client.door, words):
-            values = (client.door.name, client.uid, what)
-            log_seldom(values, "denied at %s to uid %d: %s", *values)
-            self.tally.counts["denied"] += 1
-            return b"denied"
         kind = OPERATIONS[words[0]]
-        names = slice(1, 1 + kind.names)
-        words[names] = map(self.in_book, words[names])
-        if sum(map(len, words)) + len(words) > LONGEST:  # with names that became longer
+        if len(b" ".join(words)) + 1 > LONGEST:  # with names that became longer
             return LONG
         if words[0] == b"locks":
             return self.locks.shown(*words[1:3])
@@ -260,99 +282,3 @@ def denied(door: Door, words: list[bytes]) -> str:
     if is_setting_given and b"load" not in door.operations:  # costs are an administrator's
         return f"{operation.decode()} with a setting"
     return ""
-
-
-def keeps_password(words: list[bytes]) -> bool:
-    """Whether a change's new password is the old one that it gives."""
-    return words[0] == b"change" and decoded(words[2]) == decoded(words[3])
-
-
-class Locks(Marks):
-    """The marks of names, in a file beside the book, which has their records."""
-
-    def __init__(self, service: Service) -> None:
-        super().__init__(f"{service.options.file}-locks")
-        self.service = service
-        self.marking = asyncio.Lock()  # else a mark is put at a name that is just going
-
-    def shown(self, name: bytes, first: bytes = b"") -> bytes:
-        """The answer to `locks`: of all names, of one, or by `locks after NAME` of those behind."""
-        barred = self.service.foreign.barred() if self.service.foreign else set[bytes]()
-        pairs = self.pairs | {(it, b"lock") for it in barred}  # else an export has them
-        marks = defaultdict[bytes, list[bytes]](list)
-        for marked, mark in sorted(pairs):
-            marks[marked].append(b"%b:%b" % (marked, MARKS[mark]))
-        if name == b"after" and first:
-            chosen = [it for it in marks if it > first]
-        else:
-            chosen = [it for it in marks if name in (b"", it)]
-        return listed(b"locks", [b" ".join(marks[it]) for it in chosen])
-
-    async def is_locked(self, name: bytes) -> bool:
-        """Whether a name is locked, or an old file bars its user."""
-        foreign = self.service.foreign
-        return self.has(name, b"lock") or foreign is not None and await foreign.bars(name)
-
-    async def answer(self, request: Request) -> bytes:
-        """The answer to a request. What moves marks, or ends a name, goes one after another."""
-        operation = request.words[0]
-        if operation not in (*MARKS, b"rename", b"delete"):
-            return await self.judge(request)
-        async with self.marking:
-            if operation == b"rename":
-                return await self.rename(request)
-            if operation == b"delete":
-                return await self.delete(request)
-            return await self.mark(request)
-
-    async def judge(self, request: Request) -> bytes:
-        """The answer to a request: a wrong password's for a locked name."""
-        operation, name = request.words[:2]
-        is_locked, asked = await self.is_locked(name), request
-        if is_locked and request.kind.tries:
-            # As long as a wrong password takes, and nothing is changed.
-            asked = replace(request, words=[b"verify", *request.words[1:3]])
-        answer = await self.service.answer(asked)
-        if answer in (b"yes", b"no", b"expired") and (is_locked or await self.is_locked(name)):
-            return b"absent" if operation == b"known" else request.kind.wrong
-        if answer == b"yes" and self.has(name, b"expire"):
-            return b"expired"
-        is_new = answer in (b"replaced", b"enrolled") and not keeps_password(request.words)
-        if is_new and self.has(name, b"expire"):
-            return answer if await self.put(name, b"renew") else UNAVAILABLE
-        return answer
-
-    async def delete(self, request: Request) -> bytes:
-        """Deletes an account, and then its marks: the next of its name has none."""
-        answer = await self.service.answer(request)
-        if answer == b"deleted":
-            await self.clear(request.words[1])
-        return answer
-
-    async def mark(self, request: Request) -> bytes:
-        """Locks, unlocks or expires a name that the book or an old file has."""
-        mark, name = request.words[:2]
-        if mark == b"unlock" and not self.has(name, b"lock"):
-            return b"none"
-        answer = await self.service.answer(replace(request, words=[b"known", name]))
-        if answer not in (b"yes", b"absent", b"expired"):
-            return answer
-        return MARKS[mark] if await self.put(name, mark) else UNAVAILABLE
-
-    async def rename(self, request: Request) -> bytes:
-        """Renames an account; the new name has its marks before it has the record."""
-        name, new = request.words[1], request.words[-1]
-        known = await self.service.answer(replace(request, words=[b"known", new]))
-        is_free = known == b"noaccount"
-        for mark in UNDOES.values():
-            if is_free and self.has(name, mark) and not await self.put(new, mark):
-                return UNAVAILABLE
-        answer = await self.service.answer(request)
-        if is_free:
-            await self.clear(name if answer == b"renamed" else new)
-        return answer
-
-    async def clear(self, name: bytes) -> None:
-        for undo, mark in UNDOES.items():
-            if self.has(name, mark):
-                await self.put(name, undo)
