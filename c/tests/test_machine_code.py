@@ -1,0 +1,70 @@
+"""The machine code of Argon2's compression G, without a clock. Where the compiler puts the steps of
+P in another order, or vectors on the stack, a hash takes up to 1.4 times as long, and no answer
+changes."""
+
+import re
+import statistics
+import unittest
+
+from harness import BUILDS, OUT, need, need_file, need_native, run
+
+OBJDUMP = "objdump"
+# An instruction that multiplies vectors, and how many of them a G has.
+MULTIPLIES = re.compile(r"\tv?pmuludq\b")
+OF_A_BLOCK = {"v1": 256, "v2": 256, "v3": 128, "v4": 64}
+# One that puts a vector on the stack, and one that prefetches.
+SPILLS = re.compile(r"\tv?mov\w+ +%[xyz]mm\d+,[^,(]*\(%r[sb]p")
+PREFETCHES = re.compile(r"\tprefetch")
+# What is found in each build: instructions of a G, of which so many put a vector on the stack, and
+# how far apart multiplications are, of the nearest quarter. With the steps of two lists in turn
+# they are near each other. More is slower; less, if it is measured to be faster, goes here.
+MOST = {
+    "v1": {"instructions": 4048, "on the stack": 420, "apart": 9},
+    "v2": {"instructions": 4125, "on the stack": 448, "apart": 9},
+    "v3": {"instructions": 1622, "on the stack": 96, "apart": 8},
+    "v4": {"instructions": 742, "on the stack": 0, "apart": 4},
+}
+
+
+def functions(build):
+    """The instructions of each function that makes blocks of the memory: it has G."""
+    code = run(OBJDUMP, "-d", "--no-show-raw-insn", OUT / f"{build}.o")
+    for function in re.split(r"\n(?=[0-9a-f]+ <)", code):
+        if re.match(r"[0-9a-f]+ <cred_argon::segment::work_block\b", function):
+            yield re.findall(r"(?m)^ *[0-9a-f]+:\t.*", function)
+
+
+def figures(build):
+    """What is found in a build."""
+    counts, distances = {"instructions": 0, "on the stack": 0}, []
+    for lines in functions(build):
+        counts["instructions"] += len(lines)
+        counts["on the stack"] += sum(1 for it in lines if SPILLS.search(it))
+        places = [at for at, it in enumerate(lines) if MULTIPLIES.search(it)]
+        distances += [later - sooner for sooner, later in zip(places, places[1:])]
+    blocks = round(len(distances) / OF_A_BLOCK[build])
+    found = {name: round(count / blocks) for name, count in counts.items()}
+    return found | {"apart": statistics.quantiles(distances)[0]}
+
+
+class MachineCode(unittest.TestCase):
+    def setUp(self):
+        need_native()
+        need(OBJDUMP)
+
+    def test_figures(self):
+        """No figure of a build is larger than it was."""
+        for build in BUILDS:
+            need_file(OUT / f"{build}.o")
+            for name, found in figures(build).items():
+                with self.subTest(build=build, figure=name):
+                    self.assertLessEqual(found, MOST[build][name])
+
+    def test_prefetches(self):
+        """Every build prefetches, in the functions that have G."""
+        for build in BUILDS:
+            with self.subTest(build):
+                counts = [
+                    sum(1 for it in lines if PREFETCHES.search(it)) for lines in functions(build)
+                ]
+                self.assertGreaterEqual(sum(counts), 8)
