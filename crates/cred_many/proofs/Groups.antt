@@ -10,7 +10,7 @@ use Rattle.cred_cli.proofs.Readings.{if_known}
 use Rattle.cred_file.specs.Edits.{joined, taken_in}
 use Rattle.cred_file.proofs.Joined.{deeper, get_joined}
 use Rattle.cred_many.specs.{Asks.Entry, Asks.hashed_for, Asks.is_reset, declared.fault.ServiceFault.ServiceFault, declared.open.Open.Open}
-use Rattle.cred_many.specs.{Scribe.AreClosed, Scribe.AreReplaced, Scribe.History, Scribe.IsConcluded, Scribe.IsGroup, Scribe.entries_of, Scribe.is_changed, Served.answers, Served.book_after, Served.done, Served.line_at, Served.most_together, Served.told_reply, Service.IsLine, Service.Service}
+use Rattle.cred_many.specs.{Scribe.AreClosed, Scribe.AreReplaced, Scribe.History, Scribe.IsConcluded, Scribe.IsGroup, Scribe.entries_of, Scribe.is_changed, Served.answers, Served.book_after, Served.done, Served.line_at, Served.most_together, Served.told_reply, Service.IsLine, Service.Service, Transcript.Written}
 use Rattle.cred_many.proofs.{Commits.done_whole, Commits.whole_unchanged, Seen.answers-append, Seen.book_after-append, Serving.served_on}
 use Rattle.std.specs.FinMap as fin
 
@@ -96,7 +96,7 @@ module _ (capacity : ℕ) (s : Service) (book changed : Accounts) (list : List E
   }
 
 -- all lines of a group are answered, once the records stand
-pub answered_together : (capacity : ℕ) (s : Service) (old now : Option (List ℕ)) (book later changed : Accounts) (es lines : List Entry) (left rest : List Open) (came : ℕ) (text written : List ℕ) (failed : Bool) (was f : Option ServiceFault)
+pub answered_together : (capacity : ℕ) (s : Service) (old now : Written) (book later changed : Accounts) (es lines : List Entry) (left rest : List Open) (came : ℕ) (text written : List ℕ) (failed : Bool) (was f : Option ServiceFault)
     → was ≡ None → IsGroup capacity s book changed es text → AreReplaced book changed later → AreClosed lines left rest → lines ≡ es → IsConcluded written old now failed f → written ≡ text
     → ∥ History capacity s old book was left came ∥₁ → ∥ History capacity s now later f rest came ∥₁
 answered_together capacity s old now book later changed es lines left rest came text written failed was f none g replaced closed same told is served = ∥∥₁_map served (λ h. on (rw none at h))

@@ -1,4 +1,5 @@
--- Lemmas: lines that came, what was seen of records, commits, changes together, names in a row, what is told, and a history that goes on.
+-- Lemmas: lines that came, what was seen of records, commits, changes together, names in a row, what is told, what a writer takes, and a history
+-- that goes on.
 pub mod Commits
 pub mod Lines
 pub mod Listed
@@ -6,4 +7,5 @@ pub mod Seen
 pub mod Serving
 pub mod Groups
 pub mod Shares
+pub mod Transcripts
 pub mod Turns

@@ -1,17 +1,17 @@
 -- A history that goes on: what is written, what may stand in it, why nothing more is answered, and what is told of it.
 use Rattle.std.proofs.Common.{◌≡◌, ◌≢◌, ◌⊎◌, inl, inr, ℕ, suc, ◌+◌, ◌-◌, ◌<◌, ◌≤◌, List, [], ◌∷◌, ◌++◌, Bool, Option, Some, None, IfSome, get_or, subst, refl, sym, ap, ◌∙◌, append_assoc, append-nil, arith, take, drop, slice_get, length, take-append-drop}
-use Rattle.std.proofs.{KnownBytes.Appends-nil, KnownBytes.Appends-trans, Math.Logic.∥∥₁_map, Math.Seq.take-append-add, lemmas.Bool.cases_lt, lemmas.Option.IfSome_then, lemmas.Option.get_or_from_slice_get, lemmas.Option.slice_get_within, lemmas.List.Elements.All-nil, lemmas.List.Elements.All-push, lemmas.List.Elements.All-same}
+use Rattle.std.proofs.{Math.Logic.∥∥₁_map, Math.Seq.take-append-add, lemmas.Bool.cases_lt, lemmas.Option.IfSome_then, lemmas.Option.get_or_from_slice_get, lemmas.Option.slice_get_within, lemmas.List.Elements.All-nil, lemmas.List.Elements.All-push, lemmas.List.Elements.All-same}
 use Rattle.std.proofs.{lemmas.List.drop-map, lemmas.List.get_or-append-add, lemmas.List.get_or_append_left, lemmas.List.length-append, lemmas.List.map-append, lemmas.List.map-id, lemmas.List.take-append-le, lemmas.List.take-map, lemmas.List.take_all, lemmas.List.FromFn.map-range_with_len_more}
 use Rattle.std.proofs.lemmas.List.Sorted.{IsPermutation-append_left, IsPermutation-append_right, IsPermutation-cons, IsPermutation-refl, IsPermutation-remove, IsPermutation-sym, IsPermutation-trans}
-use Rattle.std.specs.{Io.KnownBytes.Appends, List.All, List.range_with_len, List.remove, List.Sorted.IsPermutation, Option.option_or}
+use Rattle.std.specs.{List.All, List.range_with_len, List.remove, List.Sorted.IsPermutation, Option.option_or}
 use Rattle.cred_phc.specs.Values.{RecordValue}
 use Rattle.cred_book.specs.Accounts.{Accounts}
 use Rattle.cred_cli.specs.{History.Refused, Script.lines_of, Texts.line_of}
 use Rattle.cred_cli.proofs.{Readings.if_known, Unended.length-unended}
 use Rattle.cred_many.specs.{Asks.Entry, Asks.entry, Asks.refused, Served.AreFor, Served.HasCause, Served.IsFor, Served.IsGivenUp, Served.IsWritten, Served.Moment, Served.NeedsMemory, Served.Stands, Served.StandsAtEnd, Served.answers, Served.book_after, Served.done, Served.entry_numbers, Served.line_at, Served.most_together, Served.record_at}
-use Rattle.cred_many.specs.{declared.ask.Ask.Ask, declared.fault.ServiceFault.ServiceFault, declared.open.Open.Open, Scribe.AreClosed, Scribe.History, Scribe.IsAnswered, Scribe.IsBusy, Scribe.IsConcluded, Scribe.IsReady, Scribe.Notes, Scribe.SightHolds, Scribe.numbers, Scribe.unseen}
+use Rattle.cred_many.specs.{declared.ask.Ask.Ask, declared.fault.ServiceFault.ServiceFault, declared.open.Open.Open, Scribe.AreClosed, Scribe.History, Scribe.IsAnswered, Scribe.IsBusy, Scribe.IsConcluded, Scribe.IsReady, Scribe.Notes, Scribe.SightHolds, Scribe.numbers, Scribe.unseen, Transcript.TakesMore, Transcript.Written}
 use Rattle.cred_many.specs.Service.{IsLine, Service, asked, asked_from, cut_line}
-use Rattle.cred_many.proofs.Seen.{answers-append, book_after-append, looked_numbers, watched_looked, watched_on, watched_rest, worn}
+use Rattle.cred_many.proofs.{Seen.answers-append, Seen.book_after-append, Seen.looked_numbers, Seen.watched_looked, Seen.watched_on, Seen.watched_rest, Seen.worn, Transcripts.takes_both, Transcripts.takes_none}
 use Rattle.cred_book.specs.declared.error.BookError.TheVariants as error
 use Rattle.cred_cli.specs.declared.refusal.Refusal.TheVariants as refusal
 use Rattle.cred_many.specs.declared.fault.ServiceFault.TheVariants as fault
@@ -19,14 +19,14 @@ use Rattle.cred_many.specs.declared.fault.ServiceFault.TheVariants as fault
 -- ---- what is written
 
 -- so much of a text is written: all of it, unless the writer failed
-written : (text : List ℕ) (old now : Option (List ℕ)) (failed : Bool) (why : Option ServiceFault) → IsConcluded text old now failed why
-    → (n : ℕ) × Appends old now (take n text) × (why ≢ Some fault.Write → n ≡ length text)
+written : (text : List ℕ) (old now : Written) (failed : Bool) (why : Option ServiceFault) → IsConcluded text old now failed why
+    → (n : ℕ) × TakesMore old now (take n text) × (why ≢ Some fault.Write → n ≡ length text)
 written text old now failed why told = elim told [
-  | inl w ↦ (length text, subst (Appends old now) (sym (take_all (length text) text (omega arith))) w.1, λ _. refl)
+  | inl w ↦ (length text, subst (TakesMore old now) (sym (take_all (length text) text (omega arith))) w.1, λ _. refl)
   | inr w ↦ (w.1.0, w.1.2, λ other. absurd (other w.0))
 ]
 
-module _ (capacity : ℕ) (s : Service) (now : Option (List ℕ)) (list : List Entry) (was : IsWritten capacity s now list None) where
+module _ (capacity : ℕ) (s : Service) (now : Written) (list : List Entry) (was : IsWritten capacity s now list None) where
   all_bytes : was.bytes ≡ length (answers capacity s.opening list)
   all_bytes = was.whole (λ is. absurd cc)
 
@@ -35,7 +35,7 @@ module _ (capacity : ℕ) (s : Service) (now : Option (List ℕ)) (list : List E
   written_still why = record { bytes = was.bytes; front = was.front; whole = λ _. all_bytes; most = was.most }
 
   -- and with a few lines more, in which the writer may have failed
-  written_on : (es : List Entry) → length es ≤ most_together → (next : Option (List ℕ)) (failed : Bool) (why : Option ServiceFault)
+  written_on : (es : List Entry) → length es ≤ most_together → (next : Written) (failed : Bool) (why : Option ServiceFault)
       → IsConcluded (answers capacity (book_after capacity s.opening list) es) now next failed why → IsWritten capacity s next (list ++ es) why
   written_on es few next failed why told =
       let first = answers capacity s.opening list in
@@ -47,11 +47,11 @@ module _ (capacity : ℕ) (s : Service) (now : Option (List ℕ)) (list : List E
       let split = ap (answers capacity s.opening) (sym (take-append-drop kept list)) ∙ answers-append capacity s.opening (take kept list) (drop kept list) in
       let fewer = ap length split ∙ length-append (answers capacity s.opening (take kept list)) _ in
       let same = ap (λ l. length (answers capacity s.opening l)) (take-append-le kept list es within) in
-      let all : Appends s.before now first = subst (Appends s.before now) (ap (λ n. take n first) all_bytes ∙ take_all (length first) first (omega arith)) was.front in
+      let all : TakesMore s.before now first = subst (TakesMore s.before now) (ap (λ n. take n first) all_bytes ∙ take_all (length first) first (omega arith)) was.front in
       record {
         bytes = length first + n;
-        front = subst (λ xs. Appends s.before next (take (length first + n) xs)) (sym cut)
-            (subst (Appends s.before next) (sym (take-append-add first rest n)) (Appends-trans s.before now next first (take n rest) all text));
+        front = subst (λ xs. TakesMore s.before next (take (length first + n) xs)) (sym cut)
+            (subst (TakesMore s.before next) (sym (take-append-add first rest n)) (takes_both s.before now next first (take n rest) all text));
         whole = λ other. let all = whole other in let long = ap length cut ∙ length-append first rest in omega (arith, all, long);
         most = omega (arith, same, fewer);
       }
@@ -102,7 +102,7 @@ once_opened ns left came once =
 
 -- ---- a history that goes on
 
-pub served_first : (capacity : ℕ) (s : Service) (now : Option (List ℕ)) (book : Accounts) (left : List Open) → left ≡ [] → book ≡ s.opening → now ≡ s.before
+pub served_first : (capacity : ℕ) (s : Service) (now : Written) (book : Accounts) (left : List Open) → left ≡ [] → book ≡ s.opening → now ≡ s.before
     → History capacity s now book None left 0
 unfolding answers book_after
 served_first capacity s now book left none is same = rw none (record {
@@ -111,10 +111,10 @@ served_first capacity s now book left none is same = rw none (record {
   once = IsPermutation-refl [];
   seen = All-nil (SightHolds capacity s.opening []);
   book_is = is;
-  text = record { bytes = 0; front = rw same (Appends-nil s.before); whole = λ _. refl; most = omega arith };
+  text = record { bytes = 0; front = rw same (takes_none s.before); whole = λ _. refl; most = omega arith };
 })
 
-module _ (capacity : ℕ) (s : Service) (old now : Option (List ℕ)) (book later : Accounts) (es : List Entry) (left rest : List Open) (came : ℕ) (failed : Bool) (f : Option ServiceFault) where
+module _ (capacity : ℕ) (s : Service) (old now : Written) (book later : Accounts) (es : List Entry) (left rest : List Open) (came : ℕ) (failed : Bool) (f : Option ServiceFault) where
   -- by a few lines, whether their answers were written whole or the writer failed
   pub served_on : (h : History capacity s old book None left came)
       → IfSome s.input (λ bytes. (i : ℕ) (d : Entry) → i < length es → IsFor capacity s bytes (h.list ++ take i es) (get_or es i d))
@@ -137,7 +137,7 @@ module _ (capacity : ℕ) (s : Service) (old now : Option (List ℕ)) (book late
 
 -- ---- a step
 
-module _ (capacity : ℕ) (s : Service) (old now : Option (List ℕ)) (book later : Accounts) (line : Entry) (left rest : List Open) (place came : ℕ) (answer : List ℕ) (failed : Bool) (was f : Option ServiceFault)
+module _ (capacity : ℕ) (s : Service) (old now : Written) (book later : Accounts) (line : Entry) (left rest : List Open) (place came : ℕ) (answer : List ℕ) (failed : Bool) (was f : Option ServiceFault)
     (ready : IsReady was left place line.number) (came_is : IfSome s.input (λ bytes. IsLine s bytes line))
     (closed : rest ≡ remove left place) (told : IsConcluded (line.tag ++ 32 ∷ answer) old now failed f) (served : ∥ History capacity s old book was left came ∥₁) where
   -- the line is answered as what it asks for, or as it is given up
@@ -168,7 +168,7 @@ module _ (capacity : ℕ) (s : Service) (old now : Option (List ℕ)) (book late
   pub given_up : later ≡ book → answer ≡ line_of (Refused refusal.Busy) → IsBusy left place line.ask → ∥ History capacity s now later f rest came ∥₁
   given_up same is busy = answered_as (refused refusal.Busy) same is (λ h. inr (inr (refl, worn capacity s.opening h.list left place line.ask h.seen busy)))
 
-module _ (capacity : ℕ) (s : Service) (now : Option (List ℕ)) (book : Accounts) (left : List Open) (came : ℕ) (was : Option ServiceFault) where
+module _ (capacity : ℕ) (s : Service) (now : Written) (book : Accounts) (left : List Open) (came : ℕ) (was : Option ServiceFault) where
   -- the lines stay
   on_same : (h : History capacity s now book was left came) (why : Option ServiceFault) (rest : List Open) (next : ℕ) → IsPermutation (entry_numbers h.list ++ numbers rest) (range_with_len 0 next)
       → All (SightHolds capacity s.opening h.list) rest → IsWritten capacity s now h.list why → History capacity s now book why rest next
@@ -209,7 +209,7 @@ line_missing s input e came h behind = IfSome_then input h (λ bytes is all.
 
 -- ---- the whole
 
-module _ (capacity : ℕ) (s : Service) (now : Option (List ℕ)) (book : Accounts) (left : List Open) (came : ℕ) (source writer keeper : Bool) where
+module _ (capacity : ℕ) (s : Service) (now : Written) (book : Accounts) (left : List Open) (came : ℕ) (source writer keeper : Bool) where
   abbrev told_at : Option ServiceFault → Moment
   told_at f = record { book = book; written = now; source_failed = source; writer_failed = writer; keeper_failed = keeper; fault = f; pending = numbers left; came = came }
 

@@ -7,5 +7,6 @@ pub mod Scribe
 pub mod Served
 pub mod Service
 pub mod Telling
+pub mod Transcript
 pub use Rattle.cred_book.specs.Accounts
 pub use Rattle.cred_phc.specs.Values

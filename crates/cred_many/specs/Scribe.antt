@@ -1,13 +1,14 @@
 -- What stands behind it in a scribe: what each open line has seen, lines that are answered, and those
 -- whose changes are made together. Of it public clauses cite `moment`, `numbers`, `HasTurn` and
 -- `IsAnswered` alone.
-use Rattle.std.specs.{Io.KnownBytes.Appends, List.range_with_len, List.remove, List.Sorted.IsPermutation, Option.option_or, Str.bytes_eq}
+use Rattle.std.specs.{List.range_with_len, List.remove, List.Sorted.IsPermutation, Option.option_or, Str.bytes_eq}
 use Rattle.std.specs.Prelude.{◌≡◌, ◌⊎◌, ℕ, ◌<◌, ◌≤◌, ◌+◌, List, [], ◌∷◌, ◌++◌, Bool, true, false, All, if◌then◌else◌, IfSome, Option, Some, None, length, map, set, slice_get}
 use Rattle.cred_phc.specs.Values.{RecordValue}
 use Rattle.cred_book.specs.{Accounts.Accounts, Works.Task, declared.reply.Reply.Reply}
-use Rattle.cred_cli.specs.{History.Answer, History.Changed, Outcome.FrontWritten, Steps.reply_answer, Watched.failed_of, Watched.inner_of}
+use Rattle.cred_cli.specs.{History.Answer, History.Changed, Steps.reply_answer, Watched.failed_of}
 use Rattle.cred_many.specs.{Asks.Entry, Service.IsLine, Service.Service, declared.ask.Ask.Ask, declared.fault.ServiceFault.ServiceFault}
 use Rattle.cred_many.specs.Served.{AreFor, IsWritten, Moment, answers, book_after, change_from, changes, entry_numbers, most_together, name_asked, record_at, tries}
+use Rattle.cred_many.specs.Transcript.{TakesFront, TakesMore, Written, written_of}
 use Rattle.cred_many.specs.{declared.fault.ServiceFault.TheVariants.Write, declared.job.Message.Message, declared.job.Message.TheVariants.Hashed, declared.job.Message.TheVariants.NoMemory, declared.open.Open.Open, declared.open.Sight.Sight, declared.output.Output.Output}
 use Rattle.std.specs.FinMap as fin
 
@@ -87,11 +88,10 @@ pub record IsReady (why : Option ServiceFault) (left : List Open) (place number 
 
 -- ---- what one step does
 
--- a line is written, or the writer failed in it
-abbrev pub IsConcluded : List ℕ → Option (List ℕ) → Option (List ℕ) → Bool → Option ServiceFault
-    → Type 0
-IsConcluded line old new failed why = ((why ≡ None) × Appends old new line)
-    ⊎ ((why ≡ Some Write) × FrontWritten old new line × (failed ≡ true))
+-- the writer took a text, or failed in it
+abbrev pub IsConcluded : List ℕ → Written → Written → Bool → Option ServiceFault → Type 0
+IsConcluded text old new failed why = ((why ≡ None) × TakesMore old new text)
+    ⊎ ((why ≡ Some Write) × TakesFront old new text × (failed ≡ true))
 
 -- the record isn't the one that was copied
 abbrev pub is_change : Answer → Bool
@@ -129,7 +129,7 @@ abbrev pub moment : {K W : Type 0} → (K → Accounts) → (K → Bool) → (W 
     → Output W → ℕ → Bool → Moment
 moment book failed contents keeper output came source_failed = record {
   book = book keeper;
-  written = contents (inner_of output.writer);
+  written = written_of contents output.writer;
   source_failed = source_failed;
   writer_failed = failed_of output.writer;
   keeper_failed = failed keeper;
@@ -139,7 +139,7 @@ moment book failed contents keeper output came source_failed = record {
 }
 
 -- one history, of which each open line saw what it notes
-pub record History (capacity : ℕ) (s : Service) (now : Option (List ℕ)) (book : Accounts)
+pub record History (capacity : ℕ) (s : Service) (now : Written) (book : Accounts)
     (why : Option ServiceFault) (open_lines : List Open) (came : ℕ) : Type 0 where
   pub list : List Entry
   pub each : IfSome s.input (λ bytes. AreFor capacity s bytes list)

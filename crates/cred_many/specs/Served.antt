@@ -1,12 +1,13 @@
 -- What a service stands for at every moment: one list of lines, each done whole, one after another.
-use Rattle.std.specs.{Io.KnownBytes.Appends, List.range_with_len, List.Sorted.IsPermutation, Option.option_map}
+use Rattle.std.specs.{List.range_with_len, List.Sorted.IsPermutation, Option.option_map}
 use Rattle.std.specs.Prelude.{◌≡◌, ◌≢◌, ◌⊎◌, ℕ, ◌<◌, ◌≤◌, ◌+◌, ◌-◌, ◌^◌, List, [], ◌∷◌, ◌++◌, Bool, true, false, if◌then◌else◌, IfSome, is_some, nat_lt, Option, Some, None, length, map, take, slice_get, slice_index_or, unwrap_or}
 use Rattle.cred_phc.specs.Values.{RecordValue}
 use Rattle.cred_book.specs.{Accounts.Accounts, Works.name_of, Works.new_record, Works.same, Works.seq, declared.reply.Reply.Reply}
 use Rattle.cred_cli.specs.{History.Done, History.Refused, History.show_answer, Script.lines_of, Texts.line_of, Texts.reply_line}
-use Rattle.cred_cli.specs.Watched.{failed_of, inner_of}
+use Rattle.cred_cli.specs.Watched.{failed_of}
 use Rattle.cred_admin.specs.{Commands.reset_step, Edits.disabling, Edits.edit_line, Edits.edit_status, Edits.edited, Edits.lacks_room, Listing.passwd_line}
 use Rattle.cred_many.specs.{Asks.Entry, Asks.hashed_for, Asks.refused, Names.names_line, Names.page, Service.Service, Service.asked, declared.ask.Ask.Ask}
+use Rattle.cred_many.specs.Transcript.{TakesMore, Written, written_of}
 use Rattle.cred_many.specs.declared.ask.Ask.TheVariants.{Quick, Whole, Login, Reset}
 use Rattle.cred_many.specs.declared.ask.QuickAsk.TheVariants.{Account, Load, Show, DisableShown, Bad, Edit as Change, List as Names}
 use Rattle.cred_many.specs.{declared.ending.Served.Served, declared.fault.ServiceFault.ServiceFault}
@@ -151,22 +152,22 @@ entry_numbers list = map (λ e. e.number) list
 abbrev pub most_together : ℕ
 most_together = 64
 
--- The answers to these lines are written: all of them, unless the writer failed; then those to the
--- last lines may be cut off, so many at most.
-pub record IsWritten (capacity : ℕ) (s : Service) (now : Option (List ℕ)) (list : List Entry)
+-- The writer took the answers to these lines: all of them, unless it failed; then those to the last
+-- lines may be cut off, so many at most.
+pub record IsWritten (capacity : ℕ) (s : Service) (now : Written) (list : List Entry)
     (why : Option ServiceFault) : Type 0 where
   pub bytes : ℕ
-  pub front : Appends s.before now (take bytes (answers capacity s.opening list))
+  pub front : TakesMore s.before now (take bytes (answers capacity s.opening list))
   pub whole : why ≢ Some fault.Write → bytes ≡ length (answers capacity s.opening list)
   pub most :
       length (answers capacity s.opening (take (length list - most_together) list)) ≤ bytes
 
--- what a scribe has at a moment: the book; what its writer holds, if that is known; whether a call on
--- the source, the writer or the keeper has failed; why it answers no more; the lines that came and
--- have no answer yet; and how many came
+-- what a scribe has at a moment: the book; what is seen of its writer; whether a call on the
+-- source, the writer or the keeper has failed; why it answers no more; the lines that came and have
+-- no answer yet; and how many came
 pub record Moment : Type 0 where
   pub book : Accounts
-  pub written : Option (List ℕ)
+  pub written : Written
   pub source_failed : Bool
   pub writer_failed : Bool
   pub keeper_failed : Bool
@@ -204,7 +205,7 @@ abbrev pub left_of : {K W S : Type 0} → (K → Accounts) → (K → Bool) → 
     → (S → Bool) → Served K W S → List ℕ → Moment
 left_of book failed contents source_failed served pending = record {
   book = book served.keeper;
-  written = contents (inner_of served.writer);
+  written = written_of contents served.writer;
   source_failed = unwrap_or (option_map source_failed served.source) false;
   writer_failed = failed_of served.writer;
   keeper_failed = failed served.keeper;

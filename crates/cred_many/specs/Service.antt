@@ -4,23 +4,23 @@ use Rattle.rand_core.specs.Stream.{Stream, fill_bytes}
 use Rattle.cred_phc.specs.{Values.SettingValue, Values.setting_of, declared.scheme.Scheme.Scheme, declared.scheme.Scheme.TheVariants.Scrypt}
 use Rattle.cred_book.specs.Accounts.{Accounts}
 use Rattle.cred_cli.specs.{Costs.no_bounds, Script.lines_of, Script.with_unended, declared.costs.CostBounds.CostBounds}
-use Rattle.cred_many.specs.{Asks.Entry, Asks.entry, Asks.entry_of, Asks.refused, declared.service.ServiceConfig.ServiceConfig}
+use Rattle.cred_many.specs.{Asks.Entry, Asks.entry, Asks.entry_of, Asks.refused, Transcript.Written, Transcript.nothing_written, declared.service.ServiceConfig.ServiceConfig}
 use Rattle.std.specs.FinMap as map
 use Rattle.cred_cli.specs.declared.refusal.Refusal.TheVariants as refusal
 
--- the book at first, what the reader has to give, what was written before, with which costs and
--- from which source of salts settings are drawn, how many KiB all hashes together may take, and what
--- the costs of a line may ask for
+-- the book at first, what the reader has to give, what is seen of the writer before, with which
+-- costs and from which source of salts settings are drawn, how many KiB all hashes together may
+-- take, and what the costs of a line may ask for
 pub record Service : Type 0 where
   pub opening : Accounts
   pub input : Option (List ℕ)
-  pub before : Option (List ℕ)
+  pub before : Written
   pub costs : Scheme
   pub salts : Stream
   pub memory : ℕ
   pub most : CostBounds
 
-abbrev pub service : Accounts → Option (List ℕ) → Option (List ℕ) → ServiceConfig → Stream → Service
+abbrev pub service : Accounts → Option (List ℕ) → Written → ServiceConfig → Stream → Service
 service opening input before config salts = record {
   opening = opening;
   input = input;
@@ -67,7 +67,7 @@ abbrev pub no_service : Service
 no_service = record {
   opening = map.empty;
   input = None;
-  before = None;
+  before = nothing_written;
   costs = Scrypt 1 1 1;
   salts = record {
     u32_after = λ _. 0;

@@ -1,8 +1,9 @@
 //! The output of answers.
 
-ghost use Rattle.std.specs.{Io.KnownBytes.Appends, List.remove, Prelude.◌≡◌, Prelude.◌∷◌, Prelude.◌++◌, Prelude.IfSome, Prelude.OnErr, Prelude.OnOk, Prelude.None, Prelude.true};
-ghost use Rattle.cred_cli.specs.{Outcome.FrontWritten, Watched.failed_of, Watched.inner_of};
+ghost use Rattle.std.specs.{List.remove, Prelude.◌≡◌, Prelude.◌∷◌, Prelude.◌++◌, Prelude.IfSome, Prelude.OnErr, Prelude.OnOk, Prelude.None, Prelude.true};
+ghost use Rattle.cred_cli.specs.Watched.{failed_of};
 ghost use Rattle.cred_many.specs.{Scribe.HasTurn, Scribe.IsConcluded, Scribe.IsReady, Service.IsLine};
+ghost use Rattle.cred_many.specs.Transcript.{TakesFront, TakesMore, written_of};
 
 use crate::fault::ServiceFault;
 use crate::line::Line;
@@ -28,7 +29,7 @@ impl<W: Write> Output<W> {
         ensures closed { self.new.pending ≡ remove self.old.pending place }
         ensures turn { HasTurn line.now.number self.old self.new }
         ensures told { IsConcluded (line.now.tag ++ 32 ∷ answer.now)
-            (W.contents (inner_of self.old.writer)) (W.contents (inner_of self.new.writer))
+            (written_of W.contents self.old.writer) (written_of W.contents self.new.writer)
             (failed_of self.new.writer) self.new.fault }
     {
         self.pending.close(place);
@@ -41,10 +42,10 @@ impl<W: Write> Output<W> {
     pub(crate) fn conclude_all(&mut self, answers: &[u8])
         requires { self.old.fault ≡ None }
         ensures same { self.new.pending ≡ self.old.pending }
-        ensures told { IsConcluded answers.now (W.contents (inner_of self.old.writer))
-            (W.contents (inner_of self.new.writer)) (failed_of self.new.writer) self.new.fault }
+        ensures told { IsConcluded answers.now (written_of W.contents self.old.writer)
+            (written_of W.contents self.new.writer) (failed_of self.new.writer) self.new.fault }
     {
-        if write_whole(&mut self.writer, answers).is_err() {
+        if write_text(&mut self.writer, answers).is_err() {
             self.fault = Some(ServiceFault::Write);
         }
     }
@@ -56,16 +57,25 @@ fn write_answer<W: Write>(
     tag: &[u8],
     answer: &[u8],
 ) -> Result<(), ScriptFault>
-    ensures done { OnOk result
-        (Appends (W.contents (inner_of writer.old)) (W.contents (inner_of writer.new))
-        (tag.now ++ 32 ∷ answer.now)) }
-    ensures front { OnErr result
-        (FrontWritten (W.contents (inner_of writer.old)) (W.contents (inner_of writer.new))
-        (tag.now ++ 32 ∷ answer.now)) }
+    ensures done { OnOk result (TakesMore (written_of W.contents writer.old)
+        (written_of W.contents writer.new) (tag.now ++ 32 ∷ answer.now)) }
+    ensures front { OnErr result (TakesFront (written_of W.contents writer.old)
+        (written_of W.contents writer.new) (tag.now ++ 32 ∷ answer.now)) }
     ensures failed { OnErr result (failed_of writer.new ≡ true) }
 {
-    write_whole(writer, tag)?;
-    write_whole(writer, b" ")?;
-    write_whole(writer, answer)?;
+    write_text(writer, tag)?;
+    write_text(writer, b" ")?;
+    write_text(writer, answer)?;
     Ok(())
+}
+
+/// Writes the whole text, or a proper prefix of it if the writer fails.
+fn write_text<W: Write>(writer: &mut Watched<W>, text: &[u8]) -> Result<(), ScriptFault>
+    ensures done { OnOk result (TakesMore (written_of W.contents writer.old)
+        (written_of W.contents writer.new) text.now) }
+    ensures front { OnErr result (TakesFront (written_of W.contents writer.old)
+        (written_of W.contents writer.new) text.now) }
+    ensures failed { OnErr result (failed_of writer.new ≡ true) }
+{
+    write_whole(writer, text)
 }

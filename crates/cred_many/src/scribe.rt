@@ -1,10 +1,10 @@
 //! The book that is served, the lines that are open, and the writer of their answers.
 
 ghost use Rattle.std.specs.Prelude.{◌≡◌, ◌↔◌, ◌+◌, ◌++◌, [], ◌∷◌, Bool, false, IfSome, IsTrue, is_some, length, None, option_map, Some, true, unwrap_or};
-ghost use Rattle.cred_cli.specs.{Script.lines_of, Watched.inner_of};
+ghost use Rattle.cred_cli.specs.Script.{lines_of};
 ghost use Rattle.cred_book.specs.Works.{is_for_current, name_of};
 ghost use Rattle.cred_many.specs.{Asks.IsJobOf, Asks.hashed_for, Asks.is_reset, Scribe.HasTurn, Scribe.History, Scribe.IsAnswered, Scribe.IsBusy, Scribe.IsReady, Scribe.is_changed, Scribe.moment, Scribe.numbers, Scribe.unseen, declared.ask.Ask.TheVariants.Quick};
-ghost use Rattle.cred_many.specs.Served.{HasCause, NeedsMemory, Stands, StandsAtEnd, left_of, record_at, told_reply};
+ghost use Rattle.cred_many.specs.{Served.HasCause, Served.NeedsMemory, Served.Stands, Served.StandsAtEnd, Served.left_of, Served.record_at, Served.told_reply, Transcript.written_of};
 
 mod groups;
 
@@ -42,7 +42,7 @@ pub struct Scribe<J: ServiceId, K: Host, W: Write> {
     came: u64,
     of: PhantomData<J>,
 
-    ghost history: { ∥ History K.capacity J.service (W.contents (inner_of output.writer))
+    ghost history: { ∥ History K.capacity J.service (written_of W.contents output.writer)
         (K.book keeper) output.fault output.pending came ∥₁ },
     ghost cause: { (source_failed : Bool) → ∥ HasCause J.service.input
         (moment K.book K.failed W.contents keeper output came source_failed) output.fault ∥₁ },
@@ -52,7 +52,7 @@ impl<J: ServiceId, K: Host, W: Write> Scribe<J, K, W> {
     /// The scribe before the first line.
     pub fn new(alloc: Global, keeper: K, writer: Watched<W>) -> Scribe<J, K, W>
         requires opening { K.book keeper ≡ J.service.opening }
-        requires before { W.contents (inner_of writer) ≡ J.service.before }
+        requires before { written_of W.contents writer ≡ J.service.before }
     {
         Scribe {
             keeper,

@@ -4,7 +4,7 @@ use Rattle.sqlite.specs.{Held.Held, Held.state, State.HasCleanDisk, Store.Ghosts
 use Rattle.cred_book.specs.Accounts.{Accounts, register_capacity}
 use Rattle.cred_admin.specs.declared.status.Status.{Status}
 use Rattle.cred_admin.specs.declared.status.Status.TheVariants.{Done, Io, Memory, Database, Data}
-use Rattle.cred_cli.specs.Script.{lines_of}
+use Rattle.cred_cli.specs.{Script.lines_of, declared.watched.Watched.Watched}
 use Rattle.cred_file.specs.{Kept.Kept, Opening.IsFound}
 use Rattle.cred_many.specs.{Served.StandsAtEnd, Served.left_of, Service.Service, declared.fault.ServiceFault.ServiceFault}
 use Rattle.cred_many.specs.declared.fault.ServiceFault.TheVariants as fault
@@ -23,11 +23,11 @@ abbrev pub status_of_end : Option ServiceFault → Status
 status_of_end (Some e) = status_of_fault e
 status_of_end None = Done
 
--- The book that a database holds is opened and served, and the connection comes back as the service
--- left it. If nothing failed, all lines came.
+-- The book that a database holds is opened and served, and the connection and the writer come back
+-- as the service left them. If nothing failed, all lines came.
 pub record ServesBook {S W L : Type 0} (g : Ghosts S) (contents : W → Option (List ℕ))
-    (failed : L → Bool) (service : Accounts → Service) (old new : Held S) (status : Status)
-    : Type 0 where
+    (failed : L → Bool) (service : Accounts → Service) (old new : Held S) (writer : Watched W)
+    (status : Status) : Type 0 where
   pub opened : Kept S
   pub found : HasCleanDisk (state g opened.conn)
       → IsFound (state g old) (state g opened.conn) opened.book
@@ -37,4 +37,5 @@ pub record ServesBook {S W L : Type 0} (g : Ghosts S) (contents : W → Option (
   pub all : served.fault ≡ None
       → IfSome (service opened.book).input (λ bytes. served.lines ≡ length (lines_of bytes))
   pub closed : new ≡ served.keeper.conn
+  pub returned : writer ≡ served.writer
   pub told : status ≡ status_of_end served.fault

@@ -4,7 +4,7 @@ ghost use Rattle.std.specs.Prelude.{◌≡◌, ◌⊎◌, false, IfSome, is_some
 ghost use Rattle.cred_book.specs.Accounts.{register_capacity};
 ghost use Rattle.cred_cli.specs.Script.{lines_of};
 ghost use Rattle.cred_keep.specs.Orders.{IsRefused};
-ghost use Rattle.cred_many.specs.{Served.StandsAtEnd, Served.left_of, Service.service};
+ghost use Rattle.cred_many.specs.{Served.StandsAtEnd, Served.left_of, Service.service, Transcript.written_of};
 ghost use Rattle.credkeep.specs.Service.{ServesBook, status_of_end, status_of_fault};
 
 use crate::files::{DamagedLog, close, look, open_database};
@@ -73,11 +73,12 @@ pub(crate) fn serve_tagged<T: Threads + Wait + Sync + Copy + Send + 'static>(
     };
     let streams = Streams {
         reader: host.stdin(),
-        writer: host.stdout(),
+        writer: Watched::new(host.stdout()),
         salts,
     };
     let conn = open_database(host, file, file, request.wait, DamagedLog::Refused)?;
-    let (conn, status) = serve_in(&tools, tagged, conn, streams, &mut host.stderr());
+    let finished = serve_in(&tools, tagged, conn, streams, &mut host.stderr());
+    let Finished { conn, status, .. } = finished;
     Ok(close(host, conn, status))
 }
 
@@ -85,19 +86,29 @@ pub(crate) fn serve_tagged<T: Threads + Wait + Sync + Copy + Send + 'static>(
 #[derive(Drop)]
 struct Streams<R, W, G> {
     reader: R,
-    writer: W,
+    writer: Watched<W>,
     salts: G,
 }
 
-/// Opens the book of a database, and answers tagged lines on it. The connection comes back. If the
-/// database holds no book, `faults` says why.
+/// A database whose book was served, or that holds none: its connection, the writer of the answers,
+/// and the exit status.
+#[derive(Drop)]
+struct Finished<S: Alter, W> {
+    conn: Connection<S>,
+    writer: Watched<W>,
+    status: Status,
+}
+
+/// Opens the book of a database, and answers tagged lines on it. The connection and the writer come
+/// back: the bytes that the writer took, whatever it is, are the answers. If the database holds no
+/// book, `faults` says why.
 fn serve_in<T, S, R, W, G, F>(
     tools: &Tools<'_, T>,
     tagged: &Tagged,
     conn: Connection<S>,
     streams: Streams<R, W, G>,
     faults: &mut F,
-) -> (Connection<S>, Status)
+) -> Finished<S, W>
 where
     T: Threads + Wait + Sync + Copy + Send + 'static,
     S: Alter,
@@ -107,9 +118,10 @@ where
     F: Write,
     requires autocommit { conn.in_transaction ≡ false }
     ensures { ServesBook S.Store W.contents ⟦<LineReader<R> as Source>⟧.failed
-        (λ book. service book (R.remaining streams.reader) (W.contents streams.writer)
+        (λ book. service book (R.remaining streams.reader) (written_of W.contents streams.writer)
         tagged.now.config (G.stream streams.salts))
-        conn result.0 result.1 ⊎ IsRefused S.Store conn result.0 result.1 }
+        conn result.conn result.writer result.status
+        ⊎ (IsRefused S.Store conn result.conn result.status × (result.writer ≡ streams.writer)) }
 {
     let Streams {
         reader,
@@ -126,11 +138,24 @@ where
                 reader,
                 writer,
             );
-            let Served { keeper, fault, .. } = served;
+            let Served {
+                keeper,
+                writer,
+                fault,
+                ..
+            } = served;
             tell_end(faults, fault, keeper.lost());
-            (keeper.close(), status_of_end(fault))
+            Finished {
+                conn: keeper.close(),
+                writer,
+                status: status_of_end(fault),
+            }
         }
-        Err((why, conn)) => (conn, refuse(faults, &why)),
+        Err((why, conn)) => Finished {
+            conn,
+            writer,
+            status: refuse(faults, &why),
+        },
     }
 }
 
@@ -152,7 +177,7 @@ fn serve_named<J, T, S, R, W, G>(
     book: FileBook<S>,
     salts: G,
     reader: R,
-    writer: W,
+    writer: Watched<W>,
 ) -> Served<FileBook<S>, W, LineReader<R>>
 where
     J: ServiceId + Send + Sync + 'static,
@@ -161,7 +186,7 @@ where
     R: Read + Send + Drop + 'static,
     W: Write + Drop,
     G: Rng + Send + Drop + 'static,
-    requires { J.service ≡ service book.book (R.remaining reader) (W.contents writer)
+    requires { J.service ≡ service book.book (R.remaining reader) (written_of W.contents writer)
         config.now (G.stream salts) }
     ensures served { ∥ StandsAtEnd register_capacity J.service
         (left_of (λ b. b.book) (λ b. is_some b.lost) W.contents
@@ -169,11 +194,7 @@ where
     ensures all { result.fault ≡ None
         → IfSome (R.remaining reader) (λ all. result.lines ≡ length (lines_of all)) }
 {
-    let mut scribe: Scribe<J, FileBook<S>, W> = Scribe::new(
-        tools.alloc,
-        book,
-        Watched::new(writer),
-    );
+    let mut scribe: Scribe<J, FileBook<S>, W> = Scribe::new(tools.alloc, book, writer);
     let ending = serve_file(tools, config, &mut scribe, salts, reader);
     scribe.end(ending)
 }

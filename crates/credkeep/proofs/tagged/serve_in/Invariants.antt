@@ -1,8 +1,8 @@
-use Rattle.cred_many.specs.Service.{service}
+use Rattle.cred_many.specs.{Service.service, Transcript.written_of}
 use Rattle.credkeep.proofs.tagged.serve_in.Given as goal
 
 -- the service that begins here
 abbrev pub ghosts-serve_named : goal.ghosts-serve_named
 ghosts-serve_named g a = record {
-  service = service a.book.book (g.R.Read.remaining a.reader) (g.W.Write.contents a.writer) a.config.now (g.G.Rng.stream a.salts);
+  service = service a.book.book (g.R.Read.remaining a.reader) (written_of g.W.Write.contents a.writer) a.config.now (g.G.Rng.stream a.salts);
 }
