@@ -34,6 +34,9 @@ class Folder:
     long: Collection[str] = ()
 
 
+# A warning is an error, but for the one of hashers that cost little, as those of tests do.
+WARNINGS = ("-W", "error", "-W", "ignore:memory_cost=")
+
 FOLDERS = (
     Folder("tests/credbook", is_package=True),
     Folder(
@@ -52,8 +55,8 @@ FOLDERS = (
     Folder("tests/packages", is_package=True, packing=["install"]),
     Folder("c/tests", packing=["package"], parts={"programs": 3, "secrets": 3, "calls": 2}),
     Folder("c/pam/tests", quiet=["answers"]),
-    Folder("python/tests/hashers", options=("-W", "error")),
-    Folder("python/tests/package", options=("-W", "error"), packing=["package"]),
+    Folder("python/tests/hashers", options=WARNINGS),
+    Folder("python/tests/package", options=WARNINGS, packing=["package"]),
     Folder("python/tests/accounts", parts={"engines": 4}),
     Folder("python/tests/frameworks", parts={"on_their_own": 2}),
     Folder("docs/tests", parts={"pages": 2}),

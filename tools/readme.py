@@ -117,6 +117,9 @@ def run(name):
 
 
 def main():
+    for name in pages():
+        if not (TOP / name).is_file():
+            sys.exit(f"{name}: no such page of this tree")
     results = [run(name) for name in pages()]
     passed, failed = sum(it for it, _ in results), sum(it for _, it in results)
     print(f"{passed} passed, {failed} failed")

@@ -177,10 +177,19 @@ def server(store: Store, port: int) -> Any:
     )
 
 
+def number(name: str, otherwise: int, most: int) -> int:
+    """A setting that is a number."""
+    text = os.environ.get(name, str(otherwise))
+    if not (text.isascii() and text.isdigit() and int(text) <= most):
+        raise SystemExit(f"{name} is a number up to {most}, not {text!r}: README.md has its unit")
+    return int(text)
+
+
 def main() -> None:
     database = os.environ.get("DATABASE", str(HERE / "data" / "login_page.db"))
-    hasher = PasswordHasher(memory_cost=int(os.environ.get("MEMORY", "65536")))
-    serving = server(Store(database, hasher), int(os.environ.get("PORT", "8000")))
+    port = number("PORT", 8000, 65535)
+    hasher = PasswordHasher(memory_cost=number("MEMORY", 65536, 2**21))
+    serving = server(Store(database, hasher), port)
     print(f"http://127.0.0.1:{serving.effective_port}/", flush=True)
     logging.getLogger("waitress.queue").setLevel(logging.ERROR)  # a busy moment is none
     for ends in (signal.SIGINT, signal.SIGTERM):

@@ -40,6 +40,8 @@ class Store:
             limits: dict[str, Any] = {"connect_timeout": 5, "tcp_user_timeout": 10_000}
             self._pool = PerThread(lambda: psycopg.connect(database, autocommit=True, **limits))
             self._dialect: Dialect = Postgres("account", "name", "record")
+        elif "://" in database:
+            raise SystemExit("DATABASE is a file of SQLite or postgresql://..")
         else:
             self._pool = PerThread(lambda: _sqlite(database))
             self._dialect = Sqlite("account", "name", "record")

@@ -14,7 +14,7 @@ import sys
 if sys.version_info < (3, 9):  # before what older ones can't even read
     raise ImportError("rigzumal needs Python 3.9 or later; this is " + sys.version.split()[0])
 
-from rigzumal._hashers import PasswordHasher, ScryptHasher, Type, argon2, scrypt
+from rigzumal._hashers import LowMemoryWarning, PasswordHasher, ScryptHasher, Type, argon2, scrypt
 from rigzumal._library import InvalidNumbersError, InvalidRecordError, NoRandomError
 from rigzumal._library import OutOfMemoryError, RigzumalError, VerifyMismatchError
 from rigzumal._library import keep, trim, version
@@ -26,6 +26,7 @@ __version__ = version()
 __all__ = [
     "InvalidNumbersError",
     "InvalidRecordError",
+    "LowMemoryWarning",
     "NoRandomError",
     "OutOfMemoryError",
     "Parts",

@@ -112,13 +112,19 @@ def _calibrate(given: argparse.Namespace) -> int:
     return Status.DONE
 
 
+def _hint_at(record: str) -> str:
+    """What is wrong with a record that isn't ours, in words for people."""
+    unquoted = "" if record.startswith("$") else "in single quotes a shell leaves its $ alone"
+    return none_of_ours(record) or unquoted
+
+
 def _run(given: argparse.Namespace) -> int:
     """Runs the command, and answers its exit status."""
     try:
         status: int = given.act(given)
         return status
     except RigzumalError as fault:
-        said = none_of_ours(getattr(given, "record", ""))
+        said = _hint_at(getattr(given, "record", "$"))
         said = f"{fault}{said and f' ({said})'}"
         say(f"{fault.number} {fault.word}: {said}")
         return status_of(fault)

@@ -8,14 +8,14 @@ import enum
 import getpass
 import re
 import sys
+import warnings
 from collections.abc import Callable, Iterator
 from typing import NoReturn, Optional, Union
 
-from rigzumal._hashers import PasswordHasher, ScryptHasher
+from rigzumal._hashers import LOW_MEMORY, LowMemoryWarning, PasswordHasher, ScryptHasher
 from rigzumal._library import NoRandomError, OutOfMemoryError
 
 _UNITS = {"K": 1, "M": 1024, "G": 1024 * 1024}
-_LOW_MEMORY = 8192  # KiB; what is lower without a unit is a mistake, more often than not
 
 
 class Status(enum.IntEnum):
@@ -90,7 +90,9 @@ def status_of(fault: Exception) -> Status:
 def ended(command: Callable[[], int]) -> int:
     """The status of a command that may be refused, interrupted or left without its streams."""
     try:
-        return command()
+        with warnings.catch_warnings():
+            warnings.simplefilter("ignore", LowMemoryWarning)  # `memory` has a line of its own
+            return command()
     except Refusal as refusal:
         say(str(refusal))
         return refusal.status
@@ -116,7 +118,7 @@ def memory(text: str) -> int:
     number = text[:-1] if unit in _UNITS else text
     if not (number.isascii() and number.isdigit()):
         raise argparse.ArgumentTypeError(f"{text!r} is not a size such as 64M")
-    if unit not in _UNITS and int(number) < _LOW_MEMORY:
+    if unit not in _UNITS and int(number) < LOW_MEMORY:
         say(
             f"--memory {number} is {number} KiB: {number}M is meant if it is of MiB, else {number}K"
         )

@@ -3,10 +3,11 @@
 from __future__ import annotations
 
 import enum
+import sys
 
 from rigzumal import _library
 from rigzumal._frozen import Frozen
-from rigzumal._hidden import hidden
+from rigzumal._hidden import hidden, is_ours
 from rigzumal._library import Secret, checked, in_range, pair, whole_number
 
 TYPE_CHECKING = False
@@ -22,10 +23,31 @@ Bytes: TypeAlias = "Union[bytes, bytearray, memoryview]"
 _SCRYPT: Final = 3
 _MOST: Final = 2**32 - 1
 _MOST_MEMORY: Final = 2 * 1024 * 1024  # KiB
+LOW_MEMORY: Final = 8192  # KiB; a lower number is one of MiB, more often than not
+_has_warned = False
 
 # The numbers of rigzumal.h for what is out of range.
 _RANGE, _SALT, _TAG, _LANES, _COST, _PASSES = 5, 6, 7, 14, 15, 16
 _SCRYPT_COST, _BLOCK_SIZE, _BLOCKS = 19, 20, 21
+
+
+class LowMemoryWarning(UserWarning):
+    """A hasher has a memory_cost below 8 MiB, perhaps since its unit is KiB."""
+
+
+def _warn_of(memory_cost: int) -> None:
+    """Warns where a caller asks for little memory, once in a process."""
+    global _has_warned
+    if memory_cost >= LOW_MEMORY or _has_warned:
+        return
+    import warnings  # which most processes needn't
+
+    level, frame = 1, sys._getframe()
+    while is_ours(frame) and frame.f_back is not None:
+        level, frame = level + 1, frame.f_back
+    said = f"memory_cost={memory_cost} is {memory_cost} KiB, a low cost: 64 MiB are 65536"
+    warnings.warn(said, LowMemoryWarning, level)
+    _has_warned = True
 
 
 class Type(enum.IntEnum):
@@ -162,6 +184,8 @@ class PasswordHasher(_Hasher):
         TypeError: a number is no int, or a secret isn't bytes.
         ValueError: no such kind exists, both a secret and secrets are given, or a new record
             would have an empty secret.
+
+    It warns once in a process, by LowMemoryWarning, of a memory_cost below 8192 (8 MiB).
     """
 
     time_cost: int
@@ -185,6 +209,8 @@ class PasswordHasher(_Hasher):
         secrets: Optional[Iterable[Bytes]] = None,
     ) -> None:
         least = 8 * in_range("parallelism", parallelism, 1, 255, _LANES)
+        if isinstance(type, str):
+            raise TypeError("type must be Type.ID, Type.I or Type.D, not str")
         whole_number("type", type)
         one = None if secret is None else _library.data_of(secret)
         several = tuple(_library.data_of(it) for it in secrets or ())
@@ -205,6 +231,7 @@ class PasswordHasher(_Hasher):
             threads=in_range("threads", threads, 1, _MOST, _RANGE),
             secrets=several,
         )
+        _warn_of(memory_cost)
 
     @hidden
     def replace(self, **changes: Any) -> PasswordHasher:

@@ -46,14 +46,14 @@ def _hiding(function: Function, hides: Callable[..., None]) -> Function:
 
 def hide(raised: BaseException, handled: Optional[BaseException] = None) -> None:
     """Empties this package's frames that an exception, and those of which it came, have passed."""
-    _empty(raised, handled, _is_ours)
+    _empty(raised, handled, is_ours)
 
 
 def _hide_all(raised: BaseException, handled: Optional[BaseException]) -> None:
     _empty(raised, handled, lambda frame: True)
 
 
-def _is_ours(frame: FrameType) -> bool:
+def is_ours(frame: FrameType) -> bool:
     return str(frame.f_globals.get("__name__")).partition(".")[0] == "rigzumal"
 
 

@@ -19,6 +19,7 @@ SOCKET = "--socket a /tmp/never-made 0660 -"
 MISTAKES = {
     "": "FILE is missing",
     "--frob x.db": "unrecognized arguments: --frob",
+    "--port 80 x.db": "unrecognized arguments: --port",
     "--at-once -3 x.db": "'-3' is no number",
     "--at-once=-3 x.db": "'-3' is no number",
     "--idle=-1 x.db": "'-1' is no number",

@@ -166,6 +166,7 @@ class Table:
         expected = judged(worked, now)
         if expected.reply is Reply.CHANGED:
             return expected
+        await self.dialect.hold(session)
         outer, this = RUNNING.get(), Also(self.pool, self.dialect.table)
         try:
             RUNNING.set((*outer, this))
@@ -175,7 +176,7 @@ class Table:
         finally:
             this.is_over = True
             RUNNING.set(outer)
-        if not self._is_open(session):
+        if not (self._is_open(session) and await self.dialect.is_held(session)):
             raise HookFailed(TypeError(ENDED))
         answer = await self.compare(session, worked)
         if answer.reply is not expected.reply:
@@ -254,7 +255,9 @@ class Table:
         except StoreFault as raised:
             fault = str(raised)
         except Exception as raised:
-            fault = f"no record can be written: {self.name(raised)}"
+            # An enum has no name that no row has, so an empty table of one shows nothing.
+            if not self.dialect.lacks_key(raised):
+                fault = f"no record can be written: {self.name(raised)}"
         await self._is_undone(session)
         return fault
 

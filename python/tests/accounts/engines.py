@@ -29,12 +29,16 @@ class OnSqlite:
     unknown = (broken, DISK)
     # What is sent: a change at once, in a transaction, and an answer that is confirmed.
     one = several = confirmed = "BEGIN UPDATE SELECT COMMIT"
+    # Around a hook, where its BEGIN would commit.
+    held = ""
     levels = ("SELECT 1",)
     check_number = CHECK_FAILED
     holding = "SELECT 1 FROM users"
     lock_timeout = statement_timeout = "PRAGMA busy_timeout = 10"
     # Columns of keys, with a key, and with another that no row has.
     keys = (("BIGINT", int, 7, 8), ("BLOB", bytes, b"\0\xff", b"x"))
+    # What is sent before a table has keys of an enum, and the column.
+    enum = (), "TEXT CHECK (name IN ('ann', 'ben'))"
     shouting = (f"{AFTER_UPDATE} WHEN NEW.record LIKE '%m=%' {PUTS.format('upper(NEW.record)')}",)
     ignoring = (f"{BEFORE_UPDATE} BEGIN SELECT RAISE(IGNORE); END",)
     emptying = (f"{AFTER_UPDATE} {PUTS.format('NULL')}",)
@@ -68,7 +72,7 @@ class OnSqliteWithScrypt(OnSqlite):
 class OnServer:
     broken = lost_look = ConnectionError("planted")
     unknown = (broken,)
-    begins_late = False
+    begins_late, held = False, ""
     holding = "SELECT 1 FROM users FOR UPDATE"
 
     def patient(self):
@@ -90,6 +94,10 @@ class OnPostgres(OnServer):
         *((it, int, 7, 2**40) for it in ("smallint", "numeric")),
         ("bytea", bytes, b"\0\xff", b"of another size"),
         ("uuid", uuid.UUID, uuid.UUID(int=7), uuid.UUID(int=8)),
+    )
+    enum = (
+        ("DROP TYPE IF EXISTS clerk", "CREATE TYPE clerk AS ENUM ('ann', 'ben')"),
+        "clerk",
     )
     check_number = "23514"
     lock_timeout = "SET lock_timeout = '300ms'"
@@ -147,8 +155,10 @@ class OnMariaDB(OnServer):
     kind, dialect = servers.MariaServer, MariaDB("users", "name", "record")
     one, several = "BEGIN", "START UPDATE SELECT COMMIT"
     confirmed = "START UPDATE UPDATE SELECT COMMIT"
+    held = "SAVEPOINT RELEASE "
     levels = [f"SET SESSION TRANSACTION ISOLATION LEVEL {it}" for it in LEVELS]
     keys = (("BIGINT", int, 7, 8), ("VARBINARY(16)", bytes, b"\0\xff", b"x"))
+    enum = (), "ENUM('ann', 'ben') CHARACTER SET utf8mb4 COLLATE utf8mb4_nopad_bin"
     check_number = "4025"
     lock_timeout = "SET innodb_lock_wait_timeout = 1"
     statement_timeout = "SET SESSION max_statement_time = 0.2"
@@ -199,6 +209,7 @@ class OnMariaDB(OnServer):
 class OnMySQL(OnMariaDB):
     kind, dialect = servers.MySqlServer, MySQL("users", "name", "record")
     one = OnMariaDB.several
+    enum = (), "ENUM('ann', 'ben') CHARACTER SET utf8mb4 COLLATE utf8mb4_0900_bin"
     check_number = "3819"
     statement_timeout = OnMariaDB.lock_timeout  # max_execution_time is of SELECT alone
 

@@ -70,7 +70,8 @@ class Connections:
         begin, _, rest = several.partition(" ")
         # Locked for `also`, and compared after it.
         own = {"also": lambda conn, reply: None}
-        changed, looked = f"{begin} SELECT {rest}", f"{begin} SELECT SELECT COMMIT"
+        locked = f"{begin} SELECT {self.held}"
+        changed, looked = f"{locked}{rest}", f"{locked}SELECT COMMIT"
         changes = Reply(reply).makes_change or (costs == "high" and reply == "yes")
         at_once = self.one if stands and "remove" not in text else several
         confirmed = "" if reply == "noaccount" else self.confirmed
@@ -160,6 +161,22 @@ class Tables:
                 self.assertIs(accounts.login(key, "one"), Reply.YES)
                 self.assertIs(accounts.login(other, "one"), Reply.NO_ACCOUNT)
                 self.assertRaises(TypeError, accounts.login, str(key), "one")
+
+    def test_keys_of_an_enum(self):
+        """Its names are accounts, and no other is; an empty table of it shows no fault."""
+        before, key = self.enum
+        self.execute("DROP TABLE IF EXISTS users")
+        for sql in before:
+            self.execute(sql)
+        self.table(key=key)
+        accounts = self.accounts()
+        for _ in range(2):
+            self.assertEqual([it for it in accounts.examine() if it.is_error], [])
+            self.give("one")
+        with self.hashes(1):
+            self.assertIs(accounts.login("eve", "x"), Reply.NO_ACCOUNT)
+        self.assertIs(accounts.reset("eve", "x"), Reply.NO_ACCOUNT)
+        self.assert_replies("login ann one yes; login ann two no; change ann one two replaced")
 
     def test_a_key_of_two_rows(self):
         self.execute("DROP TABLE users")

@@ -19,7 +19,7 @@ sys.path[:0] = str(PACKAGE), str(PACKAGE.parent)
 os.environ["PYTHONPATH"] = f"{PACKAGE}:{os.environ.get('PYTHONPATH', '')}".rstrip(":")
 
 import servers
-from rigzumal import PasswordHasher, VerifyMismatchError
+from rigzumal import LowMemoryWarning, PasswordHasher, VerifyMismatchError
 from rigzumal.accounts import Accounts, PerThread, Sqlite, _judgement, cli
 from rigzumal.accounts._session import Session, run  # noqa: F401: of each test
 from rigzumal.accounts.types import Kind, Request
@@ -31,6 +31,7 @@ CHECK_FAILED, FOREIGN_KEY_FAILED = (
     f"SQLITE_CONSTRAINT_{it}" if sys.version_info >= (3, 11) else ""
     for it in ("CHECK", "FOREIGNKEY")
 )
+warnings.simplefilter("ignore", LowMemoryWarning)
 # Seconds that an operation goes on which the test expects to succeed, on a slow machine too.
 PATIENCE = 60.0
 LOW = PasswordHasher(time_cost=1, memory_cost=64, parallelism=1)
@@ -79,6 +80,7 @@ class Base(unittest.TestCase):
         if self.kind is servers.SqliteFile:
             self.enterContext(warnings.catch_warnings())
             warnings.simplefilter("error")
+            warnings.simplefilter("ignore", LowMemoryWarning)
         self.server = server(self.kind)
         self.conn = self.server.connect()
         self.addCleanup(self.conn.close)

@@ -7,7 +7,7 @@ from unittest import mock
 import engines
 import support
 import torture
-from support import LOW, Base, commanded, run, scripted
+from support import LOW, Base, called, commanded, each, run, scripted
 from rigzumal.accounts import AsyncAccounts, MariaDB, PerThread, Reply, StoreFault, _import, cli
 from rigzumal.accounts._session import Result
 from rigzumal.accounts.dialects import mariadb
@@ -31,6 +31,36 @@ class OnMariaDB(engines.OnMariaDB, Base):
         self.assertIs(accounts.commit_in(caller, worked).reply, Reply.REPLACED)
         caller.commit()
         self.assertTrue(LOW.verify(self.stands(), "newer"))
+
+    @each("BEGIN", "START TRANSACTION", "COMMIT; BEGIN", "CREATE TABLE made (i INT); BEGIN")
+    def test_a_hook_that_begins(self, words):
+        """Which commits what the operation has begun, and its row's lock is gone: a TypeError, and
+        no record was written."""
+        self.execute("DROP TABLE IF EXISTS made")
+        calls, accounts = [], self.accounts(patience=60.0)
+
+        def begins(conn, reply):
+            calls.append(reply)
+            for sql in words.split("; "):
+                self.execute(sql, conn=conn)
+
+        for text in ("login ann one", "login ann two", "change ann one two", "remove ann one"):
+            self.execute("DROP TABLE IF EXISTS made")
+            calls.clear()
+            record = self.give("one")
+            with self.subTest(text=text):
+                said = "has ended the operation's transaction"
+                self.assertRaisesRegex(TypeError, said, called, accounts, text, also=begins)
+                self.assertEqual((len(calls), self.stands()), (1, record))
+
+    def test_a_hook_with_savepoints(self):
+        """Which are its own, and go back as far as it says."""
+
+        def also(conn, reply):
+            for sql in ("SAVEPOINT one", "UPDATE users SET record = 'x'", "ROLLBACK TO one"):
+                self.execute(sql, conn=conn)
+
+        self.assert_replies("login ann one yes; change ann one two replaced", also=also)
 
     def test_uncommitted_reads(self):
         """Refused by a look and by a commit, of one statement or of a transaction."""

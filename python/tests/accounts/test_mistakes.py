@@ -2,33 +2,101 @@
 reads it alone knows what to type."""
 
 import asyncio
+import os
 import sys
+import warnings
 from unittest import mock
 
 import support
-from support import FOREIGN, LOW, RECORD, Base, each, streams
-from rigzumal import InvalidRecordError, PasswordHasher, __main__
+from support import FOREIGN, LOW, RECORD, Base, each, module, streams
+import rigzumal
+from rigzumal import InvalidNumbersError, InvalidRecordError, LowMemoryWarning, PasswordHasher
+from rigzumal import __main__, _hashers
 from rigzumal.accounts import Accounts, AsyncAccounts, PerThread, Postgres, StoreFault
 from rigzumal.accounts.pools import PerUse
 
 HASHERS = (
     (lambda: LOW.verify("one", RECORD), InvalidRecordError, "pass the record first"),
     (lambda: LOW.verify_and_rehash("one", RECORD), InvalidRecordError, "pass the record first"),
-    (lambda: LOW.verify(FOREIGN, "one"), InvalidRecordError, ""),
+    (lambda: LOW.verify(FOREIGN, "one"), InvalidRecordError, "none of argon2d, argon2i, argon2id"),
+    (lambda: LOW.verify("md5$a$b", "one"), InvalidRecordError, "does not begin with '\\$'"),
+    (lambda: LOW.verify(f"argon2{RECORD}", "one"), InvalidRecordError, "not begin with '\\$'"),
+    (lambda: LOW.verify(RECORD[:-5], "one"), InvalidRecordError, "the tag is not base64 of 4 to"),
+    (lambda: LOW.verify(f"{RECORD} ", "one"), InvalidRecordError, "a space or a line end after it"),
     (lambda: LOW.hash(None), TypeError, "expected bytes or str, not NoneType"),
+    (lambda: LOW.hash(123), TypeError, "expected bytes or str, not int"),
     (lambda: LOW.verify(RECORD, 123), TypeError, "expected bytes or str, not int"),
+    (lambda: [*LOW.verify_and_rehash(RECORD, "one")], TypeError, "not NoneType"),
+    (lambda: asyncio.run(awaited(LOW)), TypeError, "bool can't be used in 'await'"),
     (lambda: PasswordHasher("argon2id"), TypeError, "time_cost must be an int, not str"),
-    (lambda: PasswordHasher(memory_cost="64M"), TypeError, "memory_cost must be an int"),
+    (lambda: PasswordHasher(memory_cost="64M"), TypeError, "memory_cost must be an int, not str"),
     (lambda: PasswordHasher(memory_cost=2**22), ValueError, "memory_cost must be 32 to 2097152"),
-    (lambda: PasswordHasher(memory=65536), TypeError, "memory"),
+    (lambda: PasswordHasher(time_cost=0), InvalidNumbersError, "time_cost must be 1 to 4294967295"),
+    (lambda: PasswordHasher(memory=65536), TypeError, "unexpected keyword argument 'memory'"),
+    (lambda: PasswordHasher(type="id"), TypeError, "type must be Type.ID, Type.I or Type.D"),
     (lambda: PasswordHasher(secret=""), TypeError, "expected bytes, not str"),
+    (lambda: rigzumal.argon2(b"x", b"salt"), TypeError, "'time_cost', 'memory_cost'"),
+    (lambda: rigzumal.scrypt(b"x", b"salt", n=16, r=8, p=1), TypeError, "argument 'n'"),
 )
+# What a user of another library looks for, and hasn't: Python names the class.
+NOT_THERE = ("verify_and_update", "needs_rehash", "check")
+
+
+async def awaited(hasher):
+    return await hasher.verify(RECORD, "one")
 
 
 class InPython(Base):
     @each(*HASHERS)
     def test_hashers(self, act, kind, words):
         self.assertRaisesRegex(kind, words, act)
+
+    def test_what_other_libraries_have(self):
+        for of, name in (
+            *((LOW, it) for it in NOT_THERE),
+            *((self.accounts(), it) for it in ("authenticate", "create")),
+        ):
+            self.assertRaisesRegex(AttributeError, f"no attribute '{name}'", getattr, of, name)
+
+    def test_answers_that_are_no_truth(self):
+        """A right password is None at verify_and_rehash; a Reply is none of both."""
+        self.assertIsNone(LOW.verify_and_rehash(RECORD, "one"))
+        reply = self.accounts().login("ann", "two")
+        self.assertRaisesRegex(TypeError, "compare with Reply.YES", bool, reply)
+        self.assertNotEqual(reply, False)
+
+    def test_calls_of_accounts(self):
+        """Python's own words name what is missing, and what is too many."""
+        accounts, pool = self.accounts(), PerThread(self.no_connection)
+        for act, words in (
+            (lambda: accounts.login(email="ann", password="one"), "argument 'email'"),
+            (lambda: accounts.change("ann", "one"), "'new_password'"),
+            (lambda: Accounts(pool, self.dialect), "'hasher'"),
+        ):
+            self.assertRaisesRegex(TypeError, words, act)
+
+    @each(64, 128, 8191)
+    def test_a_number_of_mebibytes(self, memory):
+        """Warns once in a process, at the caller's line; a user's filter may refuse it."""
+        with mock.patch.object(_hashers, "_has_warned", False):
+            with warnings.catch_warnings(record=True) as told:
+                warnings.simplefilter("always")
+                made = [PasswordHasher(memory_cost=memory, parallelism=1) for _ in range(3)]
+                made[0].replace(time_cost=1)
+            (one,) = told
+            said = f"memory_cost={memory} is {memory} KiB, a low cost: 64 MiB are 65536"
+            self.assertEqual((str(one.message), one.filename), (said, __file__))
+            self.assertIs(one.category, LowMemoryWarning)
+        with mock.patch.object(_hashers, "_has_warned", False):
+            warnings.simplefilter("error")
+            for _ in range(2):
+                self.assertRaises(LowMemoryWarning, PasswordHasher, memory_cost=memory)
+
+    def test_costs_that_are_no_mistake(self):
+        with mock.patch.object(_hashers, "_has_warned", False):
+            warnings.simplefilter("error")
+            for memory in (8192, 65536):
+                self.assertEqual(PasswordHasher(memory_cost=memory).memory_cost, memory)
 
     def test_the_order_of_two_records_is_no_mistake(self):
         """A password that looks like a record is a wrong one."""
@@ -38,10 +106,10 @@ class InPython(Base):
     def test_pools(self):
         """Each kind of accounts names its own, and not what it refuses."""
 
-        async def awaited():
+        async def not_asked():
             raise AssertionError
 
-        of_threads, of_tasks = PerThread(self.no_connection), PerUse(awaited)
+        of_threads, of_tasks = PerThread(self.no_connection), PerUse(not_asked)
         for kind, pool, words in (
             (AsyncAccounts, of_threads, r"not a PerThread: PerUse\(connect\)"),
             (Accounts, of_tasks, r"not a PerUse: PerThread\(connect\)"),
@@ -53,6 +121,9 @@ class InPython(Base):
         accounts = AsyncAccounts(self.connect, self.dialect, LOW)
         with self.assertRaisesRegex(TypeError, r"by `async with`, .*: PerUse\(connect\)"):
             asyncio.run(accounts.login("ann", "one"))
+        accounts = Accounts(self.another, self.dialect, LOW)
+        with self.assertRaisesRegex(TypeError, r"by `with`, .*: PerThread\(connect\)"):
+            accounts.login("ann", "one")
 
     @each(
         ({"table": "user"}, "no such table: user"),
@@ -97,6 +168,7 @@ class AtAShell(support.Commands):
             return streams(lambda _: __main__.main(), given="secret", status=status)
 
     @each(
+        ("", "the following arguments are required: command"),
         ("hash secret", "a word too many; a password is never an argument"),
         ("hash --time 3", "an unknown option, which isn't shown; is --passes meant?"),
         ("hash --iterations=3", "is --passes meant?"),
@@ -106,6 +178,7 @@ class AtAShell(support.Commands):
         ("hash --hunter2", "an unknown option, which isn't shown\n"),
         ("calibrate --time 3", "an unknown option, which isn't shown"),
         ("verify $2b$12$abc", "the record's scheme is 2b"),
+        ("verify =19=65536,t=3,p=4", "in single quotes a shell leaves its $ alone"),
     )
     def test_words(self, words, said):
         found = self.typed(*words.split(), status=1)[1]
@@ -136,6 +209,24 @@ class AtAShell(support.Commands):
         ("add", "the following arguments are required: NAME"),
         ("--database oracle://x list", "a database is sqlite:///.., postgresql://.. or mysql://.."),
         ("--database users.db list", "a database is sqlite:///.., postgresql://.. or mysql://.."),
+        ("--database postgresql+psycopg://x/y list", "a database is sqlite:///.., postgresql://.."),
     )
     def test_commands(self, words, said):
         self.assertIn(said, self.streams(*words.split(), given="x", status=1)[1])
+
+    @each(
+        ("list", "no database: --database URL, or RIGZUMAL_DATABASE", 1),
+        ("--database sqlite:///none.db list", "none.db: no such file; init makes one", 5),
+        ("--database postgresql://127.0.0.1:1/x init", "Connection refused", 5),
+        ("--database mariadb://127.0.0.1:1/x init", "Can't connect to MySQL server on", 5),
+    )
+    def test_databases(self, words, said, status):
+        for name in ("psycopg", "pymysql"):
+            module(name)
+        with mock.patch.dict(os.environ):
+            del os.environ["RIGZUMAL_DATABASE"]
+            self.assertIn(said, self.streams(*words.split(), status=status)[1])
+
+    def test_a_password_that_is_not_followed_by_another(self):
+        _, found = self.streams("change", "ada", given="old\n", status=6)
+        self.assertIn("change reads two lines: the old password and the new one", found)

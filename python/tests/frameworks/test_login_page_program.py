@@ -7,9 +7,11 @@ import signal
 import socket
 import sqlite3
 import subprocess
+import sys
 import threading
 
 from login_clients import EXAMPLE, GUESS, NEW, OLD, Browser, Remote, Served, store
+from tests.helpers import each, ended
 
 HEADERS = {
     "Content-Security-Policy": "default-src 'none'; style-src 'self'; form-action 'self';"
@@ -43,6 +45,21 @@ class Program(Served):
             self.assertIn(costs, kept.execute(query, [name]).fetchone()[0])
         for secret in (OLD, NEW, GUESS):
             self.assertNotIn(secret, (self.folder / "log").read_text())
+
+    @each(
+        ({"PORT": "80x"}, "PORT is a number up to 65535, not '80x'"),
+        ({"PORT": "65536"}, "PORT is a number up to 65535, not '65536'"),
+        ({"MEMORY": "64M"}, "MEMORY is a number up to 2097152, not '64M'"),
+        ({"DATABASE": "mysql://x"}, "DATABASE is a file of SQLite or postgresql://.."),
+    )
+    def test_settings_that_are_refused(self, env, said):
+        """In a line, and no file is made."""
+        given = {"DATABASE": str(self.database), **env}
+        done = ended([sys.executable, str(EXAMPLE / "login_page.py")], env={**os.environ, **given})
+        self.assertEqual((done.status, done.written), (1, ""))
+        self.assertTrue(done.faults.startswith(said), done.faults)
+        self.assertEqual(done.faults.count("\n"), 1)
+        self.assertFalse(self.database.exists())
 
     def test_requests(self):
         """No file but the style is sent: neither a source, nor what is kept. A form is short."""

@@ -152,7 +152,7 @@ class Refusals(unittest.TestCase):
             "        print(type(refused).__name__, refused.number, refused)\n"
             "print(PasswordHasher(1, 8, 1).hash('x')[:9])\n"
         )
-        lines = python("-c", script).splitlines()
+        lines = python("-W", "ignore", "-c", script).splitlines()
         wanted = [f"{it}Error 8 Memory allocation error" for it in ("Hashing", "Verification")]
         self.assertEqual(lines, ["OutOfMemoryError 8 out of memory", *wanted, "$argon2id"])
         self.assertTrue(issubclass(rigzumal.OutOfMemoryError, MemoryError))

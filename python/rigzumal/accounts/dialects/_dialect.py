@@ -240,6 +240,14 @@ class Dialect:
         """Commits, and raises unless the change surely stays."""
         await session.execute(self.commit_sql)
 
+    async def hold(self, session: Session) -> None:
+        """Marks an open transaction before a caller's hook, for `is_held`."""
+
+    async def is_held(self, session: Session) -> bool:
+        """Whether the transaction that is open is the one that was marked, if the engine lets a
+        hook begin another by one word."""
+        return True
+
     async def settle(self, session: Session) -> None:
         """Has the constraints judged that COMMIT would judge, in a trial that is rolled back."""
 

@@ -24,6 +24,7 @@ NOBODYS_RECORD: Final = f"$argon2id$v=19$m=8,t=1,p=1$bm9ib2R5J3M${'A' * 43}"
 _AGAIN: Final = frozenset({1213, 1205, 1020, 3024})
 _TIME_IS_OVER: Final = 1969  # max_statement_time: at a COMMIT it tells nothing
 _NOTHING_DONE: Final = 1205
+_NO_SAVEPOINT: Final = 1305
 # 1290, 1836: it is read only; 1040, 1203: too many clients, or too many of this user.
 _ELSEWHERE: Final = frozenset({1290, 1836, 1040, 1203})
 # 0 and 2xxx: the connection; 4031: it was idle for too long; 1047: a Galera node outside
@@ -137,6 +138,19 @@ class MariaDB(Dialect):
             raise StoreFault(ANOTHER_RECORD)
         return result
 
+    async def hold(self, session: Session) -> None:
+        # A BEGIN of a hook's commits what is open, and the mark goes with it.
+        await session.execute("SAVEPOINT rigzumal_also")
+
+    async def is_held(self, session: Session) -> bool:
+        try:
+            await session.execute("RELEASE SAVEPOINT rigzumal_also")
+        except Exception as raised:
+            if _number(raised) != _NO_SAVEPOINT:
+                raise
+            return False
+        return True
+
     def rows_of(self, conn: Any, sql: str) -> Iterator[tuple[Any, ...]]:
         from pymysql.cursors import SSCursor  # the default reads all rows first
 
@@ -208,7 +222,7 @@ class MariaDB(Dialect):
         if charset and charset not in ("ascii", "latin1", "utf8mb3", "utf8mb4", "utf8"):
             yield self.record_fault(f"in {charset}, whose bytes aren't those of ASCII")
         kinds = {
-            str: ("char", "varchar", "text", "uuid"),
+            str: ("char", "varchar", "text", "uuid", "enum"),
             int: ("tinyint", "smallint", "mediumint", "int", "bigint"),
             bytes: ("binary", "varbinary", "blob"),
         }

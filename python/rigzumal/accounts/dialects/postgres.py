@@ -21,7 +21,8 @@ _ELSEWHERE: Final = frozenset({"25006", "53300"})
 # transaction was idle for too long. Whatever was sent then may have been done.
 _LOST: Final = ("08", "57P0", "25P03")
 _UNKNOWN: Final = "40003"  # the server doesn't know whether what was sent was done
-_LACKS: Final = ("22P05", "22021")  # characters that the server's encoding doesn't have
+# Characters that the server's encoding doesn't have, and a name that is none of an enum's.
+_LACKS: Final = ("22P05", "22021", "22P02")
 # The server's own function that warns of a wait that was cancelled; its words are translated.
 _WAIT_FOR_STANDBY: Final = "SyncRepWaitForLSN"
 _COPY: Final = "COPY rigzumal_came (number, name, made) FROM STDIN"
@@ -270,7 +271,7 @@ class Postgres(Dialect):
         elif record not in ("text", "character varying", "citext"):
             yield self.record_fault(f"{record}, not text")
         kinds = {
-            str: ("text", "character", "citext", "name"),
+            str: ("text", "character", "citext", "name", "enum"),
             int: ("bigint", "integer", "smallint", "numeric"),
             bytes: ("bytea",),
             uuid.UUID: ("uuid",),
@@ -285,8 +286,8 @@ _COLUMNS: Final = (
     " WHERE attrelid = to_regclass(%s) AND attnum > 0 AND NOT attisdropped"
     " UNION ALL SELECT attname, typbasetype, greatest(size, typtypmod),"
     " bound OR typnotnull FROM found JOIN pg_type ON oid = kind WHERE typtype = 'd')"
-    " SELECT attname, format_type(kind, size), bound FROM found"
-    " JOIN pg_type ON oid = kind WHERE typtype <> 'd'"
+    " SELECT attname, CASE typtype WHEN 'e' THEN 'enum' ELSE format_type(kind, size) END, bound"
+    " FROM found JOIN pg_type ON oid = kind WHERE typtype <> 'd'"
 )
 # An AFTER trigger for each row: bit 0 is ROW, 1 BEFORE, 6 INSTEAD OF.
 _TRIGGERS: Final = (
