@@ -11,6 +11,7 @@ import unittest
 import breaking
 from breaking import OWN, lossy, queued, queued_tasks, resent_at_none
 from runs import GALERA, MARIADB, POSTGRES, SECONDS, SQLITE, Crashes, Pair, Run
+from runs import on_a_full_disk
 from runs import galera, killed_servers, lagging, legal, maria, maria_without_log, postgres, refused
 
 LOST = {"alter": lossy, "patience": 5.0}
@@ -50,6 +51,7 @@ class Histories(unittest.TestCase):
         print(f"{self.id().rpartition('.test_')[2]}: {said}", flush=True)
 
     test_sqlite_with_kills = is_legal(SQLITE, kill=True)
+    test_sqlite_on_a_full_disk = lambda self: self.told(on_a_full_disk(self, kill=True))
     test_sqlite_lost_commits = is_legal(SQLITE, **LOST)
     test_sqlite_lost_commits_in_pools = is_legal(SQLITE, **LOST_IN_POOLS)
     test_postgres_lost_commits = is_legal(POSTGRES, **LOST)

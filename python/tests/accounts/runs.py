@@ -6,10 +6,12 @@ import itertools
 import multiprocessing
 import os
 import random
+import re
 import signal
 import sys
 import time
 
+import disks
 import servers
 from galera import Galera
 from support import server
@@ -20,6 +22,10 @@ from torture import logs
 from torture._torture import LOW, hasher
 
 SECONDS = float(os.environ.get("RIGZUMAL_SECONDS", "8"))
+
+
+# What SQLite says then, in the words of Python before 3.11 too.
+FULL = "SQLITE_FULL|SQLITE_IOERR|OperationalError;"
 
 
 class Run:
@@ -43,7 +49,8 @@ class Run:
         os.dup2(os.open(f"{self.folder}.err", os.O_WRONLY | os.O_CREAT), 2)
         accounts = self.torture.run()
         found = torture.verdict(accounts)
-        summary = logs.summary(accounts.values()) + f", {self.torture.killed} killed"
+        summary = logs.summary(accounts.values())
+        summary += f", {self.torture.killed} killed, seed {self.torture.seed}"
         self.said.put((found and found.reason, found and [*map(str, found.part)], summary))
 
     def verdict(self):
@@ -55,14 +62,15 @@ class Run:
         return self.said.get()
 
 
-def legal(run):
+def legal(run, fault="nothing else"):
+    """The summary of a legal history, in which no fault came but of this form."""
     reason, part, summary = run.verdict()
     if reason:
         raise AssertionError(f"{reason}: {part}; {summary}")
     with open(f"{run.folder}.err") as file:
         # A replica may not have the table yet.
         lines = {line.strip() for line in file if "42P01" not in line}
-    faults = [it for it in lines if it.startswith("StoreFault")]
+    faults = [it for it in lines if it.startswith("StoreFault") and not re.search(fault, it)]
     if faults:
         raise AssertionError(f"the history is legal, but {faults}")
     return summary
@@ -104,6 +112,19 @@ def killed_servers(run, node, pause=1.5):
         count += 1
         run.process.join(pause)
     return f"{legal(run)}, {count} kills of the server"
+
+
+def on_a_full_disk(case, **given):
+    """The verdict of a run on SQLite, whose disk is full every other moment."""
+    folder = disks.small_disk(case, "2m")
+    run = Run(f"sqlite:///{folder}/users.db", **given)
+    count = 0
+    while run.process.is_alive():
+        run.process.join(0.5)
+        with disks.full(folder):
+            run.process.join(0.2)
+        count += 1
+    return f"{legal(run, FULL)}, {count} times full"
 
 
 class Pair:

@@ -1,17 +1,15 @@
 """A file of SQLite on a disk that is full or ill. The disk is a small one of memory, which root
 alone mounts."""
 
-import contextlib
 import os
 import sqlite3
 import subprocess
 import sys
-import tempfile
 from unittest import mock
 
+from disks import full, small_disk
 from support import HIGH, Base, each
 from rigzumal.accounts import OutcomeUnknown, Reply, StoreFault
-from tests.helpers import need_root
 
 
 class FullDisk(Base):
@@ -19,12 +17,7 @@ class FullDisk(Base):
 
     def setUp(self):
         super().setUp()
-        need_root()
-        self.folder = self.enterContext(tempfile.TemporaryDirectory(prefix="rigzumal-full-"))
-        mounting = ["mount", "-t", "tmpfs", "-o", "size=120k", "tmpfs", self.folder]
-        if subprocess.run(mounting, capture_output=True).returncode:
-            self.skipTest("nothing can be mounted here")
-        self.addCleanup(subprocess.run, ["umount", "-l", self.folder], check=True)
+        self.folder = small_disk(self, "120k")
 
     def begin(self, mode):
         """With a table on that disk in a mode of SQLite's journal: of `ann`, `low` and `none`."""
@@ -36,16 +29,6 @@ class FullDisk(Base):
         for name, password in (("ann", "one"), ("low", "one"), ("none", None)):
             self.give(password, name)
 
-    @contextlib.contextmanager
-    def full(self):
-        """Nothing more fits on the disk, within."""
-        path = os.path.join(self.folder, "filling")
-        with open(path, "wb", buffering=0) as filling, contextlib.suppress(OSError):
-            while True:
-                filling.write(b"x" * 4096)
-        yield
-        os.remove(path)
-
     @each("WAL", "DELETE")
     def test_what_each_operation_answers(self, mode):
         """Logins go on, each change is a fault, and what stood stands."""
@@ -53,7 +36,7 @@ class FullDisk(Base):
         accounts = self.accounts(HIGH, patience=60.0)
         accounts.verify("ann", "one")
         stood = self.execute("SELECT name, record FROM users ORDER BY name")
-        with self.full(), self.no_pause(accounts):
+        with full(self.folder), self.no_pause(accounts):
             self.assert_replies("login low one yes; login low two no; verify ann one yes", accounts)
             for name, *given in (
                 ("change", "ann", "one", "two"),

@@ -47,7 +47,7 @@ class Tortures(Base):
         """However short it is, somebody was killed, and the table goes again."""
         said = self.command("--processes=2", "--kill")
         self.assertTrue(said.startswith("legal: "), said)
-        (killed,) = re.findall(r", (\d+) killed\n", said)
+        (killed,) = re.findall(r", (\d+) killed, seed \d+\n", said)
         self.assertGreater(int(killed), 0)
         self.assertIn(", 0 killed", self.command("--processes=2"))
         found = self.conn.execute("SELECT name FROM sqlite_master WHERE type = 'table'")

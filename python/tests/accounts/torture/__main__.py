@@ -23,6 +23,7 @@ def parser():
     words.add_argument("--processes", type=positive, default=8)
     words.add_argument("--seconds", type=positive, default=60)
     words.add_argument("--accounts", type=positive, default=4)
+    words.add_argument("--seed", type=int, default=argparse.SUPPRESS, help="of what is asked")
     words.add_argument("--kill", action="store_true", help="processes, now and then")
     words.add_argument("--confirm", action="store_true", help="each answer, by a write")
     words.add_argument("--logs", type=pathlib.Path, dest="folder", help="a folder for the logs")
@@ -33,7 +34,7 @@ def parser():
 def fault_of(made):
     """Runs it; what is wrong with its history, and nothing if it is legal and shows enough."""
     accounts = made.run()
-    if not logs.is_legal(accounts, f", {made.killed} killed"):
+    if not logs.is_legal(accounts, f", {made.killed} killed, seed {made.seed}"):
         return f"the table stays, and the logs: {made.folder}"
     if not any(it.makes_change for one in accounts.values() for it in one.operations):
         return "no change was made, so nothing is shown"

@@ -65,6 +65,9 @@ class Torture:
     alter: Optional[Callable[[Any], None]] = None  # a test may break what is used
     settings: tuple[str, ...] = ()  # SQL for each blocking connection to begin with
     killed: int = 0  # how many processes were killed
+    started: int = 0  # how many processes were started
+    # Of what is done and asked; the system decides what comes first.
+    seed: int = dataclasses.field(default_factory=lambda: random.SystemRandom().getrandbits(32))
 
     def run(self):
         """Runs it, and returns what was logged.
@@ -74,6 +77,7 @@ class Torture:
         """
         self.folder = self.folder or pathlib.Path(tempfile.mkdtemp(prefix="torture-"))
         self.folder.mkdir(exist_ok=True)
+        random.seed(self.seed)
         names = [f"user{number}" for number in range(self.accounts)]
         top = logs.Log(self.folder / "log-top")
         self._fill(names, top)
@@ -156,7 +160,10 @@ class Torture:
     def _start(self, number, names, end, risk):
         """A process by fork, so that it begins at once; no connection is open here."""
 
+        self.started += 1
+
         def work():
+            random.seed(f"{self.seed} {self.started}")
             asyncio.run(Worker(self, number, risk).work(names, end))
 
         process = multiprocessing.get_context("fork").Process(target=work)
@@ -230,7 +237,7 @@ class Worker:
         await asyncio.gather(*(self._task(names, end) for _ in range(count)))
 
     async def _task(self, names, end):
-        rng = random.Random(os.urandom(8))
+        rng = random.Random(random.getrandbits(64))
         accounts = {memory: self._accounts(memory) for memory in (LOW, HIGH)}
         kinds, weights = zip(*self.torture.mix.items())
         while time.monotonic() < end:
