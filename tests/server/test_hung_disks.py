@@ -58,7 +58,8 @@ def has_ended(pid: int) -> bool:
 
 def notes(path: pathlib.Path) -> int:
     """How many whole lines an audit log has."""
-    return len([json.loads(line) for line in path.read_text().splitlines()])
+    whole, _, _ = path.read_text().rpartition("\n")
+    return len([json.loads(line) for line in whole.splitlines()])
 
 
 class HungDisks(Case):
