@@ -5,7 +5,7 @@ import os
 import pathlib
 import signal
 
-from served import SECRET, Case, need, need_root, until
+from served import FRESH, SECRET, Case, need, need_root, until
 from tests.helpers import run
 from tests.needs import need_file
 
@@ -94,6 +94,20 @@ class HungDisks(Case):
         service.client().talk("verify ada {secret} -> yes")
         service.stop()
         self.assertIn(f"{audit} lacks 1 lines", service.log())
+
+    def test_an_end_of_a_book(self) -> None:
+        """It ends though its book can't: no signal ends a process that such a write holds up."""
+        disk = Disk(self)
+        service = self.serving(file=disk.folder / "users.db").enrol(ada="secret")
+        disk.hang()
+        client = service.client()
+        client.send(f"a change ada {SECRET} {FRESH}\n")
+        until(lambda: f"change ada {SECRET} {FRESH}" in service.asked(), "the line")
+        service.process.terminate()
+        status, log = service.ended()
+        self.assertEqual(status, 128 + signal.SIGKILL)
+        self.assertIn("the book can't be killed: its disk hangs", log)
+        self.assertEqual(client.line(), b"")
 
     def test_a_killed_writer(self) -> None:
         """The process that writes the log is begun anew at the next line."""
