@@ -11,12 +11,12 @@ import hashlib
 import hmac
 import logging
 import os
-import pathlib
 import secrets
 import signal
 import sys
 from typing import Any, Optional
 
+import environment
 import waitress
 from flask import Blueprint, Flask, Response, abort, current_app, g, redirect, render_template
 from flask import request
@@ -25,7 +25,6 @@ from rigzumal import PasswordHasher
 from store import Store
 from werkzeug.exceptions import HTTPException
 
-HERE = pathlib.Path(__file__).resolve().parent
 FORM = 8192  # bytes of one
 NOBODY = "?"  # a name that nobody can have
 NO = "The name or the password is wrong."
@@ -177,19 +176,17 @@ def server(store: Store, port: int) -> Any:
     )
 
 
-def number(name: str, otherwise: int, most: int) -> int:
-    """A setting that is a number."""
-    text = os.environ.get(name, str(otherwise))
-    if not (text.isascii() and text.isdigit() and int(text) <= most):
-        raise SystemExit(f"{name} is a number up to {most}, not {text!r}: README.md has its unit")
-    return int(text)
-
-
 def main() -> None:
-    database = os.environ.get("DATABASE", str(HERE / "data" / "login_page.db"))
-    port = number("PORT", 8000, 65535)
-    hasher = PasswordHasher(memory_cost=number("MEMORY", 65536, 2**21))
-    serving = server(Store(database, hasher), port)
+    hasher = PasswordHasher(memory_cost=environment.number("MEMORY", 65536, 32, 2097152))
+    port, database = environment.number("PORT", 8000, 0, 65535), environment.database()
+    try:
+        store = Store(database, hasher)
+    except Exception as fault:
+        raise environment.refused("DATABASE", fault) from None
+    try:
+        serving = server(store, port)
+    except OSError as fault:
+        raise environment.refused("PORT", fault) from None
     print(f"http://127.0.0.1:{serving.effective_port}/", flush=True)
     logging.getLogger("waitress.queue").setLevel(logging.ERROR)  # a busy moment is none
     for ends in (signal.SIGINT, signal.SIGTERM):

@@ -13,6 +13,7 @@ from collections.abc import Callable, Iterator
 from functools import partial
 from typing import Any, Optional
 
+from environment import POSTGRES
 from rigzumal import PasswordHasher
 from rigzumal.accounts import Accounts, PerThread, Postgres, Reply, Sqlite
 from rigzumal.accounts.dialects import Dialect
@@ -33,15 +34,13 @@ class Store:
 
     def __init__(self, database: str, hasher: PasswordHasher) -> None:
         self._lost: Any = ()  # what says that the server has closed a connection
-        if database.startswith(("postgres:", "postgresql:")):
+        if database.startswith(POSTGRES):
             import psycopg
 
             self._lost = psycopg.OperationalError
             limits: dict[str, Any] = {"connect_timeout": 5, "tcp_user_timeout": 10_000}
             self._pool = PerThread(lambda: psycopg.connect(database, autocommit=True, **limits))
             self._dialect: Dialect = Postgres("account", "name", "record")
-        elif "://" in database:
-            raise SystemExit("DATABASE is a file of SQLite or postgresql://..")
         else:
             self._pool = PerThread(lambda: _sqlite(database))
             self._dialect = Sqlite("account", "name", "record")
@@ -165,7 +164,7 @@ def _hash(text: str) -> str:
 def _sqlite(database: str) -> sqlite3.Connection:
     """A connection. The file, its folder, and what SQLite adds, are for their owner alone."""
     file = pathlib.Path(database)
-    file.parent.mkdir(mode=0o700, parents=True, exist_ok=True)
+    file.parent.mkdir(mode=0o700, exist_ok=True)
     file.touch(mode=0o600)
     file.chmod(0o600)
     conn = sqlite3.connect(database, isolation_level=None, timeout=30)

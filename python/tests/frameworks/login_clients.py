@@ -134,6 +134,7 @@ class Served(Case):
         super().setUp()
         self.folder = self.room()
         self.database = self.folder / "data" / "page.db"
+        self.database.parent.mkdir()
 
     @contextlib.contextmanager
     def started(self, **env):

@@ -14,7 +14,7 @@ import urllib.parse
 from concurrent.futures import ThreadPoolExecutor
 from unittest import mock
 
-from login_clients import CHEAP, DATABASE, GUESS, NEW, NUMBERS, OLD, STORE, Browser, Page
+from login_clients import CHEAP, DATABASE, EXAMPLE, GUESS, NEW, NUMBERS, OLD, STORE, Browser, Page
 from login_clients import login_page, store, twice
 from markupsafe import escape
 
@@ -343,3 +343,34 @@ class Limits(Page):
         self.assertIsNone(STORE.sign_up("ann", "evil password", "old"))
         self.assertIsNone(STORE.log_in("ann", "evil password", "old"))
         self.assertEqual(STORE.who(STORE.sign_up("ben", "a password", "old")), "ben")
+
+
+class Style(unittest.TestCase):
+    """What can be seen, by WCAG 2.2: 1.4.11 of the focus, and a button where colours are forced."""
+
+    def setUp(self):
+        style = (EXAMPLE / "static/style.css").read_text()
+        light, _, dark = style.partition("@media (prefers-color-scheme: dark)")
+        self.rules = dict(re.findall(r"^([^{}@]+?) \{ (.*) \}$", light, re.M))
+        colours = [dict(re.findall(r"(--\w+): (#\w{6})", it)) for it in (light, dark)]
+        # Browsers' own grounds.
+        self.looks = (("#ffffff", colours[0]), ("#121212", {**colours[0], **colours[1]}))
+
+    def luminance(self, colour):
+        parts = [int(colour[at : at + 2], 16) / 255 for at in (1, 3, 5)]
+        red, green, blue = (
+            it / 12.92 if it <= 0.04045 else ((it + 0.055) / 1.055) ** 2.4 for it in parts
+        )
+        return 0.2126 * red + 0.7152 * green + 0.0722 * blue
+
+    def test_focus(self):
+        """The ring has 3 to 1 at least, in light and dark."""
+        (name,) = re.findall(r"outline: \dpx solid var\((--\w+)\)", self.rules[":focus-visible"])
+        for ground, colours in self.looks:
+            lights = [self.luminance(it) + 0.05 for it in (ground, colours[name])]
+            with self.subTest(ground):
+                self.assertLess(3, max(lights) / min(lights))
+
+    def test_button(self):
+        """Its border is transparent, and forced colours give it theirs."""
+        self.assertRegex(self.rules["button"], r"\bborder: 1px solid transparent;")

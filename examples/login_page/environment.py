@@ -1,0 +1,43 @@
+"""What the environment sets: each value is looked at first, and refused by its name."""
+
+from __future__ import annotations
+
+import os
+import pathlib
+import sqlite3
+
+HERE = pathlib.Path(__file__).resolve().parent
+POSTGRES = ("postgres://", "postgresql://")
+
+
+def number(name: str, default: int, least: int, most: int) -> int:
+    """A whole number of this range."""
+    text = os.environ.get(name) or str(default)
+    if not (text.isascii() and text.isdigit() and least <= int(text) <= most):
+        raise SystemExit(f"{name} has to be a number from {least} to {most}, not {text!r}")
+    return int(text)
+
+
+def database() -> str:
+    """An address of PostgreSQL, or a file of SQLite, whose folder is there if it isn't our own. An
+    address may have a password in it, so no error shows one."""
+    place = os.environ.get("DATABASE")
+    if not place:
+        return str(HERE / "data" / "login_page.db")
+    if place.startswith(POSTGRES):
+        return place
+    if "://" in place or place.startswith("postgres"):
+        raise SystemExit("DATABASE has to be a file of SQLite, or postgresql://user@host/name")
+    folder = pathlib.Path(place).absolute().parent
+    if not folder.is_dir():
+        raise SystemExit(f"DATABASE: the folder {folder} isn't there")
+    return place
+
+
+def refused(name: str, fault: Exception) -> SystemExit:
+    """A value with which the page can't start. What a driver says of an address may show its
+    password, but for a connection that failed."""
+    is_shown = isinstance(fault, (OSError, ImportError, sqlite3.Error))
+    if is_shown or type(fault).__name__ == "OperationalError":
+        return SystemExit(f"{name}: {fault}".strip())
+    return SystemExit(f"{name}: {type(fault).__name__}")
