@@ -79,7 +79,11 @@ class Manual(Directive):
         self.end_list("")
 
     def end_list(self, _):
-        self.at, self.text = self.section, None
+        """A paragraph begins in the section; within code it is an empty line."""
+        if self.code:
+            self.add("")
+        else:
+            self.at, self.text = self.section, None
 
     def end_line(self, _):
         self.text = None

@@ -52,7 +52,7 @@ def _words() -> argparse.ArgumentParser:
     verify = commands.add_parser("verify", help="writes yes, or no with status 4")
     verify.set_defaults(act=_verify)
     verify.add_argument("record")
-    fit = "writes the costs that fit a time on this machine"
+    fit = "prints the highest costs that keep a hash within a time here"
     calibrate = commands.add_parser("calibrate", help=fit)
     calibrate.set_defaults(act=_calibrate)
     add = calibrate.add_argument

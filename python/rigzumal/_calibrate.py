@@ -1,4 +1,4 @@
-"""The costs that fit a time on this machine."""
+"""The highest costs that keep a hash within a time on this machine."""
 
 from __future__ import annotations
 

@@ -48,7 +48,7 @@ _SYNONYMS = {
 
 
 class Words(argparse.ArgumentParser):
-    """A parser whose errors end with the status of refused words."""
+    """A parser that exits with status 1 if it refuses a word."""
 
     def error(self, message: str) -> NoReturn:
         """Ends the program, and hides a word that isn't taken: it may be a password."""

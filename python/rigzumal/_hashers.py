@@ -72,7 +72,7 @@ class _Hasher(Frozen):
 
     @property
     def costs(self) -> str:
-        """The costs, as at the front of a record: "$argon2id$v=19$m=65536,t=3,p=4"."""
+        """The front of a new record, such as "$argon2id$v=19$m=65536,t=3,p=4"."""
         return self._COSTS.format_map(vars(self)).lower()
 
     def _scheme(self) -> tuple[int, ...]:
@@ -157,7 +157,7 @@ def _is_record(password: Secret) -> bool:
 
 
 class PasswordHasher(_Hasher):
-    """Makes and verifies records by Argon2 (RFC 9106), version 0x13.
+    """Hashes passwords into records by Argon2 (RFC 9106), version 0x13, and verifies them.
 
     Attributes:
         time_cost: passes, 1 to 2^32 - 1.
@@ -250,7 +250,7 @@ class PasswordHasher(_Hasher):
 
 
 class ScryptHasher(_Hasher):
-    """Makes and verifies records by scrypt (RFC 7914).
+    """Hashes passwords into records by scrypt (RFC 7914), and verifies them.
 
     Attributes:
         log2_n: the cost N as a power of two, 1 to 23, below 16 * r.

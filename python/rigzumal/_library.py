@@ -230,7 +230,7 @@ def version() -> str:
 
 
 def trim() -> int:
-    """Gives the memory that is kept for the next hashes back to the system, and counts its bytes.
+    """Returns the memory that is kept for the next hashes to the system; answers how many bytes.
 
     The library keeps as much as hashes used at one time, up to the bound of `keep`. The system
     reclaims it when it is short of memory; this call is for a program that hashes seldom.

@@ -110,8 +110,8 @@ def backends(**_: Any) -> Messages:
     if _compares():
         if ModelBackend in found and not is_used:
             text = (
-                "The only ModelBackend is Django's own: a login that loses to changes is"
-                " an error page, and an inactive user's right password is rehashed."
+                "The only ModelBackend is Django's own: a login that loses to changes answers"
+                " with an error page, and an inactive user's right password is rehashed."
             )
             yield _message("W014", text, hint)
         return
@@ -205,7 +205,7 @@ def user_model(**_: Any) -> Messages:
 
 
 def _outcome() -> str:
-    return "a lost write is an error page" if _compares() else "it may undo a change"
+    return "a lost write answers with an error page" if _compares() else "it may undo a change"
 
 
 def admin_sites(**_: Any) -> Messages:
