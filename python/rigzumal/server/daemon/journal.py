@@ -95,26 +95,22 @@ class Journal(GrowingFile):
         await asyncio.to_thread(self.append, text)
 
 
-class AuditLog(Journal):
-    """A journal that another process writes, so that the server can end while its disk hangs."""
+class Writer:
+    """A process that writes a file, and the socket by which it gets what it writes."""
 
     def __init__(self, path: str) -> None:
-        super().__init__(path)
-        self.writer: Optional[subprocess.Popen[bytes]] = None
-
-    def begin_writer(self) -> None:
-        if self.writer is not None:  # which has ended
-            self.socket.close()
         self.socket, other = socket.socketpair()
         self.socket.setblocking(False)
-        words = [sys.executable, "-I", "-B", str(appending.__file__), self.path]
+        words = [sys.executable, "-I", "-B", str(appending.__file__), path]
         with other:  # in a session of its own: a terminal's signals are the server's
-            self.writer = subprocess.Popen(words, stdin=other.fileno(), start_new_session=True)
+            self.process = subprocess.Popen(words, stdin=other.fileno(), start_new_session=True)
 
-    async def write_text(self, text: bytes) -> None:
+    def has_ended(self) -> bool:
+        return self.process.poll() is not None
+
+    async def append(self, text: bytes) -> None:
+        """Has a text written to the disk; one at a time."""
         loop = asyncio.get_running_loop()
-        if self.writer is None or self.writer.poll() is not None:
-            self.begin_writer()
         await loop.sock_sendall(self.socket, SIZE.pack(len(text)) + text)
         answer = await loop.sock_recv(self.socket, FAULT.size)
         if len(answer) < FAULT.size:
@@ -122,6 +118,22 @@ class AuditLog(Journal):
         (number,) = FAULT.unpack(answer)
         if number:
             raise OSError(number, os.strerror(number))
+
+
+class AuditLog(Journal):
+    """A journal that another process writes, so that the server can end while its disk hangs."""
+
+    def __init__(self, path: str) -> None:
+        super().__init__(path)
+        self.writer: Optional[Writer] = None
+
+    async def write_text(self, text: bytes) -> None:
+        if self.writer is not None and self.writer.has_ended():
+            self.writer.socket.close()
+            self.writer = None
+        if self.writer is None:
+            self.writer = Writer(self.path)
+        await self.writer.append(text)
 
 
 class Marks(Journal):

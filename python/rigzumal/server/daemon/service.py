@@ -48,6 +48,17 @@ class Request:
     def kind(self) -> Kind:
         return OPERATIONS[self.words[0]]
 
+    @property
+    def name(self) -> str:
+        """The account's name, by which failed tries are counted."""
+        return self.words[1].decode(errors="replace")
+
+    @property
+    def person(self) -> str:
+        """The person whose failed tries are counted; nobody for a service, which logs many in."""
+        uid = self.client.owner
+        return f"uid={uid}" if uid in PEOPLE else ""
+
 
 class Service:
     """The book, its doors, and who may ask what and when."""
@@ -165,23 +176,12 @@ class Service:
         return local + at + domain.lower()
 
     async def process(self, request: Request) -> None:
-        """Has a request answered, unless its client has gone and it changes nothing."""
-        client, kind, tally, answer = request.client, request.kind, self.tally, b""
-        name = request.words[1].decode(errors="replace")
-        user = f"uid={client.owner}" if client.owner in PEOPLE else ""
-        came = time.monotonic()
-        async with client.queues[request.places]:  # one of its lines waits at a time
-            await request.places.take(client.user)
-        tally.waited += time.monotonic() - came
-        try:
-            if kind.changes or not client.has_gone():
-                answering = partial(self.answer_if_room, request)
-                judging = partial(tally.names.judge, name, answering)
-                answer = await (tally.users.judge(user, judging) if kind.tries else answering())
-        finally:
-            request.places.release(client.user)
+        """Has a request answered, and notes the answer: that of a change before the client has it,
+        and that of a login behind it, since a slow disk holds up no login."""
+        client, kind = request.client, request.kind
+        answer = await self.answer_in_turn(request)
         noted = b"disabled" if b":" in answer else answer  # not the record that a `disable` shows
-        tally.count(kind, name, user, noted.decode())
+        self.tally.count(kind, request.name, request.person, noted.decode())
         if answer == LATER:
             # After the time of a hash: names that the book lacks take that too.
             await asyncio.sleep(random.choice(self.login_seconds or [self.hash_seconds]))
@@ -191,9 +191,32 @@ class Service:
         client.running -= 1
         client.answered.set()
         if not kind.changes:
-            await self.note(request, noted)  # a slow disk holds up no login
+            await self.note(request, noted)
         if answer == b"yes" and self.options.upgrade and request.words[0] == b"verify":
             await self.upgrade(request)
+
+    async def answer_in_turn(self, request: Request) -> bytes:
+        """The answer to a request, once it has a place; nothing for one that changes nothing, and
+        whose client has gone by then."""
+        client, came = request.client, time.monotonic()
+        async with client.queues[request.places]:  # one of its lines waits at a time
+            await request.places.take(client.user)
+        self.tally.waited += time.monotonic() - came
+        try:
+            if not request.kind.changes and client.has_gone():
+                return b""
+            return await self.answer_within_tries(request)
+        finally:
+            request.places.release(client.user)
+
+    async def answer_within_tries(self, request: Request) -> bytes:
+        """The answer to a request; LATER if too many tries at its name, or of its person, failed
+        before."""
+        answering = partial(self.answer_if_room, request)
+        if not request.kind.tries:
+            return await answering()
+        judging = partial(self.tally.names.judge, request.name, answering)
+        return await self.tally.users.judge(request.person, judging)
 
     def has_room(self) -> bool:
         """Whether the book's disk has room for a change: one that finds none ends the book."""
