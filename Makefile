@@ -105,7 +105,7 @@ TO_SHELLS = '$(DESTDIR)$(BASH_DIR)' '$(DESTDIR)$(ZSH_DIR)' '$(DESTDIR)$(FISH_DIR
 
 # The programs that were built, the server with its units, their pages and completions.
 install-programs:
-	packaging/folders make $(NOTED) $(TO_LIBEXEC) $(TO_PREFIX)/bin $(TO_PREFIX)/sbin $(TO_DAEMON) \
+	packaging/folders make $(NOTED) programs $(TO_LIBEXEC) $(TO_PREFIX)/bin $(TO_PREFIX)/sbin $(TO_DAEMON) \
 		$(TO_MAN)/man1 $(TO_MAN)/man5 $(TO_MAN)/man8 $(TO_UNITS) $(TO_SHELLS)
 	for name in $(PROGRAMS); do \
 		install -m 755 crates/$$name/out/$$name $(TO_LIBEXEC) && \
@@ -132,4 +132,4 @@ uninstall:
 	rm -rf $(TO_DAEMON)/__pycache__
 	rm -f $(PAGES:%=$(TO_MAN)/%) $(UNITS:%=$(TO_UNITS)/%)
 	$(PYTHON) tools/completions.py --remove $(TO_SHELLS)
-	packaging/folders forget $(NOTED)
+	packaging/folders remove $(NOTED) programs

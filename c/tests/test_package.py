@@ -25,6 +25,7 @@ INSTALLED = {
     "lib/pkgconfig/rigzumal.pc",
     "lib/rigzumal/libargon2.so.1",
     "share/man/man3/rigzumal.3",
+    "share/rigzumal/folders",
 }
 
 

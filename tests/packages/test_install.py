@@ -184,7 +184,6 @@ class Folders(helpers.Case):
         (self.prefix / "lib/pkgconfig/other.pc").touch()
         for part in self.parts:
             self.make(part, "uninstall")
-        run("packaging/folders", "forget", self.prefix / "share/rigzumal/folders")
         ours = ("lib", "lib/pkgconfig", "lib/pkgconfig/other.pc", "share", "share/zsh")
         wanted = ["usr", "usr/local", *(f"usr/local/{it}" for it in ours)]
         self.assertEqual(self.left(), wanted)

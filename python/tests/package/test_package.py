@@ -33,6 +33,8 @@ OTHERS = {
     *("bin/rigzumal", "share/man/man1/rigzumal.1", "share/bash-completion/completions/rigzumal"),
     *("share/zsh/site-functions/_rigzumal", "share/fish/vendor_completions.d/rigzumal.fish"),
 }
+# The folders that install made, for uninstall: no package has them.
+NOTED = "share/rigzumal/folders"
 SCRIPTS = {"postinst": "py3compile", "prerm": "py3clean"}
 HASHES = (
     "import rigzumal; h = rigzumal.PasswordHasher(1, 64, 1)"
@@ -90,7 +92,7 @@ class Package(unittest.TestCase):
         make("install", f"DESTDIR={room}", "PREFIX=/opt/rigzumal")
         for folder in (prefix, room / "opt/rigzumal"):
             with self.subTest(folder=folder):
-                wanted = {f"{INSTALLED}/{it}" for it in FILES} | OTHERS
+                wanted = {f"{INSTALLED}/{it}" for it in FILES} | OTHERS | {NOTED}
                 self.assertEqual(files_below(folder), wanted)
         env = {**OVER_LIBRARY, "PYTHONPATH": str(prefix / INSTALLED)}
         check_hashing(sys.executable, env, prefix)
