@@ -78,6 +78,26 @@ foreach ([2, 3, 4, 99] as $id) {
 check(change($db, 1, 'guess', 'new') === null && change($db, 1, 'secret', 'new') === [1, record($db)], 'a change');
 check(!login($db, 'ann', 'secret') && login($db, 'ann', 'new'), 'after it');
 
+// An older service's records of bcrypt move at a login; one that is locked stays out, and as it is.
+$bcrypt = password_hash('secret', PASSWORD_BCRYPT, ['cost' => 4]);
+$locked = ['lok' => "!$bcrypt", 'star' => "*$bcrypt", 'cut' => substr($bcrypt, 0, -9), 'nologin' => 'nologin'];
+$insert = $db->prepare('INSERT OR REPLACE INTO users (name, record) VALUES (?, ?)');
+foreach (['bea' => $bcrypt, ...$locked] as $name => $record) {
+    $insert->execute([$name, $record]);
+}
+foreach (["bea\n", "bea\0", 'BEA', str_repeat('b', 1100)] as $name) {
+    check(login($db, $name, 'secret') === null, 'a name of nobody');
+}
+foreach (['guess', '', "secret\n", str_repeat('x', 1100), $bcrypt] as $password) {
+    check(login($db, 'bea', $password) === null, 'another password at bcrypt');
+}
+foreach ($locked as $name => $record) {
+    check(login($db, $name, 'secret') === null && read($db, $name)[1] === $record, "who is locked: $name");
+}
+check(read($db, 'bea')[1] === $bcrypt && login($db, 'bea', 'secret') === read($db, 'bea'), 'a login by bcrypt');
+check(password_get_info(read($db, 'bea')[1])['options'] == COSTS, 'its record moves');
+check(login($db, 'bea', 'secret') && !login($db, 'bea', 'guess'), 'and counts then');
+
 // What has no record costs a hash: in processor time, the least of three.
 $spend = function (string $name) use ($db): float {
     for ($least = INF, $turn = 0; $turn < 3; $turn++) {

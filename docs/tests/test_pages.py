@@ -384,17 +384,6 @@ assert hasher.check_needs_rehash(record) is {is_old}
         said = run(sys.executable, TOP / "tools/readme.py", "docs/MIGRATING.md")
         self.assertNotIn("not run", said)
 
-    def test_hook_of_htpasswd(self):
-        """docs/MIGRATING.md's hook lets in by the right password alone, whatever a visitor
-        sends."""
-        need_module("passlib", "bcrypt")
-        text = (HERE.parent / "MIGRATING.md").read_text()
-        (code,) = re.findall(r"^cat > from_htpasswd.py <<'END'\n(.*?)^END$", text, re.S | re.M)
-        page, program = self.folder / "from_htpasswd.py", HERE / "sample_of_a_hook.py"
-        page.write_text(code)
-        env = {"PYTHONPATH": os.pathsep.join(map(str, (PYTHON, TOP)))}
-        run(sys.executable, program, page, env=env, at=self.folder)
-
 
 if __name__ == "__main__":
     unittest.main()

@@ -1,0 +1,127 @@
+"""What docs/MIGRATING.md shows of a table with bcrypt, of an LDIF and of their hooks, with users who
+must stay out and with hostile fields: sample_of_moving.py PAGE."""
+
+import base64
+import pathlib
+import re
+import sqlite3
+import subprocess
+import sys
+
+import bcrypt
+import rigzumal
+from passlib.apps import ldap_context
+from rigzumal.accounts import Accounts, Reply
+from tests.hostile_fields import NAMES, PASSWORD, PASSWORDS, text_of
+
+LOW = rigzumal.PasswordHasher(time_cost=1, memory_cost=64, parallelism=1)
+rigzumal.PasswordHasher = lambda: LOW
+BCRYPT = bcrypt.hashpw(PASSWORD, bcrypt.gensalt(4)).decode()
+SSHA = ldap_context.hash(PASSWORD, scheme="ldap_salted_sha1")
+CRYPT = ldap_context.hash(PASSWORD, scheme="ldap_sha512_crypt", rounds=1000)
+# No password is right for one of these, nor the record itself.
+SHUT = {"star": "*", "mark": "!", "locked": f"!{BCRYPT}", "nothing": "", "plain": "secret"}
+SHUT |= {"none": None, "cut": BCRYPT[:-9], "shut": f"{{CRYPT}}!{CRYPT[7:]}", "nol": "nologin"}
+
+# Attributes of an entry: those who move, and those who don't.
+OPEN = {
+    "ann": f"userPassword: {SSHA}",
+    "ben": f"userPassword:: {base64.b64encode(CRYPT.encode()).decode()}",
+    "cid": f"userPassword: {{ARGON2}}{LOW.hash(PASSWORD)}",
+    "dan": f"shadowExpire: -1\nloginShell: /bin/sh\nuserPassword: {SSHA}",
+    "a" * 1100: f"userPassword: {SSHA}",
+}
+OUT = {
+    "locked": f"pwdAccountLockedTime: 000001010000Z\nuserPassword: {SSHA}",
+    "off": f"userPassword: {SSHA}\nnsAccountLock: TRUE",
+    "due": f"pwdReset: TRUE\nuserPassword: {SSHA}",
+    "shell": f"userPassword: {SSHA}\nloginShell: /usr/sbin/nologin",
+    "false": f"userPassword: {SSHA}\nLOGINSHELL: /bin/false",
+    "old": f"userPassword: {SSHA}\nshadowExpire: 1",
+    "mark": f"userPassword: {{CRYPT}}!{CRYPT[7:]}",
+    "star": "userPassword: {CRYPT}*",
+    "plain": "userPassword: secret",
+    "empty": "userPassword: ",
+    "none": "cn: none",
+    "lines": "userPassword:: " + base64.b64encode(f"{SSHA}\neve {SSHA}".encode()).decode(),
+    "two words": f"userPassword: {SSHA}",
+}
+CODED = ("ann\neve", "eve\0", "eve ")  # names that stand in base64
+
+
+def part(page: str, title: str) -> str:
+    return page.split(f"\n## {title}\n", 1)[1].split("\n## ", 1)[0]
+
+
+def files(text: str) -> dict[str, str]:
+    return dict(re.findall(r"^cat > (\w+\.py) <<'END'\n(.*?)^END$", text, re.S | re.M))
+
+
+def check_logins(accounts: Accounts, names: list[str], shut: list[str]) -> None:
+    """The right password alone lets in, once a record is of Argon2 too; nothing lets in the others,
+    and a name that isn't there has no account."""
+    for name in names:
+        for what, password in PASSWORDS.items():
+            for typed in (password, text_of(password)):
+                assert accounts.login(name, typed) is Reply.NO, (name, what)
+        assert [accounts.login(name, PASSWORD) for _ in range(2)] == [Reply.YES] * 2, name
+    for name in shut:
+        for typed in (PASSWORD, "", *PASSWORDS.values(), str(SHUT.get(name))):
+            assert accounts.login(name, typed) is not Reply.YES, (name, typed)
+    for what, name in NAMES.items():
+        if text_of(name) not in names:
+            assert accounts.login(text_of(name), PASSWORD) is Reply.NO_ACCOUNT, what
+
+
+def check_table(page: str) -> None:
+    """bcrypt in a table of one's own, of which one user is no longer active."""
+    for name, code in files(part(page, "bcrypt in a table of your own")).items():
+        pathlib.Path(name).write_text(code)
+    import shop
+
+    with shop.connect() as conn:
+        conn.execute("CREATE TABLE users (email TEXT PRIMARY KEY, password TEXT, active INT)")
+        rows = [("ann", BCRYPT, 1), ("off", BCRYPT, 0), *((*it, 1) for it in SHUT.items())]
+        conn.executemany("INSERT INTO users VALUES (?, ?, ?)", rows)
+    for name in (*SHUT, "off", *map(text_of, NAMES.values())):
+        assert not shop.log_in(name, PASSWORD), name
+    assert [shop.log_in("ann", it) for it in ("a guess", PASSWORD)] == [False, True]
+    check_logins(shop.accounts, ["ann"], [*SHUT])
+    with shop.connect() as conn:
+        kept = dict(conn.execute("SELECT email, password FROM users").fetchall())
+    assert {it: kept[it] for it in SHUT} == SHUT
+    assert kept["ann"].startswith("$argon2id$")
+
+
+def check_ldif(page: str) -> None:
+    """An LDIF, by the page's Perl, and its hook."""
+    text = part(page, "LDAP")
+    code = files(text)["from_ldap.py"].partition("\nfor name in")[0]
+    (perl,) = re.findall(r"^perl .*?> records$", text, re.S | re.M)
+    entries = [f"dn: uid={it},dc=x\nuid: {it}\n{more}" for it, more in {**OPEN, **OUT}.items()]
+    for name in CODED:
+        coded = base64.b64encode(name.encode()).decode()
+        entries.append(f"dn: cn=x\nuid:: {coded}\nuserPassword: {SSHA}")
+    # A line is folded behind 76 letters.
+    folded = [re.sub("(?m)^(.{76})(?=.)", r"\1\n ", it) for it in entries]
+    pathlib.Path("people.ldif").write_text("\n\n".join(folded) + "\n")
+    subprocess.run(["bash", "-c", perl], check=True)
+    lines = [it.split(" ") for it in pathlib.Path("records").read_text().splitlines()]
+    assert [name for name, _ in lines] == [*OPEN], lines
+    with sqlite3.connect("accounts.db") as conn:
+        conn.execute("CREATE TABLE accounts (name TEXT PRIMARY KEY, record TEXT)")
+        conn.executemany("INSERT INTO accounts VALUES (?, ?)", lines)
+        conn.executemany("INSERT INTO accounts VALUES (?, ?)", SHUT.items())
+    names: dict[str, object] = {}
+    exec(code, names)
+    check_logins(names["accounts"], [*OPEN], [*SHUT, *OUT, "eve"])
+
+
+def main() -> None:
+    page = pathlib.Path(sys.argv[1]).read_text()
+    sys.path.insert(0, ".")
+    check_table(page)
+    check_ldif(page)
+
+
+main()
