@@ -28,6 +28,10 @@ SECONDS = float(os.environ.get("RIGZUMAL_SECONDS", "8"))
 FULL = "SQLITE_FULL|SQLITE_IOERR|OperationalError;"
 
 
+# What operations raise, by a line each.
+EXPECTED = re.compile("(StoreFault|OutcomeUnknown|Unavailable|NoConnection): ")
+
+
 class Run:
     """A torture in a process of its own, while this one kills servers."""
 
@@ -57,7 +61,9 @@ class Run:
         """Why it is illegal, by which operations, and how much was judged."""
         self.process.join()
         if self.process.exitcode:
-            tail = open(f"{self.folder}.err").read()[-3000:]
+            with open(f"{self.folder}.err") as file:
+                told = [line for line in file if not EXPECTED.match(line)]
+            tail = "".join(told)[-9000:]
             raise AssertionError(f"the run ended with {self.process.exitcode}: {tail}")
         return self.said.get()
 
@@ -117,7 +123,9 @@ def killed_servers(run, node, pause=1.5):
 def on_a_full_disk(case, **given):
     """The verdict of a run on SQLite, whose disk is full every other moment."""
     folder = disks.small_disk(case, "2m")
-    run = Run(f"sqlite:///{folder}/users.db", **given)
+    # In a caller's own transaction a full disk is the driver's error, which is the caller's.
+    ways = ("whole", "also", "parts")
+    run = Run(f"sqlite:///{folder}/users.db", ways=ways, **given)
     count = 0
     while run.process.is_alive():
         run.process.join(0.5)
