@@ -78,11 +78,12 @@ def unlooked(accounts):
 class LeavesOpen(PerThread):
     """Leaves a connection open after an exception, for what a thread may still send."""
 
-    def __exit__(self, kind, *error):
-        if kind is not None:
-            self._parents.append(self._local.held)
+    def _take_back(self, held, is_well):
+        if is_well:
+            super()._take_back(held, is_well)
+        else:
+            self._parents.append(held)
             self._local.held = None
-        super().__exit__(kind, *error)
 
 
 class Left(BaseException):
