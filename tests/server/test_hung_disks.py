@@ -1,4 +1,4 @@
-"""Tests of bin/credkeep-server: a disk that hangs, under the audit log or under all of its files."""
+"""Tests of bin/credkeep-server: a disk that hangs, under the audit log or under the book."""
 
 import json
 import os

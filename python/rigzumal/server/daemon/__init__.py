@@ -98,7 +98,7 @@ async def open_doors(service: Service) -> None:
 def beat_seconds() -> float:
     """How often systemd is told that the server goes on: in half of the time that it gives."""
     given = os.environ.get("WATCHDOG_USEC", "")
-    microseconds = int(given) if given.isdecimal() else 0
+    microseconds = float(given) if given.isdecimal() else 0.0
     return microseconds / 2e6 if microseconds else UNWATCHED_SECONDS
 
 
