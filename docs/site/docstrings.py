@@ -1,4 +1,7 @@
-"""Has the samples of docstrings read as code: what is set in by four behind an empty line."""
+"""Has the samples of docstrings read as code: what is set in by four behind an empty line. A
+parameter's name has a colon behind it."""
+
+from docutils import nodes
 
 
 def samples(_, kind, name, thing, options, lines):
@@ -14,6 +17,14 @@ def samples(_, kind, name, thing, options, lines):
     lines[:] = found
 
 
+def colons(app, doctree):
+    """Sphinx writes two hyphens between a name and its words."""
+    for text in [*doctree.findall(nodes.Text)]:
+        if text == " -- ":
+            text.parent.replace(text, nodes.Text(": "))
+
+
 def setup(app):
+    app.connect("doctree-read", colons)
     app.connect("autodoc-process-docstring", samples, priority=100)  # before napoleon
     return {"parallel_read_safe": True}
