@@ -4,7 +4,7 @@
 #include <stdbool.h>
 #include <stddef.h>
 
-/* How much of the stack is cleared: a quarter more than the deepest call uses, with lazy binding
+/* How much of the stack is cleared: a fifth more than the deepest call uses, with lazy binding
  * too, which tests/stacks.c measures. It fits into RIGZUMAL_STACK_SIZE. */
 enum { CLEARED_STACK = 22 * 1024 };
 

@@ -1,7 +1,7 @@
 /* Each call on small stacks: of RIGZUMAL_STACK_SIZE bytes, and of a thread with 32 KiB or the least
  * that the system allows. Below each stack no page can be read or written, so that a call which
  * reaches deeper ends the program. On a painted stack, of which it clears nothing, a call shows how
- * deep it reaches: a quarter more is cleared. The program is bound lazily, and LD_BIND_NOT has each
+ * deep it reaches: a fifth more is cleared. The program is bound lazily, and LD_BIND_NOT has each
  * call of the C library looked up anew. */
 #define _GNU_SOURCE
 #include "check.h"
@@ -72,7 +72,7 @@ static void call_on_paint(unsigned char *stack, size_t size) {
     is_painted = false;
     while (*stack == PAINT)
         stack++;
-    CHECK(5 * (frame - stack) <= 4 * CLEARED_STACK);
+    CHECK(6 * (frame - stack) <= 5 * CLEARED_STACK);
 }
 
 int main(void) {

@@ -15,7 +15,11 @@ from harness import built, need, need_file, need_glibc, need_host, run, sources_
 SECRET_CALLS = {
     ("rigzumal_argon2, small", "i"): [],
     ("rigzumal_argon2, small", "old"): [],
-    ("rigzumal_argon2, small", "id"): ["cred_argon::argon::", "cred_argon::block::"],
+    ("rigzumal_argon2, small", "id"): [
+        "cred_argon::argon::",
+        "cred_argon::block::",
+        "cred_argon::segment::",
+    ],
     ("rigzumal_scrypt, small", "i"): ["cred_scrypt::romix::", "cred_scrypt::key_derivation::"],
     ("rigzumal_argon2_write", "i"): [],
     ("rigzumal_record", "i"): [],
@@ -117,7 +121,7 @@ class Secrets(unittest.TestCase):
 
     def test_stacks(self):
         """Each call on as small a stack as the header says, and in a thread with 32 KiB; what is
-        cleared of the stack is a quarter more than any uses."""
+        cleared of the stack is a fifth more than any uses."""
         need_glibc()  # for contexts of other stacks
         self.of_each_build("stacks", env={"LD_BIND_NOT": "1"})
 
