@@ -98,9 +98,9 @@ PLANTS = (
     Plant("completions/rigzumal/bash", "import export list", "export list", "test_commands"),
     # The server and its clients
     Plant(
-        "python/rigzumal/server/daemon/web.py",
-        'b"denied": 403, b"later": 429',
-        'b"denied": 403, b"later": 403',
+        "python/rigzumal/server/daemon/answers.py",
+        '"later": Answer(http=429,',
+        '"later": Answer(http=403,',
         "tests/server/test_web",
     ),
     Plant(

@@ -25,13 +25,28 @@ VERIFIES = (
 PATH = ":".join(
     it for it in os.environ["PATH"].split(":") if not (pathlib.Path(it) / "rt").exists()
 )
-# A toolchain that writes what it was asked in the place of the compiled code.
+# A toolchain that writes for which processor it was asked in the place of the compiled code.
 RT = """#!/bin/sh
 case $1 in
-lib) mkdir -p out && echo "$*" > out/libcred_c.a ;;
+lib) ;;
+doc) echo "$HOME/kit/START-HERE.md" ;;
 *) echo "an rt of another day" ;;
 esac
 """
+RATTLE = """#!/bin/sh
+of=x86_64
+for it; do
+    case $it in
+    --cpu=*) asked=$it ;;
+    --target=*) asked=$it of=aarch64 ;;
+    esac
+    [ "$last" != -o ] || library=$it
+    last=$it
+done
+echo "$asked" > "$library"
+echo "logic=proved target=$of-unknown-linux-gnu"
+"""
+TOOLCHAIN = {"bin/rt": RT, "kit/bin/rattle": RATTLE, "kit/toolchain/bin/clang": ""}
 
 
 def copy(room):
@@ -136,26 +151,26 @@ class WithoutRt(helpers.Case):
         """Where rt is there it compiles, also what was taken before; what it made is kept where it
         is missing."""
         self.make("out/v1.a")
-        write_files(self.home, {"bin/rt": RT}, 0o755)
+        write_files(self.home, TOOLCHAIN, 0o755)
         with_rt = {"PATH": f"{self.home}/bin:{PATH}"}
-        self.assertIn("rt lib --cpu=x86-64", self.make("out/v1.a", **with_rt))
+        self.assertIn("compile_proved.py x86-64 out/v1.a", self.make("out/v1.a", **with_rt))
         archive = self.top / "c/out/v1.a"
-        self.assertEqual(archive.read_text(), "lib --cpu=x86-64\n")
+        self.assertEqual(archive.read_text(), "--cpu=x86-64\n")
         self.make("out/v1.a")
-        self.assertEqual(archive.read_text(), "lib --cpu=x86-64\n")
+        self.assertEqual(archive.read_text(), "--cpu=x86-64\n")
 
     def test_proved(self):
         """`make proved` writes what rt makes for each processor, and check-proved compares it byte
         for byte."""
-        write_files(self.home, {"bin/rt": RT}, 0o755)
+        write_files(self.home, TOOLCHAIN, 0o755)
         with_rt = {"PATH": f"{self.home}/bin:{PATH}"}
         self.assertIn("proved/x86_64/v1.a differ", self.make("check-proved", status=2, **with_rt))
         self.make("proved", folder=".", **with_rt)
         arm64, toolchain = (self.top / "c/proved" / it for it in ("arm64/generic.a", "toolchain"))
-        self.assertEqual(arm64.read_text(), "lib --target=aarch64-unknown-linux-gnu\n")
+        self.assertEqual(arm64.read_text(), "--target=aarch64-unknown-linux-gnu\n")
         self.assertEqual(toolchain.read_text(), "an rt of another day\n")
         self.make("check-proved", **with_rt)
-        arm64.write_text("lib --target=aarch64-unknown-linux-gnU\n")
+        arm64.write_text("--target=aarch64-unknown-linux-gnU\n")
         self.assertIn(
             "proved/arm64/generic.a differ", self.make("check-proved", status=2, **with_rt)
         )

@@ -37,7 +37,7 @@ OTHERS = {
 NOTED = "share/rigzumal/folders"
 SCRIPTS = {"postinst": "py3compile", "prerm": "py3clean"}
 HASHES = (
-    "import rigzumal; h = rigzumal.PasswordHasher(1, 64, 1)"
+    "import rigzumal; h = rigzumal.PasswordHasher(1, 8192, 1)"
     "; print(h.verify(h.hash('x'), 'x'), rigzumal.__file__)"
 )
 LETS_IN = """from rigzumal.accounts import Accounts, Reply
