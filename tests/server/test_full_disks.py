@@ -71,6 +71,16 @@ class FullDisks(Case):
         service.talk("login change ada {secret} {fresh} -> replaced")
         service.stop()
 
+    def test_a_link_to_the_book(self) -> None:
+        """The disk of the book itself counts, and not that of a link to it."""
+        folder, links = self.disk(), self.room()
+        self.over(folder).enrol(ada="secret").stop()
+        (links / "users.db").symlink_to(folder / "users.db")
+        service = self.over(folder, file=links / "users.db")
+        fill(folder, 0)
+        service.talk("admin account bob -> bad 19 disk")
+        service.talk(LOGINS)
+
     def test_locks(self) -> None:
         """A lock is a line beside the book: it finds room where a change of the book may not."""
         folder = self.disk()

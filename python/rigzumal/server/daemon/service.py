@@ -65,7 +65,7 @@ class Service:
 
     def __init__(self, options: Options) -> None:
         self.options = options
-        self.folder = os.path.dirname(os.path.abspath(options.file))
+        self.folder = os.path.dirname(os.path.realpath(options.file))  # where SQLite writes
         self.book = Book()
         self.tally = Tally(options)
         self.turns = Places(TURNS)
