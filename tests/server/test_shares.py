@@ -183,7 +183,8 @@ class Shares(Case):
     def test_subordinate_uids(self) -> None:
         """They are those of the person who has them, by subuid(5), and count as one user."""
         file = self.room() / "subuid"
-        file.write_text("1000:100000:65536\nroot:200000:10\nnobody.here:300000:10\nodd\n:::\n")
+        no_names = "nobody.here:300000:10\na\0b:300000:10\nodd\n:::\n"
+        file.write_text(f"1000:100000:65536\nroot:200000:10\n{no_names}")
         with mock.patch.object(shares, "SUBORDINATE", str(file)):
             for uid, owner in {
                 0: 0,

@@ -22,7 +22,7 @@ def owners_in(path: str, _version: tuple[int, ...]) -> dict[range, int]:
             if not found:
                 continue
             name, first, count = found[1], int(found[2]), int(found[3])
-            with suppress(KeyError):  # nobody has this name
+            with suppress(KeyError, ValueError):  # nobody has this name, or it can't be one
                 owner = int(name) if name.isdecimal() else pwd.getpwnam(name).pw_uid
                 owners[range(first, first + count)] = owner
     return owners
