@@ -157,7 +157,8 @@ class Folders(helpers.Case):
             self.parts.append("c/pam")
 
     def make(self, part, what):
-        folders = {"DESTDIR": self.top, "PREFIX": "/usr/local", "MANDIR": "/usr/local/share/man"}
+        prefix = f"/{self.prefix.relative_to(self.top)}"
+        folders = {"DESTDIR": self.top, "PREFIX": prefix, "MANDIR": f"{prefix}/share/man"}
         words = [f"{name}={value}" for name, value in folders.items()]
         run("make", "-s", "-C", TOP / part, what, *words)
 
@@ -187,6 +188,16 @@ class Folders(helpers.Case):
         ours = ("lib", "lib/pkgconfig", "lib/pkgconfig/other.pc", "share", "share/zsh")
         wanted = ["usr", "usr/local", *(f"usr/local/{it}" for it in ours)]
         self.assertEqual(self.left(), wanted)
+
+    def test_a_prefix_with_spaces(self):
+        """The module's part is noted where the others are, and nothing is left."""
+        self.prefix = self.top / "a prefix with spaces"
+        for part in self.parts:
+            self.make(part, "install")
+        self.assertEqual([it.name for it in self.top.iterdir()], [self.prefix.name])
+        for part in self.parts:
+            self.make(part, "uninstall")
+        self.assertEqual(self.left(), [])
 
     def test_a_package_has_no_list(self):
         need("dpkg-shlibdeps")
