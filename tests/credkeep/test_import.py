@@ -134,12 +134,22 @@ class OthersTest(ImportTest):
                 self.assertTrue(found.faults.startswith(done.faults.strip()), found.faults)
         self.assertEqual(self.book("list").status, 0)
         self.assertEqual(self.book("show", "ann").status, 0)
-        for said, shut in (("", ()), ("ann:locked\nbob:expired\nzoe:locked\n", ("ann", "bob"))):
-            with self.subTest(said=said):
-                ask = self.room / "credkeep-ask"  # in place of a server's answer
-                ask.write_text(f"#!/bin/sh\ncat <<'END'\n{said}END\n")
+        command = of_the_page("credkeep-ask --server locks > locks", lines=3)
+        renamed = "ann:locked\nbob:expired\n", "ann:locked\nbob.new:expired\n"
+        for before, behind, shut in (
+            ("", "", ()),
+            ("ann:locked\nbob:expired\nzoe:locked\n", "", ("ann", "bob")),
+            (*renamed, ("ann", "bob")),
+            (*renamed[::-1], ("ann", "bob")),
+        ):
+            with self.subTest(before=before, behind=behind):
+                ask = self.room / "credkeep-ask"  # in place of a server's answers
+                (self.room / "before").write_text(before)
+                (self.room / "behind").write_text(behind)
+                ask.write_text("#!/bin/sh\nif [ -e copy.db ]; then cat behind; else cat before; fi\n")
                 ask.chmod(0o755)
-                self.run_in_room(of_the_page("credkeep users.db backup", lines=2))
+                (self.room / "copy.db").unlink(missing_ok=True)
+                self.run_in_room(command)
                 left = {**accounts, **dict.fromkeys(shut, "")}
                 self.assertEqual((self.room / "passwd").read_text(), lines_of(left))
                 dovecot = self.run_in_room(of_the_page("sed -n 's/:\\$argon2"))
@@ -148,7 +158,7 @@ class OthersTest(ImportTest):
         (self.room / "credkeep-ask").write_text("#!/bin/sh\nexit 2\n")
         (self.room / "passwd").unlink()
         with self.assertRaises(Exception):
-            self.run_in_room(of_the_page("credkeep users.db backup", lines=2))
+            self.run_in_room(command)
         self.assertFalse((self.room / "passwd").exists(), "without the locks there are no lines")
 
 
