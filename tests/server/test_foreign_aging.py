@@ -1,6 +1,8 @@
 """Tests of bin/credkeep-server: users of an old file whom dates, or fields of Dovecot, shut out."""
 
 from foreign_case import MAKERS, ForeignCase, made_by
+from served import TOP
+from tests.helpers import ended
 
 # Fields behind a record of whom nobody lets in, and the reason in the log.
 SHUT_OUT = {
@@ -59,6 +61,15 @@ class ForeignAging(ForeignCase):
         for name in fields:
             service.talk(f"login verify {name} {{wrong}} -> no")
             service.talk(f"login verify {name} {{secret}} -> yes")
+
+    def test_barred_names_of_no_book(self) -> None:
+        """`locks` lists none, since the words of its answer are names of a book."""
+        names = ("more=5", "a b", "caf\u00e9", "ada", "b" * 33)
+        self.file.write_text("".join(f"{it}:x:::::x=y nologin=1\n" for it in names))
+        service = self.over()
+        service.talk("admin locks -> locks ada:locked")
+        ask = [str(TOP / "bin/credkeep-ask"), "--server", str(service.path("admin"))]
+        self.assertEqual(ended([*ask, "locks"]), (0, "ada:locked\n", ""))
 
     def test_who_must_change(self) -> None:
         """A right password is `expired` until it is changed: on the day 0, or if it is too old."""

@@ -95,10 +95,10 @@ class Foreign:
         return bool(self.last.get(name, Line()).bar(today()))
 
     def barred(self, name: bytes) -> set[bytes]:
-        """Of a name, or of all if it is empty, those whose users the file's lines bar, as it was
-        last read."""
+        """Of a name, or of all if it is empty, those of a book whose users the file's lines bar, as
+        it was last read."""
         lines = {name: self.last.get(name, Line())} if name else self.last
-        return {it for it, line in lines.items() if line.bar(today())}
+        return {it for it, line in lines.items() if NAME.fullmatch(it) and line.bar(today())}
 
     async def answer(self, request: Request) -> bytes:
         """The answer: the book's, or the file's where the book lacks the name."""
