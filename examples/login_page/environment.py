@@ -36,8 +36,8 @@ def database() -> str:
 
 def refused(name: str, fault: Exception) -> SystemExit:
     """A value with which the page can't start. What a driver says of an address may show its
-    password, but for a connection that failed."""
+    password, as of a slash in it, but for a connection that failed."""
     is_shown = isinstance(fault, (OSError, ImportError, sqlite3.Error))
-    if is_shown or type(fault).__name__ == "OperationalError":
+    if is_shown or str(fault).startswith("connection failed"):
         return SystemExit(f"{name}: {fault}".strip())
     return SystemExit(f"{name}: {type(fault).__name__}")
