@@ -161,6 +161,22 @@ class Floods(Case):
         with mock.patch.multiple(clients, CLIENTS=64, KEPT=4, share_of=share_of):
             self.assertEqual(asyncio.run(let_in()), 49)
 
+    def test_a_fault(self) -> None:
+        """It costs the client that is just let in, and the next one comes in."""
+        share_of = mock.Mock(side_effect=[ValueError("secret"), "other"])
+
+        async def let_in() -> int:
+            async with self.door(Service(Options())) as (door, stack):
+                for _ in range(2):
+                    stack.enter_context(Client(pathlib.Path(door.path)))
+                    for _ in range(100):
+                        await asyncio.sleep(0)
+                return door.counts["a", "other"]
+
+        with mock.patch.multiple(clients, share_of=share_of, log_seldom=mock.DEFAULT) as logged:
+            self.assertEqual(asyncio.run(let_in()), 1)
+        self.assertNotIn("secret", str(logged["log_seldom"].call_args_list))
+
     def test_many_users(self) -> None:
         """However many connections many users have between them, one who has none comes in."""
         many = [f"user {number}" for number in range(20) for _ in range(16)]

@@ -227,6 +227,9 @@ class Door:
                     await asyncio.sleep(0)
                 except OSError:  # no descriptor is free
                     await asyncio.sleep(0.1)
+                except Exception as fault:  # it costs one client, and never the socket
+                    what = type(fault).__name__
+                    log_seldom((self.name, what), "%s: a fault: %s", self.path, what)
 
     def has_place(self, own: int) -> bool:
         """Whether a user who has so many places may have one more: of those that the others leave
