@@ -227,7 +227,8 @@ class Service:
         return False
 
     async def answer_if_room(self, request: Request) -> bytes:
-        """The answer to a request. A change that can't be written, or noted, isn't made."""
+        """The answer to a request. A change isn't made if it finds no room, or if so many lines
+        wait for the audit log that it can't be noted."""
         if request.kind.changes and self.audit.is_full():
             return UNAVAILABLE
         is_of_book = request.kind.changes and not request.kind.is_mark
