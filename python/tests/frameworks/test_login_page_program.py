@@ -65,6 +65,7 @@ class Program(Served):
             ("DATABASE", "postgresql://ann:x@secret@127.0.0.1:1/x", "DATABASE: "),
         ):
             given = {"PORT": "0", "MEMORY": "64", "DATABASE": str(self.database), name: value}
+            given["PYTHONWARNINGS"] = "ignore:memory_cost="
             with self.subTest(name=name, value=value):
                 env, pipes = {**os.environ, **given}, {"capture_output": True, "text": True}
                 done = subprocess.run(PROGRAM, env=env, cwd=self.folder, timeout=300, **pipes)
