@@ -146,7 +146,8 @@ class OthersTest(ImportTest):
                 ask = self.room / "credkeep-ask"  # in place of a server's answers
                 (self.room / "before").write_text(before)
                 (self.room / "behind").write_text(behind)
-                ask.write_text("#!/bin/sh\nif [ -e copy.db ]; then cat behind; else cat before; fi\n")
+                which = "if [ -e copy.db ]; then cat behind; else cat before; fi"
+                ask.write_text(f"#!/bin/sh\n{which}\n")
                 ask.chmod(0o755)
                 (self.room / "copy.db").unlink(missing_ok=True)
                 self.run_in_room(command)
