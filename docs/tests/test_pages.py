@@ -144,7 +144,7 @@ class PagesTest(Case):
     def test_samples_of_hashing(self):
         """On both pages a right password alone replaces a record, and an old record alone."""
         made, word = 'record = hasher.hash("correct horse")', 'rehash(record, "correct horse")'
-        old = made.replace("hasher", "hasher.replace(time_cost=1, memory_cost=64)")
+        old = made.replace("hasher", "hasher.replace(time_cost=1, memory_cost=8192)")
         for page in ("README.md", "python/README.md"):
             (code,) = sample_for(page, "test_samples_of_hashing")
             self.assertEqual((code.count(made), code.count(word)), (1, 1))
