@@ -194,7 +194,8 @@ class Folders(helpers.Case):
         self.prefix = self.top / "a prefix with spaces"
         for part in self.parts:
             self.make(part, "install")
-        self.assertEqual([it.name for it in self.top.iterdir()], [self.prefix.name])
+        # below usr is the system's folder of PAM's modules
+        self.assertEqual({it.name for it in self.top.iterdir()} - {"usr"}, {self.prefix.name})
         for part in self.parts:
             self.make(part, "uninstall")
         self.assertEqual(self.left(), [])
