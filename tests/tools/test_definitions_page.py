@@ -120,6 +120,13 @@ class DefinitionsPage(Case):
     def page(self) -> str:
         return (self.top / "docs/DEFINITIONS.md").read_text()
 
+    def write_and_change(self, file: str, old: str, new: str) -> None:
+        """Has the page printed, and then replaces a text that a specification has once."""
+        self.told("--write")
+        path = self.top / "crates" / file
+        self.assertEqual(path.read_text().count(old), 1)
+        path.write_text(path.read_text().replace(old, new))
+
     def test_printed(self) -> None:
         """Each block has what it asks for, and what the one above it has isn't there twice."""
         blocks = ["high.Boxes.IsBox", "high.Boxes.IsItem, low.Sizes.limit"]
@@ -140,10 +147,7 @@ class DefinitionsPage(Case):
     )
     def test_changed(self, file: str, old: str, new: str, block: int) -> None:
         """A definition that changes is told, by the block that has it."""
-        self.told("--write")
-        path = self.top / "crates" / file
-        self.assertEqual(path.read_text().count(old), 1)
-        path.write_text(path.read_text().replace(old, new))
+        self.write_and_change(file, old, new)
         said = ["high.Boxes.IsBox", "high.Boxes.IsItem, low.Sizes.limit"][block]
         self.assertEqual(self.told(), (1, [f"docs/DEFINITIONS.md: {said} {ANEW}"]))
 
@@ -154,10 +158,7 @@ class DefinitionsPage(Case):
     )
     def test_same(self, file: str, old: str, new: str) -> None:
         """What no block has changes none."""
-        self.told("--write")
-        path = self.top / "crates" / file
-        self.assertEqual(path.read_text().count(old), 1)
-        path.write_text(path.read_text().replace(old, new))
+        self.write_and_change(file, old, new)
         self.assertEqual(self.told(), (0, AS_THEY_ARE))
 
     def test_in_a_page_that_was_edited(self) -> None:
