@@ -3,13 +3,13 @@ use Rattle.std.specs.Io.KnownBytes.{Appends, Keeps}
 use Rattle.std.specs.Prelude.{◌≡◌, ℕ, ◌≤◌, Bool, true, false, length, Option, Some, None, IfErr, IfSome, Result, Ok, Err}
 use Rattle.cred_book.specs.Accounts.{register_capacity}
 use Rattle.cred_admin.specs.{Commands.Obeys, Edits.DisablesShown, Edits.Edits}
-use Rattle.cred_admin.specs.{Listing.Prints, Listing.Tells, Listing.json_at, Listing.line_text, Listing.shown_at, Seen.Seen, Seen.seen}
+use Rattle.cred_admin.specs.{Listing.Prints, Listing.Tells, Listing.json_at, Listing.marked_line, Listing.shown_at, Marked.kept_book, Seen.Seen, Seen.seen}
 use Rattle.cred_admin.specs.{Statuses.status_of_fault, declared.fault.Fault.Fault, declared.import.ImportFault.ImportFault, declared.status.Status.Status}
 use Rattle.cred_admin.specs.declared.status.Status.TheVariants.{Done, Io, Memory, Database, Data}
 use Rattle.cred_cli.specs.{Outcome.FailsAs, Outcome.FrontWritten, Outcome.HasCause, Outcome.IsAnswered, Outcome.longest_script, Prompt.IsPrompt}
 use Rattle.cred_cli.specs.{Script.script_start, Service.Serves, Watched.Reading, Watched.Writing, declared.costs.CostBounds.CostBounds}
 use Rattle.cred_cli.specs.{declared.fault.ScriptFault.ScriptFault, declared.script.End.End}
-use Rattle.cred_file.specs.{Keeps.Keeps as IsKept, Kept.Kept, Opening.IsFound, Opening.IsUnopened, declared.fault.Lost.Lost, declared.fault.OpenFault.OpenFault}
+use Rattle.cred_file.specs.{Keeps.Keeps as IsKept, Kept.Kept, Kept.cells, Opening.IsFound, Opening.IsUnopened, declared.fault.Lost.Lost, declared.fault.OpenFault.OpenFault}
 use Rattle.sqlite.specs.{Held.Held, Held.state, State.HasCleanDisk, State.Survives, Store.Ghosts, declared.error.Error.Error}
 use Rattle.sqlite.specs.declared.error.ErrorCode.{ErrorCode}
 use Rattle.cred_keep.specs.{Imports.Imports, declared.import.Imported.Imported, declared.order.Order.Order}
@@ -95,22 +95,24 @@ status_of_open _ = Database
 -- for after its end
 abbrev pub RunsPrompt : Seen → Type 0
 RunsPrompt s = IfSome s.reading.input (λ bytes. IsPrompt register_capacity
-    (script_start s.old bytes s.writing.before) s.writing.name s.reading.log)
+    (script_start s.old.accounts bytes s.writing.before) s.writing.name s.reading.log)
 
 -- all lines were answered, of at most so many bytes, or they met a fault
 abbrev pub RunsWithin : ℕ → Seen → Result End ScriptFault → Type 0
 RunsWithin longest s (Ok end) = IfSome s.reading.input (λ bytes. (length bytes ≤ longest)
-    × IsAnswered register_capacity s.old bytes s.writing.before s.writing.now s.new end.lines)
+    × IsAnswered register_capacity s.old.accounts bytes s.writing.before s.writing.now
+    s.new.accounts end.lines)
     × RunsPrompt s
 RunsWithin longest s (Err e) = HasCause s.reading.failed s.writing.failed e
     × IfSome s.reading.input (λ bytes. FailsAs longest register_capacity
-    (script_start s.old bytes s.writing.before) s.reading.left s.writing.now s.new e) × RunsPrompt s
+    (script_start s.old.accounts bytes s.writing.before) s.reading.left s.writing.now
+    s.new.accounts e) × RunsPrompt s
 
 -- lines were answered for as long as they came, or they met a fault. What is refused is a setting or
 -- a record that asks for more than is allowed, a last line without its end, and a commit that needs
 -- a hash and found no memory for it.
 pub record ServesLines (most : CostBounds) (s : Seen) (r : Result End ScriptFault) : Type 0 where
-  pub served : Serves register_capacity most s.reading s.writing s.old s.new r
+  pub served : Serves register_capacity most s.reading s.writing s.old.accounts s.new.accounts r
   pub cause : IfErr r (HasCause s.reading.failed s.writing.failed)
 
 -- a command, of which this holds at its end, ends so
@@ -127,13 +129,16 @@ Performs (Account name command) s ended =
 Performs (Edit edit) s ended =
     Commands (Edits register_capacity s.old s.new edit s.writing) ended
 Performs (DisableShown name) s ended =
-    Commands (DisablesShown s.old s.new name (map.get s.old name) s.writing) ended
+    Commands (DisablesShown s.old s.new name (map.get s.old.accounts name) s.writing) ended
 Performs (Show name detail) s ended =
-    Commands (Tells (shown_at detail (map.get s.old name)) s.writing) ended × (s.new ≡ s.old)
+    Commands (Tells (shown_at detail (s.old.marks name) (map.get s.old.accounts name)) s.writing)
+    ended × (s.new ≡ s.old)
 Performs (ShowJson name detail) s ended =
-    Commands (Tells (json_at detail name (map.get s.old name)) s.writing) ended × (s.new ≡ s.old)
+    Commands (Tells (json_at detail name (s.old.marks name) (map.get s.old.accounts name))
+    s.writing) ended × (s.new ≡ s.old)
 Performs (Lines line) s ended =
-    Commands (Prints (line_text line) (map.entries s.old) s.writing) ended × (s.new ≡ s.old)
+    Commands (Prints (marked_line line s.old) (map.entries s.old.accounts) s.writing) ended
+    × (s.new ≡ s.old)
 Performs (Import how) s ended = (r : Result Imported ImportFault)
     × Imports how s.reading s.old s.new r × EndsImport r s.writing ended
 
@@ -147,7 +152,7 @@ Ends order s lost ended =
 pub record Leaves {S : Type 0} (g : Ghosts S) (order : Order) (s : Seen) (kept : Kept S)
     (ended : Result Ending Failure) : Type 0 where
   pub ends : Ends order s kept.lost ended
-  pub keeps : IsKept g kept.conn kept.book kept.lost
+  pub keeps : IsKept g kept.conn (cells kept) kept.lost
 
 -- the book that a database holds is opened, the order is done on it, once, and the connection comes
 -- back as the order left it
@@ -155,10 +160,10 @@ pub record IsServed {S : Type 0} (g : Ghosts S) (order : Order) (r : Reading) (w
     (old new : Held S) (status : Status) : Type 0 where
   pub opened : Kept S
   pub found : HasCleanDisk (state g opened.conn)
-      → IsFound (state g old) (state g opened.conn) opened.book
+      → IsFound (state g old) (state g opened.conn) (cells opened)
   pub kept : Kept S
   pub ended : Result Ending Failure
-  pub leaves : Leaves g order (seen r w opened.book kept.book) kept ended
+  pub leaves : Leaves g order (seen r w (kept_book opened) (kept_book kept)) kept ended
   pub closed : new ≡ kept.conn
   pub told : status ≡ status_of_end ended
 

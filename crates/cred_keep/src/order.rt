@@ -2,7 +2,7 @@
 
 ghost use Rattle.std.specs.Prelude.{◌≡◌, ◌⊎◌, ℕ, List, false, true};
 ghost use Rattle.cred_cli.specs.Watched.{Basis, IsLogged, IsNew, MayFollow, reading, reading_on, transcript_reading, transcript_writing, writing, writing_on};
-ghost use Rattle.cred_admin.specs.Seen.{FitsSince, seen};
+ghost use Rattle.cred_admin.specs.{Marked.kept_book, Seen.FitsSince, Seen.seen};
 ghost use Rattle.cred_keep.specs.Orders.{IsRefused, IsServed, Performs, is_script, is_unread};
 
 use crate::import::{Importing, import};
@@ -29,7 +29,7 @@ pub enum Order {
     Serve { most: CostBounds },
     /// Does a command on one account, with its passwords.
     Account { name: Name, command: Command },
-    /// Disables, deletes or renames an account without its password.
+    /// Disables, deletes, renames, locks, unlocks or expires an account without its password.
     Edit { edit: Edit },
     /// Writes the account's line of a passwd-file, and removes its record without its password.
     DisableShown { name: Name },
@@ -96,7 +96,8 @@ fn perform<T: Threads + Sync, S: Alter, R: Read, W: Write>(
     requires new_writer { IsNew writer.old }
     ensures done { (basis : Basis) → FitsSince basis reader.old reader.new
         → Performs order.now (seen (reading_on basis R.remaining reader.old reader.new)
-        (writing_on basis W.contents writer.old writer.new) book.old.book book.new.book) result }
+        (writing_on basis W.contents writer.old writer.new) (kept_book book.old)
+        (kept_book book.new)) result }
     ensures logged { is_script order.now ≡ true → IsLogged reader.old reader.new }
     ensures unread { is_unread order.now ≡ true → reader.new ≡ reader.old }
 {
@@ -114,7 +115,7 @@ fn perform<T: Threads + Sync, S: Alter, R: Read, W: Write>(
         Order::ShowJson { name, detail } => {
             command_end(show_json(tools.alloc, book, name, *detail, writer))
         }
-        Order::List { line } => command_end(list(tools.alloc, book.book(), *line, writer)),
+        Order::List { line } => command_end(list(tools.alloc, book, *line, writer)),
         Order::Import { how } => import_end(import(tools.alloc, book, *how, reader), writer),
     }
 }

@@ -93,15 +93,22 @@ pub fn explain<F: Write>(faults: &mut F, failure: &Failure, lost: Option<&Lost>)
 fn tell_lost<F: Write>(faults: &mut F, lost: &Lost) -> io::Result<()> {
     write!(faults, "credkeep: the database failed: {}; ", lost.error)?;
     match &lost.attempt {
-        Attempt::Put { name, .. } | Attempt::Delete(name) | Attempt::Rename { name, .. } => {
+        Attempt::Put { name, .. }
+        | Attempt::Mark { name, .. }
+        | Attempt::Delete(name)
+        | Attempt::Rename { name, .. } => {
             write!(faults, "the change of ")?;
             faults.write_all(name.bytes())?;
             writeln!(faults, " may be kept or not")
         }
-        Attempt::TakeIn { added, changed } if added.len() == 0 => {
+        Attempt::TakeIn { added, changed, .. } if added.len() == 0 => {
             tell_lost_changes(faults, changed)
         }
-        Attempt::TakeIn { added, changed } => tell_lost_import(faults, added.len(), changed.len()),
+        Attempt::TakeIn { added, changed, .. } => tell_lost_import(
+            faults,
+            added.len(),
+            changed.len(),
+        ),
     }
 }
 

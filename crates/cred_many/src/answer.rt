@@ -64,7 +64,8 @@ fn disable_shown<K: Host>(
     name: Name,
 ) -> Result<AnswerLine, AllocError>
     ensures answer { IfOk result (λ line.
-        line_bytes line ≡ disabled_line name (map.get (K.book keeper.old) name)) }
+        line_bytes line ≡ disabled_line name ((K.book keeper.old).marks name)
+        (map.get (K.book keeper.old).accounts name)) }
     ensures book { OnOk result (K.book keeper.new ≡ (disabling (K.book keeper.old) name).1) }
     ensures refused { OnErr result (K.book keeper.new ≡ K.book keeper.old) }
     ensures needs { OnErr result (is_some (record_at (K.book keeper.old) name) ≡ true) }
@@ -74,7 +75,14 @@ fn disable_shown<K: Host>(
         Ok(None) => return Ok(AnswerLine::Fixed(edit_line(EditReply::Absent))),
         Err(_) => return Ok(AnswerLine::Fixed(edit_line(EditReply::NoAccount))),
     };
-    let line = line_of(alloc, Line::Passwd(Detail::Record), &name, Some(stored))?;
+    let mark = keeper.mark_of(&name);
+    let line = line_of(
+        alloc,
+        Line::Passwd(Detail::Record),
+        &name,
+        mark,
+        Some(stored),
+    )?;
     match keeper.edit(&Edit::Disable(name)) {
         Ok(_) => Ok(AnswerLine::Made(line)),
         Err(_) => Err(AllocError),

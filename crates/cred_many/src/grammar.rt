@@ -37,6 +37,15 @@ pub(crate) fn ask_of(drawn: Setting, words: &[&[u8]]) -> Result<Ask, Refusal>
         Ok(Ask::Quick(QuickAsk::Edit(Edit::Delete(name))))
     } else if *word == b"rename".as_slice() {
         Ok(Ask::Quick(rename_ask(fields)?))
+    } else if *word == b"lock".as_slice() {
+        let name = fields::only_name(fields)?;
+        Ok(Ask::Quick(QuickAsk::Edit(Edit::Lock(name))))
+    } else if *word == b"unlock".as_slice() {
+        let name = fields::only_name(fields)?;
+        Ok(Ask::Quick(QuickAsk::Edit(Edit::Unlock(name))))
+    } else if *word == b"expire".as_slice() {
+        let name = fields::only_name(fields)?;
+        Ok(Ask::Quick(QuickAsk::Edit(Edit::Expire(name))))
     } else {
         hashed_ask(drawn, word, fields)
     }

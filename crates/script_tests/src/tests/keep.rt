@@ -4,7 +4,7 @@ use super::{hold_bytes, name};
 use cred_admin::{BadLine, Fault, ImportFault, LineFault};
 use cred_book::{BookError, Register};
 use cred_cli::ScriptFault;
-use cred_file::{Attempt, Lost, OpenFault};
+use cred_file::{Attempt, Lost, Mark, Marks, OpenFault};
 use cred_keep::{Failure, explain, refuse};
 use cred_phc::PhcError;
 use sqlite::{Error, ErrorCode};
@@ -137,6 +137,15 @@ fn texts_of_openings(rt: HostRuntime) {
     }
 }
 
+fn batch(alloc: Global, added: Register, changed: Register) -> Attempt {
+    let marks = Marks::new(alloc);
+    Attempt::TakeIn {
+        added,
+        changed,
+        marks,
+    }
+}
+
 /// Holds what is said of a change that may be lost, on a full disk.
 fn hold_lost<R: Abort>(rt: &R, alloc: Global, attempt: Attempt, what: &str) {
     let error = Error::SqliteFailure(ErrorCode::DiskFull);
@@ -154,6 +163,8 @@ fn texts_of_lost_changes(rt: HostRuntime) {
     let stored = None;
     let what = "the change of ann may be kept or not";
     hold_lost(&rt, alloc, Attempt::Put { name, stored }, what);
+    let mark = Mark::none();
+    hold_lost(&rt, alloc, Attempt::Mark { name, mark }, what);
     hold_lost(&rt, alloc, Attempt::Delete(name), what);
     hold_lost(&rt, alloc, Attempt::Rename { name, other }, what);
     let mut both = Register::new(alloc);
@@ -162,8 +173,8 @@ fn texts_of_lost_changes(rt: HostRuntime) {
     let added = both.copy().expect(&rt, "memory");
     let changed = Register::new(alloc);
     let what = "the 2 new accounts may be kept or not, all or none of them";
-    hold_lost(&rt, alloc, Attempt::TakeIn { added, changed }, what);
+    hold_lost(&rt, alloc, batch(alloc, added, changed), what);
     let (added, changed) = (Register::new(alloc), both);
     let what = "the changes of ann bob may be kept or not, all or none of them";
-    hold_lost(&rt, alloc, Attempt::TakeIn { added, changed }, what);
+    hold_lost(&rt, alloc, batch(alloc, added, changed), what);
 }
