@@ -82,7 +82,10 @@ FIRST, OTHER = (base64.b64encode(it).decode() for it in (b"first", b"other"))
 
 # Tagged lines one after another, and their answers.
 LINES = [
+    ("marks - 1000", "marks"),
     ("lock ann", "locked"),
+    ("marks ann 1", "marks ann:!"),
+    ("marks ann. 1", "marks"),
     (f"verify ann {FIRST}", "no"),
     (f"login ann {FIRST}", "no"),
     (f"change ann {FIRST} {OTHER}", "wrong"),
@@ -95,6 +98,7 @@ LINES = [
     ("unlock ann", "none"),
     (f"verify ann {OTHER}", "yes"),
     ("expire ann", "expired"),
+    ("marks - 1000", "marks ann:~"),
     (f"verify ann {OTHER}", "expired"),
     (f"login ann {OTHER}", "expired"),
     (f"verify ann {FIRST}", "no"),
@@ -104,6 +108,7 @@ LINES = [
     (f"login ann {FIRST}", "yes"),
     *((f"{order} zoe", "noaccount") for order in ("lock", "unlock", "expire")),
     *((order, "bad 11 line") for order in ("lock", "lock ann bob", "unlock", "expire ann now")),
+    *((order, "bad 11 line") for order in ("marks", "marks ann", "marks ann 1 1")),
 ]
 
 
@@ -154,6 +159,21 @@ class MarksTest(BookTest):
                 shown = json.loads(self.book(*words).written)
                 wanted = {"name": "ann", "costs": CHEAP, "locked": True, "expired": True}
                 self.assertEqual(shown, wanted)
+
+    def test_lists_in_pages(self) -> None:
+        """A list of marks has the marked accounts alone, in the order of the names."""
+        lines = [f"a account {name}" for name in ("cy", "bob", "dan")]
+        lines += ["a lock cy", "a lock ann", "a expire ann", "a lock dan"]
+        self.book.answers(*lines)
+        for asked, wanted in (
+            ("- 1000", "marks ann:!~ cy:! dan:!"),
+            ("- 2", "marks ann:!~ cy:!"),
+            ("bob 1", "marks cy:!"),
+            ("dan 2", "marks dan:!"),
+            ("dan. 2", "marks"),
+        ):
+            with self.subTest(asked=asked):
+                self.assertEqual(self.book.answers(f"a marks {asked}"), [f"a {wanted}"])
 
     def test_an_export_lets_nobody_in(self) -> None:
         """A line of a marked account is refused by an import, and named."""

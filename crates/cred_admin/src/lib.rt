@@ -33,7 +33,7 @@ pub use fault::Fault;
 pub use host::Host;
 pub use import::{BadLine, Existing, Gathered, ImportFault, LockedRecords, Rules, gather};
 pub use laws::imports_are_of_their_lines;
-pub use listing::{Line, a_piece_has_64_kib, line_of, list};
+pub use listing::{Line, a_piece_has_64_kib, line_of, list, mark_text};
 pub use operation::put_in_place;
 pub use password::{EmptyPassword, NewPassword, Passwords};
 pub use printing::tell;

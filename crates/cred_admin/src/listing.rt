@@ -147,7 +147,7 @@ fn push_line(
 
 /// The mark as the book's file has it before a record: `!` of a lock, and `~` of a password that
 /// must be changed.
-pub(crate) fn mark_text(mark: Mark) -> &'static [u8]
+pub fn mark_text(mark: Mark) -> &'static [u8]
     ensures { result.now ≡ mark_text mark }
 {
     match (mark.locked, mark.must_change) {

@@ -12,7 +12,7 @@ use Rattle.cred_admin.specs.declared.edits.Edit.TheVariants.{Disable, Delete, Re
 use Rattle.cred_admin.specs.declared.verdict.Verdict.{Verdict}
 use Rattle.cred_many.specs.{Served.done, Telling.AreAlikeAt, Telling.names_in, declared.ask.Ask.Ask}
 use Rattle.cred_many.specs.declared.ask.Ask.TheVariants.{Quick, Whole, Login, Reset}
-use Rattle.cred_many.specs.declared.ask.QuickAsk.TheVariants.{Account, Load, Show, DisableShown, Bad, Edit as Change, List as Names}
+use Rattle.cred_many.specs.declared.ask.QuickAsk.TheVariants.{Account, Load, Show, DisableShown, Bad, Edit as Change, List as Names, ListMarks}
 use Rattle.cred_book.specs.declared.request.Request.TheVariants as request
 use Rattle.std.specs.FinMap as map
 
@@ -116,6 +116,7 @@ module _ (capacity : ℕ) (book : MarkedBook) (name : List ℕ) where
   done_stays (Quick (Change (Unlock key))) ne = change_stays _ _ _ _ (unlocking_stays key (map.get book.accounts key) (book.marks key).locked (ne 0 [] (omega arith)))
   done_stays (Quick (Change (Expire key))) ne = change_stays _ _ _ _ (expiry_stays key (map.get book.accounts key) (ne 0 [] (omega arith)))
   done_stays (Quick (Names from most)) ne = (refl, refl)
+  done_stays (Quick (ListMarks from most)) ne = (refl, refl)
   done_stays (Quick (Bad why)) ne = (refl, refl)
   done_stays (Whole r) ne = tried_stays r (ne 0 [] (omega arith))
   done_stays (Login key pw setting) ne = tried_stays (request.Upgrade key pw setting) (ne 0 [] (omega arith))

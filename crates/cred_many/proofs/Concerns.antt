@@ -12,9 +12,9 @@ use Rattle.cred_admin.specs.declared.edits.Edit.{Edit}
 use Rattle.cred_admin.specs.declared.edits.Edit.TheVariants.{Disable, Delete, Rename, Lock, Unlock, Expire}
 use Rattle.cred_admin.specs.declared.edit_reply.EditReply.{EditReply}
 use Rattle.cred_admin.specs.declared.verdict.Verdict.{Verdict}
-use Rattle.cred_many.specs.{Asks.Entry, Served.answers, Served.book_after, Served.disabled_line, Served.done, Served.login_verdict, Telling.names_in, declared.ask.Ask.Ask}
+use Rattle.cred_many.specs.{Asks.Entry, Locks.IsApart, Locks.ListsMarks, Served.answers, Served.book_after, Served.disabled_line, Served.done, Served.login_verdict, Telling.names_in, declared.ask.Ask.Ask}
 use Rattle.cred_many.specs.declared.ask.Ask.TheVariants.{Quick, Whole, Login, Reset}
-use Rattle.cred_many.specs.declared.ask.QuickAsk.TheVariants.{Account, Load, Show, DisableShown, Bad, Edit as Change, List as Names}
+use Rattle.cred_many.specs.declared.ask.QuickAsk.TheVariants.{Account, Load, Show, DisableShown, Bad, Edit as Change, List as Names, ListMarks}
 use Rattle.cred_many.proofs.Beside.{mark_beside}
 use Rattle.cred_book.specs.declared.error.BookError.TheVariants as error
 use Rattle.cred_book.specs.declared.request.Request.TheVariants as request
@@ -139,39 +139,40 @@ module _ (capacity : ℕ) (book : MarkedBook) (name : List ℕ) (m : Mark) where
       by_room true = refl
       by_room false = refl
 
-  pub done_same : (ask : Ask) → All (λ named. name ≢ named) (names_in ask) → Same (done capacity other ask) (done capacity book ask)
-  done_same (Quick (Account key)) ne = account_same key (ne 0 [] (omega arith)) _ _ refl refl
-  done_same (Quick (Load key stored)) ne = load_same key (ne 0 [] (omega arith)) stored _ refl
-  done_same (Quick (Show key)) ne = refl
-  done_same (Quick (DisableShown key)) ne =
+  pub done_same : (ask : Ask) → All (λ named. name ≢ named) (names_in ask) → (ListsMarks ask → ⊥) → Same (done capacity other ask) (done capacity book ask)
+  done_same (Quick (Account key)) ne plain = account_same key (ne 0 [] (omega arith)) _ _ refl refl
+  done_same (Quick (Load key stored)) ne plain = load_same key (ne 0 [] (omega arith)) stored _ refl
+  done_same (Quick (Show key)) ne plain = refl
+  done_same (Quick (DisableShown key)) ne plain =
       ap (λ k. (disabled_line key k (map.get book.accounts key), (disabling_at other key (map.get book.accounts key)).1)) (here key (ne 0 [] (omega arith)))
       ∙ ap (λ (e : EditReply × MarkedBook). (disabled_line key (book.marks key) (map.get book.accounts key), e.1)) (disabling_same key (ne 0 [] (omega arith)) (map.get book.accounts key))
-  done_same (Quick (Change (Disable key))) ne = told_same _ _ (disabling_same key (ne 0 [] (omega arith)) (map.get book.accounts key))
-  done_same (Quick (Change (Delete key))) ne = told_same _ _ (deletion_same key (ne 0 [] (omega arith)) (map.get book.accounts key))
-  done_same (Quick (Change (Rename key new))) ne = told_same _ _ (renaming_same key new (map.get book.accounts key) (map.contains_key book.accounts new) (ne 0 [] (omega arith)) (ne 1 [] (omega arith)))
-  done_same (Quick (Change (Lock key))) ne = told_same _ _ (locking_same key (ne 0 [] (omega arith)) (map.get book.accounts key))
-  done_same (Quick (Change (Unlock key))) ne =
+  done_same (Quick (Change (Disable key))) ne plain = told_same _ _ (disabling_same key (ne 0 [] (omega arith)) (map.get book.accounts key))
+  done_same (Quick (Change (Delete key))) ne plain = told_same _ _ (deletion_same key (ne 0 [] (omega arith)) (map.get book.accounts key))
+  done_same (Quick (Change (Rename key new))) ne plain = told_same _ _ (renaming_same key new (map.get book.accounts key) (map.contains_key book.accounts new) (ne 0 [] (omega arith)) (ne 1 [] (omega arith)))
+  done_same (Quick (Change (Lock key))) ne plain = told_same _ _ (locking_same key (ne 0 [] (omega arith)) (map.get book.accounts key))
+  done_same (Quick (Change (Unlock key))) ne plain =
       told_same _ _ (ap (λ (k : Mark). unlocking_at other key (map.get book.accounts key) k.locked) (here key (ne 0 [] (omega arith))) ∙ unlocking_same key (ne 0 [] (omega arith)) (map.get book.accounts key) (book.marks key).locked)
-  done_same (Quick (Change (Expire key))) ne = told_same _ _ (expiry_same key (ne 0 [] (omega arith)) (map.get book.accounts key))
-  done_same (Quick (Names from most)) ne = refl
-  done_same (Quick (Bad why)) ne = refl
-  done_same (Whole r) ne = ap (λ (o : Verdict × MarkedBook). (verdict_line o.0, o.1)) (tried_same r (ne 0 [] (omega arith)))
-  done_same (Login key pw setting) ne = ap (λ (o : Verdict × MarkedBook). (verdict_line (login_verdict o.0), o.1)) (tried_same (request.Upgrade key pw setting) (ne 0 [] (omega arith)))
-  done_same (Reset key pw setting) ne = ap (λ (o : Reply × MarkedBook). (reply_line o.0, o.1)) (reset_same key (ne 0 [] (omega arith)) (new_record setting pw) (map.get book.accounts key))
+  done_same (Quick (Change (Expire key))) ne plain = told_same _ _ (expiry_same key (ne 0 [] (omega arith)) (map.get book.accounts key))
+  done_same (Quick (Names from most)) ne plain = refl
+  done_same (Quick (ListMarks from most)) ne plain = absurd (plain tt)
+  done_same (Quick (Bad why)) ne plain = refl
+  done_same (Whole r) ne plain = ap (λ (o : Verdict × MarkedBook). (verdict_line o.0, o.1)) (tried_same r (ne 0 [] (omega arith)))
+  done_same (Login key pw setting) ne plain = ap (λ (o : Verdict × MarkedBook). (verdict_line (login_verdict o.0), o.1)) (tried_same (request.Upgrade key pw setting) (ne 0 [] (omega arith)))
+  done_same (Reset key pw setting) ne plain = ap (λ (o : Reply × MarkedBook). (reply_line o.0, o.1)) (reset_same key (ne 0 [] (omega arith)) (new_record setting pw) (map.get book.accounts key))
 
 -- lines one after another
-pub book_same : (capacity : ℕ) (book : MarkedBook) (name : List ℕ) (m : Mark) (lines : List Entry) → All (λ e. All (λ named. name ≢ named) (names_in e.ask)) lines
+pub book_same : (capacity : ℕ) (book : MarkedBook) (name : List ℕ) (m : Mark) (lines : List Entry) → All (λ e. IsApart name e.ask) lines
     → book_after capacity (with_mark book name m) lines ≡ with_mark (book_after capacity book lines) name m
 unfolding book_after
 book_same capacity book name m [] ne = refl
 book_same capacity book name m (e ∷ es) ne =
-    ap (λ (o : List ℕ × MarkedBook). book_after capacity o.1 es) (done_same capacity book name m e.ask (ne 0 e (omega arith)))
+    ap (λ (o : List ℕ × MarkedBook). book_after capacity o.1 es) (done_same capacity book name m e.ask (ne 0 e (omega arith)).0 (ne 0 e (omega arith)).1)
     ∙ book_same capacity (done capacity book e.ask).1 name m es (λ i d low. ne (suc i) d (omega (arith, low)))
 
-pub answers_same : (capacity : ℕ) (book : MarkedBook) (name : List ℕ) (m : Mark) (lines : List Entry) → All (λ e. All (λ named. name ≢ named) (names_in e.ask)) lines
+pub answers_same : (capacity : ℕ) (book : MarkedBook) (name : List ℕ) (m : Mark) (lines : List Entry) → All (λ e. IsApart name e.ask) lines
     → answers capacity (with_mark book name m) lines ≡ answers capacity book lines
 unfolding answers
 answers_same capacity book name m [] ne = refl
 answers_same capacity book name m (e ∷ es) ne =
-    ap (λ (o : List ℕ × MarkedBook). (e.tag ++ 32 ∷ o.0) ++ answers capacity o.1 es) (done_same capacity book name m e.ask (ne 0 e (omega arith)))
+    ap (λ (o : List ℕ × MarkedBook). (e.tag ++ 32 ∷ o.0) ++ answers capacity o.1 es) (done_same capacity book name m e.ask (ne 0 e (omega arith)).0 (ne 0 e (omega arith)).1)
     ∙ ap (λ t. (e.tag ++ 32 ∷ (done capacity book e.ask).0) ++ t) (answers_same capacity (done capacity book e.ask).1 name m es (λ i d low. ne (suc i) d (omega (arith, low))))

@@ -3,7 +3,8 @@ use Rattle.std.proofs.Common.{◌≡◌, ◌≢◌, ℕ, zero, suc, ◌-◌, Lis
 use Rattle.std.specs.{Ordering.is_lt}
 use Rattle.cred_phc.specs.Values.{RecordValue}
 use Rattle.cred_book.specs.Names.{name_cmp}
-use Rattle.cred_many.specs.Names.{page, spaced}
+use Rattle.cred_file.specs.{Cells.mark_text, declared.mark.Mark.Mark}
+use Rattle.cred_many.specs.Names.{is_listed, marked_page, page, spaced, spaced_marks}
 
 abbrev pub Entries : Type 0
 Entries = List (List ℕ × Option RecordValue)
@@ -45,3 +46,41 @@ module _ (from old now : List ℕ) (most : ℕ) (all rest : Entries) (left : ℕ
   pub enough : left ≡ 0 → now ≡ old ++ rest_of from most all
   unfolding spaced
   enough none = sym (append-nil now) ∙ ap (λ t. now ++ t) (sym (ap (λ k. rest_of from k rest) none)) ∙ goes
+
+-- ---- with their marks
+
+module _ (mark : List ℕ → Mark) (from : List ℕ) where
+  abbrev pub marks_of : ℕ → Entries → List ℕ
+  marks_of left es = spaced_marks mark (marked_page mark from left (map (λ e. e.0) es))
+
+  marks_kept : (n : ℕ) (e : List ℕ × Option RecordValue) (es : Entries) → is_listed mark from e.0 ≡ true → marks_of (suc n) (e ∷ es) ≡ (32 ∷ e.0 ++ 58 ∷ mark_text (mark e.0)) ++ marks_of n es
+  unfolding spaced_marks
+  marks_kept n e es is = rw is refl
+
+  marks_none : (n : ℕ) → marks_of n [] ≡ []
+  unfolding spaced_marks
+  marks_none zero = refl
+  marks_none (suc n) = refl
+
+  -- the line goes on with those that are left
+  abbrev pub GoesMarked : List ℕ → ℕ → Entries → List ℕ → ℕ → Entries → Type 0
+  GoesMarked old most all now left rest = now ++ marks_of left rest ≡ old ++ marks_of most all
+
+  module _ (old now : List ℕ) (most : ℕ) (all rest : Entries) (left : ℕ) (goes : GoesMarked old most all now left rest) where
+    pub mark_skipped : (e : List ℕ × Option RecordValue) (es : Entries) → rest ≡ e ∷ es → is_listed mark from e.0 ≡ false → GoesMarked old most all now left es
+    mark_skipped e es is not_listed = rw not_listed at (rw is at goes)
+
+    pub mark_written : (e : List ℕ × Option RecordValue) (es : Entries) (new item : List ℕ) → rest ≡ e ∷ es → is_listed mark from e.0 ≡ true
+        → left ≢ 0 → item ≡ 32 ∷ e.0 ++ 58 ∷ mark_text (mark e.0) → new ≡ now ++ item → GoesMarked old most all new (left - 1) es
+    mark_written e es new item is listed some item_is shape =
+        let less : left ≡ suc (left - 1) = omega (arith, some) in
+        let kept : marks_of (suc (left - 1)) (e ∷ es) ≡ item ++ marks_of (left - 1) es = marks_kept (left - 1) e es listed ∙ ap (λ t. t ++ marks_of (left - 1) es) (sym item_is) in
+        ap (λ t. t ++ marks_of (left - 1) es) shape ∙ append_assoc now item (marks_of (left - 1) es)
+        ∙ ap (λ t. now ++ t) (sym (ap (λ k. marks_of k rest) less ∙ ap (marks_of (suc (left - 1))) is ∙ kept)) ∙ goes
+
+    pub all_marks_written : rest ≡ [] → now ≡ old ++ marks_of most all
+    all_marks_written none = sym (append-nil now) ∙ ap (λ t. now ++ t) (sym (ap (marks_of left) none ∙ marks_none left)) ∙ goes
+
+    pub enough_marks : left ≡ 0 → now ≡ old ++ marks_of most all
+    unfolding spaced_marks
+    enough_marks none = sym (append-nil now) ∙ ap (λ t. now ++ t) (sym (ap (λ k. marks_of k rest) none)) ∙ goes

@@ -13,7 +13,7 @@ use Rattle.cred_admin.specs.declared.edits.Edit.TheVariants.{Disable, Delete, Re
 use Rattle.cred_admin.specs.declared.verdict.Verdict.TheVariants.{Told}
 use Rattle.cred_many.specs.{Asks.Entry, Locks.EndsLock, Locks.IsLocked, Locks.IsNo, Locks.IsTryAt, Locks.PutsRecord, Served.book_after, Served.done, Served.login_verdict, Served.record_at, Telling.AreAlikeAt, Telling.names_in, declared.ask.Ask.Ask}
 use Rattle.cred_many.specs.declared.ask.Ask.TheVariants.{Quick, Whole, Login, Reset}
-use Rattle.cred_many.specs.declared.ask.QuickAsk.TheVariants.{Account, Load, Show, DisableShown, Bad, Edit as Change, List as Names}
+use Rattle.cred_many.specs.declared.ask.QuickAsk.TheVariants.{Account, Load, Show, DisableShown, Bad, Edit as Change, List as Names, ListMarks}
 use Rattle.cred_many.proofs.Beside.{done_stays}
 use Rattle.std.specs.FinMap as map
 
@@ -199,6 +199,7 @@ module _ (capacity : ℕ) (book : MarkedBook) (name : List ℕ) (is : IsLocked b
       of_one (Quick (Change (Expire key))) key refl (λ same. subst (λ k. Kept (Quick (Change (Expire k)))) same
       (kept (Quick (Change (Expire name))) (change_holds Holds (lacks_room capacity book (Expire name)) _ _ (expiry_at book name (map.get book.accounts name)).1 holds (expiry_holds (map.get book.accounts name)))))
   step (Quick (Names from most)) ends = kept (Quick (Names from most)) holds
+  step (Quick (ListMarks from most)) ends = kept (Quick (ListMarks from most)) holds
   step (Quick (Bad why)) ends = kept (Quick (Bad why)) holds
   step (Whole r) ends = of_one (Whole r) (name_of r) refl (λ same. kept (Whole r) (at_try (Whole r) same))
   step (Login key pw setting) ends = of_one (Login key pw setting) key refl (λ same. kept (Login key pw setting) (at_try (Login key pw setting) same))

@@ -1,12 +1,12 @@
 -- What a lock of an account bars, and whom a mark concerns.
-use Rattle.std.specs.Prelude.{◌≡◌, ◌⊎◌, ℕ, List, Bool, true, codes}
+use Rattle.std.specs.Prelude.{◌≡◌, ◌≢◌, ◌⊎◌, ℕ, All, List, Bool, true, codes}
 use Rattle.std.specs.FinMap as fin
 use Rattle.cred_book.specs.Works.{name_of}
 use Rattle.cred_admin.specs.Marked.{MarkedBook}
 use Rattle.cred_admin.specs.declared.edits.Edit.TheVariants.{Disable, Delete, Rename, Unlock}
-use Rattle.cred_many.specs.declared.ask.Ask.{Ask}
+use Rattle.cred_many.specs.{Telling.names_in, declared.ask.Ask.Ask}
 use Rattle.cred_many.specs.declared.ask.Ask.TheVariants.{Quick, Whole, Login, Reset}
-use Rattle.cred_many.specs.declared.ask.QuickAsk.TheVariants.{Load, DisableShown, Edit as Change}
+use Rattle.cred_many.specs.declared.ask.QuickAsk.TheVariants.{Load, DisableShown, Edit as Change, ListMarks}
 
 -- the account is there, and locked
 abbrev pub IsLocked : MarkedBook → List ℕ → Type 0
@@ -38,3 +38,13 @@ PutsRecord name _ = ⊥
 abbrev pub IsNo : List ℕ → Type 0
 IsNo line = (line ≡ codes "no\n") ⊎ (line ≡ codes "wrong\n") ⊎ (line ≡ codes "absent\n")
     ⊎ (line ≡ codes "exists\n")
+
+-- ---- whom a mark concerns
+
+abbrev pub ListsMarks : Ask → Type 0
+ListsMarks (Quick (ListMarks from most)) = Unit {0}
+ListsMarks _ = ⊥
+
+-- the line doesn't name the account, and asks for no list of marks
+abbrev pub IsApart : List ℕ → Ask → Type 0
+IsApart name ask = All (λ named. name ≢ named) (names_in ask) × (ListsMarks ask → ⊥)

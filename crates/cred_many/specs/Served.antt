@@ -7,11 +7,11 @@ use Rattle.cred_book.specs.{Works.name_of, Works.new_record, Works.same, declare
 use Rattle.cred_cli.specs.{History.Done, History.Refused, History.show_answer, Script.lines_of, Texts.line_of, Texts.reply_line}
 use Rattle.cred_cli.specs.Watched.{failed_of}
 use Rattle.cred_admin.specs.{Commands.reset_step, Edits.disabling, Edits.edit_line, Edits.edit_status, Edits.edited, Edits.lacks_room, Listing.passwd_line}
-use Rattle.cred_admin.specs.{Marked.MarkedBook, Marked.tried, Marked.with_account, Marked.with_record, Statuses.verdict_line, declared.verdict.Verdict.Verdict, declared.verdict.Verdict.TheVariants.Told}
-use Rattle.cred_many.specs.{Asks.Entry, Asks.hashed_for, Asks.refused, Names.names_line, Names.page, Service.Service, Service.asked, declared.ask.Ask.Ask}
+use Rattle.cred_admin.specs.{Marked.MarkedBook, Marked.mark_in, Marked.tried, Marked.with_account, Marked.with_record, Statuses.verdict_line, declared.verdict.Verdict.Verdict, declared.verdict.Verdict.TheVariants.Told}
+use Rattle.cred_many.specs.{Asks.Entry, Asks.hashed_for, Asks.refused, Names.marked_page, Names.marks_line, Names.names_line, Names.page, Service.Service, Service.asked, declared.ask.Ask.Ask}
 use Rattle.cred_many.specs.Transcript.{TakesMore, Written, written_of}
 use Rattle.cred_many.specs.declared.ask.Ask.TheVariants.{Quick, Whole, Login, Reset}
-use Rattle.cred_many.specs.declared.ask.QuickAsk.TheVariants.{Account, Load, Show, DisableShown, Bad, Edit as Change, List as Names}
+use Rattle.cred_many.specs.declared.ask.QuickAsk.TheVariants.{Account, Load, Show, DisableShown, Bad, Edit as Change, List as Names, ListMarks}
 use Rattle.cred_many.specs.{declared.ending.Served.Served, declared.fault.ServiceFault.ServiceFault}
 use Rattle.std.specs.FinMap as fin
 use Rattle.cred_book.specs.declared.error.BookError.TheVariants as error
@@ -67,6 +67,10 @@ done capacity book (Quick (Show name)) =
     (line_of (show_answer (fin.get book.accounts name)), book)
 done capacity book (Quick (Names from most)) =
     (names_line (page from most (fin.keys book.accounts)), book)
+done capacity book (Quick (ListMarks from most)) = (
+  marks_line (mark_in book) (marked_page (mark_in book) from most (fin.keys book.accounts)),
+  book,
+)
 done capacity book (Quick (Change change)) =
     if lacks_room capacity book change then (line_of (Refused (refusal.Book error.Full)), book)
     else (edit_line (edited book change).0, (edited book change).1)

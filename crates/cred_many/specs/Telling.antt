@@ -2,10 +2,10 @@
 use Rattle.std.specs.Prelude.{◌≡◌, ℕ, List, [], ◌∷◌, All, nat_lt, IfSome, length, true}
 use Rattle.cred_book.specs.{Passwords.KeepsTags, Passwords.made_setting, Works.name_of}
 use Rattle.cred_admin.specs.declared.edits.Edit.TheVariants.{Disable, Delete, Rename, Lock, Unlock, Expire}
-use Rattle.cred_admin.specs.Marked.{MarkedBook, keeps_password}
+use Rattle.cred_admin.specs.Marked.{MarkedBook, keeps_password, mark_in}
 use Rattle.cred_many.specs.{Asks.hashed_for, Served.name_asked, Served.record_at, declared.ask.Ask.Ask}
 use Rattle.cred_many.specs.declared.ask.Ask.TheVariants.{Quick, Whole, Login, Reset}
-use Rattle.cred_many.specs.declared.ask.QuickAsk.TheVariants.{Account, Load, Show, DisableShown, Bad, Edit as Change, List as Names}
+use Rattle.cred_many.specs.declared.ask.QuickAsk.TheVariants.{Account, Load, Show, DisableShown, Bad, Edit as Change, List as Names, ListMarks}
 use Rattle.cred_book.specs.Passwords as book
 use Rattle.std.specs.FinMap as fin
 
@@ -24,6 +24,7 @@ names_in (Quick (Change (Lock name))) = name ∷ []
 names_in (Quick (Change (Unlock name))) = name ∷ []
 names_in (Quick (Change (Expire name))) = name ∷ []
 names_in (Quick (Names from most)) = []
+names_in (Quick (ListMarks from most)) = []
 names_in (Quick (Bad why)) = []
 names_in (Whole r) = name_of r ∷ []
 names_in (Login name pw setting) = name ∷ []
@@ -39,13 +40,17 @@ abbrev pub HaveRoomAlike : ℕ → MarkedBook → MarkedBook → Type 0
 HaveRoomAlike capacity one other =
     nat_lt (fin.len one.accounts) capacity ≡ nat_lt (fin.len other.accounts) capacity
 
--- what else the answer tells of: for a new name whether there is room, and for a list the names
+-- what else the answer tells of: for a new name whether there is room, for a list the names, and for
+-- a list of marks also the marks
 abbrev pub AreAlikeBeside : ℕ → Ask → MarkedBook → MarkedBook → Type 0
 AreAlikeBeside capacity (Quick (Account name)) one other = HaveRoomAlike capacity one other
 AreAlikeBeside capacity (Quick (Change (Rename name new))) one other =
     HaveRoomAlike capacity one other
 AreAlikeBeside capacity (Quick (Names from most)) one other =
     fin.keys one.accounts ≡ fin.keys other.accounts
+AreAlikeBeside capacity (Quick (ListMarks from most)) one other =
+    (fin.keys one.accounts ≡ fin.keys other.accounts)
+    × ((name : List ℕ) → mark_in one name ≡ mark_in other name)
 AreAlikeBeside capacity _ one other = Unit {0}
 
 -- the books are alike in all that the answer tells of

@@ -7,7 +7,7 @@ ghost use Rattle.cred_many.specs.{Served.NeedsMemory, Served.disabled_line, Serv
 ghost use Rattle.std.specs.FinMap as map;
 
 use crate::ask::QuickAsk;
-use crate::listing::names_line;
+use crate::listing::{marks_line, names_line};
 use cred_admin::{Detail, Edit, EditReply, Host, Line, edit_line, line_of};
 use cred_book::{BookError, Name};
 use cred_cli::{AnswerLine, Refusal};
@@ -44,6 +44,10 @@ pub(crate) fn do_ask<K: Host>(
         },
         QuickAsk::List(from, most) => {
             let line = names_line(alloc, keeper.accounts(), &from, most)?;
+            Ok(AnswerLine::Made(line))
+        }
+        QuickAsk::ListMarks(from, most) => {
+            let line = marks_line(alloc, keeper, &from, most)?;
             Ok(AnswerLine::Made(line))
         }
         QuickAsk::Edit(edit) => match keeper.edit(&edit) {

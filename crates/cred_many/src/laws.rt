@@ -6,12 +6,12 @@ ghost use Rattle.std.specs.FinMap as map;
 ghost use Rattle.cred_file.specs.declared.mark.Mark.{Mark};
 ghost use Rattle.cred_admin.specs.Marked.{MarkedBook, with_mark};
 ghost use Rattle.cred_admin.specs.declared.edits.Edit.TheVariants.{Lock};
-ghost use Rattle.cred_many.specs.{Asks.Entry, Locks.EndsLock, Locks.IsLocked, Locks.IsNo, Locks.IsTryAt, Locks.PutsRecord, Served.answers, Served.book_after, Served.record_at, declared.ask.Ask.TheVariants.Quick, declared.ask.QuickAsk.TheVariants.Edit as Change};
+ghost use Rattle.cred_many.specs.{Asks.Entry, Locks.EndsLock, Locks.IsApart, Locks.IsLocked, Locks.IsNo, Locks.IsTryAt, Locks.PutsRecord, Served.answers, Served.book_after, Served.record_at, declared.ask.Ask.TheVariants.Quick, declared.ask.QuickAsk.TheVariants.Edit as Change};
 ghost use Rattle.cred_many.specs.{Served.done, Telling.AreAlikeAt, Telling.AreAlikeFor, Telling.KeepsTagsFor, Telling.names_in, Telling.with_passwords, declared.ask.Ask.Ask};
 
 /// An answer tells of the accounts alone that its line names, and the line leaves every other as it
-/// is, with its mark. Of a new name it also tells whether there is room, and a list tells the names
-/// and no more.
+/// is, with its mark. Of a new name it also tells whether there is room; a list tells the names and
+/// no more, and a list of marks the marks.
 pub fn an_answer_tells_of_its_accounts()
     ensures tells { (capacity : ℕ) (one other : MarkedBook) (ask : Ask)
         → AreAlikeFor capacity ask one other
@@ -49,14 +49,14 @@ pub fn a_lock_holds()
         → record_at (done capacity book ask).1 name ≡ record_at book name }
 {}
 
-/// A mark concerns its account alone: lines that don't name it are answered as without the mark,
-/// and leave the same book, but for the mark.
+/// A mark concerns its account alone: lines that don't name it and list no marks are answered as
+/// without the mark, and leave the same book, but for the mark.
 pub fn a_mark_concerns_its_account_alone()
     ensures answers { (capacity : ℕ) (book : MarkedBook) (name : List ℕ) (mark : Mark)
-        (lines : List Entry) → All (λ e. All (λ named. name ≢ named) (names_in e.ask)) lines
+        (lines : List Entry) → All (λ e. IsApart name e.ask) lines
         → answers capacity (with_mark book name mark) lines ≡ answers capacity book lines }
     ensures book { (capacity : ℕ) (book : MarkedBook) (name : List ℕ) (mark : Mark)
-        (lines : List Entry) → All (λ e. All (λ named. name ≢ named) (names_in e.ask)) lines
+        (lines : List Entry) → All (λ e. IsApart name e.ask) lines
         → book_after capacity (with_mark book name mark) lines
         ≡ with_mark (book_after capacity book lines) name mark }
 {}

@@ -3,12 +3,12 @@ use Rattle.cred_phc.specs.Values.{RecordValue}
 use Rattle.cred_book.specs.{Works.name_of, Works.new_record, declared.request.Request.Request}
 use Rattle.cred_cli.specs.{History.show_answer, Texts.line_of, Texts.reply_line}
 use Rattle.cred_file.specs.declared.mark.Mark.{Mark}
-use Rattle.cred_admin.specs.{Commands.reset_step, Marked.MarkedBook, Marked.barred, Marked.tried, Marked.tried_at, Marked.tried_if, Statuses.verdict_line, declared.verdict.Verdict.Verdict}
+use Rattle.cred_admin.specs.{Commands.reset_step, Marked.MarkedBook, Marked.barred, Marked.mark_in, Marked.tried, Marked.tried_at, Marked.tried_if, Statuses.verdict_line, declared.verdict.Verdict.Verdict}
 use Rattle.cred_admin.specs.declared.edits.Edit.TheVariants.{Disable, Delete, Rename, Lock, Unlock, Expire}
-use Rattle.cred_many.specs.{Names.names_line, Names.page, Served.disabled_line, Served.done, Served.login_verdict, declared.ask.Ask.Ask}
+use Rattle.cred_many.specs.{Names.marked_page, Names.marks_line, Names.names_line, Names.page, Served.disabled_line, Served.done, Served.login_verdict, declared.ask.Ask.Ask}
 use Rattle.cred_many.specs.Telling.{AreAlikeAt, AreAlikeFor, names_in}
 use Rattle.cred_many.specs.declared.ask.Ask.TheVariants.{Quick, Whole, Login, Reset}
-use Rattle.cred_many.specs.declared.ask.QuickAsk.TheVariants.{Account, Load, Show, DisableShown, Bad, Edit as Change, List as Names}
+use Rattle.cred_many.specs.declared.ask.QuickAsk.TheVariants.{Account, Load, Show, DisableShown, Bad, Edit as Change, List as Names, ListMarks}
 use Rattle.cred_many.proofs.Beside.{done_stays}
 use Rattle.std.specs.FinMap as map
 use Rattle.cred_book.specs.declared.request.Request.TheVariants as request
@@ -98,6 +98,9 @@ module _ (capacity : ℕ) (one other : MarkedBook) where
       unlock_told name (map.get other.accounts name) (other.marks name).locked (same 0 [] (omega arith)).0 refl (ap (λ (m : Mark). m.locked) (same 0 [] (omega arith)).1) refl
   done_told (Quick (Change (Expire name))) (same, beside) = expire_told name (map.get other.accounts name) (same 0 [] (omega arith)).0 refl
   done_told (Quick (Names from most)) (same, names) = ap (λ keys. names_line (page from most keys)) names
+  done_told (Quick (ListMarks from most)) (same, names, marks) =
+      ap (λ keys. marks_line (mark_in one) (marked_page (mark_in one) from most keys)) names
+      ∙ ap (λ (mark : List ℕ → Mark). marks_line mark (marked_page mark from most (map.keys other.accounts))) (λ i name. marks name i)
   done_told (Quick (Bad why)) (same, beside) = refl
   done_told (Whole r) (same, beside) = ap verdict_line (tried_told r (same 0 [] (omega arith)))
   done_told (Login name pw setting) (same, beside) = ap (λ v. verdict_line (login_verdict v)) (tried_told (request.Upgrade name pw setting) (same 0 [] (omega arith)))
