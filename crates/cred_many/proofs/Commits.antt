@@ -1,11 +1,11 @@
 -- A commit that doesn't find the record changed is the whole operation.
-use Rattle.std.proofs.Common.{◌≡◌, ℕ, Option, Some, None, Ok, Bool, true, false, refl, ap, ◌∙◌}
+use Rattle.std.proofs.Common.{◌≡◌, ℕ, Option, Some, None, Ok, Bool, true, false, unwrap_or, IfSome, refl, ap, ◌∙◌}
 use Rattle.cred_phc.specs.Values.{RecordValue}
 use Rattle.cred_book.specs.{Accounts.Accounts, Commits.Commits, Commits.commit_outcome_at, Commits.commit_outcome_if, Works.Task, Works.name_of, Works.new_record, Works.same, Works.seq, Works.seq_at, Works.whole, declared.reply.Reply.Reply, declared.request.Request.Request}
 use Rattle.cred_book.proofs.Commitments.{committed_found}
 use Rattle.cred_cli.specs.Texts.{reply_line}
 use Rattle.cred_cli.proofs.Simulation.{whole_replies}
-use Rattle.cred_many.specs.{Asks.IsJobOf, Asks.hashed_for, Asks.is_reset, Scribe.is_change, Scribe.is_changed, declared.ask.Ask.TheVariants.Whole, declared.ask.Ask.TheVariants.Login, declared.ask.Ask.TheVariants.Reset, Served.done, Served.login_reply, Served.told_reply, declared.ask.Ask.Ask}
+use Rattle.cred_many.specs.{Asks.IsJobOf, Asks.hashed_for, Asks.is_reset, Scribe.is_change, Scribe.is_changed, declared.ask.Ask.TheVariants.Whole, declared.ask.Ask.TheVariants.Login, declared.ask.Ask.TheVariants.Reset, Served.done, Served.login_reply, Served.told_reply, Served.record_at, declared.ask.Ask.Ask}
 use Rattle.cred_admin.specs.Commands.{reset_step}
 use Rattle.cred_book.specs.declared.request.Request.TheVariants as request
 use Rattle.std.specs.FinMap as map
@@ -41,6 +41,22 @@ module _ (book new : Accounts) (work : Task) (r : Reply) (is : Commits book new 
 
   pub commits_still : is_changed r ≡ true → new ≡ book
   commits_still changed = still_at (map.get book (name_of work.0)) refl changed
+
+  -- the record isn't the one that was copied
+  moved_if : (now : Option RecordValue) (is_copy : Bool) → is_changed r ≡ true → (r, new) ≡ commit_outcome_if book work now is_copy → is_copy ≡ false
+  moved_if now true changed done = let said : is_changed r ≡ false = ap (λ o. is_changed o.0) done ∙ whole_unchanged work.0 now in absurd cc
+  moved_if now false changed done = refl
+
+  moved_at : (entry : Option (Option RecordValue)) → map.get book (name_of work.0) ≡ entry → is_changed r ≡ true → same (unwrap_or entry None) work.1 ≡ false
+  moved_at None there changed = let said : is_changed r ≡ false = ap (λ o. is_changed o.0) (found None there) in absurd cc
+  moved_at (Some now) there changed = moved_if now (same now work.1) changed (found (Some now) there)
+
+  pub commits_moved : is_changed r ≡ true → same (record_at book (name_of work.0)) work.1 ≡ false
+  commits_moved changed = moved_at (map.get book (name_of work.0)) refl changed
+
+pub always : {A P : Type 0} (o : Option A) → P → IfSome o (λ _. P)
+always None p = tt
+always (Some a) p = p
 
 -- ---- what is hashed for a line
 

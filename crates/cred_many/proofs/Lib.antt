@@ -9,3 +9,4 @@ pub mod Groups
 pub mod Shares
 pub mod Transcripts
 pub mod Turns
+pub mod Uses

@@ -1,10 +1,11 @@
 //! Laws of tagged lines. A law is a function that does nothing; its contract is what
 //! holds.
 
-ghost use Rattle.std.specs.Prelude.{◌≡◌, ◌≢◌, All, List, ℕ};
+ghost use Rattle.std.specs.Prelude.{◌≡◌, ◌≢◌, ◌∷◌, ◌≤◌, All, List, Some, ℕ};
 ghost use Rattle.std.specs.FinMap as map;
 ghost use Rattle.cred_book.specs.Accounts.{Accounts};
-ghost use Rattle.cred_many.specs.{Served.done, Telling.AreAlikeFor, Telling.KeepsTagsFor, Telling.names_in, Telling.with_passwords, declared.ask.Ask.Ask};
+ghost use Rattle.cred_many.specs.{Served.done, Telling.AreAlikeFor, Telling.KeepsTagsFor, Telling.names_in, Telling.with_passwords, declared.ask.Ask.Ask, declared.open.Open.Open};
+ghost use Rattle.cred_many.specs.{Scribe.IsPending, Scribe.numbers, Turns.Call, Turns.Follow, Turns.OpenOthers, Turns.open_after, Turns.works_of};
 
 /// An answer tells of the accounts alone that its line names, and the line leaves every other as it
 /// is. Of a new name it also tells whether there is room, and a list tells the names and no more.
@@ -24,4 +25,13 @@ pub fn a_password_counts_by_its_tags()
     ensures { (other : List ℕ → List ℕ) (capacity : ℕ) (book : Accounts) (ask : Ask)
         → KeepsTagsFor other book ask
         → done capacity book (with_passwords other ask) ≡ done capacity book ask }
+{}
+
+/// A line is hashed at most nine times. Once it is opened, by whatever calls on the scribe, the
+/// scribe has answered it when nine of them took what came of its hash, unless a fault is told.
+pub fn a_line_is_answered_after_nine_hashes()
+    ensures { (old : List Open) (came : Call) (calls : List Call) (number : ℕ)
+        → (IsPending number (numbers old) → ⊥) → came.opens ≡ Some number
+        → Follow old (came ∷ calls) → OpenOthers number calls → 9 ≤ works_of number calls
+        → IsPending number (numbers (open_after came.after calls)) → ⊥ }
 {}

@@ -1,18 +1,20 @@
 //! The book that is served, the lines that are open, and the writer of their answers.
 
+ghost use Rattle.std.specs.List.{remove};
 ghost use Rattle.std.specs.Prelude.{◌≡◌, ◌↔◌, ◌+◌, ◌++◌, [], ◌∷◌, Bool, false, IfSome, IsTrue, is_some, length, None, option_map, Some, true, unwrap_or};
 ghost use Rattle.cred_cli.specs.Script.{lines_of};
 ghost use Rattle.cred_book.specs.Works.{is_for_current, name_of};
-ghost use Rattle.cred_many.specs.{Asks.IsJobOf, Asks.hashed_for, Asks.is_reset, Scribe.HasTurn, Scribe.History, Scribe.IsAnswered, Scribe.IsBusy, Scribe.IsReady, Scribe.is_changed, Scribe.moment, Scribe.numbers, Scribe.unseen, declared.ask.Ask.TheVariants.Quick};
-ghost use Rattle.cred_many.specs.{Served.HasCause, Served.NeedsMemory, Served.Stands, Served.StandsAtEnd, Served.left_of, Served.record_at, Served.told_reply, Transcript.written_of};
+ghost use Rattle.cred_many.specs.{Asks.IsJobOf, Asks.hashed_for, Asks.is_reset, Scribe.HasSeen, Scribe.HasTurn, Scribe.History, Scribe.IsAnswered, Scribe.IsBusy, Scribe.IsLooked, Scribe.IsReady, Scribe.is_changed, Scribe.moment, Scribe.numbers, Scribe.unseen, declared.ask.Ask.TheVariants.Quick};
+ghost use Rattle.cred_many.specs.{Served.HasCause, Served.NeedsMemory, Served.Stands, Served.StandsAtEnd, Served.left_of, Served.record_at, Served.told_reply, Transcript.written_of, Turns.HasMoved, Turns.KeepsTurns, Turns.UsesTurn};
 
 mod groups;
+mod job;
+mod reading;
 
 use crate::answer::do_ask;
 use crate::ask::{Ask, QuickAsk};
-use crate::ending::{End, Ending, MOST_LINES, Served};
+use crate::ending::{End, MOST_LINES, Served};
 use crate::fault::ServiceFault;
-use crate::job::{Hashed, Job};
 use crate::line::Line;
 use crate::open::OpenLines;
 use crate::output::Output;
@@ -21,6 +23,10 @@ use crate::source::Source;
 use cred_admin::{Host, put_in_place};
 use cred_book::{BookError, Reply, Request, Ticket, Worked};
 use cred_cli::{Refusal, Watched, reply_line};
+pub(crate) use job::Message;
+pub use job::{Hashed, Job, Starved};
+pub use reading::Ending;
+pub(crate) use reading::{OfReading, await_end, read_lines};
 use std::alloc::Global;
 use std::io::Write;
 use std::marker::PhantomData;
@@ -168,6 +174,11 @@ impl<J: ServiceId, K: Host, W: Write> Scribe<J, K, W> {
         ensures turn { line.number ≡ self.old.came → self.new.output.fault ≡ None → result ≡ None
             → IsAnswered line.number (numbers self.old.output.pending ++ line.number ∷ [])
             (numbers self.new.output.pending) }
+        ensures turns { line.number ≡ self.old.came → self.new.output.fault ≡ None
+            → KeepsTurns (self.old.output.pending ++ unseen line.number ∷ [])
+            self.new.output.pending }
+        ensures line { IfSome result (λ job. job.0 ≡ line) }
+        ensures going { self.new.output.fault ≡ None → self.old.output.fault ≡ None }
     {
         if self.output.fault.is_some() {
             return None;
@@ -197,10 +208,12 @@ impl<J: ServiceId, K: Host, W: Write> Scribe<J, K, W> {
         ensures opened { IfSome result
             (λ _. self.new.output.pending ≡ self.old.output.pending ++ unseen line.now.number ∷ []) }
         ensures came { IfSome result (λ _. self.new.came ≡ self.old.came + 1) }
+        ensures last { IfSome result (λ place. place ≡ length self.old.output.pending) }
         ensures next { line.now.number ≡ self.old.came → result ≡ None
             → is_some self.new.output.fault ≡ true }
     {
         let number = line.number();
+        let place = self.output.pending.len();
         if number < self.came {
             return None;
         }
@@ -213,7 +226,7 @@ impl<J: ServiceId, K: Host, W: Write> Scribe<J, K, W> {
             return None;
         }
         self.came += 1;
-        self.output.pending.place_of(number)
+        Some(place)
     }
 
     /// The line with a copy of its account's record, unless it has had too many copies of other
@@ -223,7 +236,12 @@ impl<J: ServiceId, K: Host, W: Write> Scribe<J, K, W> {
         requires current { is_for_current request ≡ true }
         requires asked { hashed_for line.ask ≡ Some request }
         requires kept { is_reset line.ask ≡ false }
-        ensures turn { result ≡ None → HasTurn line.number self.old.output self.new.output }
+        ensures closed { result ≡ None
+            → self.new.output.pending ≡ remove self.old.output.pending place }
+        ensures looked { IfSome result (λ _. IsLooked self.old.output.pending place
+            (name_of request) (record_at (K.book self.old.keeper) (name_of request))
+            self.new.output.pending) }
+        ensures line { IfSome result (λ job. job.0 ≡ line) }
         ensures same_came { self.new.came ≡ self.old.came }
     {
         let ticket = ticket_of(&self.keeper, request);
@@ -242,7 +260,8 @@ impl<J: ServiceId, K: Host, W: Write> Scribe<J, K, W> {
     fn answer_at_once(&mut self, alloc: Global, place: usize, line: Line<J>, ask: QuickAsk)
         requires ready { IsReady self.old.output.fault self.old.output.pending place line.number }
         requires asked { Quick ask ≡ line.ask }
-        ensures turn { HasTurn line.number self.old.output self.new.output }
+        ensures closed { self.new.output.fault ≡ None
+            → self.new.output.pending ≡ remove self.old.output.pending place }
         ensures same_came { self.new.came ≡ self.old.came }
     {
         match do_ask(alloc, &mut self.keeper, ask) {
@@ -254,15 +273,25 @@ impl<J: ServiceId, K: Host, W: Write> Scribe<J, K, W> {
     /// Commits a whole operation, and answers it, if the record still equals the
     /// copy. Otherwise the record is copied again.
     pub fn commit(&mut self, hashed: Hashed<J>) -> Option<Job<J>>
-        ensures { result ≡ None → HasTurn hashed.0.number self.old.output self.new.output }
+        ensures turn { result ≡ None → HasTurn hashed.0.number self.old.output self.new.output }
+        ensures again { IfSome result (λ job. (job.0 ≡ hashed.0)
+            × HasMoved (K.book self.old.keeper) hashed.1) }
+        ensures turns { self.new.output.fault ≡ None → UsesTurn hashed.0.number
+            self.old.output.pending self.new.output.pending }
+        ensures going { self.new.output.fault ≡ None → self.old.output.fault ≡ None }
     {
         if self.output.fault.is_some() {
             return None;
         }
-        let Hashed { line, worked } = hashed;
+        let (line, worked) = hashed.into_parts();
         let place = self.output.pending.place_of(line.number())?;
         if line.ask().is_reset() {
             self.reset(place, line, &worked);
+            return None;
+        }
+        let name = worked.request().name();
+        if !self.output.pending.has_seen(place, &name, &worked.copy()) {
+            self.output.fault = Some(ServiceFault::Lost);
             return None;
         }
         self.commit_whole(place, line, worked)
@@ -272,7 +301,13 @@ impl<J: ServiceId, K: Host, W: Write> Scribe<J, K, W> {
         requires ready { IsReady self.old.output.fault self.old.output.pending place line.number }
         requires asked { hashed_for line.ask ≡ Some worked.0 }
         requires kept { is_reset line.ask ≡ false }
-        ensures turn { result ≡ None → HasTurn line.number self.old.output self.new.output }
+        requires seen { HasSeen self.old.output.pending place (name_of worked.0) worked.1 true }
+        ensures closed { result ≡ None → self.new.output.fault ≡ None
+            → self.new.output.pending ≡ remove self.old.output.pending place }
+        ensures again { IfSome result (λ job. (job.0 ≡ line)
+            × HasMoved (K.book self.old.keeper) worked) }
+        ensures turns { IfSome result (λ _. UsesTurn line.number self.old.output.pending
+            self.new.output.pending) }
     {
         let ask = line.ask();
         let request = worked.request();
@@ -296,7 +331,8 @@ impl<J: ServiceId, K: Host, W: Write> Scribe<J, K, W> {
         requires ready { IsReady self.old.output.fault self.old.output.pending place line.number }
         requires asked { IsJobOf line.ask worked.now }
         requires reset { is_reset line.ask ≡ true }
-        ensures turn { HasTurn line.number self.old.output self.new.output }
+        ensures closed { self.new.output.fault ≡ None
+            → self.new.output.pending ≡ remove self.old.output.pending place }
     {
         let Some(stored) = worked.after() else {
             unreachable!()
@@ -308,11 +344,13 @@ impl<J: ServiceId, K: Host, W: Write> Scribe<J, K, W> {
     }
 
     /// Answers a line without memory for its hash.
-    pub fn no_memory(&mut self, job: Job<J>)
-        ensures { HasTurn job.0.number self.old.output self.new.output }
+    pub fn no_memory(&mut self, starved: Starved<J>)
+        ensures turn { HasTurn starved.0.number self.old.output self.new.output }
+        ensures turns { self.new.output.fault ≡ None → UsesTurn starved.0.number
+            self.old.output.pending self.new.output.pending }
+        ensures going { self.new.output.fault ≡ None → self.old.output.fault ≡ None }
     {
-        let Job { line, .. } = job;
-        self.starve(line);
+        self.starve(starved.into_line());
     }
 
     /// Refuses a line for want of memory, unless no more lines are answered.
@@ -320,6 +358,9 @@ impl<J: ServiceId, K: Host, W: Write> Scribe<J, K, W> {
         requires { NeedsMemory K.capacity (K.book self.old.keeper) line.ask }
         ensures book { K.book self.new.keeper ≡ K.book self.old.keeper }
         ensures turn { HasTurn line.number self.old.output self.new.output }
+        ensures turns { self.new.output.fault ≡ None → UsesTurn line.number
+            self.old.output.pending self.new.output.pending }
+        ensures going { self.new.output.fault ≡ None → self.old.output.fault ≡ None }
     {
         if self.output.fault.is_some() {
             return;
@@ -334,7 +375,8 @@ impl<J: ServiceId, K: Host, W: Write> Scribe<J, K, W> {
         requires ready { IsReady self.old.output.fault self.old.output.pending place line.number }
         requires needs { NeedsMemory K.capacity (K.book self.old.keeper) line.ask }
         ensures book { K.book self.new.keeper ≡ K.book self.old.keeper }
-        ensures turn { HasTurn line.number self.old.output self.new.output }
+        ensures closed { self.new.output.fault ≡ None
+            → self.new.output.pending ≡ remove self.old.output.pending place }
         ensures same_came { self.new.came ≡ self.old.came }
     {
         if self.keeper.has_failed() {
@@ -349,7 +391,7 @@ impl<J: ServiceId, K: Host, W: Write> Scribe<J, K, W> {
     fn give_up_as_busy(&mut self, place: usize, line: Line<J>)
         requires ready { IsReady self.old.output.fault self.old.output.pending place line.number }
         requires busy { IsBusy self.old.output.pending place line.ask }
-        ensures turn { HasTurn line.number self.old.output self.new.output }
+        ensures closed { self.new.output.pending ≡ remove self.old.output.pending place }
         ensures same_came { self.new.came ≡ self.old.came }
     {
         self.output.answer(place, &line, Refusal::Busy.line());
