@@ -6,6 +6,7 @@ import contextlib
 import io
 import os
 import pathlib
+import pwd
 import select
 import socket
 import subprocess
@@ -200,7 +201,7 @@ class Shares(Case):
         """They are those of the person who has them, by subuid(5), and count as one user."""
         file = self.room() / "subuid"
         no_names = "nobody.here:300000:10\na\0b:300000:10\nodd\n:::\n"
-        file.write_text(f"1000:100000:65536\nroot:200000:10\n{no_names}")
+        file.write_text(f"1000:100000:65536\nroot:200000:10\n{no_names}1002:300009:1\n")
         with mock.patch.object(shares, "SUBORDINATE", str(file)):
             for uid, owner in {
                 0: 0,
@@ -214,12 +215,23 @@ class Shares(Case):
                 200009: 0,
                 200010: 200010,
                 300000: 300000,
+                300009: 1002,
             }.items():
                 self.assertEqual(owner_of(uid), owner)
             file.write_text("1001:100000:65536\n\n")
             self.assertEqual(owner_of(100000), 1001, "the file has changed")
             file.unlink()
             self.assertEqual(owner_of(100000), 100000)
+
+    def test_names_that_are_looked_up(self) -> None:
+        """Of a long file one: the owner's, since a directory may take its time for each."""
+        file = self.room() / "subuid"
+        lines = (f"nobody.{number}:{number}00000:65536\n" for number in range(1, 1000))
+        file.write_text("".join(lines) + "root:100000000:65536\n")
+        with mock.patch.object(shares, "SUBORDINATE", str(file)):
+            with mock.patch.object(pwd, "getpwnam", wraps=pwd.getpwnam) as looked_up:
+                self.assertEqual(owner_of(100000001), 0)
+        self.assertEqual(looked_up.mock_calls, [mock.call("root")])
 
     def test_a_peer_with_a_subordinate_uid(self) -> None:
         """Its connections are its owner's."""

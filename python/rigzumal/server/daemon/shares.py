@@ -7,25 +7,18 @@ import re
 from contextlib import suppress
 
 SUBORDINATE = "/etc/subuid"  # subuid(5): the uids that a person has in namespaces
+RANGE = re.compile(r"([^:\n]+):([0-9]{1,10}):([0-9]{1,10})\n?")  # a line of that file
 LEAST_SUBORDINATE = 60001  # the least uid that is looked up there: those of people are below
 # The first two names of a control group: /system.slice/ssh.service, /user.slice/user-1000.slice.
 GROUP = re.compile(rb"^\d+:(?:name=systemd)?:((?:/[^/\n]+){1,2})", re.M)
 
 
 @functools.lru_cache(maxsize=1)
-def owners_in(path: str, _version: tuple[int, ...]) -> dict[range, int]:
-    """The owners of ranges of uids, in a version of a file of subuid(5)."""
-    owners = dict[range, int]()
+def ranges_in(path: str, _version: tuple[int, ...]) -> list[tuple[range, str]]:
+    """Ranges of uids with the names or uids of their owners, in a version of a file of subuid(5)."""
     with open(path, encoding="utf-8", errors="replace") as file:
-        for line in file:
-            found = re.fullmatch(r"([^:\n]+):([0-9]{1,10}):([0-9]{1,10})\n?", line)
-            if not found:
-                continue
-            name, first, count = found[1], int(found[2]), int(found[3])
-            with suppress(KeyError, ValueError):  # nobody has this name, or it can't be one
-                owner = int(name) if name.isdecimal() else pwd.getpwnam(name).pw_uid
-                owners[range(first, first + count)] = owner
-    return owners
+        lines = map(RANGE.fullmatch, file)
+        return [(range(int(it[2]), int(it[2]) + int(it[3])), it[1]) for it in lines if it]
 
 
 def owner_of(uid: int) -> int:
@@ -34,10 +27,14 @@ def owner_of(uid: int) -> int:
         return uid
     try:
         found = os.stat(SUBORDINATE)
-        owners = owners_in(SUBORDINATE, (found.st_ino, found.st_size, found.st_mtime_ns))
+        ranges = ranges_in(SUBORDINATE, (found.st_ino, found.st_size, found.st_mtime_ns))
     except OSError:  # the machine has no such file
         return uid
-    return next((owner for uids, owner in owners.items() if uid in uids), uid)
+    for uids, owner in ranges:
+        if uid in uids:
+            with suppress(KeyError, ValueError):  # nobody has this name, or it can't be one
+                return int(owner) if owner.isdecimal() else pwd.getpwnam(owner).pw_uid
+    return uid
 
 
 def share_of(uid: int, pid: int) -> str:
