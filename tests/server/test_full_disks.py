@@ -71,6 +71,21 @@ class FullDisks(Case):
         service.talk("login change ada {secret} {fresh} -> replaced")
         service.stop()
 
+    def test_the_audit_log(self) -> None:
+        """No change is made that couldn't be noted; logins go on without their lines."""
+        folder = self.disk()
+        audit = folder / "audit"
+        service = self.over(self.room(), "--audit", str(audit)).enrol(ada="secret")
+        for left in (4 << 20, 0):
+            with self.subTest(left=left):
+                fill(folder, left)
+                service.talk(CHANGES)
+                service.talk(LOGINS)
+        self.assertEqual(service.log().count(f"{audit}: its disk has under 8192 KiB left"), 1)
+        (folder / "filler").unlink()
+        service.talk("login change ada {secret} {fresh} -> replaced")
+        self.assertIn('"operation": "change"', audit.read_text())
+
     def test_a_link_to_the_book(self) -> None:
         """The disk of the book itself counts, and not that of a link to it."""
         folder, links = self.disk(), self.room()

@@ -1,4 +1,5 @@
-"""The room on the book's disk: a change that finds none ends the book, for all of its users."""
+"""The room on the disks that a change writes: if the book finds none, it ends, for all of its
+users."""
 
 import os
 

@@ -65,7 +65,9 @@ class Service:
 
     def __init__(self, options: Options) -> None:
         self.options = options
-        self.folder = os.path.dirname(os.path.realpath(options.file))  # where SQLite writes
+        # The files that a change writes, and their folders: SQLite writes beside the book.
+        files = filter(None, (options.file, options.audit))
+        self.folders = {path: os.path.dirname(os.path.realpath(path)) for path in files}
         self.book = Book()
         self.tally = Tally(options)
         self.turns = Places(TURNS)
@@ -219,12 +221,13 @@ class Service:
         return await self.tally.users.judge(request.person, judging)
 
     def has_room(self) -> bool:
-        """Whether the book's disk has room for a change: one that finds none ends the book."""
-        if has_room(self.folder):
-            return True
-        text = "%s: its disk has under %d KiB left, so the book isn't changed"
-        log_seldom("disk", text, self.options.file, NEEDED // 1024)
-        return False
+        """Whether the disks have room for a change: one that finds none ends the book, or is made
+        and not noted."""
+        full = [path for path, folder in self.folders.items() if not has_room(folder)]
+        for path in full:
+            text = "%s: its disk has under %d KiB left, so the book isn't changed"
+            log_seldom(("disk", path), text, path, NEEDED // 1024)
+        return not full
 
     async def answer_if_room(self, request: Request) -> bytes:
         """The answer to a request. A change isn't made if it finds no room, or if so many lines
