@@ -4,7 +4,8 @@
     python3 tools/promises.py
 
 Each call is named by its path, `cred_argon::argon::argon2` (`input_len`, `err`): the function has
-to stand in that file, and its contract has to have the clauses in brackets. Each test
+to stand in that file, within the type that the path names, if it names one. Its contract has to
+have the clauses in brackets, or be a record of specs/ that has these fields. Each test
 `CRATE::TEST`, each file, and each definition that a file "has" has to be there. The list of what is
 trusted has each crate of the toolchain that ours stand on, and no others. No cell of a table has
 over 120 characters. The last line is `N passed, M failed`, and the status is 1 if anything
@@ -44,15 +45,42 @@ def file_of(path):
     return CRATES / crate / "src" / f"{'/'.join(modules) or 'lib'}.rt"
 
 
+def owner(text, place):
+    """The head of the impl or the trait within which this place stands, or nothing."""
+    heads = re.finditer(r"^(?:pub(?:\(\w+\))? )?(?:impl|trait)\b[^\n]*", text[:place], re.M)
+    *_, last = (None, *heads)
+    is_open = last and not re.search(r"^}", text[last.end() : place], re.M)
+    return last[0] if is_open else ""
+
+
 def functions(path):
-    """The places in its file where a function of this path begins."""
-    name = re.escape(path.split("::")[-1])
-    return [it.start() for it in re.finditer(rf"\bfn {name}\b", source(file_of(path)))]
+    """The places in its file where a function of this path begins: within the type that it names,
+    or in none."""
+    *modules, name = path.split("::")
+    text, types = source(file_of(path)), [it for it in modules if not it.islower()]
+    head = rf"\b{types[-1]}\b" if types else r"\A\Z"
+    found = [it.start() for it in re.finditer(rf"\bfn {re.escape(name)}\b", text)]
+    return [it for it in found if re.search(head, owner(text, it))]
 
 
 def contracts(path):
     """The contracts of the functions that a path names."""
     return [contract_of(source(file_of(path))[it:]) for it in functions(path)]
+
+
+def fields(name):
+    """The names of the fields of each record of this name."""
+    texts = (source(it) for it in CRATES.glob("*/specs/**/*.antt"))
+    records = re.compile(rf"^pub record {name}\b.*?(?=^\S|\Z)", re.S | re.M)
+    found = [it for text in texts for it in records.findall(text)]
+    return {it for record in found for it in re.findall(r"^  pub (\w+) :", record, re.M)}
+
+
+def has_clause(contract, name):
+    """Whether a contract has a clause of this name, or is one record that has this field."""
+    record = re.findall(r"\bensures\s*\{\s*(\w+)", contract)
+    is_field = len(record) == 1 and name in fields(record[0])
+    return is_field or re.search(rf"\bensures {name}\b", contract) is not None
 
 
 def calls(text):
@@ -67,11 +95,7 @@ def calls(text):
             yield f"the call `{path}` isn't there"
         else:
             names = re.findall(r"\w+", clauses)
-            lost = [
-                it
-                for it in names
-                if not any(re.search(rf"\bensures {it}\b", contract) for contract in found)
-            ]
+            lost = [it for it in names if not any(has_clause(each, it) for each in found)]
             yield f"`{path}` has no clause {', '.join(lost)}" if lost else None
 
 

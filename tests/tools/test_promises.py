@@ -1,4 +1,5 @@
-"""tools/promises.py: which crates of the toolchain the list of what is trusted has to name."""
+"""tools/promises.py: the clause that a call is said to have, and which crates of the toolchain the
+list of what is trusted has to name."""
 
 import sys
 from unittest import mock
@@ -21,6 +22,52 @@ BUILT_ON = {
     "std": [],
 }
 CRATES = {"os", "sha2", "sqlite", "sqlite_wal", "std"}
+CODE = """\
+impl One {
+    pub fn make(&self)
+        ensures first { self.now ≡ 1 }
+    {
+    }
+}
+
+impl Other {
+    pub fn make(&self)
+        ensures second { self.now ≡ 2 }
+    {
+    }
+}
+
+pub fn run()
+    requires { IsNew it }
+    ensures { Runs it }
+{
+}
+"""
+RECORD = "pub record Runs (n : ℕ)\n    : Type 0 where\n  pub few : n ≤ 1\n\nabbrev pub many : ℕ\n"
+
+
+class Calls(Case):
+    def test_clauses(self):
+        """A clause belongs to the function of that type, or is a field of the one record that the
+        contract is."""
+        room = self.room()
+        for name, text in (("src/low.rt", CODE), ("specs/Runs.antt", RECORD)):
+            (room / "low" / name).parent.mkdir(parents=True)
+            (room / "low" / name).write_text(text)
+        for call, wrong in (
+            ("`low::low::One::make` (`first`)", []),
+            ("`low::low::One::make` (`second`)", ["`low::low::One::make` has no clause second"]),
+            ("`low::low::Third::make`", ["the call `low::low::Third::make` isn't there"]),
+            ("`low::low::make` (`first`)", ["the call `low::low::make` isn't there"]),
+            ("`low::low::run` (`few`)", []),
+            ("`low::low::run` (`few`, `many`)", ["`low::low::run` has no clause many"]),
+        ):
+            with (
+                self.subTest(call=call),
+                mock.patch.object(promises, "CRATES", room),
+                mock.patch.object(promises, "listed", lambda: LISTED),
+            ):
+                self.assertEqual([it for it in promises.calls(call) if it], wrong)
 
 
 class Trusted(Case):
