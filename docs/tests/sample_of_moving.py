@@ -17,6 +17,7 @@ from tests.hostile_fields import NAMES, PASSWORD, PASSWORDS, text_of
 LOW = rigzumal.PasswordHasher(time_cost=1, memory_cost=64, parallelism=1)
 rigzumal.PasswordHasher = lambda: LOW
 BCRYPT = bcrypt.hashpw(PASSWORD, bcrypt.gensalt(4)).decode()
+LONG = PASSWORD.ljust(100, b"x")  # of which bcrypt takes 72 bytes
 SSHA = ldap_context.hash(PASSWORD, scheme="ldap_salted_sha1")
 CRYPT = ldap_context.hash(PASSWORD, scheme="ldap_sha512_crypt", rounds=1000)
 # No password is right for one of these, nor the record itself.
@@ -29,12 +30,17 @@ OPEN = {
     "ben": f"userPassword:: {base64.b64encode(CRYPT.encode()).decode()}",
     "cid": f"userPassword: {{ARGON2}}{LOW.hash(PASSWORD)}",
     "dan": f"shadowExpire: -1\nloginShell: /bin/sh\nuserPassword: {SSHA}",
+    "due": f"shadowLastChange: 20000\nshadowMax: 99999\nuserPassword: {SSHA}",
+    "{ARGON2}ann": f"userPassword: {SSHA}",  # no other's name is made of it
     "a" * 1100: f"userPassword: {SSHA}",
 }
 OUT = {
     "locked": f"pwdAccountLockedTime: 000001010000Z\nuserPassword: {SSHA}",
     "off": f"userPassword: {SSHA}\nnsAccountLock: TRUE",
-    "due": f"pwdReset: TRUE\nuserPassword: {SSHA}",
+    "reset": f"pwdReset: TRUE\nuserPassword: {SSHA}",
+    "new": f"shadowLastChange: 0\nuserPassword: {SSHA}",
+    "aged": f"shadowMax: 90\nuserPassword: {SSHA}\nshadowLastChange: 20000",
+    "bell\a": f"userPassword: {SSHA}",
     "shell": f"userPassword: {SSHA}\nloginShell: /usr/sbin/nologin",
     "false": f"userPassword: {SSHA}\nLOGINSHELL: /bin/false",
     "old": f"userPassword: {SSHA}\nshadowExpire: 1",
@@ -79,6 +85,15 @@ def check_table(page: str) -> None:
         pathlib.Path(name).write_text(code)
     import shop
 
+    checkpw = bcrypt.checkpw
+
+    def strict(password: bytes, record: bytes) -> bool:
+        """As bcrypt 5 has it."""
+        if len(password) > 72:
+            raise ValueError("password cannot be longer than 72 bytes")
+        return checkpw(password, record)
+
+    bcrypt.checkpw = strict
     with shop.connect() as conn:
         conn.execute("CREATE TABLE users (email TEXT PRIMARY KEY, password TEXT, active INT)")
         rows = [("ann", BCRYPT, 1), ("off", BCRYPT, 0), *((*it, 1) for it in SHUT.items())]
@@ -87,6 +102,12 @@ def check_table(page: str) -> None:
         assert not shop.log_in(name, PASSWORD), name
     assert [shop.log_in("ann", it) for it in ("a guess", PASSWORD)] == [False, True]
     check_logins(shop.accounts, ["ann"], [*SHUT])
+    # A long password moves as it was typed.
+    long = bcrypt.hashpw(LONG[:72], bcrypt.gensalt(4)).decode()
+    with shop.connect() as conn:
+        conn.execute("INSERT INTO users VALUES ('lea', ?, 1)", [long])
+    assert [shop.log_in("lea", it) for it in (PASSWORD, LONG, LONG)] == [False, True, True]
+    assert not shop.log_in("lea", LONG[:72])
     with shop.connect() as conn:
         kept = dict(conn.execute("SELECT email, password FROM users").fetchall())
     assert {it: kept[it] for it in SHUT} == SHUT
