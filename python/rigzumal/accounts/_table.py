@@ -243,9 +243,7 @@ class Table:
             await self.dialect.start(session)
             key = await self._row(session)
             if key is None:
-                # No row tells, but the server does if the role may not update.
-                absent = unused_key(self.dialect.key_type)
-                await self.dialect.put(session, record, absent, None)
+                await self._put_nowhere(session, record)
             else:
                 # With a lock, so that nobody else's change comes between.
                 copy = await self.one(session, self.dialect.locked, key)
@@ -255,11 +253,18 @@ class Table:
         except StoreFault as raised:
             fault = str(raised)
         except Exception as raised:
-            # An enum has no name that no row has, so an empty table of one shows nothing.
-            if not self.dialect.lacks_key(raised):
-                fault = f"no record can be written: {self.name(raised)}"
+            fault = f"no record can be written: {self.name(raised)}"
         await self._is_undone(session)
         return fault
+
+    async def _put_nowhere(self, session: Session, record: str) -> None:
+        """An UPDATE of no row, which the server refuses if the role may not update."""
+        try:
+            await self.dialect.put(session, record, unused_key(self.dialect.key_type), None)
+        except Exception as raised:
+            # An enum has no name that no row has, so an empty table of one shows nothing.
+            if not self.dialect.lacks_key(raised):
+                raise
 
     async def _row(self, session: Session) -> Optional[Key]:
         """The key of a new row, or of any; None if the table has none and refuses one."""

@@ -53,6 +53,21 @@ class OnMariaDB(engines.OnMariaDB, Base):
                 self.assertRaisesRegex(TypeError, said, called, accounts, text, also=begins)
                 self.assertEqual((len(calls), self.stands()), (1, record))
 
+    @each(1267, 3988)
+    def test_a_trigger_that_refuses_as_a_key_is_refused(self, number):
+        """Examine sees that no record is written."""
+        self.create()
+        self.give("one")
+        self.execute(
+            f"{engines.BEFORE_UPDATE} FOR EACH ROW"
+            f" SIGNAL SQLSTATE '45000' SET MYSQL_ERRNO = {number}"
+        )
+        said = f"{number}; see examine"
+        self.assertRaisesRegex(StoreFault, said, self.accounts().change, "ann", "one", "two")
+        (fault,) = self.accounts().examine()
+        self.assertEqual((fault.code, fault.is_error), ("no-update", True))
+        self.assertIn(str(number), str(fault))
+
     def test_a_hook_with_savepoints(self):
         """Which are its own, and go back as far as it says."""
 

@@ -40,6 +40,34 @@ class OnPostgres(engines.OnPostgres, Base):
         self.assertRegex(str(fault), "no record can be written: .* P0001")
         self.assertTrue(self.is_right("one"))
 
+    @each("22P02", "22021", "22P05")
+    def test_a_trigger_that_refuses_as_a_key_is_refused(self, state):
+        """Such as one that reads a setting as a number: examine sees that no record is written."""
+        self.create()
+        self.give("one")
+        self.trigger(f"RAISE EXCEPTION SQLSTATE ''{state}'';")
+        said = f"{state}; see examine"
+        self.assertRaisesRegex(StoreFault, said, self.accounts().change, "ann", "one", "two")
+        (fault,) = self.accounts().examine()
+        self.assertEqual((fault.code, fault.is_error), ("no-update", True))
+        self.assertIn(state, str(fault))
+
+    def test_a_policy_that_reads_no_row(self):
+        """That it can't read its own setting is a fault, and no name that doesn't exist."""
+        self.execute("ALTER TABLE users ADD tenant uuid, ENABLE ROW LEVEL SECURITY")
+        self.execute("CREATE POLICY own ON users USING (tenant = current_setting('a.b')::uuid)")
+        role = self.of_role("SELECT, UPDATE")
+
+        def unset():
+            conn = role()
+            conn.execute("SET a.b = ''")
+            return conn
+
+        accounts = self.accounts(connect=unset)
+        for call in ("verify ann one", "login ann one", "change ann one two", "reset ann two"):
+            with self.subTest(call=call):
+                self.assertRaisesRegex(StoreFault, "22P02", called, accounts, call)
+
     @each(
         *(f"CREATE TRIGGER tr {it} UPDATE ON users" for it in ("BEFORE", "AFTER")),
         "CREATE CONSTRAINT TRIGGER tr AFTER UPDATE ON users DEFERRABLE INITIALLY DEFERRED",

@@ -21,8 +21,10 @@ _ELSEWHERE: Final = frozenset({"25006", "53300"})
 # transaction was idle for too long. Whatever was sent then may have been done.
 _LOST: Final = ("08", "57P0", "25P03")
 _UNKNOWN: Final = "40003"  # the server doesn't know whether what was sent was done
-# Characters that the server's encoding doesn't have, and a name that is none of an enum's.
-_LACKS: Final = ("22P05", "22021", "22P02")
+_LACKS: Final = ("22P05", "22021")  # characters that the server's encoding doesn't have
+# A text that a type doesn't take; and the server's function that reads an enum's names.
+_NO_VALUE: Final = "22P02"
+_READS_ENUM: Final = "enum_in"
 # The server's own function that warns of a wait that was cancelled; its words are translated.
 _WAIT_FOR_STANDBY: Final = "SyncRepWaitForLSN"
 _COPY: Final = "COPY rigzumal_came (number, name, made) FROM STDIN"
@@ -206,6 +208,10 @@ class Postgres(Dialect):
         return Verdict.LOST if is_broken else Verdict.REFUSED
 
     def lacks_key(self, raised: BaseException) -> bool:
+        if self.number(raised) == _NO_VALUE:
+            # Other types refuse no key, but what a row's policy reads, say.
+            diagnosis = getattr(raised, "diag", None)
+            return getattr(diagnosis, "source_function", None) == _READS_ENUM
         return super().lacks_key(raised) or self.number(raised) in _LACKS
 
     def gave_up(self, raised: BaseException) -> bool:
