@@ -152,6 +152,18 @@ class OnSqlite(Said, engines.OnSqlite, support.Base):
                 self.assert_faults(["no-wal: it isn't in WAL"], accounts)
                 accounts._connections.primary.close()
 
+    @each((9 << 20, []), (8 << 20, []), ((8 << 20) - 1, ["disk-full"]), (0, ["disk-full"]))
+    def test_room_on_the_disk(self, free, codes):
+        """Under 8 MiB it warns: in WAL the trial, which is rolled back, writes nothing."""
+        disk = mock.Mock(f_bavail=free, f_frsize=1, f_blocks=1)
+        with mock.patch("os.statvfs", return_value=disk) as asked:
+            self.assertEqual([it.code for it in self.accounts().examine()], codes)
+            asked.assert_called_once_with(self.server.path)
+            disk.f_blocks = 0  # a filesystem without a size
+            self.assertEqual(self.accounts().examine(), [])
+        with mock.patch("os.statvfs", side_effect=OSError):
+            self.assertEqual(self.accounts().examine(), [])
+
     def test_it_leaves_no_transaction_open(self):
         conn = self.another()
         accounts, missing = self.kept(conn=conn), ["no column users.name", "no column users.record"]

@@ -54,6 +54,21 @@ class FullDisk(Base):
         self.assertIs(accounts.login("low", "one"), Reply.YES)
         self.assertIn("m=128,", self.stands("low"))
 
+    @each("WAL", "DELETE")
+    def test_examine_sees_it(self, mode):
+        """In WAL too, where the trial, which is rolled back, writes nothing."""
+        self.folder = small_disk(self, "32m")
+        self.begin(mode)
+        accounts = self.accounts(dialect=self.another_dialect(table="MAIN.users"))
+        others = {"WAL": [], "DELETE": ["no-wal"]}[mode]
+        self.assertEqual([it.code for it in accounts.examine()], others)
+        with full(self.folder):
+            found = {it.code: it for it in accounts.examine()}
+        others += ["no-update"] * (mode == "DELETE")
+        self.assertEqual({*found}, {*others, "disk-full"})
+        said = "the disk has 0 KiB free: changes may be refused"
+        self.assertEqual((str(found["disk-full"]), found["disk-full"].is_error), (said, False))
+
     def test_a_crash_after_a_refused_commit(self):
         """The record that was acknowledged last stands, wherever the log of SQLite ended."""
         for before in range(9):

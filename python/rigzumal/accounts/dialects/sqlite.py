@@ -2,6 +2,7 @@
 
 from __future__ import annotations
 
+import os
 import sqlite3
 from collections.abc import Iterator
 from typing import Any, Final
@@ -16,6 +17,7 @@ from rigzumal.accounts.dialects._faults import warning
 
 _BUSY: Final = (5, 6)  # SQLITE_BUSY, SQLITE_LOCKED
 _FULL: Final = (13,)  # SQLITE_FULL
+_NEEDED: Final = 8 << 20  # bytes: the log grows to 1,000 pages of 4 KiB, and then the file
 
 
 class Sqlite(Dialect):
@@ -107,7 +109,9 @@ class Sqlite(Dialect):
         for name in _PRAGMAS:
             ((seen[name],),) = (await session.execute(f"PRAGMA {name}")).rows
         faults += [*of_connection(seen), *await self.folded_names(session)]
-        return Findings(faults)
+        listed = (await session.execute("PRAGMA database_list")).rows
+        paths = [path for _, name, path in listed if name.lower() == (schema or "main").lower()]
+        return Findings(faults + [it for path in paths for it in of_disk(path)])
 
     def _type_faults(self, declared: str) -> Iterator[Fault]:
         """SQLite compares '07' as 7, or 7 as '7', by the column's type."""
@@ -137,6 +141,20 @@ _UNIQUE: Final = (
     ' WHERE i."unique" AND NOT i.partial GROUP BY i.name HAVING count(*) = 1'
 )
 _PRAGMAS: Final = ("synchronous", "busy_timeout", "journal_mode", "read_uncommitted")
+
+
+def of_disk(path: str) -> Iterator[Fault]:
+    """A full disk, which the trial doesn't meet in WAL: there COMMIT alone writes.
+
+    A user's quota can't be seen, nor the disk of a database in memory.
+    """
+    try:
+        found = os.statvfs(path)
+    except OSError:
+        return
+    free = found.f_bavail * found.f_frsize
+    if found.f_blocks and free < _NEEDED:
+        yield warning("disk-full", f"the disk has {free >> 10} KiB free: changes may be refused")
 
 
 def of_connection(seen: dict[str, Any]) -> Iterator[Fault]:
