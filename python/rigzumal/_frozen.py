@@ -16,8 +16,9 @@ class Frozen:
     def __init__(self, *values: object, **named: object) -> None:
         """Of a class that refuses no value: all of its attributes, as it lists them."""
         given = dict(zip(self.__annotations__, values), **named)
-        if given.keys() != self.__annotations__.keys():
-            raise TypeError(f"the values are {', '.join(self.__annotations__)}")
+        names, count = self.__annotations__, len(values) + len(named)
+        if given.keys() != names.keys() or count != len(names):
+            raise TypeError(f"the values are {', '.join(names)}")
         self._set(**given)
 
     def _set(self, **values: object) -> None:

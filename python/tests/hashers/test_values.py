@@ -74,6 +74,20 @@ class Values(unittest.TestCase):
         values |= {SMALL.replace(**{name: it}) for name, it in changes}
         self.assertEqual(len(values), len(changes) + 3)
 
+    def test_values_that_are_too_many_or_too_few(self):
+        values = ("argon2id", 19, 64, 1, 1, 16, 32)
+        self.assertEqual(rigzumal.Parts(*values[:6], tag_size=32), rigzumal.Parts(*values))
+        for given, named in (
+            (values[:6], {}),
+            ((*values, 1), {}),
+            (values, {"tag_size": 32}),
+            (values, {"more": 1}),
+        ):
+            with self.subTest(given=given, named=named):
+                self.assertRaisesRegex(
+                    TypeError, "^the values are", rigzumal.Parts, *given, **named
+                )
+
     def test_a_change_leaves_the_others(self):
         hasher = PasswordHasher(1, 16, 2, 33, 17, Type.D, b"pepper", 3)
         self.assertEqual(hasher.replace(hash_len=32).replace(hash_len=33), hasher)
