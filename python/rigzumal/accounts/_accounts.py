@@ -157,9 +157,11 @@ class Accounts(Operations[Pool]):
 
         It writes a record into a new row, or into one of the table's if a new one is
         impossible, in a transaction that it rolls back. Name Kind.REMOVE if the service
-        removes records: then a column that is NOT NULL is an error.
+        removes records: then a column that is NOT NULL is an error. Of a full disk it warns
+        on SQLite, as far as the filesystem tells; no quota of a user's is seen.
 
         Raises:
+            TypeError: what is named is no Kind.
             StoreFault: the connection isn't in autocommit, or has a transaction open.
             Exception: whatever the driver raises.
         """

@@ -10,7 +10,7 @@ with the primary's record at the end.
 from __future__ import annotations
 
 import time
-from collections.abc import Callable, Container, Iterable
+from collections.abc import Callable, Collection, Iterable
 from concurrent.futures import ThreadPoolExecutor
 from typing import Any, ClassVar, Final, Generic, Optional, TypeVar
 
@@ -22,7 +22,7 @@ from rigzumal.accounts._session import Hook, Job, Runtime
 from rigzumal.accounts._table import Broken, Table, Undone, judged, unused_key
 from rigzumal.accounts.types import NO_ROW, Answer, Copy, Key, Kind, NoConnection
 from rigzumal.accounts.types import OutcomeUnknown, Reply, Request, StoreFault, Ticket
-from rigzumal.accounts.types import Unavailable, Worked
+from rigzumal.accounts.types import Unavailable, Worked, check_kind
 from rigzumal.accounts.dialects._dialect import Dialect, Verdict
 from rigzumal.accounts.dialects._faults import Fault
 from rigzumal.accounts.pools import check_pool
@@ -101,7 +101,9 @@ class Operations(Generic[AnyPool]):
         verify = Request(Kind.VERIFY, key, password)
         return (await self._perform(verify, also, rest)).reply
 
-    async def _examined(self, used: Container[Kind]) -> list[Fault]:
+    async def _examined(self, used: Collection[Kind]) -> list[Fault]:
+        for kind in used:
+            check_kind(kind)
         record, pool = self._judge.sample, self._connections.primary
         faults = await self._runtime.use(
             pool, lambda session: self._table.examine(session, record, used)

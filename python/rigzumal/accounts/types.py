@@ -71,6 +71,12 @@ class Kind(enum.Enum):
     __hash__ = object.__hash__
 
 
+def check_kind(kind: object) -> None:
+    """Raises TypeError at a word in the place of a Kind: it would be none of them."""
+    if not isinstance(kind, Kind):
+        raise TypeError(f"pass a Kind, such as Kind.CHANGE, not a {type(kind).__name__}")
+
+
 class NoRow(enum.Enum):
     """The copy of an account that doesn't exist."""
 
@@ -96,7 +102,7 @@ class Request:
     """A requested operation on an account.
 
     Raises:
-        TypeError: a password is neither bytes nor text.
+        TypeError: the kind is no Kind, or a password is neither bytes nor text.
         ValueError: a new password has over 256 bytes, or is text without UTF-8.
     """
 
@@ -111,6 +117,7 @@ class Request:
     def __init__(
         self, kind: Kind, key: Key, password: Secret = b"", new_password: Secret = b""
     ) -> None:
+        check_kind(kind)
         new, can_be_right = bytes_of_password(new_password), True
         try:
             present = bytes_of_password(password)

@@ -4,6 +4,7 @@ import contextlib
 import enum
 import itertools
 import sqlite3
+import uuid
 from unittest import mock
 
 from engines import Awaited
@@ -33,6 +34,18 @@ class Arguments(Base):
             self.assertRaises(ValueError, self.accounts, **given)
         self.assertRaises(TypeError, self.accounts, tries=1.5)
         self.accounts(tries=1, patience=0.0)
+
+    def test_words_for_kinds(self):
+        """They would be none of the kinds; no connection is asked for."""
+        accounts = self.accounts(connect=self.no_connection)
+        for kind in ("change", "CHANGE", 3, None, Reply.REPLACED):
+            with self.subTest(kind=kind):
+                said = f"pass a Kind, such as Kind.CHANGE, not a {type(kind).__name__}"
+                self.assertRaisesRegex(TypeError, said, Request, kind, "ann", "one", "two")
+                self.assertRaisesRegex(TypeError, said, accounts.examine, Kind.REMOVE, kind)
+        for kind in ("int", uuid.UUID, None):
+            with self.assertRaisesRegex(TypeError, "keys here are of str, int, bytes, not "):
+                Sqlite("users", "name", "record", kind)
 
     def test_pools_that_lend_no_connection(self):
         """A connection's own `with` doesn't close it, and the other kind's lends nothing."""

@@ -104,7 +104,8 @@ class Dialect:
     def __init__(self, table: str, key: str, record: str, key_type: type = str) -> None:
         if key_type not in self.key_types:
             names = ", ".join(it.__name__ for it in self.key_types)
-            raise TypeError(f"keys here are of {names}, not {key_type.__name__}")
+            found = getattr(key_type, "__name__", repr(key_type))
+            raise TypeError(f"keys here are of {names}, not {found}")
         self.table_name, self.key_name, self.record_name = table, key, record
         self.key_type = key_type
         self.table = t = ".".join(map(self.quoted, table.split(".")))
