@@ -120,9 +120,10 @@ class Judge:
         foreign: Optional[Foreign] = None,
         upgrade_from: Iterable[str] = (),
     ) -> None:
-        if not hasattr(hasher, "hash_len"):
-            kind = type(hasher).__name__
-            raise TypeError(f"pass a PasswordHasher or a ScryptHasher, not {kind}")
+        if not isinstance(hasher, (PasswordHasher, ScryptHasher)):
+            kind = type(hasher)
+            found = f"{kind.__module__}.{kind.__qualname__}".removeprefix("builtins.")
+            raise TypeError(f"pass rigzumal's PasswordHasher or ScryptHasher, not {found}")
         if hasher.hash_len != _TAG_SIZE:
             raise ValueError(f"records of accounts have tags of {_TAG_SIZE} bytes")
         if foreign is not None and not callable(foreign):

@@ -9,6 +9,7 @@ from unittest import mock
 
 from engines import Awaited
 from support import HIGH, LOW, Base, called, each, scripted
+from rigzumal import PasswordHasher, argon2_cffi
 from rigzumal.accounts import Accounts, AsyncAccounts, MariaDB, OutcomeUnknown, Postgres, Reply
 from rigzumal.accounts import Sqlite, StoreFault, Unavailable
 from rigzumal.accounts.types import NO_ROW, Answer, Kind, Request, Ticket, Worked
@@ -26,8 +27,14 @@ class Arguments(Base):
                 self.assertRaisesRegex(TypeError, name, kind, given, self.dialect, LOW)
                 with self.assertRaisesRegex(TypeError, name):
                     kind(self.no_connection, self.dialect, LOW, replica=given)
-        with self.assertRaisesRegex(TypeError, "pass a PasswordHasher .*, not str"):
-            self.accounts("argon2")
+        theirs = "rigzumal.argon2_cffi._password_hasher.PasswordHasher"
+        for hasher, found in (
+            ("argon2", "str"),
+            (PasswordHasher, "type"),
+            (argon2_cffi.PasswordHasher(), theirs),
+        ):
+            said = f"^pass rigzumal's PasswordHasher or ScryptHasher, not {found}$"
+            self.assertRaisesRegex(TypeError, said, self.accounts, hasher)
         with self.assertRaisesRegex(TypeError, "pass a dialect such as .* not a str"):
             self.accounts(dialect="users")
         for given in ({"tries": 0}, {"patience": -1.0}, {"patience": float("nan")}):
