@@ -143,6 +143,15 @@ class _Command:
         """The record of the row, None, or NO_ROW."""
         return self.accounts.begin(Request(Kind.VERIFY, key)).copy
 
+    @contextlib.contextmanager
+    def record_judged(self, key: Key) -> Iterator[None]:
+        """An InvalidRecordError within is about the account's record."""
+        try:
+            yield
+        except InvalidRecordError as fault:
+            said = str(fault).partition(FOREIGN_HINT)[0]
+            raise Refusal(why(self.copy(key), said), Status.DATABASE) from None
+
     def say(self, reply: Reply, *good: Reply) -> int:
         """Writes a reply, with the status of a no unless it is one of the good ones."""
         words = {Reply.NO_ACCOUNT: "no account", Reply.ABSENT: "no record"}
@@ -178,11 +187,8 @@ class _Command:
     def check(self) -> int:
         """Write yes, or no with status 4"""
         accounts, key, password = self.accounts, self.name, password_of()
-        try:
+        with self.record_judged(key):
             reply = accounts.verify(key, password)
-        except InvalidRecordError as fault:
-            said = str(fault).partition(FOREIGN_HINT)[0]
-            raise Refusal(why(self.copy(key), said), Status.DATABASE) from None
         if reply is Reply.NO and len(password) < LONGEST_PASSWORD:
             text = hint(password, lambda it: accounts.verify(key, it) is Reply.YES)
             if text:
@@ -192,7 +198,7 @@ class _Command:
     def change(self) -> int:
         """Replace a password by one who knows it"""
         accounts, key, (old, new) = self.accounts, self.name, old_and_new()
-        with _password_judged():
+        with _password_judged(), self.record_judged(key):
             reply = accounts.change(key, old, new)
         return self.say(reply, Reply.REPLACED)
 

@@ -204,6 +204,15 @@ class AtAShell(support.Commands):
         self.assertIn(said, found)
         self.assertNotIn("examine()", found)
 
+    @each(("check ada", "x"), ("change ada", "x\ny"))
+    def test_a_record_of_another_scheme(self, words, given):
+        """A shell has no hook to give."""
+        self.insert({"ada": FOREIGN})
+        _, found = self.streams(*words.split(), given=given, status=5)
+        self.assertIn("the record's scheme is 2y, and the scheme is none of argon2d, ", found)
+        self.assertNotIn("`foreign`", found)
+        self.execute("DELETE FROM accounts")
+
     @each(
         ("login ada", "unknown word (choose from"),
         ("add", "the following arguments are required: NAME"),
