@@ -5,12 +5,13 @@ import os
 import sqlite3
 import sys
 import tempfile
+import traceback
 import types
 import unittest
 import urllib.parse
 from unittest import mock
 
-from support import each, run
+from support import each, module, run
 from rigzumal.accounts import Sqlite, StoreFault, Unavailable, _connections
 from rigzumal.accounts._connections import Connections, Waits
 from rigzumal.accounts._table import Lost, Table, Undone
@@ -244,6 +245,19 @@ class Urls(unittest.TestCase):
         url = f"mysql://ada:{urllib.parse.quote(password, safe='')}@db/d"
         self.assertEqual(Database(url).connect()["password"], password)
         self.tried.clear()
+
+    @each(
+        *("/d?user=u&password=sec%ret", "/d?password=sec%zz", "db/d?secret", "db/d?password=x&sec"),
+        *("u:secret@[::1/d", "u:x@[::1]secret/d"),
+    )
+    def test_what_libpq_can_not_read(self, rest):
+        """Its own text shows the part, which may be a password."""
+        module("psycopg")
+        with self.assertRaisesRegex(ValueError, "% is written %25, @ is %40") as raised:
+            Database(f"postgresql://{rest}").connect()
+        error = raised.exception
+        shown = traceback.format_exception(ValueError, error, error.__traceback__)
+        self.assertNotIn("sec", "".join(shown))
 
     def test_no_password_is_in_a_repr(self):
         for kind in ("mysql", "postgresql"):
