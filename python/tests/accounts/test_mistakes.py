@@ -81,8 +81,9 @@ class InPython(Base):
         with mock.patch.object(_hashers, "_has_warned", False):
             with warnings.catch_warnings(record=True) as told:
                 warnings.simplefilter("always")
-                made = [PasswordHasher(memory_cost=memory, parallelism=1) for _ in range(3)]
-                made[0].replace(time_cost=1)
+                hasher = PasswordHasher(memory_cost=memory, parallelism=1)  # of this very frame
+                PasswordHasher(memory_cost=memory, parallelism=1)
+                hasher.replace(time_cost=1)
             (one,) = told
             said = f"memory_cost={memory} is {memory} KiB, a low cost: 64 MiB are 65536"
             self.assertEqual((str(one.message), one.filename), (said, __file__))

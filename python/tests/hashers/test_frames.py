@@ -85,6 +85,22 @@ def refusing(outcome):
     return types.SimpleNamespace(**{f"rigzumal_{it}": call for it, call in calls.items()})
 
 
+def failing(module, words):
+    """A function of a module, which says these words once another has failed, with its password."""
+    names = {"__name__": module}
+    code = [
+        "def fails(own):",
+        "    raise KeyError",
+        "def called(password):",
+        "    try:",
+        "        fails(password)",
+        "    except KeyError as error:",
+        f"        {words}",
+    ]
+    exec(compile("\n".join(code), "planted", "exec"), names)
+    return names["called"]
+
+
 class Frames(unittest.TestCase):
     def assert_hidden(self, call, *given):
         """The call raises, and neither a frame nor a text has what it was given."""
@@ -133,6 +149,21 @@ class Frames(unittest.TestCase):
                 called("another")
             frame = handled.__traceback__.tb_next.tb_frame
             self.assertEqual(frame.f_locals, {"own": TYPED})
+
+    @each("raise ValueError", "raise ValueError from error", "raise ValueError from None")
+    def test_what_an_exception_came_of(self, words):
+        """Its frames are emptied too, whichever way it is noted."""
+        self.assert_hidden(_hidden.hidden(failing("rigzumal.planted", words)), TYPED)
+
+    def test_modules_whose_names_begin_alike(self):
+        """They are a caller's, whose hooks keep their variables."""
+        call = _hidden.hidden(failing("rigzumal_shop", "raise"))
+        with self.assertRaises(KeyError):
+            call(TYPED)
+        try:
+            call(TYPED)
+        except KeyError as error:
+            self.assertIn("fails.own", shown(error, TYPED))
 
     def raised_with(self, held):
         """What a function raises, in no file of a test, whose variable is this."""
