@@ -38,12 +38,24 @@ class Refusal(Exception):
         self.status = status
 
 
+_COSTS = "--memory, --passes or --lanes"
 # What other programs call the costs.
 _SYNONYMS = {
-    **dict.fromkeys(("--time", "--time-cost", "--iterations", "--rounds", "-t"), "--passes"),
-    **dict.fromkeys(("--memory-cost", "--mem", "-m", "-k"), "--memory"),
-    **dict.fromkeys(("--parallelism", "--parallel", "-p"), "--lanes"),
-    **dict.fromkeys(("--cost", "--costs", "--setting"), "--memory, --passes or --lanes"),
+    "--time": "--passes",
+    "--time-cost": "--passes",
+    "--iterations": "--passes",
+    "--rounds": "--passes",
+    "-t": "--passes",
+    "--memory-cost": "--memory",
+    "--mem": "--memory",
+    "-m": "--memory",
+    "-k": "--memory",
+    "--parallelism": "--lanes",
+    "--parallel": "--lanes",
+    "-p": "--lanes",
+    "--cost": _COSTS,
+    "--costs": _COSTS,
+    "--setting": _COSTS,
 }
 
 
@@ -54,7 +66,8 @@ class Words(argparse.ArgumentParser):
         """Ends the program, and hides a word that isn't taken: it may be a password."""
         front, _, words = message.partition("unrecognized arguments: ")
         if words and not front:
-            message = self._unknown(words.split()[0].partition("=")[0])
+            first, *_ = words.split()
+            message = self._unknown(first.partition("=")[0])  # a value isn't looked at
         hidden = r"invalid choice: .*(?=\(choose)"
         message = re.sub(hidden, "unknown word ", message, flags=re.S)
         self.print_usage(sys.stderr)
@@ -64,11 +77,16 @@ class Words(argparse.ArgumentParser):
         """The fault of a word that isn't shown."""
         if not word.startswith("-"):
             return "a word too many; a password is never an argument: pipe or type it"
-        options = {*_options_of(self)}
-        near = difflib.get_close_matches(word, options, 1, 0.7)
-        meant = _SYNONYMS.get(word) or "".join(near)
-        is_there = bool(options.intersection(meant.replace(",", "").split()))
-        return f"an unknown option, which isn't shown{f'; is {meant} meant?' if is_there else ''}"
+        said, meant = "an unknown option, which isn't shown", self._meant(word)
+        return f"{said}; is {meant} meant?" if meant else said
+
+    def _meant(self, word: str) -> str:
+        """The options of this command that an unknown one may stand for; empty if none may."""
+        options = [*_options_of(self)]
+        synonym = _SYNONYMS.get(word)
+        if synonym is None:
+            return "".join(difflib.get_close_matches(word, options, 1, 0.7))
+        return synonym if any(it in synonym for it in options) else ""
 
 
 def _options_of(words: argparse.ArgumentParser) -> Iterator[str]:

@@ -27,8 +27,15 @@ LOW_MEMORY: Final = 8192  # KiB; a lower number is one of MiB, more often than n
 _has_warned = False
 
 # The numbers of rigzumal.h for what is out of range.
-_RANGE, _SALT, _TAG, _LANES, _COST, _PASSES = 5, 6, 7, 14, 15, 16
-_SCRYPT_COST, _BLOCK_SIZE, _BLOCKS = 19, 20, 21
+_RANGE: Final = 5
+_SALT: Final = 6
+_TAG: Final = 7
+_LANES: Final = 14
+_COST: Final = 15
+_PASSES: Final = 16
+_SCRYPT_COST: Final = 19
+_BLOCK_SIZE: Final = 20
+_BLOCKS: Final = 21
 
 
 class LowMemoryWarning(UserWarning):

@@ -154,13 +154,13 @@ class Import:
 
     def _checked(self, records: Iterable[Line]) -> int:
         """The number of lines; it names those with a space in the name, which may be a mistake."""
-        total, spaced = 0, list[tuple[int, str]]()
+        total, spaced, first = 0, 0, ""
         for total, (key, _) in enumerate(records, 1):
             if isinstance(key, str) and " " in key:
-                spaced.append((total, key))
-        for number, name in spaced[:1]:
-            said = f"{shown(name)!r} has a space; names with a space: {len(spaced)}"
-            say(f"line {number}: {said}")
+                spaced += 1
+                first = first or f"line {total}: {shown(key)!r} has a space"
+        if spaced:
+            say(f"{first}; names with a space: {spaced}")
         return total
 
     def _taken(self, records: Iterator[Line], total: int) -> dict[str, int]:
@@ -258,10 +258,7 @@ class Import:
             if not self.are_new:
                 return [self._named(session, *line) for line in batch]
             self.are_new = False
-        if len({*words}) > 1:
-            order = sorted(range(len(batch)), key=[*map(_KEY, batch)].__getitem__)
-            words = [word for _, word in sorted(zip(order, words))]
-        return words
+        return words if len({*words}) == 1 else _as_they_came(batch, words)
 
     def _put_at_once(self, session: Session, share: Sequence[Line]) -> list[str]:
         """Puts some lines by a few statements; StoreFault if other records stand then."""
@@ -320,6 +317,16 @@ class Import:
             return "there" if answer.after == record else "another"
         kept = "no record of" if answer.after is None else "another name than"
         raise Refusal(f"the server keeps {kept} {shown(key)}", Status.DATABASE)
+
+
+def _as_they_came(batch: Sequence[Line], words: Sequence[str]) -> list[str]:
+    """The words of a batch's lines in their own order, which were said in that of their names."""
+    names: list[Any] = [name for name, _ in batch]
+    places = sorted(range(len(batch)), key=names.__getitem__)
+    ordered = [""] * len(batch)
+    for place, word in zip(places, words):
+        ordered[place] = word
+    return ordered
 
 
 @contextlib.contextmanager

@@ -73,19 +73,22 @@ def _classes(setting: str, number: str) -> tuple[list[tuple[str, type]], list[An
         text = f"{setting} is a text instead of a list."
         return [], [_message(number, text, f"Put {listed!r} into a list.")]
     found: list[tuple[str, type]] = []
-    faults = [] if listed else [(f"{setting} is empty.", "Nobody can log in.")]
+    faults = []
+    if not listed:
+        faults.append(_message(number, f"{setting} is empty.", "Nobody can log in."))
     for path in listed:
+        text = f"{setting} has {path!r}, which"
         try:
             named = import_string(path)
         except (ImportError, ValueError, AttributeError) as fault:
-            said = "can't be imported", str(fault)
+            faults.append(_message(number, f"{text} can't be imported.", str(fault)))
+            continue
+        if isinstance(named, type):
+            found.append((path, named))
         else:
-            said = "is no class", "Name a class by its whole path."
-            if isinstance(named, type):
-                found.append((path, named))
-                continue
-        faults.append((f"{setting} has {path!r}, which {said[0]}.", said[1]))
-    return found, [_message(number, *it) for it in faults]
+            hint = "Name a class by its whole path."
+            faults.append(_message(number, f"{text} is no class.", hint))
+    return found, faults
 
 
 def _misspelt(setting: str) -> str:
