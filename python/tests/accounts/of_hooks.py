@@ -1,6 +1,7 @@
 """What every engine does with a caller's hook: classes of tests, as those of of_engines.py."""
 
 import contextlib
+import contextvars
 import itertools
 from operator import methodcaller
 
@@ -8,6 +9,7 @@ from of_engines import CALLS
 from servers import SqliteFile
 from support import after_hash, called, each, in_threads
 from rigzumal.accounts import OutcomeUnknown, Reply, StoreFault, Unavailable
+from rigzumal.accounts._running import RUNNING
 
 CHANGES = ("change ann one two", "login ann one", "remove ann one")
 
@@ -160,9 +162,11 @@ class RowsOfOnesOwn:
         self.execute("DROP TABLE IF EXISTS others")
         self.execute(self.another_dialect(table="others").create())
         self.execute("INSERT INTO others VALUES ('ann', %s)", self.low.hash("one"))
-        pool, used, given = self.of_several, [], {"patience": 0.5}
-        accounts, dearer = (self.over(pool, it, **given) for it in (self.low, self.high))
-        others = self.over(pool, self.low, self.another_dialect(table="others"), **given)
+        used, given = [], {"patience": 0.5}
+        # Of each the pool is another object, as psycopg_pool's `pool.connection` is.
+        accounts, dearer = (self.over(self.of_several, it, **given) for it in (self.low, self.high))
+        other_table = self.another_dialect(table="others")
+        others = self.over(self.of_several, self.low, other_table, **given)
 
         def also(conn, reply):
             self.also(conn, reply)
@@ -180,6 +184,22 @@ class RowsOfOnesOwn:
             self.assertEqual(self.rows(), [reply])
         self.assertEqual(used, ["yes"] * 2)
         self.assert_replies("verify ann two yes", accounts)
+
+    def test_what_is_no_nested_call(self):
+        """One over another pool, which may be of another database, and one that was begun within
+        `also` and comes after it."""
+        accounts, other, contexts = self.accounts(), self.accounts(), []
+
+        def also(conn, reply):
+            self.also(conn, reply)
+            self.assert_replies("verify ann one yes", other)
+            contexts.append(contextvars.copy_context())
+
+        self.assert_replies("change ann one two replaced", accounts, also=also)
+        self.assertEqual(self.rows(), ["replaced"])
+        (kept,) = contexts
+        self.assertEqual(kept.run(called, accounts, "verify ann two"), "yes")
+        self.assertEqual(RUNNING.get(), ())
 
     @contextlib.contextmanager
     def of_several(self):

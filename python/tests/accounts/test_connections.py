@@ -1,6 +1,9 @@
 """How long is waited, and for what, over a clock and a runtime that only note it; what a URL says
 to a database's driver, whose stand-ins note what they are given."""
 
+import contextlib
+import contextvars
+import io
 import os
 import sqlite3
 import sys
@@ -14,6 +17,7 @@ from unittest import mock
 from support import each, module, run
 from rigzumal.accounts import Sqlite, StoreFault, Unavailable, _connections
 from rigzumal.accounts._connections import Connections, Waits
+from rigzumal.accounts._running import RUNNING, Also, runs_on, runs_over
 from rigzumal.accounts._table import Lost, Table, Undone
 from rigzumal.accounts.database import Database
 
@@ -155,6 +159,30 @@ class Patience(unittest.TestCase):
 
 class Refused(Exception):
     """A driver's error."""
+
+
+class Running(unittest.TestCase):
+    """Within which hooks a caller is: those of an outer operation count too."""
+
+    def test_of_pools_and_tables(self):
+        pool = contextlib.closing(io.StringIO())  # its bound methods are equal, and not the same
+        within = Also(pool.__enter__, "users"), Also(pool.__exit__, "others")
+        context = contextvars.copy_context()
+        context.run(RUNNING.set, within)
+        for over, table, is_over_it, is_on_it in (
+            (pool.__enter__, "users", True, True),
+            (pool.__enter__, "others", True, False),
+            (pool.__exit__, "others", True, True),
+            (pool.__exit__, "users", True, False),
+            (pool, "users", False, False),
+        ):
+            with self.subTest(over=over, table=table):
+                self.assertEqual(context.run(runs_over, over), is_over_it)
+                self.assertEqual(context.run(runs_on, over, table), is_on_it)
+        within[0].is_over = True
+        self.assertFalse(context.run(runs_over, pool.__enter__))
+        self.assertFalse(context.run(runs_on, pool.__enter__, "users"))
+        self.assertTrue(context.run(runs_on, pool.__exit__, "others"))
 
 
 class Urls(unittest.TestCase):

@@ -194,12 +194,14 @@ class Openings(Base):
 
 class OnePerThread(Base):
     def test_a_pool_that_is_closed(self):
-        """By its error's name: what psycopg_pool raises is a lost connection's kind."""
+        """By its error's name, or a base's: what psycopg_pool raises is a lost connection's kind."""
         closed = type("PoolClosed", (sqlite3.OperationalError,), {})
-        connect = mock.Mock(side_effect=closed("the pool 'pool-1' is already closed"))
+        ours = type("OurPoolIsClosed", (closed,), {})
+        connect = mock.Mock()
         accounts = self.accounts(connect=connect, patience=60.0)
-        for name in ("verify", "login"):
+        for name, kind in itertools.product(("verify", "login"), (closed, ours)):
             connect.reset_mock()
+            connect.side_effect = kind("the pool 'pool-1' is already closed")
             with self.assertRaisesRegex(NoConnection, "the pool is closed: .* already closed"):
                 getattr(accounts, name)("ann", "one")
             self.assertEqual(connect.call_count, 1)
