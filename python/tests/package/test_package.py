@@ -104,8 +104,9 @@ class Package(unittest.TestCase):
     @each((), ("/of_another.py", "/django/of_another.py"))
     def test_uninstalled(self, others):
         """`make uninstall` takes away what `make install` put there, and nothing of anyone
-        else's."""
-        room = ROOM / "uninstalled"
+        else's: the folder's path has a space, and what stands before it is another's."""
+        room, another = ROOM / "uninstalled here", ROOM / "uninstalled"
+        another.mkdir(exist_ok=True)
         words = (f"DESTDIR={room}", "PREFIX=/opt/rigzumal")
         packages = room / "opt/rigzumal" / INSTALLED
         make("install", *words)
@@ -116,6 +117,7 @@ class Package(unittest.TestCase):
         wanted = {f"opt/rigzumal/{INSTALLED}/rigzumal{name}" for name in others}
         self.assertEqual(files_below(room), wanted)
         self.assertEqual((packages / "rigzumal").exists(), bool(others))
+        self.assertTrue(another.exists())
 
     def test_wheel(self):
         """A virtual environment with the wheel alone imports and hashes, from nothing."""
