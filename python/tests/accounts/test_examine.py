@@ -1,6 +1,7 @@
 """What `examine` says: each table, role and setting that won't do by itself."""
 
 import contextlib
+import os
 from unittest import mock
 
 import engines
@@ -158,7 +159,7 @@ class OnSqlite(Said, engines.OnSqlite, support.Base):
         disk = mock.Mock(f_bavail=free, f_frsize=1, f_blocks=1)
         with mock.patch("os.statvfs", return_value=disk) as asked:
             self.assertEqual([it.code for it in self.accounts().examine()], codes)
-            asked.assert_called_once_with(self.server.path)
+            asked.assert_called_once_with(os.path.realpath(self.server.path))
             disk.f_blocks = 0  # a filesystem without a size
             self.assertEqual(self.accounts().examine(), [])
         with mock.patch("os.statvfs", side_effect=OSError):
