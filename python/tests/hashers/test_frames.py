@@ -155,15 +155,50 @@ class Frames(unittest.TestCase):
         """Its frames are emptied too, whichever way it is noted."""
         self.assert_hidden(_hidden.hidden(failing("rigzumal.planted", words)), TYPED)
 
+    def test_exceptions_that_came_of_each_other(self):
+        """They are gone through once, and are all emptied."""
+
+        def called(password):
+            raised = [self.raised_by("rigzumal.planted", password) for _ in range(3)]
+            for one, other in zip(raised, [*raised[1:], raised[0]]):
+                one.__cause__ = other
+            raise raised[0]
+
+        self.assert_hidden(_hidden.hidden(called), TYPED)
+
+    def raised_by(self, module, password):
+        """What a function of a module raises, whose variable is the password."""
+        try:
+            failing(module, "raise")(password)
+        except KeyError as error:
+            self.assertNotEqual(shown(error, TYPED), [])
+            return error
+
+    def test_frames_of_other_modules(self):
+        """`hidden_below` empties whatever is below; `hidden` leaves a hook's own."""
+        for hide, shows in ((_hidden.hidden_below, False), (_hidden.hidden, True)):
+            try:
+                hide(failing("of_another", "raise"))(TYPED)
+            except KeyError as error:
+                self.assertEqual(shown(error, TYPED) != [], shows)
+            else:
+                self.fail("it raises nothing")
+
+    @each(LEAST.hash, LEAST.verify, rigzumal.argon2, opaque_string, low_level.hash_secret)
+    def test_names_and_texts_stay(self, call):
+        """As `help` shows them."""
+        code = getattr(call, "__wrapped__").__code__
+        self.assertEqual(call.__name__, code.co_name)
+        self.assertTrue(call.__doc__)
+
     def test_modules_whose_names_begin_alike(self):
         """They are a caller's, whose hooks keep their variables."""
-        call = _hidden.hidden(failing("rigzumal_shop", "raise"))
-        with self.assertRaises(KeyError):
-            call(TYPED)
         try:
-            call(TYPED)
+            _hidden.hidden(failing("rigzumal_shop", "raise"))(TYPED)
         except KeyError as error:
             self.assertIn("fails.own", shown(error, TYPED))
+        else:
+            self.fail("it raises nothing")
 
     def raised_with(self, held):
         """What a function raises, in no file of a test, whose variable is this."""
