@@ -9,7 +9,7 @@ import getpass
 import re
 import sys
 import warnings
-from collections.abc import Callable, Iterator
+from collections.abc import Callable, Iterator, Sequence
 from typing import NoReturn, Optional, Union
 
 from rigzumal._hashers import LOW_MEMORY, LowMemoryWarning, PasswordHasher, ScryptHasher
@@ -62,40 +62,48 @@ _SYNONYMS = {
 class Words(argparse.ArgumentParser):
     """A parser that exits with status 1 if it refuses a word."""
 
+    def parse_args(  # type: ignore[override]
+        self,
+        args: Optional[Sequence[str]] = None,
+        namespace: Optional[argparse.Namespace] = None,
+    ) -> argparse.Namespace:
+        """As ArgumentParser's, but that no word is shown that isn't taken: it may be a password."""
+        given, others = self.parse_known_args(args, namespace)
+        if others:
+            options = [*_options_of(self, getattr(given, "command", ""))]
+            self.error(_unknown(others[0].partition("=")[0], options))  # without its value
+        return given
+
     def error(self, message: str) -> NoReturn:
-        """Ends the program, and hides a word that isn't taken: it may be a password."""
-        front, _, words = message.partition("unrecognized arguments: ")
-        if words and not front:
-            first, *_ = words.split()
-            message = self._unknown(first.partition("=")[0])  # a value isn't looked at
+        """Ends the program, and hides a word that names no command."""
         hidden = r"invalid choice: .*(?=\(choose)"
         message = re.sub(hidden, "unknown word ", message, flags=re.S)
         self.print_usage(sys.stderr)
         self.exit(Status.WORDS, f"{self.prog}: error: {message}\n")
 
-    def _unknown(self, word: str) -> str:
-        """The fault of a word that isn't shown."""
-        if not word.startswith("-"):
-            return "a word too many; a password is never an argument: pipe or type it"
-        said, meant = "an unknown option, which isn't shown", self._meant(word)
-        return f"{said}; is {meant} meant?" if meant else said
 
-    def _meant(self, word: str) -> str:
-        """The options of this command that an unknown one may stand for; empty if none may."""
-        options = [*_options_of(self)]
-        synonym = _SYNONYMS.get(word)
-        if synonym is None:
-            return "".join(difflib.get_close_matches(word, options, 1, 0.7))
-        return synonym if any(it in synonym for it in options) else ""
-
-
-def _options_of(words: argparse.ArgumentParser) -> Iterator[str]:
-    """The options of a parser, and of its commands."""
+def _options_of(words: argparse.ArgumentParser, command: str) -> Iterator[str]:
+    """The options of a parser, and of one of its commands."""
     yield from words._option_string_actions
     for action in words._actions:
-        if isinstance(action, argparse._SubParsersAction):
-            for command in action.choices.values():
-                yield from _options_of(command)
+        if isinstance(action, argparse._SubParsersAction) and command in action.choices:
+            yield from _options_of(action.choices[command], "")
+
+
+def _unknown(word: str, options: Sequence[str]) -> str:
+    """The fault of a word that isn't shown, where a command has these options."""
+    if not word.startswith("-"):
+        return "a word too many; a password is never an argument: pipe or type it"
+    said, meant = "an unknown option, which isn't shown", _meant(word, options)
+    return f"{said}; is {meant} meant?" if meant else said
+
+
+def _meant(word: str, options: Sequence[str]) -> str:
+    """The options that an unknown one may stand for; empty if none may."""
+    synonym = _SYNONYMS.get(word)
+    if synonym is None:
+        return "".join(difflib.get_close_matches(word, options, 1, 0.7))
+    return synonym if any(it in synonym for it in options) else ""
 
 
 def status_of(fault: Exception) -> Status:

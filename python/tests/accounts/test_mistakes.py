@@ -177,7 +177,13 @@ class AtAShell(support.Commands):
         ("hash --parallelism 4", "is --lanes meant?"),
         ("hash --memroy 64M", "is --memory meant?"),
         ("hash --hunter2", "an unknown option, which isn't shown\n"),
-        ("calibrate --time 3", "an unknown option, which isn't shown"),
+        # Options of other commands alone.
+        ("calibrate --time 3", "an unknown option, which isn't shown\n"),
+        ("calibrate --passes 3", "an unknown option, which isn't shown\n"),
+        ("hash --threads 2", "an unknown option, which isn't shown\n"),
+        ("verify --cost 3 x", "an unknown option, which isn't shown\n"),
+        ("calibrate -k 64M", "is --memory meant?"),
+        ("calibrate --treads 2", "is --threads meant?"),
         ("verify $2b$12$abc", "the record's scheme is 2b"),
         ("verify =19=65536,t=3,p=4", "in single quotes a shell leaves its $ alone"),
     )
