@@ -23,7 +23,7 @@ from urllib.parse import parse_qsl, unquote
 from rigzumal.accounts.dialects import Dialect, MariaDB, MySQL, Postgres, Sqlite
 
 _MYSQL: Final = re.compile(r"(?:([^:@/]*)(?::([^@/]*))?@)?([^/]*)/([^?]*)(?:\?(.*))?")
-_HOST: Final = re.compile(r"(?:\[([^]]+)\]|([^:@\[\]]+))(?::([0-9]{1,5}))?")
+_HOST: Final = re.compile(r"(?:\[([^]]+)\]|([^:\[\]]+))(?::([0-9]{1,5}))?")
 _NO_ESCAPE: Final = re.compile("%(?![0-9A-Fa-f]{2})")
 _OPTIONS: Final = ("charset", "unix_socket", "ssl_ca", "ssl_cert", "ssl_key")
 

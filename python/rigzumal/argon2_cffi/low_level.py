@@ -135,7 +135,6 @@ class Parameters:
         *("type", "version", "salt_len", "hash_len"),
         *("time_cost", "memory_cost", "parallelism"),
     )
-    __hash__ = None  # type: ignore[assignment]
 
     def __init__(
         self,

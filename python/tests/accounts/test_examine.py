@@ -165,6 +165,22 @@ class OnSqlite(Said, engines.OnSqlite, support.Base):
         with mock.patch("os.statvfs", side_effect=OSError):
             self.assertEqual(self.accounts().examine(), [])
 
+    def test_the_disk_of_an_attached_database(self):
+        """It is that of the table's own schema, in whichever case it is named."""
+        path = f"{os.path.realpath(self.server.path)}.side"
+
+        def attached():
+            conn = self.connect()
+            conn.execute("ATTACH ? AS Side", [path])
+            return conn
+
+        with contextlib.closing(attached()) as conn:
+            conn.execute("CREATE TABLE side.users (name TEXT PRIMARY KEY, record TEXT)")
+        accounts = self.accounts(connect=attached, dialect=self.another_dialect(table="SIDE.users"))
+        with mock.patch("os.statvfs", side_effect=OSError) as asked:
+            accounts.examine()
+        asked.assert_called_once_with(path)
+
     def test_it_leaves_no_transaction_open(self):
         conn = self.another()
         accounts, missing = self.kept(conn=conn), ["no column users.name", "no column users.record"]

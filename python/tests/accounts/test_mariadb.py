@@ -5,6 +5,7 @@ import tracemalloc
 from unittest import mock
 
 import engines
+import servers
 import support
 import torture
 from support import LOW, Base, called, commanded, each, run, scripted
@@ -67,6 +68,18 @@ class OnMariaDB(engines.OnMariaDB, Base):
         (fault,) = self.accounts().examine()
         self.assertEqual((fault.code, fault.is_error), ("no-update", True))
         self.assertIn(str(number), str(fault))
+
+    @each((1305, False), (2013, None), (1317, None))
+    def test_a_mark_that_is_asked_for(self, number, is_held):
+        """That none is there is told from a broken connection, after which all is done again."""
+        error = servers.pymysql.err.OperationalError(number, "planted")
+        asked = self.dialect.is_held(scripted(error))
+        if is_held is None:
+            with self.assertRaises(type(error)) as raised:
+                run(asked)
+            self.assertIs(raised.exception, error)
+        else:
+            self.assertIs(run(asked), is_held)
 
     def test_a_hook_with_savepoints(self):
         """Which are its own, and go back as far as it says."""

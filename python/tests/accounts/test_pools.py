@@ -302,6 +302,31 @@ class OnePerThread(Base):
         self.assertRaises(sqlite3.ProgrammingError, one.execute, "SELECT 1")
         pool.close()
 
+    @each(None, KeyError)
+    def test_the_outer_use_ends(self, kind):
+        """Its connection is closed, however it ends, though a traceback keeps the use itself; the
+        thread's own stays."""
+        pool = PerThread(self.connect)
+        outer = pool()
+        one = outer.__enter__()
+        with pool() as other:
+            pass
+        outer.__exit__(kind, kind, None)
+        self.assertRaises(sqlite3.ProgrammingError, one.execute, "SELECT 1")
+        with pool() as last:
+            self.assertIs(last, other)
+            last.execute("SELECT 1")
+        pool.close()
+
+    def test_another_process_closes_nothing(self):
+        conn = mock.Mock()
+        held = pools._Held(conn)
+        with mock.patch("os.getpid", return_value=held.pid + 1):
+            held.close()
+            conn.close.assert_not_called()
+        held.close()
+        conn.close.assert_called_once_with()
+
     def test_a_connection_is_given_up_after_an_exception(self):
         """After those, too, by which a thread is interrupted and a task cancelled; it is closed."""
         pool = PerThread(self.connect)
