@@ -47,7 +47,6 @@ _SYNONYMS = {
     "--rounds": "--passes",
     "-t": "--passes",
     "--memory-cost": "--memory",
-    "--mem": "--memory",
     "-m": "--memory",
     "-k": "--memory",
     "--parallelism": "--lanes",
