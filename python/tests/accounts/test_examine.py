@@ -1,7 +1,6 @@
 """What `examine` says: each table, role and setting that won't do by itself."""
 
 import contextlib
-import os
 from unittest import mock
 
 import engines
@@ -152,34 +151,6 @@ class OnSqlite(Said, engines.OnSqlite, support.Base):
                 accounts = self.accounts(connect=self.setting(f"PRAGMA journal_mode = {mode}"))
                 self.assert_faults(["no-wal: it isn't in WAL"], accounts)
                 accounts._connections.primary.close()
-
-    @each((9 << 20, []), (8 << 20, []), ((8 << 20) - 1, ["disk-full"]), (0, ["disk-full"]))
-    def test_room_on_the_disk(self, free, codes):
-        """Under 8 MiB it warns: in WAL the trial, which is rolled back, writes nothing."""
-        disk = mock.Mock(f_bavail=free, f_frsize=1, f_blocks=1)
-        with mock.patch("os.statvfs", return_value=disk) as asked:
-            self.assertEqual([it.code for it in self.accounts().examine()], codes)
-            asked.assert_called_once_with(os.path.realpath(self.server.path))
-            disk.f_blocks = 0  # a filesystem without a size
-            self.assertEqual(self.accounts().examine(), [])
-        with mock.patch("os.statvfs", side_effect=OSError):
-            self.assertEqual(self.accounts().examine(), [])
-
-    def test_the_disk_of_an_attached_database(self):
-        """It is that of the table's own schema, in whichever case it is named."""
-        path = f"{os.path.realpath(self.server.path)}.side"
-
-        def attached():
-            conn = self.connect()
-            conn.execute("ATTACH ? AS Side", [path])
-            return conn
-
-        with contextlib.closing(attached()) as conn:
-            conn.execute("CREATE TABLE side.users (name TEXT PRIMARY KEY, record TEXT)")
-        accounts = self.accounts(connect=attached, dialect=self.another_dialect(table="SIDE.users"))
-        with mock.patch("os.statvfs", side_effect=OSError) as asked:
-            accounts.examine()
-        asked.assert_called_once_with(path)
 
     def test_it_leaves_no_transaction_open(self):
         conn = self.another()

@@ -1,6 +1,7 @@
 """A file of SQLite on a disk that is full or ill. The disk is a small one of memory, which root
 alone mounts."""
 
+import contextlib
 import os
 import sqlite3
 import subprocess
@@ -111,6 +112,38 @@ except sqlite3.OperationalError as error:
     print(error, flush=True)
 os._exit(0)
 """
+
+
+class Room(Base):
+    """What `examine` says of the room that the filesystem tells."""
+
+    @each((9 << 20, []), (8 << 20, []), ((8 << 20) - 1, ["disk-full"]), (0, ["disk-full"]))
+    def test_room_on_the_disk(self, free, codes):
+        """Under 8 MiB it warns: in WAL the trial, which is rolled back, writes nothing."""
+        disk = mock.Mock(f_bavail=free, f_frsize=1, f_blocks=1)
+        with mock.patch("os.statvfs", return_value=disk) as asked:
+            self.assertEqual([it.code for it in self.accounts().examine()], codes)
+            asked.assert_called_once_with(os.path.realpath(self.server.path))
+            disk.f_blocks = 0  # a filesystem without a size
+            self.assertEqual(self.accounts().examine(), [])
+        with mock.patch("os.statvfs", side_effect=OSError):
+            self.assertEqual(self.accounts().examine(), [])
+
+    def test_the_disk_of_an_attached_database(self):
+        """It is that of the table's own schema, in whichever case it is named."""
+        path = f"{os.path.realpath(self.server.path)}.side"
+
+        def attached():
+            conn = self.connect()
+            conn.execute("ATTACH ? AS Side", [path])
+            return conn
+
+        with contextlib.closing(attached()) as conn:
+            conn.execute("CREATE TABLE side.users (name TEXT PRIMARY KEY, record TEXT)")
+        accounts = self.accounts(connect=attached, dialect=self.another_dialect(table="SIDE.users"))
+        with mock.patch("os.statvfs", side_effect=OSError) as asked:
+            accounts.examine()
+        asked.assert_called_once_with(path)
 
 
 class IllDisk(Base):

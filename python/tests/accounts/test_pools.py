@@ -194,7 +194,7 @@ class Openings(Base):
 
 class OnePerThread(Base):
     def test_a_pool_that_is_closed(self):
-        """By its error's name, or a base's: what psycopg_pool raises is a lost connection's kind."""
+        """By its error's name, or its base's: psycopg_pool's is a lost connection's kind."""
         closed = type("PoolClosed", (sqlite3.OperationalError,), {})
         ours = type("OurPoolIsClosed", (closed,), {})
         connect = mock.Mock()
