@@ -85,8 +85,12 @@ dist:
 html: library
 	$(PYTHON) docs/site/build.py
 
+# What bench/RESULTS.md has of the library, on a machine that has nothing else to do.
 bench: library
-	for pages in own none all; do $(PYTHON) bench/c/run.py --pages $$pages || exit 1; done
+	for pages in own none all; do $(PYTHON) bench/c/run.py --times 16 --pages $$pages || exit 1; done
+	$(PYTHON) bench/c/run.py --times 8 --callers 1 2 4
+	$(CC) -O3 -march=native -o c/out/floor bench/c/floor.c
+	for costs in '65536 3' '19456 2'; do c/out/floor $$costs 31 && c/out/floor $$costs 31 none || exit 1; done
 
 install: build install-programs
 	$(MAKE) -C python install PREFIX='$(PREFIX)' DESTDIR='$(DESTDIR)' PYTHON='$(PYTHON)'

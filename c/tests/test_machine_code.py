@@ -14,7 +14,9 @@ MULTIPLIES = re.compile(r"\tv?pmuludq\b")
 OF_A_BLOCK = {"v1": 256, "v2": 256, "v3": 128, "v4": 64}
 # One that puts a vector on the stack, and one that prefetches.
 SPILLS = re.compile(r"\tv?mov\w+ +%[xyz]mm\d+,[^,(]*\(%r[sb]p")
-PREFETCHES = re.compile(r"\tprefetch")
+PREFETCHES = re.compile(r"\t(prefetch\w+) +(0x[0-9a-f]+)?\(")
+# What a G prefetches: these lines of a block, for reading, into all caches.
+LINES = [("prefetcht0", line) for line in range(0, 512, 64)]
 # What is found in each build: instructions of a G, of which so many put a vector on the stack, and
 # how far apart multiplications are, of the nearest quarter. With the steps of two lists in turn
 # they are near each other. More is slower; less, if it is measured to be faster, goes here.
@@ -30,8 +32,14 @@ def functions(build):
     """The instructions of each function that makes blocks of the memory: it has G."""
     code = run(OBJDUMP, "-d", "--no-show-raw-insn", OUT / f"{build}.o")
     for function in re.split(r"\n(?=[0-9a-f]+ <)", code):
-        if re.match(r"[0-9a-f]+ <cred_argon::segment::work_block\b", function):
-            yield re.findall(r"(?m)^ *[0-9a-f]+:\t.*", function)
+        lines = re.findall(r"(?m)^ *[0-9a-f]+:\t.*", function)
+        is_for_addresses = "<cred_argon::block::compress>" in function
+        if multiplications(lines) >= OF_A_BLOCK[build] and not is_for_addresses:
+            yield lines
+
+
+def multiplications(lines):
+    return sum(1 for it in lines if MULTIPLIES.search(it))
 
 
 def figures(build):
@@ -61,10 +69,16 @@ class MachineCode(unittest.TestCase):
                     self.assertLessEqual(found, MOST[build][name])
 
     def test_prefetches(self):
-        """Every build prefetches, in the functions that have G."""
+        """Each G prefetches half a block once the left half of its own is there: behind that come
+        the multiplications of the right half, which are a quarter of all."""
         for build in BUILDS:
-            with self.subTest(build):
-                counts = [
-                    sum(1 for it in lines if PREFETCHES.search(it)) for lines in functions(build)
-                ]
-                self.assertGreaterEqual(sum(counts), 8)
+            for lines in functions(build):
+                with self.subTest(build):
+                    found = [(at, PREFETCHES.search(it)) for at, it in enumerate(lines)]
+                    found = [(at, it) for at, it in found if it]
+                    blocks = multiplications(lines) // OF_A_BLOCK[build]
+                    what = [(it[1], int(it[2] or "0", 16)) for _, it in found]
+                    self.assertEqual(what, LINES * blocks)
+                    starts = [at for at, _ in found[:: len(LINES)]] + [len(lines)]
+                    behind = [multiplications(lines[at:to]) for at, to in zip(starts, starts[1:])]
+                    self.assertEqual(behind, [OF_A_BLOCK[build] // 4] * blocks)
