@@ -29,13 +29,17 @@ MOST = {
 
 
 def functions(build):
-    """The instructions of each function that makes blocks of the memory: it has G."""
+    """The instructions of each function that makes blocks of the memory: it has G. The one that
+    makes blocks of addresses is another."""
     code = run(OBJDUMP, "-d", "--no-show-raw-insn", OUT / f"{build}.o")
-    for function in re.split(r"\n(?=[0-9a-f]+ <)", code):
-        lines = re.findall(r"(?m)^ *[0-9a-f]+:\t.*", function)
-        is_for_addresses = "<cred_argon::block::compress>" in function
-        if multiplications(lines) >= OF_A_BLOCK[build] and not is_for_addresses:
-            yield lines
+    code = re.sub(r"(?s)\n[0-9a-f]+ <cred_argon::block::compress>:.*?(?=\n\n)", "", code)
+    all_lines = [
+        re.findall(r"(?m)^ *[0-9a-f]+:\t.*", it) for it in re.split(r"\n(?=[0-9a-f]+ <)", code)
+    ]
+    found = [it for it in all_lines if multiplications(it) >= OF_A_BLOCK[build]]
+    if not found:
+        raise AssertionError(f"{build} has no G")
+    return found
 
 
 def multiplications(lines):
