@@ -144,9 +144,7 @@ def memory(text: str) -> int:
     if not (number.isascii() and number.isdigit()):
         raise argparse.ArgumentTypeError(f"{text!r} is not a size such as 64M")
     if unit not in _UNITS and int(number) < LOW_MEMORY:
-        say(
-            f"--memory {number} is {number} KiB: {number}M is meant if it is of MiB, else {number}K"
-        )
+        say(f"--memory {number} is {number} KiB: write {number}M for MiB, or {number}K for KiB")
     return int(number) * _UNITS.get(unit, 1)
 
 
@@ -167,9 +165,9 @@ def hasher_of(given: argparse.Namespace) -> Union[PasswordHasher, ScryptHasher]:
     """The hasher of these costs; raises Refusal for a cost of the other scheme."""
     asked = {name: it for name, it in vars(given).items() if it is not None}
     of, others = _OF_ARGON2, _OF_SCRYPT
-    hint = "of scrypt, and --scrypt is missing"
+    hint = "for scrypt: give --scrypt too"
     if given.scrypt:
-        of, others, hint = _OF_SCRYPT, _OF_ARGON2, "of Argon2, and --scrypt is given"
+        of, others, hint = _OF_SCRYPT, _OF_ARGON2, "for Argon2: leave --scrypt out"
     for name in sorted(asked.keys() & others.keys()):
         raise Refusal(f"--{name.replace('_', '-')} is {hint}", Status.WORDS)
     costs = [asked.get(name, number) for name, number in of.items()]

@@ -395,5 +395,5 @@ class AskServer(Case):
         for said in (b"", b"1 del", b"2 deleted\n", b"* unavailable\n", b"1 unavailable\n"):
             with Peer(path, lambda _, it: it.sendall(said)):
                 shown, status = self.asked([str(path), "delete", "ada"])
-            self.assertEqual((status, "may be made or not" in shown), (5, True), said)
+            self.assertEqual((status, "may be stored or not" in shown), (5, True), said)
             path.unlink()

@@ -326,7 +326,7 @@ class OverCredkeep(Case):
             self.assertEqual(good.ask(f"verify ada {SECRET}"), "yes")
         self.assertEqual(service.book_pid(), pid)
         service.stop()
-        self.assertNotIn("answers to no line", service.log())
+        self.assertNotIn("answered a line that nobody sent", service.log())
         self.assertTrue(service.log().isascii(), "noise in the log")
 
     def test_unknown_names(self) -> None:

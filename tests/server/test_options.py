@@ -24,8 +24,8 @@ MISTAKES = {
     "--at-once=-3 x.db": "'-3' is no number",
     "--idle=-1 x.db": "'-1' is no number",
     "--tries ten x.db": "'ten' is no number",
-    "--wait 3601 x.db": "'3601' is no number from 0 to 3600",
-    "--at-once 255 x.db": "'255' is no number from 0 to 254",
+    "--wait 3601 x.db": "'3601' is not a number from 0 to 3600",
+    "--at-once 255 x.db": "'255' is not a number from 0 to 254",
     "--upgrade $argon2id$v=19$m=8,t=1,p=1$c29tZXNhbHQ x.db": "without a salt",
     "--upgrade $argon2id$v=19$m=8,t=1,p=1$ x.db": "without a salt",
     "--socket a /tmp/never-made rw - verify x.db": "the mode of the socket a is octal",
@@ -44,7 +44,7 @@ MISTAKES = {
 }
 NO_SOCKETS = "127.0.0.1:8080 8080 :80 0.0.0.0:80 localhost:80 [::1]:80 x.sock"
 for word in NO_SOCKETS.split():
-    said = f"--http needs the path of a Unix socket, and no port: not '{word}'"
+    said = f"--http needs the path of a Unix socket, not a port: '{word}'"
     MISTAKES[f"--http {word} x.db"] = said
 
 

@@ -78,7 +78,7 @@ class Accounts(Operations[Pool]):
             hash.
         StoreFault: the table, the server or the connection has a fault.
         InvalidRecordError: the record is of another scheme, and no hook judges it.
-        Unavailable: no server did it in time, and no change was made.
+        Unavailable: no server did the operation in time, and no change was made.
         OutcomeUnknown: of a change, or with `also`: COMMIT had no answer, and the row
             doesn't show whether the change was made.
         OutOfMemoryError: too little memory was free for the costs.

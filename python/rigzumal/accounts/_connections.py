@@ -101,7 +101,7 @@ class Connections:
             name = self.table.name(cause)
             if waits.are_over:
                 kind = NoConnection if done.reason else Unavailable
-                raise kind(f"no server did it in time: {name}{done.reason}") from cause
+                raise kind(f"no server did the operation in time: {name}{done.reason}") from cause
             if waits.is_first:
                 LOGGER.warning("an operation is tried again: %s", name)
             await self.runtime.pause(waits.next(is_dead))

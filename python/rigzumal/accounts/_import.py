@@ -174,7 +174,7 @@ class Import:
                 say(f"the lines from {done + 1} on may be missing")
                 raise
             if not batch:
-                raise Refusal(f"the file has {done} lines by now, and had {total}")
+                raise Refusal(f"the file had {total} lines, and now has {done}")
             counts.update(words)
             for number, word in enumerate(words):
                 if word == "another":

@@ -102,7 +102,7 @@ class Passwords:
         made = self.prepare(text)
         if not isinstance(made, str):
             kind = type(made).__name__
-            raise TypeError(f"`prepare` answers a text, and not a {kind}")
+            raise TypeError(f"`prepare` must return a str, not a {kind}")
         return bytes_of_password(made)
 
 
@@ -278,7 +278,7 @@ def verdict_of(answer: object) -> Optional[bool]:
     if answer is None or isinstance(answer, bool):
         return answer
     kind = type(answer).__name__
-    raise TypeError(f"`foreign` answers True, False or None, and not a {kind}")
+    raise TypeError(f"`foreign` must return True, False or None, not a {kind}")
 
 
 def _wrong(request: Request) -> Reply:

@@ -36,7 +36,7 @@ def at_once(name: str, answer: Any) -> Any:
     if isinstance(answer, Coroutine):
         answer.close()
     if isinstance(answer, Awaitable):
-        raise TypeError(f"`{name}` has answered a coroutine: use AsyncAccounts")
+        raise TypeError(f"`{name}` returned a coroutine: use AsyncAccounts")
     if isinstance(answer, (Generator, AsyncGenerator)):
         raise TypeError(f"`{name}` returned a generator, which nobody runs")
     return answer
@@ -98,7 +98,7 @@ def _result(cursor: Any, fetched: Any) -> Result:
 def _values(row: Any) -> tuple[Any, ...]:
     """A row's values, of a driver that makes no tuples of rows."""
     if not isinstance(row, Iterable) or isinstance(row, (str, bytes)):
-        raise StoreFault(f"a row is {type(row).__name__}, and no tuple or dictionary")
+        raise StoreFault(f"a row is {type(row).__name__}, not a tuple or a dictionary")
     return tuple(row.values() if isinstance(row, Mapping) else row)
 
 
@@ -149,7 +149,7 @@ class Runtime:
     ) -> None:
         if executor is not None and not isinstance(executor, self._executors):
             kind = type(executor).__name__
-            raise TypeError(f"AsyncAccounts takes a ThreadPoolExecutor, and not {kind}")
+            raise TypeError(f"AsyncAccounts needs a ThreadPoolExecutor, not {kind}")
         self._options, self._executor = options, executor
 
     def session(self, conn: Any) -> Session:

@@ -27,7 +27,7 @@ def _options() -> Words:
     words.add_argument("--confirm", action="store_true", help=confirm)
     opaque = "hash RFC 8265's form of passwords, as prepare=rigzumal.opaque_string"
     words.add_argument("--opaque", action="store_true", help=opaque)
-    secret = "a file whose bytes are the pepper; once more for an older one"
+    secret = "a file whose bytes are the pepper; again for an older one"
     words.add_argument("--secret", metavar="FILE", action="append", help=secret)
     add_costs(words)
     return words
@@ -56,7 +56,7 @@ def parser(description: str, texts: Mapping[str, str]) -> argparse.ArgumentParse
     for name in ("add", "check", "change", "reset", "disable", "delete", "rename"):
         made[name].add_argument("name", metavar="NAME")
     made["rename"].add_argument("new", metavar="NEW")
-    show = "write the record that was taken, as a line for import"
+    show = "write the record that was removed, as a line for import"
     made["disable"].add_argument("--show", action="store_true", help=show)
     prometheus = "write Prometheus' text format"
     made["report"].add_argument("--prometheus", action="store_true", help=prometheus)

@@ -212,7 +212,7 @@ class _Command:
         return self.say(reply, Reply.REPLACED, Reply.ENROLLED)
 
     def disable(self) -> int:
-        """Take an account's record away: no password is right"""
+        """Remove an account's record: no password is right"""
         key = self.name
         copy = self.copy(key)
         while isinstance(copy, str):
@@ -245,7 +245,7 @@ class _Command:
         return self.write("renamed", reply="renamed")
 
     def take(self) -> int:
-        """Add a file's new accounts, of a bad file none"""
+        """Add a file's new accounts, or none if a line is bad"""
         args = self.args
         importing = Import(self.accounts, self.dialect, self.pool, args.foreign)
         counts = importing.take(args.file, self.new_key)

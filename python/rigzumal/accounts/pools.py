@@ -85,8 +85,8 @@ class _Held:
 class PerThread:
     """One connection for each thread, closed after any exception and with its thread.
 
-    `connect` makes a connection in autocommit. After a fork the child makes its own, and
-    leaves its parent's alone.
+    `connect` opens a connection in autocommit. After a fork the child opens its own, and
+    doesn't use its parent's.
     """
 
     def __init__(self, connect: Callable[[], Any]) -> None:

@@ -39,7 +39,7 @@ class CompareAndSetBackend(ModelBackend):
         password: Optional[str] = None,
         **kwargs: Any,
     ) -> Any:
-        """The user, or None: the name, the password or the user is refused."""
+        """The user; None if the name, the password or the user is refused."""
         model = get_user_model()
         if username is None:
             username = kwargs.get(model.USERNAME_FIELD)

@@ -108,7 +108,7 @@ def backends(**_: Any) -> Messages:
     yield from faults
     found = [it for _, it in listed]
     is_used = any(issubclass(it, CompareAndSetBackend) for it in found)
-    hint = "Put 'rigzumal.django.backends.CompareAndSetBackend' for ModelBackend."
+    hint = "Replace ModelBackend by 'rigzumal.django.backends.CompareAndSetBackend'."
     hint += _misspelt("AUTHENTICATION_BACKENDS")
     if _compares():
         if ModelBackend in found and not is_used:

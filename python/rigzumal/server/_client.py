@@ -63,7 +63,7 @@ class ServerError(Exception):
 
 
 class Unavailable(ServerError):
-    """No answer came in time: a requested change may be made or not."""
+    """No answer came in time: a requested change may be stored or not."""
 
 
 class Later(ServerError):
@@ -168,7 +168,7 @@ def answer_of(tag: bytes, line: bytes) -> str:
     """
     found, _, said = line.partition(b" ")
     if found != tag or not line.endswith(b"\n") or not said[:-1].isascii():
-        raise Unavailable("the server's line is no answer")
+        raise Unavailable("the server's line isn't an answer")
     text = said[:-1].decode()
     if text == "unavailable":
         raise Unavailable("the book has ended")

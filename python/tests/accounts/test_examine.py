@@ -149,7 +149,7 @@ class OnSqlite(Said, engines.OnSqlite, support.Base):
             self.conn.execute(f"PRAGMA journal_mode = {mode}")
             with self.subTest(mode=mode):
                 accounts = self.accounts(connect=self.setting(f"PRAGMA journal_mode = {mode}"))
-                self.assert_faults(["no-wal: it isn't in WAL"], accounts)
+                self.assert_faults(["no-wal: journal_mode isn't WAL"], accounts)
                 accounts._connections.primary.close()
 
     def test_it_leaves_no_transaction_open(self):

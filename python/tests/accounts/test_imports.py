@@ -74,7 +74,7 @@ class Imports(Commands):
         with mock.patch.object(_import.Import, "put", puts):
             said, error = self.streams("import", file, status=6)
         self.assertEqual(said, "")
-        self.assertRegex(error, r"has \d+ lines by now, and had 1200|line \d+:")
+        self.assertRegex(error, r"had 1200 lines, and now has \d+|line \d+:")
 
     def test_names_that_come_twice(self):
         """The first record of each counts, in a table that has none of them too."""

@@ -195,7 +195,7 @@ class AtAShell(support.Commands):
         self.assertIn(said, found)
         self.assertNotIn("hunter2", found)
 
-    @each(("64", "64M is meant"), ("64K", ""), ("8M", ""), ("8192", ""), ("8191", "8191M"))
+    @each(("64", "write 64M for MiB"), ("64K", ""), ("8M", ""), ("8192", ""), ("8191", "8191M"))
     def test_a_size_without_a_unit(self, memory, said):
         """Which is KiB, and one that is low is a mistake, more often than not."""
         words = f"hash --memory {memory} --passes 1 --lanes 1"

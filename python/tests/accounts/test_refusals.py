@@ -285,7 +285,7 @@ class Errors(Base):
         with self.assertRaises(Unavailable) as raised:
             accounts.verify("ann", "x")
         found = str(raised.exception)
-        self.assertTrue(found.startswith("no server did it in time: ConnectionError: "))
+        self.assertTrue(found.startswith("no server did the operation in time: ConnectionError: "))
         self.assertIn(said, found)
         self.assertNotIn("hunter2", found)
         self.assertLess(len(found), 500)

@@ -202,7 +202,7 @@ class MariaDB(Dialect):
             faults.append(error("not-a-table", f"{t} is no table"))
         elif engine != "InnoDB":
             text = f"{t} is of {engine}, which has no transactions"
-            said = "a change that fails, or a hook's rows, may stand all the same"
+            said = "a change that fails, or a hook's rows, may be kept all the same"
             faults.append(error("no-transactions", f"{text}: {said}"))
         rows = (await session.execute("SHOW SESSION VARIABLES")).rows
         seen = {name: value for name, value in rows}

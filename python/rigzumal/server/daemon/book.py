@@ -58,7 +58,7 @@ class Book(asyncio.SubprocessProtocol):
                 is_text = re.fullmatch(rb"[ -~]+", text)
                 answer.set_result(text if is_text else UNAVAILABLE)
             else:
-                log_seldom(self, "the book writes answers to no line")
+                log_seldom(self, "the book answered a line that nobody sent")
         if len(self.rest) > LONGEST_ANSWER:
             self.kill()
 

@@ -68,7 +68,7 @@ OPERATIONS = {
 
 def number(word: str, most: int) -> int:
     if not re.fullmatch("[0-9]{1,9}", word) or int(word) > most:
-        raise argparse.ArgumentTypeError(f"{word!r} is no number from 0 to {most}")
+        raise argparse.ArgumentTypeError(f"{word!r} is not a number from 0 to {most}")
     return int(word)
 
 
@@ -157,7 +157,7 @@ def web_door(path: str, mode: str, group: str) -> Door:
     from .web import WebClient  # which needs h11
 
     if "/" not in path:
-        raise Problem(f"--http needs the path of a Unix socket, and no port: not {path!r}")
+        raise Problem(f"--http needs the path of a Unix socket, not a port: {path!r}")
     made = door("http", path, mode, group, "verify")
     made.client = WebClient
     return made

@@ -45,7 +45,7 @@ METRICS = (
     Metric("upgraded_total", "Records that --upgrade upgraded.", ("upgraded",)),
     Metric("memory_total", "Lines that found no memory for a hash.", ("memory",)),
     Metric("disk_total", "Changes that found no room on a disk.", ("disk",)),
-    Metric("denied_total", "Lines that their socket doesn't take.", ("denied",)),
+    Metric("denied_total", "Lines that their socket doesn't allow.", ("denied",)),
     Metric("refused_total", "Connections that had no room.", ("refused",)),
     Metric("clients", "Connections.", ("clients",)),
     Metric("waits", "Names that have to wait after failed tries.", ("waits",)),
