@@ -156,7 +156,7 @@ class Arguments(Base):
         self.put(LOW.hash("one").encode())
         odd = {
             lambda cursor, row: object(): "a row is object",
-            lambda cursor, row: row[0].decode(): "a row is str, and no tuple",
+            lambda cursor, row: row[0].decode(): "a row is str, not a tuple",
             lambda cursor, row: (row[0], row[0]): "a row has 2 values",
             None: "is not text, but bytes",
         }
