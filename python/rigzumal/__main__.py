@@ -113,7 +113,7 @@ def _calibrate(given: argparse.Namespace) -> int:
 
 
 def _hint_at(record: str) -> str:
-    """What is wrong with a record that isn't ours, in words for people."""
+    """The fault of a record that isn't ours, in words for people."""
     unquoted = "" if record.startswith("$") else "in single quotes a shell leaves its $ alone"
     return none_of_ours(record) or unquoted
 

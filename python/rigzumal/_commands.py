@@ -1,4 +1,4 @@
-"""What the commands at the shell share: exit statuses, as of credkeep(1), and words."""
+"""The exit statuses (credkeep's) and the words that the commands at the shell share."""
 
 from __future__ import annotations
 
@@ -74,7 +74,10 @@ class Words(argparse.ArgumentParser):
         return given
 
     def error(self, message: str) -> NoReturn:
-        """Ends the program, and hides a word that names no command."""
+        """Ends the program, and hides an unknown word: it may be a password."""
+        front, _, words = message.partition("unrecognized arguments: ")
+        if words and not front:
+            message = self._unknown(words.split()[0].partition("=")[0])
         hidden = r"invalid choice: .*(?=\(choose)"
         message = re.sub(hidden, "unknown word ", message, flags=re.S)
         self.print_usage(sys.stderr)

@@ -101,7 +101,7 @@ class _Hasher(Frozen):
         Raises:
             InvalidNumbersError: the salt is too short or too long.
             OutOfMemoryError: too little memory was free.
-            NoRandomError: the system gave no salt.
+            NoRandomError: the system returned no salt.
             TypeError: the password is neither bytes nor str, or the salt isn't bytes.
         """
         chosen: Union[bytes, int] = self.salt_len
@@ -124,7 +124,7 @@ class _Hasher(Frozen):
         return True
 
     def _verified(self, hash: Secret, password: Secret) -> int:
-        """The place of the secret that the record was made with, from 0."""
+        """The place, from 0, of the secret that the record was hashed with."""
         for place, secret in enumerate(self._secrets()):
             # Without a secret records of scrypt are verified too, and with one they aren't.
             fault = _library.check(hash, password, secret or None, self.threads)

@@ -60,7 +60,7 @@ class InvalidNumbersError(RigzumalError, ValueError):
 
 
 class NoRandomError(RigzumalError):
-    """The system gave no random bytes for a salt."""
+    """The system returned no random bytes for a salt."""
 
 
 _EXCEPTIONS: Final[dict[int, type[RigzumalError]]] = {

@@ -74,8 +74,8 @@ class argon2(_OneBackend, _argon2._Argon2Common):
         """The parts of a record.
 
         Raises:
-            ValueError: it is no record; also for base64 that is broken, of which
-                passlib makes a TypeError.
+            ValueError: it is no record; also for broken base64, for which passlib raises
+                a TypeError.
         """
         try:
             return super().from_string(hash)
@@ -116,7 +116,7 @@ class scrypt(_OneBackend, _scrypt.scrypt):
 
 
 def register() -> None:
-    """Puts both handlers in the place of passlib's own, for contexts made afterwards.
+    """Puts both handlers in the place of passlib's own, for contexts that are created afterwards.
 
     `passlib.hash.argon2` is the new one too, wherever it is imported from then on. If
     passlib's own were loaded before, passlib's log says that they are overridden.

@@ -70,7 +70,7 @@ class Accounts(Operations[Pool]):
 
     Every operation may raise:
         TypeError: the key is of another type than its column, or a password is neither
-            bytes nor text; no row was read. A hook gave an answer that it may not give,
+            bytes nor text; no row was read. A hook returned a wrong answer,
             or `also` has ended the transaction; no record was written.
         ValueError: a new password is too short, has over 256 bytes or no UTF-8, or is
             refused by `prepare`, or the name of an enrolment is empty or has a blank at
@@ -78,9 +78,9 @@ class Accounts(Operations[Pool]):
             hash.
         StoreFault: the table, the server or the connection has a fault.
         InvalidRecordError: the record is of another scheme, and no hook judges it.
-        Unavailable: no server did the operation in time, and no change was made.
-        OutcomeUnknown: of a change, or with `also`: COMMIT had no answer, and the row
-            doesn't show whether the change was made.
+        Unavailable: no server did the operation in time, and nothing was stored.
+        OutcomeUnknown: of a change, or with `also`: COMMIT had no answer, and the row doesn't
+            show whether the change was stored.
         OutOfMemoryError: too little memory was free for the costs.
         Exception: the pool's or the hooks' own.
     """
@@ -143,7 +143,7 @@ class Accounts(Operations[Pool]):
 
     @hidden
     def new_record(self, password: Secret) -> str:
-        """A record for your own INSERT, which makes an account with its password.
+        """A record for your own INSERT, which adds an account with its password.
 
         Raises:
             TypeError: the password is neither bytes nor text.

@@ -107,7 +107,7 @@ class Connections:
             await self.runtime.pause(waits.next(is_dead))
 
     async def _once(self, pool: Any, job: Job[Any]) -> Any:
-        """Runs a job; Undone if it made no change and may be tried again."""
+        """Runs a job; Undone if it stored nothing and may be tried again."""
         self.table.refuse_nested()
         try:
             return await self.runtime.use(pool, job)

@@ -191,15 +191,15 @@ class Operations(Generic[AnyPool]):
         return answer
 
     async def _settled(self, worked: Worked, also: Hook) -> Answer:
-        """Finds out whether a change took place whose COMMIT had no answer.
+        """Finds out whether a change was stored whose COMMIT had no answer.
 
         A record is written once, since its salt is fresh. So if the row has the new
         one, it was written. It may not have reached the disk or the standby, so it is
         written over itself: that COMMIT waits for both, where a SELECT wouldn't.
 
-        If the row has the copy, the change wasn't made so far, and is sent again: a
-        replaced record never returns. NULL may return: to enrol again might bring back a
-        record that another client has removed since.
+        If the row has the copy, the change wasn't stored so far, and is sent again: a replaced
+        record never returns. NULL may return: to enrol again might bring back a record that
+        another client has removed since.
         """
         waits, why = Waits(self._connections.patience, time.monotonic(), 0.01), ""
         refusals = 0

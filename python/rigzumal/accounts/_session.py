@@ -24,7 +24,7 @@ Hook = Optional[Callable[[Any, Reply], Any]]
 
 
 class HookFailed(Exception):
-    """A caller's hook raised `error`, which the caller gets; no change was made."""
+    """A caller's hook raised `error`, which the caller gets; nothing was stored."""
 
     def __init__(self, error: Exception) -> None:
         super().__init__()
@@ -96,7 +96,7 @@ def _result(cursor: Any, fetched: Any) -> Result:
 
 
 def _values(row: Any) -> tuple[Any, ...]:
-    """A row's values, of a driver that makes no tuples of rows."""
+    """A row's values, of a driver that returns no tuples."""
     if not isinstance(row, Iterable) or isinstance(row, (str, bytes)):
         raise StoreFault(f"a row is {type(row).__name__}, not a tuple or a dictionary")
     return tuple(row.values() if isinstance(row, Mapping) else row)
@@ -131,7 +131,7 @@ async def _ended(job: Awaitable[T], ends: list[Union[T, BaseException]]) -> None
 
 
 def _answer(end: Union[T, BaseException]) -> T:
-    """What a job has answered; raises what it has raised."""
+    """Returns a job's answer; raises its error."""
     if isinstance(end, BaseException):
         raise end
     return end

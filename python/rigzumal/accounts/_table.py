@@ -33,7 +33,7 @@ NESTED: Final = (
 
 
 class Lost(Exception):
-    """The connection is broken, and no change was made; its cause says why."""
+    """The connection is broken, and nothing was stored; its cause says why."""
 
 
 class Broken(Exception):
@@ -42,7 +42,7 @@ class Broken(Exception):
 
 @dataclass(frozen=True)
 class Undone:
-    """No change was made, and the job may be tried again."""
+    """Nothing was stored, and the job may be tried again."""
 
     cause: Optional[BaseException]
     reason: str = ""  # why there is no connection, in words that have no row
@@ -308,7 +308,7 @@ class Table:
         self._raise(error)
 
     async def _is_undone(self, session: Session) -> bool:
-        """Rolls back, if it can be; the pool gives up a connection that a job raised on."""
+        """Rolls back, if possible; the pool closes a connection that a job raised on."""
         try:
             await self.dialect.undo(session)
         except Exception:

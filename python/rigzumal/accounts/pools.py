@@ -66,7 +66,7 @@ def lent(pool: Any, enter: str) -> Any:
 
 
 class _Held:
-    """A connection that is closed with its thread, in the process that made it."""
+    """A connection that is closed with its thread, in the process that opened it."""
 
     conn: Any = None  # of an interrupted __init__, as its pid is that of no process
     pid, is_lent = 0, False
@@ -126,7 +126,7 @@ class PerThread:
             self.close()
 
     def _mine(self) -> Optional[_Held]:
-        """This thread's connection, if this process made it."""
+        """This thread's connection, if this process opened it."""
         held: Optional[_Held] = getattr(self._local, "held", None)
         if held is not None and held.pid != os.getpid():
             # Closing it here, or dropping it, would end the parent's session at the server.
@@ -163,7 +163,7 @@ _CONNECTING: Final = 4  # connections that are opened at a time: each holds up t
 
 
 class PerUse:
-    """A connection for each use, for AsyncAccounts; `connect` makes one in autocommit.
+    """A connection for each use, for AsyncAccounts; `connect` opens one in autocommit.
 
     A connection is closed whenever its task is cancelled, while it is opened too. For many
     uses at once a pool that keeps its connections is faster.
@@ -208,10 +208,10 @@ def _close(opening: asyncio.Future[Any]) -> None:
 def of_engine(engine: Any) -> Any:
     """The pool of an engine of SQLAlchemy, 1.4 or 2.0.
 
-    An Engine gives a pool for Accounts, an AsyncEngine one for AsyncAccounts. The
-    engine is made with isolation_level="AUTOCOMMIT", or is
-    `engine.execution_options(isolation_level="AUTOCOMMIT")`. If its pool has no
-    connection to give in time, an operation is Unavailable.
+    An Engine becomes a pool for Accounts, an AsyncEngine one for AsyncAccounts. The engine has
+    isolation_level="AUTOCOMMIT", or is
+    `engine.execution_options(isolation_level="AUTOCOMMIT")`. If its pool has no free
+    connection in time, an operation is Unavailable.
     """
 
     @contextmanager

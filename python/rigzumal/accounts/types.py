@@ -165,11 +165,11 @@ class AccountsError(Exception):
 
 
 class StoreFault(AccountsError):
-    """The table, the server or a connection has a fault; no change was made."""
+    """The table, the server or a connection has a fault; nothing was stored."""
 
 
 class Unavailable(AccountsError):
-    """No server did the operation in time; no change was made."""
+    """No server did the operation in time; nothing was stored."""
 
 
 class NoConnection(Unavailable):

@@ -38,7 +38,7 @@ class VerifyMismatchError(VerificationError, rigzumal.VerifyMismatchError):
 
 
 class HashingError(Argon2Error):
-    """A hash couldn't be made."""
+    """A password couldn't be hashed."""
 
 
 class InvalidHashError(_Said, rigzumal.InvalidRecordError):

@@ -110,7 +110,7 @@ class _Fields:
 
 
 class Parameters:
-    """The parameters that an Argon2 hash was made with.
+    """The parameters of an Argon2 hash.
 
     Attributes:
         type: the kind.

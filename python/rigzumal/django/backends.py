@@ -67,7 +67,7 @@ class CompareAndSetBackend(ModelBackend):
 
 @hidden_below
 def _spend(password: Any) -> None:
-    """Hashes the typed password, for as long as a wrong one of that length takes."""
+    """Hashes the typed password, so that the answer needs as long as for a wrong one."""
     try:
         hashers.make_password(password)
     except ValueError:  # the text has no form in UTF-8, and is judged as an empty one

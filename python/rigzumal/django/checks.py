@@ -140,7 +140,7 @@ def column(**_: Any) -> Messages:
 
 def hashers_listed(**_: Any) -> Messages:
     """E015: one of PASSWORD_HASHERS can't be imported, or none is listed.
-    W004: new records are made by another library.
+    W004: another library hashes new records.
     E013: another hasher has the name of ours, and judges its records.
 
     Of two hashers of one algorithm Django asks the later.

@@ -264,7 +264,7 @@ class Calls(Generic[Replied, Listed]):
 class Client(Calls[Reply, list[str]]):
     """Asks a book through a socket of credkeep-server.
 
-    Each call makes its own connection. So many threads may use a client at once, also
+    Each call opens its own connection. So many threads may use a client at once, also
     after a fork, and it needs no close.
 
     Args:

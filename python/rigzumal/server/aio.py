@@ -18,8 +18,8 @@ from rigzumal.server._client import Unavailable, answer_of
 class Client(Calls[Coroutine[Any, Any, Reply], Coroutine[Any, Any, "list[str]"]]):
     """`rigzumal.server.Client` with coroutines, on one connection.
 
-    Many tasks of one event loop may call at once: answers find their calls by tags. After
-    a connection has ended the next call makes another.
+    Many tasks of one event loop may call at once: answers find their calls by tags. After a
+    connection has ended the next call opens another.
 
     Args:
         path: the socket.

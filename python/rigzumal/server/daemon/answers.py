@@ -1,4 +1,4 @@
-"""What each answer of a book or of its server means, and what is made of it at each door.
+"""The meaning of each answer of a book or of its server, and its form at each door.
 
 tests/server/test_answers.py and the tests of the PAM module hold the programs that can't import
 this table to it: credkeep-ask, the clients and pam_rigzumal. So a new answer begins here.

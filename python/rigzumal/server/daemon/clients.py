@@ -126,7 +126,7 @@ class Client:
         await self.write(b"%b %b\n" % (tag, answer))
 
     async def write(self, text: bytes) -> None:
-        """Sends it in pieces, as the client takes them."""
+        """Sends an answer in pieces, as fast as the client reads them."""
         async with self.writing:
             try:
                 await self.loop.sock_sendall(self.socket, text)

@@ -1,4 +1,4 @@
-"""What a hash needs, as credkeep(1) counts it for --most-memory and --most-work."""
+"""The memory and the work of a hash, as --most-memory and --most-work of credkeep(1) count."""
 
 import math
 import re
@@ -36,7 +36,7 @@ def costs_of(setting: str) -> Optional[Costs]:
 
 
 def size_of(kib: int) -> str:
-    """A bound as credkeep takes one: a number of KiB, or of GiB where that is too large."""
+    """A bound in credkeep's form: a number of KiB, or of GiB if that is too large."""
     if kib <= MOST:
         return str(kib)
     return f"{min(math.ceil(kib / GIB), MOST)}G"

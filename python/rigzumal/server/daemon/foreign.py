@@ -51,7 +51,7 @@ class Foreign:
         self.read()
 
     def read(self) -> None:
-        """Reads the file once it stands still: htpasswd empties it, and writes it again."""
+        """Reads the file once it no longer changes: htpasswd empties it, and writes it again."""
         for _ in range(LOOKS):
             version = version_of(self.path)
             time.sleep(STILL)

@@ -1,4 +1,4 @@
-"""What is written down: messages, systemd's notices, and files of lines that only grow."""
+"""Messages, systemd's notices, and files of lines that only grow."""
 
 import asyncio
 import errno

@@ -50,7 +50,7 @@ class Locks(Marks):
         return self.has(name, b"lock") or foreign is not None and await foreign.bars(name)
 
     async def answer(self, request: Request) -> bytes:
-        """The answer to a request. What moves marks, or ends a name, goes one after another."""
+        """The answer to a request. Those that move marks, or end a name, run one after another."""
         operation = request.words[0]
         if operation not in (*MARKS, b"rename", b"delete"):
             return await self.judge(request)

@@ -148,7 +148,7 @@ class Service:
         return self.why_refused(kind, words) if 0 < kind.new < len(words) else b""
 
     def why_refused(self, kind: Kind, words: list[bytes]) -> bytes:
-        """The answer to a new password that isn't taken; nothing for others."""
+        """The answer to a new password that is refused; empty for others."""
         password = decoded(words[kind.new])
         if password is None:  # which the book refuses
             return b""
@@ -230,7 +230,7 @@ class Service:
         return not full
 
     async def answer_if_room(self, request: Request) -> bytes:
-        """The answer to a request. A change isn't made if it finds no room, or if so many lines
+        """The answer to a request. A change isn't tried if it finds no room, or if so many lines
         wait for the audit log that it can't be noted."""
         if request.kind.changes and self.audit.is_full():
             return UNAVAILABLE
@@ -299,7 +299,7 @@ class Service:
 
 
 def denied(door: Door, words: list[bytes]) -> str:
-    """What of a line its socket doesn't take, as the log names it; nothing if it takes the line."""
+    """The part of a line that its socket doesn't allow, as the log names it; empty if none."""
     operation = words[0]
     if operation not in OPERATIONS:
         return "an unknown operation"

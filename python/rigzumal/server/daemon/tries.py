@@ -21,7 +21,7 @@ MOST_SHOWN, LONGEST_STATS = 1000, 4096  # items in an answer, letters of one
 
 @dataclass(frozen=True)
 class Metric:
-    """What Prometheus gets: its name and a text, and which counts of `stats` are its samples."""
+    """A metric of Prometheus: its name and text, and the counts of `stats` that are its samples."""
 
     name: str
     text: str
@@ -126,7 +126,7 @@ class Limiter:
             tries.count = max(0, tries.count - 1)
 
     def waits(self) -> Iterator[str]:
-        """Who has to wait: KEY:FAILED:SECONDS."""
+        """The names that have to wait, as KEY:FAILED:SECONDS."""
         now = time.monotonic()
         for key, tries in self.tries.items():
             if tries.until > now:
@@ -177,7 +177,7 @@ class Tally:
         return " ".join(["stats", *(f"{it}={now.get(it, 0)}" for it in COUNTED)])
 
     def answer(self, operation: bytes, name: str) -> str:
-        """What the server itself knows; `last` is the time of a right password."""
+        """The server's own answers; `last` is the time of a right password."""
         if operation == b"waits":
             waits = [*self.names.waits(), *self.users.waits()]
             return listed(b"waits", [it.encode() for it in waits]).decode()
@@ -198,7 +198,7 @@ def listed(operation: bytes, items: list[bytes]) -> bytes:
 
 
 def metrics(path: str) -> str:
-    """What the server at an admin socket counts, in Prometheus' text format."""
+    """The counts of the server at an admin socket, in Prometheus' text format."""
     try:
         with socket.socket(socket.AF_UNIX) as it:
             it.settimeout(10)

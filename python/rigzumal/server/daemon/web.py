@@ -42,7 +42,7 @@ def why_refused(request: Any) -> int:
 
 
 class WebClient(Client):
-    """One that sends requests. It gets the answer to each before the next is taken."""
+    """One that sends requests. It gets each answer before the server reads the next request."""
 
     no_room = b"HTTP/1.1 503 Service Unavailable\r\nContent-Length: 0\r\nConnection: close\r\n\r\n"
 

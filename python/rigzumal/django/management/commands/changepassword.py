@@ -1,6 +1,6 @@
 """Django's `manage.py changepassword`, which undoes no change that came between.
 
-It takes the place of Django's own where INSTALLED_APPS has `rigzumal.django` before
+Replaces Django's own command if INSTALLED_APPS has `rigzumal.django` before
 `django.contrib.auth`.
 """
 
