@@ -63,7 +63,7 @@ class Table:
             raise TypeError(NESTED)
 
     def writes(self, worked: Worked) -> bool:
-        """Whether the operation writes, if only the copy over itself."""
+        """Whether the operation writes, be it only the copy over itself."""
         if worked.reply.makes_change:
             return True
         return self.confirm and worked.ticket.copy is not NO_ROW

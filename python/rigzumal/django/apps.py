@@ -26,7 +26,7 @@ class RigzumalConfig(AppConfig):
     has_started = False
 
     def ready(self) -> None:
-        """Called by Django when all models are there."""
+        """Django calls this after all models are loaded."""
         RigzumalConfig.has_started = True
         from django.contrib.auth import get_user_model
 
@@ -44,7 +44,7 @@ class AdminConfig(djangos.AdminConfig):
     default = False
 
     def ready(self) -> None:
-        """Called by Django when all models are there."""
+        """Django calls this after all models are loaded."""
         if not apps.is_installed(RigzumalConfig.name):
             raise ImproperlyConfigured(_MISSING)
         super().ready()

@@ -80,7 +80,7 @@ class PasswordChangeForm(_Comparing, forms.PasswordChangeForm):
 
 
 class SetPasswordForm(_Comparing, forms.SetPasswordForm):
-    """Sets the password of a user who came by a link; the link dies with its record."""
+    """Sets the password of a user who came by a link; the link ends with its record."""
 
     def _write(self) -> None:
         passwords.set_password(self.user, self.cleaned_data["new_password1"])

@@ -196,7 +196,7 @@ def awaited(function: Callable[..., T]) -> Callable[..., Awaitable[T]]:
     """The same function in a thread, for `await`.
 
     An error report shows the frames that wait, so none of them has a password: the work
-    has no argument, and no coroutine makes it.
+    has no argument, and no coroutine runs it.
     """
     concealed = hidden_below(function)
 

@@ -285,8 +285,8 @@ class Dialect:
         return ""
 
     def missing_name(self, raised: BaseException) -> str:
-        """The server's words if they are of a table or a column that is missing, or of a right to
-        it; empty if they may have a row."""
+        """The server's words if a table, a column or a right to it is missing; empty if not, as the
+        words may have a row."""
         return ""
 
     # ---- tables

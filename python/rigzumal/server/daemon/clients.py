@@ -1,4 +1,4 @@
-"""The sockets, who is let in at each, and what is read from them and written to them."""
+"""The sockets: they accept clients, read their lines and write the answers."""
 
 from __future__ import annotations
 
