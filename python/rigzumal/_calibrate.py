@@ -43,8 +43,8 @@ def trials(
 ) -> Iterator[Measured]:
     """Costs to try, in turn: the last ones are the result.
 
-    By RFC 9106, section 4: all of the memory (KiB), and then as many passes as the target
-    (milliseconds) allows. If one pass needs too long, the memory is lowered, down to the least:
+    RFC 9106, section 4, chooses all of the memory (KiB), and then as many passes as the target
+    (milliseconds) allows. If one pass needs too long, less memory is tried, down to the least:
     OWASP's, or Argon2's if the costs may be below it.
     """
     least = max(LEAST_MEMORY * lanes, 0 if below else LEAST_SAFE_MEMORY)

@@ -177,8 +177,10 @@ NAME: Final = "librigzumal.so.1"
 
 
 def _path() -> str:
-    """The file that RIGZUMAL_LIBRARY names; otherwise the package's, make's, the one in the folder
-    lib of the prefix below which the package is installed, or the system's.
+    """The file that RIGZUMAL_LIBRARY names.
+
+    Without it the package's, make's, the one in the folder lib of the package's prefix, or the
+    system's.
     """
     named = os.environ.get("RIGZUMAL_LIBRARY")
     if named:

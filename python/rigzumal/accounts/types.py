@@ -173,7 +173,7 @@ class Unavailable(AccountsError):
 
 
 class NoConnection(Unavailable):
-    """The pool had no connection to give, at the last try too."""
+    """The pool had no free connection, at the last try too."""
 
 
 class OutcomeUnknown(AccountsError):

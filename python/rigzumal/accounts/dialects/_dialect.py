@@ -277,7 +277,7 @@ class Dialect:
         return self.verdict(raised) is Verdict.AGAIN
 
     def refuses_at_once(self, raised: BaseException) -> bool:
-        """Whether the statement was undone, and a transaction may succeed or say why."""
+        """Whether the server undid the statement, so that a transaction may succeed or say why."""
         return False
 
     def number(self, raised: BaseException) -> str:

@@ -164,7 +164,7 @@ def of_connection(seen: dict[str, Any]) -> Iterator[Fault]:
     if seen["busy_timeout"] < 1000:
         yield warning("busy-timeout", "the busy timeout is below a second")
     if seen["journal_mode"] != "wal":
-        yield warning("no-wal", "journal_mode isn't WAL: logins fail while another connection writes")
+        yield warning("no-wal", "journal_mode isn't WAL: logins fail while another client writes")
     if seen["read_uncommitted"]:
         text = "read_uncommitted is on: uncommitted records are read"
         yield error("read-uncommitted", text)

@@ -17,7 +17,7 @@ GIB = 2**20  # in KiB
 
 @dataclass(frozen=True)
 class Costs:
-    """Of a hash, in KiB: its memory, and what it goes over, each time that it does."""
+    """The memory of a hash, and its work: the memory that it goes over, each time. Both in KiB."""
 
     memory: int
     work: int
