@@ -79,7 +79,7 @@ class Table:
         self._raise(caught)
 
     async def one(self, session: Session, sql: str, key: Key) -> Copy:
-        """The record that a statement reads; NO_ROW of a key that doesn't fit."""
+        """The record that a statement reads; NO_ROW for a key that the column can't hold."""
         try:
             return _record((await session.execute(sql, key)).rows)
         except Exception as error:

@@ -61,7 +61,7 @@ class Copy:
         return self.records[-1]
 
     def settle(self) -> None:
-        """Called at the commit."""
+        """Django calls this at the commit."""
         self.records = self.records[-1:]
 
     def is_in_doubt(self, database: str) -> bool:

@@ -74,7 +74,7 @@ async def serve(options: Options) -> int:
 
 
 async def open_doors(service: Service) -> None:
-    """Lets clients in once the book answers, and tells systemd for as long as it does."""
+    """Lets clients in once the book answers, and tells systemd so while the book answers."""
     await asyncio.shield(service.book.ask(b"show", b"-"))  # an answer that nobody cancels
     doors = [(door, door.listening()) for door in service.options.doors]
     service.accepting = [asyncio.create_task(door.accept(service, it)) for door, it in doors]

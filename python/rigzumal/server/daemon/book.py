@@ -70,7 +70,7 @@ class Book(asyncio.SubprocessProtocol):
             answer.set_result(UNAVAILABLE)
 
     def kill(self) -> None:
-        """Kills it. asyncio's own call might lose its status."""
+        """Kills the book's process. asyncio's own call might lose its status."""
         if self.process.get_returncode() is None:
             with suppress(ProcessLookupError):
                 os.kill(self.process.get_pid(), signal.SIGKILL)
