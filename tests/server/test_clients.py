@@ -224,7 +224,9 @@ class Clients(ClientCase):
                 said = pool.map(lambda it: verify(f"user{it[0]}", f"secret{it[1]}"), pairs)
                 self.assertEqual(list(said), ought)
             service.stop()
-            self.assertEqual("answered a line that nobody sent" in service.log(), "garbage" in faults)
+            self.assertEqual(
+                "answered a line that nobody sent" in service.log(), "garbage" in faults
+            )
 
     def test_connections_that_end(self) -> None:
         """After the server has closed or restarted, the next call connects anew."""
