@@ -74,10 +74,7 @@ class Words(argparse.ArgumentParser):
         return given
 
     def error(self, message: str) -> NoReturn:
-        """Ends the program, and hides an unknown word: it may be a password."""
-        front, _, words = message.partition("unrecognized arguments: ")
-        if words and not front:
-            message = self._unknown(words.split()[0].partition("=")[0])
+        """Ends the program, and hides a word that names no command."""
         hidden = r"invalid choice: .*(?=\(choose)"
         message = re.sub(hidden, "unknown word ", message, flags=re.S)
         self.print_usage(sys.stderr)
