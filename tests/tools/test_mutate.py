@@ -126,6 +126,27 @@ C = [
         "&& -> ||",
     ),
     (
+        "operand dropped",
+        "int f(int n, int m) {\n    return n == 1 || m == 1;\n}",
+        "f(1, 0)",
+        "f(0, 1)",
+        "n == 1 || m == 1 -> n == 1",
+    ),
+    (
+        "operand dropped",
+        "int f(int n, int m) {\n    return n == 1 && m == 1;\n}",
+        "f(1, 1)",
+        "!f(1, 0)",
+        "n == 1 && m == 1 -> n == 1",
+    ),
+    (
+        "operand dropped",
+        "int f(int n, int m, int k) {\n    return n || m && k;\n}",
+        "f(0, 1, 1)",
+        "!f(0, 1, 0)",
+        "m && k -> m",
+    ),
+    (
         "element dropped",
         "int f(int n) {\n    int list[] = {5, 6, 7};\n    return list[n];\n}",
         "f(0) == 5",
