@@ -5,9 +5,10 @@
 
 A maintainer runs it before a release, once the gate has built all. Each plant of the table below
 goes into a copy of the tree with what is built, and tools/run_tests.py runs there the jobs that the
-plant names. If they pass, or the file lacks the text that is replaced, the plant is NOT REFUSED.
-With words only plants with one of them in their file's name are tried. The last line is `N refused,
-M not`, and the status is 1 if one wasn't.
+plant names. A test that fails there with nothing planted refuses nothing: all jobs run once so
+first. If no other test fails, or the file lacks the text that is replaced, the plant is NOT
+REFUSED. With words only plants with one of them in their file's name are tried. The last line is `N
+refused, M not`, and the status is 1 if one wasn't.
 """
 
 from __future__ import annotations
@@ -18,12 +19,13 @@ import shutil
 import subprocess
 import sys
 import tempfile
-from typing import Any, NamedTuple
+from collections.abc import Collection, Iterable
+from typing import NamedTuple
 
 from tree import TOP
 
 # What is built, and the tests stand on.
-BUILT = ["c/out/*", "c/pam/out/*.so", "crates/*/out/*_tests"]
+BUILT = ["c/out/*", "c/out/arm64/*", "c/pam/out/*.so", "crates/*/out/*_tests"]
 BUILT += [f"crates/{name}/out/{name}" for name in ("credbook", "credkeep")]
 
 
@@ -128,9 +130,14 @@ PLANTS = (
         "Makefile",
         "\tinstall -m 755 bin/credkeep-ask $(TO_PREFIX)/bin\n",
         "",
-        "tests/packages",
+        "tests/packages/test_install",
     ),
-    Plant("packaging/librigzumal1/shlibs", "librigzumal 1", "librigzumal 2", "tests/packages"),
+    Plant(
+        "packaging/librigzumal1/shlibs",
+        "librigzumal 1",
+        "librigzumal 2",
+        "tests/packages/test_install",
+    ),
     Plant("tools/mutants.py", '"&&", "||", ', '"&&", ', "tests/tools/test_mutate"),
     Plant(
         "tests/needs.py", "        if lacks_program(name):\n", "        if True:\n", "test_units"
@@ -139,7 +146,7 @@ PLANTS = (
 
 
 def copied(room: pathlib.Path) -> pathlib.Path:
-    """A copy of the files of the tree, and of what is built."""
+    """A copy of the files of the tree, as a repository too, and of what is built."""
     listed = ["git", "ls-files", "--cached", "--others", "--exclude-standard"]
     names = subprocess.run(listed, cwd=TOP, capture_output=True, text=True, check=True).stdout
     built = [it for form in BUILT for it in TOP.glob(form) if it.is_file()]
@@ -147,41 +154,57 @@ def copied(room: pathlib.Path) -> pathlib.Path:
         to = room / path.relative_to(TOP)
         to.parent.mkdir(parents=True, exist_ok=True)
         shutil.copy2(path, to)
+    # tests ask git which files the tree has
+    for words in (["init", "--quiet"], ["add", "--all"]):
+        subprocess.run(["git", *words], cwd=room, check=True)
     return room
 
 
-def refusal(top: pathlib.Path, plant: Plant) -> str:
-    """What refuses a plant, or nothing."""
+def failures(top: pathlib.Path, words: Iterable[str]) -> list[str]:
+    """The tests that fail in the jobs of these words, or what says that none could run."""
+    done = subprocess.run(
+        [sys.executable, str(top / "tools/run_tests.py"), *words],
+        cwd=top,
+        stdin=subprocess.DEVNULL,
+        stdout=subprocess.PIPE,
+        stderr=subprocess.STDOUT,
+        text=True,
+        errors="replace",
+    )
+    return re.findall(r"^FAILED: (.*)$", done.stdout, re.M)
+
+
+def refusal(top: pathlib.Path, plant: Plant, failing: Collection[str]) -> str:
+    """What refuses a plant, which isn't among those that fail with nothing planted, or nothing."""
     path = top / plant.file
     text = path.read_text()
     if plant.old not in text:
         return ""
     path.write_text(text.replace(plant.old, plant.new, 1))
-    command = [sys.executable, str(top / "tools/run_tests.py"), plant.jobs]
     try:
-        pipes: dict[str, Any] = {"stdout": subprocess.PIPE, "stderr": subprocess.STDOUT}
-        quiet = subprocess.DEVNULL
-        done = subprocess.run(command, cwd=top, stdin=quiet, text=True, errors="replace", **pipes)
+        refusing = [it for it in failures(top, [plant.jobs]) if it not in failing]
     finally:
         path.write_text(text)
-    return next(iter(re.findall(r"^FAILED: (.*)$", done.stdout, re.M)), "")
+    return refusing[0] if refusing else ""
 
 
 def main() -> int:
     chosen = [it for it in PLANTS if any(word in it.file for word in sys.argv[1:] or [""])]
-    counts = {True: 0, False: 0}
+    refused = 0
     with tempfile.TemporaryDirectory(prefix="rigzumal-plants-") as folder:
         room = pathlib.Path(folder)
         room.chmod(0o755)
         top = copied(room)
+        failing = failures(top, {it.jobs for it in chosen})
+        for name in failing:
+            print(f"it fails with nothing planted: {name}", flush=True)
         for plant in chosen:
-            refused = refusal(top, plant)
-            counts[bool(refused)] += 1
-            print(
-                f"{plant.file}: {f'refused by {refused}' if refused else 'NOT REFUSED'}", flush=True
-            )
-    print(f"{counts[True]} refused, {counts[False]} not")
-    return 1 if counts[False] or not chosen else 0
+            by = refusal(top, plant, failing)
+            print(f"{plant.file}: {f'refused by {by}' if by else 'NOT REFUSED'}", flush=True)
+            refused += bool(by)
+    left = len(chosen) - refused
+    print(f"{refused} refused, {left} not")
+    return 1 if left or not chosen else 0
 
 
 if __name__ == "__main__":

@@ -1,16 +1,18 @@
-"""Tests of tools/plants.py's table: its plants are of the tree as it is."""
+"""Tests of tools/plants.py: its plants are of the tree as it is, and what refuses one."""
 
 import sys
-import unittest
+from unittest import mock
 
-from tests.helpers import TOP
+from tests.helpers import TOP, Case, each, write_files
 
 sys.path.insert(0, str(TOP / "tools"))
 import jobs  # noqa: E402
 import plants  # noqa: E402
 
+PLANT = plants.Plant("file.c", "right", "wrong", "tests/of_it")
 
-class Plants(unittest.TestCase):
+
+class Plants(Case):
     def test_table(self) -> None:
         """Each file has the text that a plant replaces, and its words name a job of every run."""
         for plant in plants.PLANTS:
@@ -18,6 +20,17 @@ class Plants(unittest.TestCase):
                 self.assertIn(plant.old, (TOP / plant.file).read_text())
                 self.assertNotEqual(jobs.jobs([plant.jobs]), [])
 
-
-if __name__ == "__main__":
-    unittest.main()
+    @each(
+        ("right", ["one"], [], "one"),
+        ("right", [], [], ""),
+        ("right", ["one", "two"], ["one"], "two"),  # the first fails with nothing planted
+        ("right", ["one"], ["one"], ""),
+        ("other", ["one"], [], ""),  # the text that the plant replaces isn't there
+    )
+    def test_refusal(self, text: str, failures: list[str], before: list[str], by: str) -> None:
+        """Only a test refuses a plant that passes without it. The file stays as it was."""
+        room = self.room()
+        write_files(room, {"file.c": text})
+        with mock.patch.object(plants, "failures", lambda *_: failures):
+            self.assertEqual(plants.refusal(room, PLANT, before), by)
+        self.assertEqual((room / "file.c").read_text(), text)
