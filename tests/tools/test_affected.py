@@ -1,0 +1,118 @@
+"""tools/affected.py: what a change costs, by the files that it touches."""
+
+import subprocess
+import sys
+from unittest import mock
+
+from tests.helpers import TOP, Case, each, run, write_files
+
+sys.path.insert(0, str(TOP / "tools"))
+import affected  # noqa: E402
+import jobs  # noqa: E402
+import tree  # noqa: E402
+
+GIT = ("git", "-c", "user.name=x", "-c", "user.email=x@example.org")
+
+
+def committed() -> list[str]:
+    words = ("git", "-c", f"safe.directory={TOP}", "ls-files")
+    return run(*words).splitlines()
+
+
+class Affected(Case):
+    @each(
+        # A module of tests alone, what a folder's modules share, and what all tests share
+        ("c/tests/test_package.py", ["c/tests/test_package"]),
+        ("tests/server/test_ask.py", ["tests/server/test_ask", "tests/server/test_ask_server"]),
+        ("tests/credbook/books.py", ["tests/credbook/test_credbook"]),
+        ("tests/needs.py", [it.name for it in jobs.jobs()]),
+        # What ships
+        ("bin/credkeep-ask", ["tests/server/test_ask", "tests/packages/test_install"]),
+        ("c/pam/pam_rigzumal.c", ["c/pam/tests/test_answers", "tests/server/test_logins:1"]),
+        ("c/src/step.c", ["c/tests/test_programs:1", "python/tests/hashers/test_hashers"]),
+        ("python/rigzumal/passlib.py", ["python/tests/frameworks/test_passlib"]),
+        ("docs/SERVING.md", ["docs/tests/test_pages:1", "tools/readme"]),
+        ("HANDLES", []),
+        # By the programs that stand on a crate
+        ("crates/cred_book/src/lib.rt", ["tests/credbook/test_credbook", "rust/tests/test_crate"]),
+        ("crates/cred_many/src/lib.rt", ["tests/credkeep/test_tagged"]),
+        ("crates/cred_desk/src/lib.rt", ["tools/refuse_memory"]),
+        ("crates/cred_many/README.md", []),
+    )
+    def test_tests(self, file: str, names: list[str]) -> None:
+        """The jobs that look at a file are among those that are run, and of some files no other."""
+        again = affected.proved_again(affected.changed_crates([file], "src|specs|proofs"))
+        chosen = [it.name for it in affected.jobs_to_run([file], again)]
+        self.assertEqual({*names} - {*chosen}, set())
+        if not names or "/test_" in file:
+            self.assertEqual({*names}, {*chosen})
+
+    @each(
+        ("crates/cred_many/specs/Asks.antt", ["cred_many", "credkeep"]),
+        ("crates/cred_many/proofs/Lib.antt", ["cred_many", "credkeep"]),
+        ("crates/crash_laws/src/lib.rt", ["crash_laws"]),
+        ("crates/cred_many/README.md", []),
+        ("crates/cred_many/wrong-bodies/new.edit", []),
+        ("c/src/step.c", []),
+    )
+    def test_proofs(self, file: str, crates: list[str]) -> None:
+        """Those of the crate and of the crates above it, lowest first."""
+        found = affected.changed_crates([file], "src|specs|proofs")
+        self.assertEqual(affected.proved_again(found), crates)
+
+    def test_every_file_is_read(self) -> None:
+        """Each committed file has a row, each row has a file, and each word of a row a job."""
+        files = committed()
+        for file in files:
+            with self.subTest(file=file):
+                affected.jobs_of(file)
+        for place, words in affected.READERS.items():
+            with self.subTest(place=place):
+                self.assertTrue(any(it.startswith(place) for it in files))
+                self.assertEqual([it for it in words if not jobs.jobs([it])], [])
+        for crate, words in affected.OF_CRATES.items():
+            with self.subTest(crate=crate):
+                self.assertIn(crate, tree.listed())
+                self.assertEqual([it for it in words if not jobs.jobs([it])], [])
+
+    @each("", "c/tests", "test_ask", "tests/tools/test_build", "frameworks")
+    def test_words(self, word: str) -> None:
+        """The words that are printed choose the same jobs."""
+        chosen = jobs.jobs([word])
+        again = jobs.jobs(affected.words_for(chosen).split())
+        self.assertEqual({it.name for it in again}, {it.name for it in chosen})
+
+    def test_report(self) -> None:
+        """A line for each part, with its minutes and its command."""
+        lines = affected.report(["crates/cred_tries/src/limiter.rt", "rust/src/ffi.rs"])
+        proofs, bodies, tests, pages = lines
+        minutes = r", (about \d+ min|under a minute)"
+        self.assertRegex(proofs, rf"^proofs: cred_tries, tries_tests{minutes}: rt ci tries_tests$")
+        command = "python3 tools/wrong_bodies.py cred_tries"
+        self.assertRegex(bodies, rf"^wrong bodies: \d+{minutes}: {command}$")
+        command = "/usr/bin/python3 tools/run_tests.py rust/tests"
+        self.assertRegex(tests, rf"^tests: 1 of \d+ jobs{minutes}: {command}$")
+        self.assertEqual(pages, "pages: python3 tools/pages.py")
+        self.assertEqual([*affected.report([])], [])
+
+    @each((480, 100, "about 2 min"), (240, 400, "about 7 min"), (100, 20, "under a minute"))
+    def test_minutes(self, sum_: float, longest: float, said: str) -> None:
+        """Parts share the processors, and one part stays on one."""
+        with mock.patch("os.sched_getaffinity", lambda _: range(4)):
+            self.assertEqual(affected.elapsed({"a": sum_ / 2, "b": sum_ / 2}, longest), said)
+
+    def test_changed_files(self) -> None:
+        """Those of later commits, those that aren't committed, and both names of a moved one."""
+        top = self.room()
+        write_files(top, {"same": "1", "moved": "moved as it is", "changed": "1", "gone": "1"})
+        for words in (("init", "-q"), ("add", "-A"), ("commit", "-q", "-m", "first")):
+            run(*GIT, *words, at=top)
+        run(*GIT, "mv", "moved", "new name", at=top)
+        run(*GIT, "commit", "-q", "-m", "second", at=top)
+        (top / "gone").unlink()
+        write_files(top, {"changed": "2", "untracked": "1"})
+        with mock.patch.object(affected, "TOP", top):
+            since = {it: affected.changed_files(it) for it in ("HEAD", "HEAD~1")}
+            self.assertRaises(subprocess.CalledProcessError, affected.changed_files, "no such")
+        self.assertEqual(since["HEAD"], ["changed", "gone", "untracked"])
+        self.assertEqual(since["HEAD~1"], sorted([*since["HEAD"], "moved", "new name"]))

@@ -1,0 +1,199 @@
+#!/usr/bin/env python3
+"""Says what a change costs: the proofs, the wrong bodies, the tests and the pages that it touches.
+
+    python3 tools/affected.py [COMMIT]
+
+The change is all that differs from COMMIT, or from the last commit, with the files that aren't
+committed yet. Each part is printed with the command that runs it, and about how many minutes that
+takes on this machine's processors, by tools/build_seconds.json and tools/job_seconds.json. The
+gate, `.ci/run`, does all of it.
+"""
+
+from __future__ import annotations
+
+import json
+import os
+import re
+import subprocess
+import sys
+from collections.abc import Collection, Iterable, Mapping
+
+from jobs import FOLDERS, Job, jobs, seconds
+from tree import CRATES, TOP, all_below, below, listed, source
+
+# Who uses the library for C, and each of the programs and crates of tests: words of jobs.
+OF_LIBRARY = ("c/tests", "c/pam/tests", "python/tests", "rust/tests", "docs/tests")
+OF_CREDKEEP = ("tests/credkeep", "tests/server", "docs/tests", "tools/readme")
+OF_CRATES = {
+    "cred_c": OF_LIBRARY,
+    "credbook": ("tests/credbook", "tools/readme"),
+    "credkeep": OF_CREDKEEP,
+    "hash_tests": ("tools/refuse_memory", "tools/peak_memory"),
+    "book_tests": ("tools/refuse_memory",),
+    "desk_tests": ("tools/refuse_memory",),
+    "script_tests": ("tools/refuse_memory",),
+}
+EVERY = ("",)
+PACKAGE = ("python/tests/package", "tests/packages")
+PAGES = ("docs/tests", "tools/readme")
+# Of each file the row with the longest beginning of its path: the jobs that look at it.
+READERS: Mapping[str, Collection[str]] = {
+    ".": (),
+    ".ci/": ("tests/tools/test_without_rt",),
+    "HANDLES": (),
+    "VERSION": ("tests/packages", "c/tests/test_package", "tests/server/test_options"),
+    "Makefile": ("tests/packages",),
+    "CHANGELOG.md": PAGES,
+    "CONTRIBUTING.md": PAGES,
+    "README.md": (*PAGES, "tests/packages/test_install"),
+    "SECURITY.md": PAGES,
+    "docs/": PAGES,
+    "crates/": (),  # by the programs that stand on the crate
+    "crates.txt": ("tests/packages/test_without_rt",),
+    "pyproject.toml": ("tests/tools/test_layout",),
+    "bench/": ("tests/tools/test_layout", "tests/tools/test_measures"),
+    "bin/": (*PACKAGE, "tests/server"),
+    "bin/credkeep-ask": ("tests/server/test_ask", "tests/packages"),
+    "bin/rigzumal": (*PACKAGE, "python/tests/accounts/test_commands", "hashers/test_shell"),
+    "units/": ("tests/server/test_units", "tests/packages"),
+    "man/": ("test_texts", "tests/credbook", "test_commands", "test_options", "c/tests/test_calls"),
+    "completions/": ("tests/tools/test_completions", "test_commands", *PACKAGE),
+    "packaging/": ("tests/packages",),
+    "examples/": ("docs/tests",),
+    "examples/login_page/": ("frameworks/test_login_page", "docs/tests"),
+    "tools/": ("tests/tools",),
+    "tools/compile_proved.py": ("tests/tools", "c/tests", "tests/packages"),
+    "tools/dist.py": ("tests/packages/test_dist",),
+    "tools/programs.py": ("tests/tools", "tests/packages", "c/tests/test_programs"),
+    "tests/": EVERY,  # what all tests share
+    "tests/shims/": ("tests/credkeep", "tests/credbook", "tools/"),
+    "c/": (*OF_LIBRARY, "tests/packages"),
+    "c/README.md": PAGES,
+    "c/programs/": ("c/tests/test_programs", "tests/packages/test_dist"),
+    "c/pam/": ("c/pam/tests", "tests/server/test_logins", "tests/packages"),
+    "rust/": ("rust/tests",),
+    "python/": ("python/tests", "docs/tests", "tests/packages"),
+    "python/rigzumal/accounts/": ("python/tests/accounts", "frameworks", "docs/tests", *PACKAGE),
+    "python/rigzumal/argon2_cffi/": ("hashers/test_argon2_cffi", "test_on_their_own", *PACKAGE),
+    "python/rigzumal/django/": ("frameworks", "docs/tests", *PACKAGE),
+    "python/rigzumal/passlib.py": ("frameworks/test_passlib", "docs/tests", *PACKAGE),
+    "python/rigzumal/server/": ("tests/server", "docs/tests", *PACKAGE),
+}
+# Seconds of a crate, of a job and of a wrong body that nobody has measured.
+A_CRATE, A_JOB, A_WRONG_BODY = 60, 10, 10
+
+
+def git(*words: str) -> str:
+    return subprocess.run(
+        ["git", *words], cwd=TOP, capture_output=True, text=True, check=True
+    ).stdout
+
+
+def changed_files(commit: str) -> list[str]:
+    """The files that differ from a commit, or aren't committed; of a moved one both names."""
+    differ = git("diff", "--name-only", "--no-renames", commit)
+    return sorted(
+        {*differ.splitlines(), *git("ls-files", "--others", "--exclude-standard").splitlines()}
+    )
+
+
+def changed_crates(files: Iterable[str], parts: str) -> set[str]:
+    """The crates of which a file of these folders has changed."""
+    found = (re.match(rf"crates/(\w+)/(?:{parts})/", it) for it in files)
+    return {it[1] for it in found if it} & {*listed()}
+
+
+def proved_again(crates: Collection[str]) -> list[str]:
+    """These crates and those above them, lowest first."""
+    return [it for it in listed() if it in crates or {*all_below(it)} & {*crates}]
+
+
+def jobs_of(file: str) -> Collection[str]:
+    """The words of the jobs that look at a file."""
+    for folder in FOLDERS:
+        if file.startswith(f"{folder.path}/"):
+            at = file.removesuffix(".py")
+            return (at if at.startswith(f"{folder.path}/test_") else folder.path,)
+    return READERS[max((it for it in READERS if file.startswith(it)), key=len)]
+
+
+def jobs_to_run(files: Iterable[str], proved: Iterable[str]) -> list[Job]:
+    """The jobs that look at one of these files, or at what is built of these crates."""
+    words = {word for it in files for word in jobs_of(it)}
+    words |= {word for it in proved for word in OF_CRATES.get(it, ())}
+    return jobs(words) if words else []
+
+
+def words_for(chosen: Iterable[Job]) -> str:
+    """The words that choose these jobs: a folder's where all of its jobs are among them."""
+    names = {it.name for it in chosen}
+    every = jobs()
+    in_part = {it.folder for it in every if it.name not in names}
+    words = {
+        it.name.partition(":")[0] if it.folder in in_part else it.folder
+        for it in every
+        if it.name in names
+    }
+    return " ".join(sorted(words)) if in_part else ""
+
+
+def elapsed(parts: Mapping[str, float], longest: float) -> str:
+    """About how long these seconds take side by side, and no less than the longest part."""
+    minutes = max(sum(parts.values()) / len(os.sched_getaffinity(0)), longest) / 60
+    return f"about {minutes:.0f} min" if minutes >= 1 else "under a minute"
+
+
+def chain(name: str, proofs: Mapping[str, float]) -> float:
+    """The seconds of a proof and of those that it waits for."""
+    return proofs.get(name, 0) + max((chain(it, proofs) for it in below(name)), default=0)
+
+
+def of_proofs(again: Collection[str]) -> str:
+    known = json.loads(source(TOP / "tools/build_seconds.json"))
+    proofs = {it: known.get(it, A_CRATE) for it in again}
+    minutes = elapsed(proofs, max(chain(it, proofs) for it in again))
+    used = {low for it in again for low in below(it)}
+    command = " ".join(["rt ci", *(it for it in again if it not in used)])
+    return f"proofs: {', '.join(again)}, {minutes}: {command}"
+
+
+def of_wrong_bodies(changed: Collection[str], again: Iterable[str]) -> str:
+    counts = {it: len([*CRATES.glob(f"{it}/wrong-bodies/*.edit")]) for it in {*changed, *again}}
+    own, every = (
+        f"{count}, {elapsed({'all': A_WRONG_BODY * count}, 0)}"
+        for count in (sum(counts[it] for it in changed), sum(counts.values()))
+    )
+    more = f" (if a contract or a definition has changed {every})" if every != own else ""
+    command = " ".join(["python3 tools/wrong_bodies.py", *sorted(changed)])
+    return f"wrong bodies: {own}{more}: {command}"
+
+
+def of_tests(chosen: Collection[Job]) -> str:
+    took = {it.name: seconds().get(it.name, A_JOB) for it in chosen}
+    command = f"/usr/bin/python3 tools/run_tests.py {words_for(chosen)}".strip()
+    count = f"{len(chosen)} of {len(jobs())} jobs"
+    return f"tests: {count}, {elapsed(took, max(took.values()))}: {command}"
+
+
+def report(files: Collection[str]) -> Iterable[str]:
+    """The lines that say what these changed files cost."""
+    again = proved_again(changed_crates(files, "src|specs|proofs"))
+    if again:
+        yield of_proofs(again)
+    if changed := changed_crates(files, "src|specs|proofs|wrong-bodies"):
+        yield of_wrong_bodies(changed, again)
+    if chosen := jobs_to_run(files, again):
+        yield of_tests(chosen)
+    if files:
+        yield "pages: python3 tools/pages.py"
+
+
+def main() -> int:
+    [commit] = sys.argv[1:] or ["HEAD"]
+    files = changed_files(commit)
+    print("\n".join(report(files)) or f"nothing differs from {commit}")
+    return 0
+
+
+if __name__ == "__main__":
+    sys.exit(main())
