@@ -294,6 +294,10 @@ class Audited(Case):
         ought = [" ".join([*row[0].split()[:2], row[1]]) for row in rows if row[1:]]
         self.assertEqual(said, ought)
         self.assertEqual(lines[14]["new_name"], "bob")
+        page = (TOP / "man/credkeep-server.8").read_text()
+        [keys] = re.findall(r"^A line has the keys (.*?)\.$", page, re.M | re.S)
+        named = {*re.findall(r"\\fB(\w+)\\fP", keys)}
+        self.assertEqual(named, {key for it in lines for key in it}, "the manual's keys")
         for secret in (SECRET, WRONG, "secret", "guess", "$fast$", "hunter2"):
             self.assertNotIn(secret, path.read_text())
 

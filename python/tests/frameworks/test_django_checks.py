@@ -8,6 +8,7 @@ import unittest
 from unittest import mock
 
 import project  # noqa: F401: Django, set up
+from django.conf import settings
 from django.contrib import admin
 from django.contrib.auth import admin as djangos_admin
 from django.contrib.auth import hashers
@@ -182,6 +183,12 @@ class Checks(unittest.TestCase):
         self.assertEqual({it.id for it in found}, {"rigzumal.W009"})
         routes = ("'theirs/password_change/'", "'theirs/reset/<uidb64>/<token>/'", "'alone/'")
         self.assertEqual([it.msg.split()[2] for it in found], list(routes))
+
+    def test_no_urls(self):
+        """A project may have none, and no setting for them."""
+        with override_settings():
+            del settings.ROOT_URLCONF
+            self.assertEqual(self.ids(), [])
 
     @each(("django.contrib.auth", ["W010"]), ("own", []))
     def test_the_command(self, owner, said):
