@@ -1,9 +1,8 @@
-"""The rows of a table, for the command: all of them, counted, and added in batches."""
+"""The rows of a table, for the command: all of them, and those that are added in batches."""
 
 from __future__ import annotations
 
 import contextlib
-import enum
 import itertools
 import operator
 import pathlib
@@ -15,10 +14,10 @@ import time
 from collections import Counter
 from collections.abc import Callable, Iterable, Iterator, Sequence
 from dataclasses import dataclass
-from typing import IO, Any, Final, NamedTuple, Optional, Union
+from typing import IO, Any, Final, Optional, Union
 
 from rigzumal import InvalidRecordError, _library
-from rigzumal._parts import Parts, none_of_ours, parts, scheme_of_another
+from rigzumal._parts import none_of_ours
 from rigzumal._commands import Refusal, Status, say
 from rigzumal.accounts._accounts import Accounts
 from rigzumal.accounts._session import Session, run
@@ -70,64 +69,6 @@ class Rows:
             affected = run(session.execute(sql, *values)).affected
             run(dialect.commit(session))
         return affected > 0
-
-
-class State(enum.Enum):
-    """The effect of a login on a record."""
-
-    CURRENT = "current"
-    REHASH = "rehash"  # a right password replaces it by one of the hasher's costs
-    FOREIGN = "foreign"  # it is of another scheme, which the hook of the service judges
-    UNREADABLE = "unreadable"  # of no known scheme: nobody logs in without a hook
-    ABSENT = "absent"  # the account has no record
-
-
-class Group(NamedTuple):
-    """Records that are alike."""
-
-    state: State
-    scheme: str
-    costs: str
-
-
-def group_of(record: Optional[str], is_old: Callable[[Parts], bool]) -> Group:
-    """The group of a record."""
-    if record is None:
-        return Group(State.ABSENT, "", "")
-    costs = costs_of(record)
-    if costs is None:
-        scheme = scheme_of_another(record)
-        return Group(State.FOREIGN if scheme else State.UNREADABLE, scheme, "")
-    _, scheme, numbers = costs.split("$", 2)
-    state = State.REHASH if is_old(parts(record)) else State.CURRENT
-    return Group(state, scheme, numbers.replace("$", " "))
-
-
-def costs_of(record: str) -> Optional[str]:
-    """Costs such as "$argon2id$v=19$m=65536,t=3,p=4"; None of another text."""
-    return record.rsplit("$", 2)[0] if _library.is_record(record) else None
-
-
-def report(
-    rows: Iterable[tuple[Any, Optional[str]]], is_old: Callable[[Parts], bool]
-) -> list[tuple[Group, int]]:
-    """Each group with its count: by state, the most frequent first."""
-    counts = Counter(group_of(record, is_old) for _, record in rows)
-    order = list(State)
-    return sorted(
-        counts.items(),
-        key=lambda item: (order.index(item[0].state), -item[1], item[0][1:]),
-    )
-
-
-def as_prometheus(counts: Iterable[tuple[Group, int]]) -> Iterator[str]:
-    """The lines of Prometheus' text format."""
-    name = "rigzumal_accounts"
-    yield f"# HELP {name} Accounts by the state, the scheme and the costs of their records."
-    yield f"# TYPE {name} gauge"
-    for group, count in counts:
-        labels = f'state="{group.state.value}",scheme="{group.scheme}"'
-        yield f'{name}{{{labels},costs="{group.costs}"}} {count}'
 
 
 @dataclass

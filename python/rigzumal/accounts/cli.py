@@ -24,8 +24,8 @@ from rigzumal import InvalidRecordError, RigzumalError, opaque_string
 from rigzumal._commands import Refusal, Status, ended, hint, say, status_of
 from rigzumal.accounts._accounts import Accounts
 from rigzumal.accounts._judgement import FOREIGN_HINT
-from rigzumal.accounts._import import Import, Rows, as_prometheus, costs_of, line_of
-from rigzumal.accounts._import import report, shown, why
+from rigzumal.accounts._import import Import, Rows, line_of, shown, why
+from rigzumal.accounts._report import as_prometheus, costs_of, report
 from rigzumal.accounts._session import Session, run
 from rigzumal.accounts._words import accounts_hasher, old_and_new, parser
 from rigzumal.accounts._words import password_of
