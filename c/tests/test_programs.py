@@ -76,13 +76,19 @@ for turn in range(int(sys.argv[2])):
 """
 
 
+def of_program(name, flags, linked, *words):
+    """The test that builds a program and runs it."""
+
+    def test(_):
+        if name == "forked_lanes":
+            need_native()
+        run(built(name, flags, linked), *words)
+
+    return test
+
+
 class Programs(unittest.TestCase):
-    def test_programs(self):
-        for name, flags, linked, *words in PROGRAMS:
-            with self.subTest(name, flags=flags):
-                if name == "forked_lanes" and not IS_NATIVE:
-                    need_host()
-                run(built(name, flags, linked), *words)
+    """Each row of PROGRAMS is a test too, below: `-k heap` runs that of heap.c."""
 
     def test_program_calls(self):
         """What programs that a C compiler links call of C, and of the toolchain those of rt: the
@@ -145,3 +151,7 @@ class Programs(unittest.TestCase):
     def test_unloaded_library(self):
         turns = 30 if IS_NATIVE else 2
         python("-c", UNLOADED, OUT / "librigzumal.so.1", turns)
+
+
+for number, row in enumerate(PROGRAMS, 1):
+    setattr(Programs, f"test_{number:02}_{row[0]}", of_program(*row))
