@@ -13,7 +13,7 @@ sys.path.insert(0, str(TOP.parent))
 
 from tests import helpers
 from tests.helpers import ARCH, EMULATOR, IS_NATIVE, TRIPLET, need, runnable
-from tests.helpers import files_below, need_module, need_root  # noqa: F401
+from tests.helpers import each, files_below, need_module, need_root  # noqa: F401
 from tests.needs import lacking, need_file, need_native  # noqa: F401 (for the tests)
 
 COMPILER = os.environ.get("CC", "cc" if IS_NATIVE else f"{TRIPLET}-gcc")

@@ -9,7 +9,7 @@ import sys
 import unittest
 
 from harness import COMPILER, IS_HOST, OUT, ROOM, TOP
-from harness import files_below, need, need_host, run, runnable
+from harness import each, files_below, need, need_host, run, runnable
 
 sys.path.insert(0, str(TOP.parent / "tools"))
 from tree import CRATES, all_below  # noqa: E402
@@ -184,10 +184,10 @@ class Package(unittest.TestCase):
         run(COMPILER, *flags, "tests/threads.c", OUT / "librigzumal.a", "-o", ROOM / "static")
         run(runnable(ROOM / "static"))
 
-    def test_hardened(self):
+    @each("librigzumal.so.1", "libargon2.so.1")
+    def test_hardened(self, name):
         """What the loader writes is read-only before the first call, and no stack can be run. No
         program's own functions with names of libargon2's are called by the libraries."""
-        for name in ("librigzumal.so.1", "libargon2.so.1"):
-            said = run("readelf", "-W", "-d", "-l", OUT / name)
-            for form in ("BIND_NOW|FLAGS_1.*NOW", "SYMBOLIC", "GNU_RELRO", "GNU_STACK .* RW +0x"):
-                self.assertRegex(said, form, name)
+        said = run("readelf", "-W", "-d", "-l", OUT / name)
+        for form in ("BIND_NOW|FLAGS_1.*NOW", "SYMBOLIC", "GNU_RELRO", "GNU_STACK .* RW +0x"):
+            self.assertRegex(said, form)

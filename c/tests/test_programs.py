@@ -6,8 +6,8 @@ import shutil
 import unittest
 
 from harness import COMPILER, HERE, IS_NATIVE, JOBS, LIBARGON2, OUT, RACES, ROOM
-from harness import SANITIZED, SOURCES, VALGRIND, WARNINGS, WITHOUT_BUILDS, built, need, need_glibc
-from harness import lacking, need_file, need_host, need_native, need_root, python, run
+from harness import SANITIZED, SOURCES, VALGRIND, WARNINGS, WITHOUT_BUILDS, built, each, need
+from harness import lacking, need_file, need_glibc, need_host, need_native, need_root, python, run
 from harness import run_sanitized, toolchain
 
 
@@ -115,23 +115,23 @@ class Programs(unittest.TestCase):
         """Texts, records, steps, salts and threads, good and bad, under the sanitizers."""
         run_sanitized("-m", "unittest", "texts", "records", "steps", "with_threads")
 
-    def test_kept_memory(self):
+    @each(
+        (None, "16 32 64 60 64"),
+        ("0", "0 0 0 0 0"),
+        (str(20 * MIB), "16 20 20 20 20"),
+        (str(128 * MIB), "16 32 64 80 128"),
+        ("16M", "16 32 64 60 64"),  # no number, and passed over
+        ("0x8000000", "16 32 64 60 64"),
+        ("-1", "16 32 64 60 64"),
+        ("18446744073709551616", "16 32 64 60 64"),  # 2^64
+        ("99999999999999999999999", "16 32 64 60 64"),
+        ("", "16 32 64 60 64"),
+    )
+    def test_kept_memory(self, bound, kept):
         """What is kept after calls of each size: up to 64 MiB, or what the environment says."""
-        for bound, kept in (
-            (None, "16 32 64 60 64"),
-            ("0", "0 0 0 0 0"),
-            (str(20 * MIB), "16 20 20 20 20"),
-            (str(128 * MIB), "16 32 64 80 128"),
-            ("16M", "16 32 64 60 64"),  # no number, and passed over
-            ("0x8000000", "16 32 64 60 64"),
-            ("-1", "16 32 64 60 64"),
-            ("18446744073709551616", "16 32 64 60 64"),  # 2^64
-            ("99999999999999999999999", "16 32 64 60 64"),
-            ("", "16 32 64 60 64"),
-        ):
-            env = {} if bound is None else {"RIGZUMAL_KEEP": bound}
-            found = python("-c", KEPT, OUT / "librigzumal.so.1", env=env).strip()
-            self.assertEqual(found, kept, f"RIGZUMAL_KEEP={bound}")
+        env = {} if bound is None else {"RIGZUMAL_KEEP": bound}
+        found = python("-c", KEPT, OUT / "librigzumal.so.1", env=env).strip()
+        self.assertEqual(found, kept)
 
     def test_kept_memory_of_another_users_program(self):
         """Whoever runs a set-user-ID program bounds nothing of it by the environment."""

@@ -45,16 +45,16 @@ class Patience(unittest.TestCase):
         """The pools that were used."""
         return [it.args[0] for it in runtime.use.mock_calls]
 
-    def test_pauses_double_up_to_half_a_second(self):
+    @each(BUSY, Undone(BUSY))
+    def test_pauses_double_up_to_half_a_second(self, answer):
         """Of a server that can't be reached, and of one that undoes what is sent."""
-        for answer in (BUSY, Undone(BUSY)):
-            runtime, connections = self.connections(*[answer] * 12)
-            with self.assertLogs("rigzumal.accounts", "WARNING") as logs:
-                self.assertEqual(run(connections.patiently(None)), "done")
-            name = "WARNING:rigzumal.accounts:an operation is tried again: OperationalError"
-            self.assertEqual(logs.output, [name])
-            wanted = [0.002 * 2**it for it in range(8)] + [0.5] * 4
-            self.assertEqual([round(it, 3) for it in runtime.pauses], wanted)
+        runtime, connections = self.connections(*[answer] * 12)
+        with self.assertLogs("rigzumal.accounts", "WARNING") as logs:
+            self.assertEqual(run(connections.patiently(None)), "done")
+        name = "WARNING:rigzumal.accounts:an operation is tried again: OperationalError"
+        self.assertEqual(logs.output, [name])
+        wanted = [0.002 * 2**it for it in range(8)] + [0.5] * 4
+        self.assertEqual([round(it, 3) for it in runtime.pauses], wanted)
 
     def test_dead_connections_are_worked_through(self):
         """For half a second; then the server ends what it is sent, and is left in peace."""
@@ -65,14 +65,14 @@ class Patience(unittest.TestCase):
         later = [round(it, 3) for it in runtime.pauses[len(quick) :]]
         self.assertEqual(later[:3], [0.004, 0.008, 0.016])
 
-    def test_patience_ends(self):
-        for patience, count in ((0.0, 1), (0.005, 3)):
-            error = sqlite3.OperationalError("database is locked")
-            runtime, connections = self.connections(*[error] * 9)
-            with self.assertRaisesRegex(Unavailable, "database is locked") as raised:
-                run(connections.patiently(None, patience))
-            self.assertEqual(runtime.use.call_count, count)
-            self.assertIs(raised.exception.__cause__, error)
+    @each((0.0, 1), (0.005, 3))
+    def test_patience_ends(self, patience, count):
+        error = sqlite3.OperationalError("database is locked")
+        runtime, connections = self.connections(*[error] * 9)
+        with self.assertRaisesRegex(Unavailable, "database is locked") as raised:
+            run(connections.patiently(None, patience))
+        self.assertEqual(runtime.use.call_count, count)
+        self.assertIs(raised.exception.__cause__, error)
 
     def test_pauses_differ(self):
         """So that many who wait don't come at a time."""
@@ -92,13 +92,13 @@ class Patience(unittest.TestCase):
         self.assertRaises(Unavailable, run, connections.patiently(None))
         self.assertEqual(runtime.pauses, [])
 
-    def test_what_would_be_refused_again_is_raised(self):
-        for error in (REFUSED, StoreFault("x"), KeyError("x"), TypeError("x")):
-            runtime, connections = self.connections(error)
-            with self.assertRaises(type(error)) as raised:
-                run(connections.patiently(None))
-            self.assertIs(raised.exception, error)
-            self.assertEqual(runtime.pauses, [])
+    @each(REFUSED, StoreFault("x"), KeyError("x"), TypeError("x"))
+    def test_what_would_be_refused_again_is_raised(self, error):
+        runtime, connections = self.connections(error)
+        with self.assertRaises(type(error)) as raised:
+            run(connections.patiently(None))
+        self.assertIs(raised.exception, error)
+        self.assertEqual(runtime.pauses, [])
 
     def test_a_replica_is_asked_once(self):
         """A fault there leaves the work to the primary, and is told once; a program's is raised."""
@@ -221,12 +221,12 @@ class Urls(unittest.TestCase):
             self.assertEqual((given["user"], given["password"]), (user, password))
         self.assertEqual(self.tried, [("db", 3306)] * 4)
 
-    def test_the_server_says_whether_it_is_mysql(self):
-        for said, kind in (("5.5.5-10.11.19-MariaDB", "MariaDB"), ("9.7.4", "MySQL")):
-            conn = mock.Mock(**{"get_server_info.return_value": said})
-            with mock.patch.object(Database, "connect", return_value=conn):
-                self.assertEqual(Database("mysql://db/d").dialect_kind().__name__, kind)
-            conn.close.assert_called_once_with()
+    @each(("5.5.5-10.11.19-MariaDB", "MariaDB"), ("9.7.4", "MySQL"))
+    def test_the_server_says_whether_it_is_mysql(self, said, kind):
+        conn = mock.Mock(**{"get_server_info.return_value": said})
+        with mock.patch.object(Database, "connect", return_value=conn):
+            self.assertEqual(Database("mysql://db/d").dialect_kind().__name__, kind)
+        conn.close.assert_called_once_with()
 
     def test_hosts_are_tried_in_turn(self):
         """From the one that answered last on."""
@@ -287,9 +287,9 @@ class Urls(unittest.TestCase):
         shown = traceback.format_exception(ValueError, error, error.__traceback__)
         self.assertNotIn("sec", "".join(shown))
 
-    def test_no_password_is_in_a_repr(self):
-        for kind in ("mysql", "postgresql"):
-            self.assertNotIn("hunter2", repr(Database(f"{kind}://ada:hunter2@db/d")))
+    @each("mysql", "postgresql")
+    def test_no_password_is_in_a_repr(self, kind):
+        self.assertNotIn("hunter2", repr(Database(f"{kind}://ada:hunter2@db/d")))
 
     def test_the_url_is_libpqs(self):
         driver, plain = mock.Mock(), {"autocommit": True, "prepare_threshold": None}

@@ -311,14 +311,14 @@ class OnPostgres(OnServer, engines.OnPostgres, support.Base):
                     for text in ("an\U0001f600", "\u0436ora", "\u0e01"):
                         self.assert_no_account(accounts, text)
 
-    def test_settings_of_the_server(self):
-        for name in ("fsync", "full_page_writes"):
-            self.server.set(**{name: "off"})
-            try:
-                self.assert_faults([f"not-durable: {name} is off"])
-            finally:
-                self.server.set(**{name: "on"})
-            self.assert_faults([])
+    @each("fsync", "full_page_writes")
+    def test_settings_of_the_server(self, name):
+        self.server.set(**{name: "off"})
+        try:
+            self.assert_faults([f"not-durable: {name} is off"])
+        finally:
+            self.server.set(**{name: "on"})
+        self.assert_faults([])
 
 
 COLLATED = "name VARCHAR(90) CHARACTER SET {} COLLATE {} PRIMARY KEY, record TEXT"

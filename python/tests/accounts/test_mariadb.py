@@ -194,24 +194,24 @@ class OnMariaDB(engines.OnMariaDB, Base):
             self.assertEqual([it[: len(word)] for it, word in zip(found, words)], words)
             self.assertEqual(len(found), len(words), found)
 
-    def test_a_statement_that_the_server_does_not_take(self):
+    @each(
+        ("NOT ATOMIC", "NO ATOMS", False),
+        ("SET touched", "SIGNAL SQLSTATE '45000'; SET touched", True),
+    )
+    def test_a_statement_that_the_server_does_not_take(self, old, new, is_again):
         """As MySQL: it is asked once, and then transactions do it. What fails after the UPDATE
         is undone within the statement, and a transaction does it."""
-        for old, new, is_again in (
-            ("NOT ATOMIC", "NO ATOMS", False),
-            ("SET touched", "SIGNAL SQLSTATE '45000'; SET touched", True),
+        self.give("one")
+        self.dialect = self.another_dialect()
+        self.dialect.at_once = self.dialect.at_once.replace(old, new, 1)
+        accounts, both = self.kept(), f"SELECT {self.one} {self.several}"
+        for password, words in (
+            ("one", both),
+            ("two", both if is_again else f"SELECT {self.several}"),
         ):
-            self.give("one")
-            self.dialect = self.another_dialect()
-            self.dialect.at_once = self.dialect.at_once.replace(old, new, 1)
-            accounts, both = self.kept(), f"SELECT {self.one} {self.several}"
-            for password, words in (
-                ("one", both),
-                ("two", both if is_again else f"SELECT {self.several}"),
-            ):
-                with self.statements(words):
-                    self.assert_replies(f"change ann {password} two replaced", accounts)
-            self.assertTrue(self.is_right("two"))
+            with self.statements(words):
+                self.assert_replies(f"change ann {password} two replaced", accounts)
+        self.assertTrue(self.is_right("two"))
 
     def test_what_is_shown_early(self):
         """A fault where looks aren't confirmed: --confirm is for examine and torture too."""

@@ -25,9 +25,9 @@ ENROLLED = "remove ann one removed; enrol ann x enrolled"
 
 
 class Operations(Base):
-    def test_the_old_name_of_the_types(self):
-        for name in ("Request", "Kind", "Reply", "NO_ROW", "StoreFault"):
-            self.assertIs(getattr(parts, name), getattr(types, name))
+    @each("Request", "Kind", "Reply", "NO_ROW", "StoreFault")
+    def test_the_old_name_of_the_types(self, name):
+        self.assertIs(getattr(parts, name), getattr(types, name))
 
     @each(
         ("caf\u00e9", ("cafe\u0301", "cafe", b"caf\xe9")),
