@@ -80,12 +80,26 @@ def wraps(sources):
     return [f"-Wl,--wrap={call}" for call in re.findall(r"^WRAP\([^,]+, (\w+),", text, re.M)]
 
 
-def built(name, flags, linked, cc=None):
+# What says how a program is linked, or which build it has: no file of the library depends on it.
+OF_LINKING = ("-Wl,", "-static", "-DGIVEN=")
+
+
+@functools.cache
+def object_of(source, options, cc):
+    """A file of the library, which is compiled once for all programs that want it so."""
+    target = ROOM / f"{pathlib.Path(source).stem}-{len(list(ROOM.iterdir()))}.o"
+    run(cc, *WARNINGS, *options, "-c", source, "-o", target)
+    return target
+
+
+def built(name, flags, linked, cc=COMPILER):
     """A test in C, built by a compiler."""
     program = ROOM / f"{name}-{len(list(ROOM.iterdir()))}"
     folder = "tests" if (HERE / f"{name}.c").exists() else f"tests/{ARCH}"
-    sources = [f"{folder}/{name}.c", *map(str, linked)]
-    run(cc or COMPILER, *WARNINGS, *flags, *wraps([*flags, *sources]), *sources, "-o", program)
+    words = [*flags, f"{folder}/{name}.c", *map(str, linked)]
+    options = [it for it in words if it.startswith("-") and not it.startswith(OF_LINKING)]
+    parts = [object_of(it, (*options,), cc) if it.startswith("src/") else it for it in words]
+    run(cc, *WARNINGS, *wraps(words), *parts, "-o", program)
     return runnable(program)
 
 
