@@ -21,6 +21,8 @@ class Folder:
     path: str
     # Whether its modules are of the package `tests`, and not found from their own folder.
     is_package: bool = False
+    # Whether its modules stand on the library for C: they wait until it is built.
+    needs_library: bool = True
     # What Python is told, such as that a warning is an error.
     options: tuple[str, ...] = ()
     # Modules that are long: among how many processes their tests are shared.
@@ -38,10 +40,11 @@ class Folder:
 WARNINGS = ("-W", "error", "-W", "ignore:memory_cost=")
 
 FOLDERS = (
-    Folder("tests/credbook", is_package=True),
+    Folder("tests/credbook", is_package=True, needs_library=False),
     Folder(
         "tests/credkeep",
         is_package=True,
+        needs_library=False,
         parts={"refused_memory": 4, "refused_calls": 4, "work": 2, "kills": 2, "import": 2},
         long=["large"],
     ),
@@ -51,7 +54,7 @@ FOLDERS = (
         quiet=["starts_and_ends", "clients"],
         long=["booted", "torture"],
     ),
-    Folder("tests/tools", is_package=True),
+    Folder("tests/tools", is_package=True, needs_library=False),
     Folder("tests/packages", is_package=True, packing=["install"]),
     Folder("c/tests", packing=["package"], parts={"programs": 3, "secrets": 3, "calls": 2}),
     Folder("c/pam/tests", quiet=["answers"]),
@@ -63,7 +66,7 @@ FOLDERS = (
     Folder("rust/tests"),
 )
 
-# Programs of tools/ that are tests too, with their words.
+# Programs of tools/ that are tests too, with their words. README's sessions need the library.
 PROGRAMS = {"refuse_memory": (), "peak_memory": (), "readme": ("README.md",)}
 
 
@@ -75,6 +78,7 @@ class Job:
     folder: str
     command: tuple[str, ...]
     at: Path
+    needs_library: bool = True
     is_quiet: bool = False
     is_packing: bool = False
     is_long: bool = False
@@ -98,6 +102,7 @@ def modules_of(folder: Folder) -> Iterator[Job]:
                 folder=folder.path,
                 command=(*folder.options, str(TOLD), "{told}", str(file.relative_to(at)), *shared),
                 at=at,
+                needs_library=folder.needs_library,
                 is_quiet=word in folder.quiet,
                 is_packing=word in folder.packing,
                 is_long=word in folder.long,
@@ -106,7 +111,8 @@ def modules_of(folder: Folder) -> Iterator[Job]:
 
 def programs() -> Iterator[Job]:
     for name, words in PROGRAMS.items():
-        yield Job(f"tools/{name}", "tools", (str(TOP / f"tools/{name}.py"), *words), TOP)
+        command = (str(TOP / f"tools/{name}.py"), *words)
+        yield Job(f"tools/{name}", "tools", command, TOP, needs_library=name == "readme")
 
 
 def seconds() -> dict[str, float]:

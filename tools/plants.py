@@ -40,7 +40,12 @@ class Plant(NamedTuple):
 
 PLANTS = (
     # The library for C, its libargon2, and the PAM module
-    Plant("c/src/rigzumal.c", "#include ", "int broken(\n#include ", "tests/tools/test_readme"),
+    Plant(
+        "c/src/rigzumal.c",
+        "#include ",
+        "int broken(\n#include ",
+        "c/tests/test_machine_code",
+    ),
     Plant(
         "c/src/step.c",
         "is_right ? RIGZUMAL_REPLY_YES : RIGZUMAL_REPLY_NO",

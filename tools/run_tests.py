@@ -3,12 +3,13 @@
 
     python3 tools/run_tests.py [--long] [--note] [WORD..]
 
-First `make` builds the library and the PAM module from what was proved. Then the jobs of
-tools/jobs.py run, those with one of the words in their names: each module of tests is a
-process of its own, and so are some tools. What a failed one printed is printed. Each half minute a
-line says what is at work. A test may be skipped only if tests/needs.py finds that what it names is
-missing. The last line is `tests: N passed, M failed, K skipped`, and the status is 1 if one failed.
-A signal ends the run with all that its jobs started; its last line is `tests: interrupted` then.
+The jobs of tools/jobs.py run, those with one of the words in their names: each module of tests is a
+process of its own, and so are some tools. Meanwhile `make` builds the library and the PAM module
+from what was proved, and the jobs that need them wait for that. What a failed one printed is
+printed. Each half minute a line says what is at work. A test may be skipped only if tests/needs.py
+finds that what it names is missing. The last line is `tests: N passed, M failed, K skipped`, and
+the status is 1 if one failed. A signal ends the run with all that its jobs started; its last line is
+`tests: interrupted` then.
 
 --long runs the modules that every run leaves out. --note keeps how long each job took in
 tools/job_seconds.json, by which the longest begin first.
@@ -137,29 +138,51 @@ class Done:
         return [name for name, word in self.tests.items() if word == "failed"]
 
 
+def fault_of_build() -> str:
+    """What a build of the library that fails says, or nothing."""
+    for command in BUILDS if helpers.IS_NATIVE else []:
+        pipes: dict[str, Any] = {"stdout": subprocess.PIPE, "stderr": subprocess.STDOUT}
+        done = subprocess.run(command, cwd=TOP, stdin=subprocess.DEVNULL, text=True, **pipes)
+        if done.returncode:
+            return f"{done.stdout}\n{' '.join(command)}: status {done.returncode}"
+    return ""
+
+
 class Progress:
     """What is at work, told each half minute, and what came of the jobs that are done."""
 
     def __init__(self, count: int) -> None:
         self.count, self.done = count, list[Done]()
         self.running: dict[str, float] = {}
+        # What a build that failed says, once it has ended.
+        self.library = concurrent.futures.Future[str]()
         tell_each(EVERY, self.tell)
 
     def tell(self) -> None:
         longest = ", ".join(sorted({**self.running}, key=self.running.__getitem__)[:4])
         print(f"tests: {len(self.done)} of {self.count} jobs; at work: {longest}", flush=True)
 
+    def build(self) -> None:
+        """Builds the library."""
+        self.running["make -C c"] = time.monotonic()
+        self.library.set_result(fault_of_build())
+        del self.running["make -C c"]
+
     def run_beside(self, chosen: list[Job]) -> None:
-        """Runs jobs side by side, but those that write into the same folders one after another."""
+        """Runs jobs side by side, but those that write into the same folders one after another. If
+        one of them needs the library this is built first, beside those that don't."""
         packing = [it for it in chosen if it.is_packing]
         queues = [packing, *([it] for it in chosen if not it.is_packing)]
+        queues.sort(key=lambda queue: any(it.needs_library for it in queue))
         with concurrent.futures.ThreadPoolExecutor(len(os.sched_getaffinity(0))) as pool:
+            if any(it.needs_library for it in chosen) and not self.library.done():
+                pool.submit(self.build)
             list(pool.map(self.run, queues))
 
     def run(self, queue: list[Job]) -> None:
-        """Runs jobs one after another."""
+        """Runs jobs one after another, unless the library that they need isn't built."""
         for job in queue:
-            if INTERRUPTED.is_set():
+            if INTERRUPTED.is_set() or job.needs_library and self.library.result():
                 return
             self.running[job.name] = time.monotonic()
             done = Done(job)
@@ -186,24 +209,15 @@ class Progress:
         skips = collections.Counter(it for it in words if it.startswith("skipped"))
         for reason, count in sorted(skips.items()):
             print(f"{reason}: {count}")
-        failed = [(done.job.name, name) for done in self.done for name in done.failed()]
-        for job, name in failed:
-            print(f"FAILED: {job}: {name}")
+        failed = [f"{done.job.name}: {name}" for done in self.done for name in done.failed()]
+        if self.library.done() and (fault := self.library.result()):
+            print(fault)
+            failed.append("the library")
+        for name in failed:
+            print(f"FAILED: {name}")
         passed = words.count("passed")
         print(f"tests: {passed} passed, {len(failed)} failed, {sum(skips.values())} skipped")
         return 1 if failed or not passed else 0
-
-
-def build() -> str:
-    """What a build that fails says, or nothing."""
-    for command in BUILDS if helpers.IS_NATIVE else []:
-        pipes: dict[str, Any] = {"stdout": subprocess.PIPE, "stderr": subprocess.STDOUT}
-        done = subprocess.run(command, cwd=TOP, stdin=subprocess.DEVNULL, text=True, **pipes)
-        if done.returncode:
-            return (
-                f"{done.stdout}\nFAILED: {' '.join(command)}\ntests: 0 passed, 1 failed, 0 skipped"
-            )
-    return ""
 
 
 def main() -> int:
@@ -214,9 +228,6 @@ def main() -> int:
     asked = reader.parse_args()
     for it in SIGNALS:
         signal.signal(it, interrupt)
-    if fault := build():
-        print(fault)
-        return 1
     chosen = jobs(asked.words, asked.long)
     progress = Progress(len(chosen))
     progress.run_beside([it for it in chosen if not it.is_quiet])

@@ -71,6 +71,10 @@ SLOW = """
         os.rename("at_work.new", "at_work")
         sleeper.wait()
 """
+# One without which the library isn't built.
+BESIDE = """
+    def test_is_at_work(self): open("at_work", "w").close()
+"""
 # What stands in place of whole modules.
 TEXTS = {
     "tests/packages/test_install.py": "import no_such_module\n",
@@ -182,11 +186,29 @@ class RunTests(Case):
         self.assertEqual(done.status, 1)
 
     def test_what_is_not_built(self) -> None:
+        """Without the library none of the jobs runs that need it, and the others do."""
         (self.top / "c/broken").touch()
-        done = self.run_tests("tests/tools")
+        done = self.run_tests("c/tests", "tests/tools")
         self.assertIn("this is broken\n", done.written)
-        self.assertEqual(done.written.splitlines()[-1], "tests: 0 passed, 1 failed, 0 skipped")
+        self.assertEqual(
+            done.written.splitlines()[-2:],
+            ["FAILED: the library", "tests: 2 passed, 1 failed, 2 skipped"],
+        )
         self.assertEqual(done.status, 1)
+
+    def test_what_needs_no_library(self) -> None:
+        """Nothing is built for it alone."""
+        (self.top / "c/broken").touch()
+        self.assertEqual(self.run_tests("tests/tools").status, 0)
+
+    def test_a_build_beside_tests(self) -> None:
+        """Jobs that need the library begin once it is built, beside others."""
+        text = "all check-proved:\n\t@while ! test -e ../at_work; do sleep 0.1; done\n"
+        text += "\t@echo built >> ../order\n"
+        write_files(self.top, {"c/Makefile": text, "tests/credbook/test_slow.py": HEAD + BESIDE})
+        done = self.run_tests("turns", "test_slow")
+        self.assertEqual(done.written.splitlines()[-1], "tests: 2 passed, 0 failed, 0 skipped")
+        self.assertEqual((self.top / "order").read_text(), "built\nbuilt\nturned\n")
 
 
 class Excuses(unittest.TestCase):
