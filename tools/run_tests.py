@@ -5,11 +5,11 @@
 
 The jobs of tools/jobs.py run, those with one of the words in their names: each module of tests is a
 process of its own, and so are some tools. Meanwhile `make` builds the library and the PAM module
-from what was proved, and the jobs that need them wait for that. What a failed one printed is
-printed. Each half minute a line says what is at work. A test may be skipped only if tests/needs.py
-finds that what it names is missing. The last line is `tests: N passed, M failed, K skipped`, and
-the status is 1 if one failed. A signal ends the run with all that its jobs started; its last line is
-`tests: interrupted` then.
+from what was proved, or of c/proved where rt is missing, and the jobs that need them wait for that.
+What a failed one printed is printed. Each half minute a line says what is at work. A test may be
+skipped only if tests/needs.py finds that what it names is missing. The last line is `tests: N
+passed, M failed, K skipped`, and the status is 1 if one failed. A signal ends the run with all that
+its jobs started; its last line is `tests: interrupted` then.
 
 --long runs the modules that every run leaves out. --note keeps how long each job took in
 tools/job_seconds.json, by which the longest begin first.
@@ -33,7 +33,7 @@ import time
 from typing import Any
 
 from jobs import SECONDS, Job, jobs, seconds
-from tree import TOP, tell_each
+from tree import TOP, has_rt, tell_each
 
 sys.path.insert(0, str(TOP))
 from tests import helpers, needs  # noqa: E402
@@ -48,8 +48,9 @@ MARK = "RIGZUMAL_JOB"
 RUN = f"run-{os.getpid()}"
 SIGNALS = (signal.SIGINT, signal.SIGTERM, signal.SIGHUP)
 INTERRUPTED = threading.Event()
-# The second has rt compile the proved code, and compares c/proved byte for byte.
-BUILDS = [["make", "-s", "-C", "c"], ["make", "-s", "-C", "c", "check-proved"]]
+BUILDS = [["make", "-s", "-C", "c"]]
+if has_rt():  # which compiles the proved code then, and c/proved is compared byte for byte
+    BUILDS.append(["make", "-s", "-C", "c", "check-proved"])
 if pathlib.Path("/usr/include/security/pam_modules.h").exists():
     BUILDS.append(["make", "-s", "-C", "c/pam"])
 

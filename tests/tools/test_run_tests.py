@@ -196,6 +196,14 @@ class RunTests(Case):
         )
         self.assertEqual(done.status, 1)
 
+    def test_without_rt(self) -> None:
+        """Nothing is compared with what it compiles, and all else runs."""
+        text = "all:\ncheck-proved:\n\t@echo only rt does this; exit 1\n"
+        write_files(self.top, {"c/Makefile": text})
+        for name, status in (("no-such-rt", 0), ("true", 1)):
+            with self.subTest(name):
+                self.assertEqual(self.run_tests("c/tests", RT=name).status, status)
+
     def test_what_needs_no_library(self) -> None:
         """Nothing is built for it alone."""
         (self.top / "c/broken").touch()
