@@ -40,6 +40,7 @@ def told_by_rt(*words: str) -> str:
     return subprocess.run([RT, *words], capture_output=True, text=True, check=True).stdout
 
 
+@functools.cache
 def kit() -> pathlib.Path:
     """The folder of the toolchain, whose first page rt names."""
     return pathlib.Path(told_by_rt("doc").strip()).parent

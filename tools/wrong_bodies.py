@@ -34,13 +34,13 @@ import sys
 import tempfile
 import threading
 
-from tree import CRATES, TOP, all_below, below, listed, need_rt, source, tell_each
+from tree import CRATES, RT, TOP, all_below, below, kit, listed, need_rt, source, tell_each
 from wrong_body import Edit, groups
 
-RT = os.environ.get("RT", "rt")
 SUMS = TOP / "tools/wrong_bodies.sums"
 EVERY = 30
 BYTES_OF_A_CHECK = 3 << 30
+NOT_ONCE = "its old text isn't in its file once, or the new one is the same"
 PROVED = re.compile(r"rt: (\w+) (?:proved|is kept)\b")
 
 
@@ -56,72 +56,60 @@ def checked(path):
     return re.sub(rb"(?m)^[ \t]*//.*\n", b"", text) if path.suffix == ".rt" else text
 
 
+def sum_of(files):
+    """A sum over what a check reads of these files, by their names."""
+    sums = [(name, hashlib.sha256(checked(files[name])).hexdigest()) for name in sorted(files)]
+    return hashlib.sha256(repr(sums).encode()).hexdigest()
+
+
 class Bench:
     """Where the wrong bodies of one crate are tried: a copy of its files, over libraries that are
     built."""
 
     def __init__(self, crate, libraries, places):
-        self.crate, self.libraries, self.places, at = crate, libraries, places, CRATES / crate
+        self.crate, self.libraries, self.places = crate, libraries, places
+        at = CRATES / crate
         self.edits = [Edit(it) for it in sorted(at.glob("wrong-bodies/*.edit"))]
-        files = {
-            str(it.relative_to(at)): it
-            for part in ("src", "specs", "proofs", "wrong-bodies")
-            for it in (at / part).rglob("*")
-            if it.is_file()
-        }
-        self.texts = {
-            name: it.read_text()
-            for name, it in files.items()
-            if not name.startswith("wrong-bodies")
-        }
-        # what can be cited of a library: its functions without their bodies, and its definitions
-        for low in all_below(crate):
-            lang = libraries / f"{low}.rlib/lang"
-            files |= {
-                f"{low}/{it.relative_to(lang)}": it
-                for it in [*lang.glob("src/**/*.rt"), *lang.glob("antt/specs/**/*.antt")]
-            }
-        self.sum = hashlib.sha256(
-            repr(
-                [(name, hashlib.sha256(checked(files[name])).hexdigest()) for name in sorted(files)]
-            ).encode()
-        ).hexdigest()
+        self.texts = {}
+        for part in ("src", "specs", "proofs"):
+            for file in (at / part).rglob("*"):
+                if file.is_file():
+                    self.texts[str(file.relative_to(at))] = file.read_text()
+        self.sum = sum_of(self.files())
+
+    def files(self):
+        """All that a verdict depends on: the crate's files and wrong bodies, and what can be cited
+        of the crates below, their functions without bodies, and their definitions."""
+        at = CRATES / self.crate
+        names = [*self.texts, *(f"wrong-bodies/{it.name}.edit" for it in self.edits)]
+        files = {name: at / name for name in names}
+        for low in all_below(self.crate):
+            lang = self.libraries / f"{low}.rlib/lang"
+            for file in (*lang.glob("src/**/*.rt"), *lang.glob("antt/specs/**/*.antt")):
+                files[f"{low}/{file.relative_to(lang)}"] = file
+        return files
 
     def has(self, function):
         """Whether the crate has a function of that name as it stands: an edit may add one."""
-        return any(
-            re.search(rf"\bfn {function.split('::')[-1]}\b", it) for it in self.texts.values()
-        )
+        head = re.compile(rf"\bfn {function.split('::')[-1]}\b")
+        return any(head.search(it) for it in self.texts.values())
 
     def words(self):
         """The check, as `rt` has it."""
         head, uses = listed()[self.crate]
-        kit = pathlib.Path(
-            subprocess.run([RT, "doc"], capture_output=True, text=True, check=True).stdout.strip()
-        ).parent
-        root = next(it for it in ("src/lib.rt", "src/main.rt") if it in self.texts)
+        built, rlibs = self.libraries, kit() / "rlibs"
+        root = "src/lib.rt" if "src/lib.rt" in self.texts else "src/main.rt"
         # behind COMMAND, whose tests have a minute each
-        yield from (
-            "nice",
-            kit / "bin/rattle",
-            "check",
-            "--crate-name",
-            self.crate,
-            root,
-            "--jobs",
-            "1",
-        )
+        yield from ("nice", kit() / "bin/rattle", "check", "--crate-name", self.crate, root)
+        yield from ("--jobs", "1")
         for name in ("std", *uses):
-            folder = self.libraries if name in below(self.crate) else kit / "rlibs"
+            folder = built if name in below(self.crate) else rlibs
             yield from ("--extern", f"{name}={folder}/{name}.rlib")
-        yield from ("-L", f"dependency={kit / 'rlibs'}", "-L", f"dependency={self.libraries}")
-        yield from (
-            "--antt-project",
-            kit / "rattle/logic/antt-project.json",
-            "--logic-built",
-            kit / "logic_built",
-        )
-        yield from ("--crate-type", "staticlib") if "staticlib" in head else ()
+        yield from ("-L", f"dependency={rlibs}", "-L", f"dependency={built}")
+        yield from ("--antt-project", kit() / "rattle/logic/antt-project.json")
+        yield from ("--logic-built", kit() / "logic_built")
+        if "staticlib" in head:
+            yield from ("--crate-type", "staticlib")
 
     def check(self, texts, kept, functions):
         """What a check of these functions says of a copy with these texts, over what is kept."""
@@ -130,12 +118,9 @@ class Bench:
                 path = pathlib.Path(room) / name
                 path.parent.mkdir(parents=True, exist_ok=True)
                 path.write_text(text)
-            words = [
-                *self.words(),
-                "--incremental",
-                kept,
-                *(word for it in functions for word in ("--only", it)),
-            ]
+            words = [*self.words(), "--incremental", kept]
+            for function in functions:
+                words += ["--only", function]
             done = subprocess.run(
                 words,
                 cwd=room,
@@ -155,32 +140,37 @@ def link(one, other):
         subprocess.run(["cp", "-a", one, other], check=True)
 
 
+def named_in_page():
+    """The wrong bodies in the first table of docs/PLANTED.md."""
+    _, _, rest = source(TOP / "docs/PLANTED.md").partition("\n| ")
+    table, _, _ = rest.partition("\n\n")
+    return re.findall(r"`(\w+/[\w-]+)`", table)
+
+
+def checks_at_once():
+    """How many checks the processors and the memory allow."""
+    memory = pathlib.Path("/proc/meminfo").read_text()
+    free = int(re.search(r"MemAvailable:\s+(\d+)", memory)[1]) << 10
+    return max(1, min(len(os.sched_getaffinity(0)), free // BYTES_OF_A_CHECK))
+
+
 class Trial:
     """Which wrong bodies are tried, each crate's once its libraries are built, and what came of
     them."""
 
     def __init__(self, asked, libraries, kept):
         self.asked, self.libraries, self.kept = asked, libraries, kept
-        self.named = re.findall(
-            r"`(\w+/[\w-]+)`",
-            source(TOP / "docs/PLANTED.md").partition("\n| ")[2].partition("\n\n")[0],
-        )
+        self.named = named_in_page()
         self.sums = dict(it.split() for it in source(SUMS).splitlines())
-        free = (
-            int(re.search(r"MemAvailable:\s+(\d+)", pathlib.Path("/proc/meminfo").read_text())[1])
-            << 10
-        )
-        self.places = threading.Semaphore(
-            max(1, min(len(os.sched_getaffinity(0)), free // BYTES_OF_A_CHECK))
-        )
+        self.places = threading.Semaphore(checks_at_once())
         self.pool = concurrent.futures.ThreadPoolExecutor(len(listed()))
-        self.proved, self.crates, self.refused, self.failed, self.left = (
-            set(),
-            {},
-            [],
-            [],
-            collections.Counter(),
-        )
+        # Crates: those that COMMAND has proved, and those whose wrong bodies are tried
+        self.proved = set()
+        self.crates = {}
+        # Wrong bodies by their names, and how many of each crate have no verdict yet
+        self.refused = []
+        self.failed = []
+        self.left = collections.Counter()
         self.alone = threading.Lock()
 
     def add_library(self, name):
@@ -196,30 +186,28 @@ class Trial:
         """Says what came of an edit."""
         (self.refused if verdict else self.failed).append(str(edit))
         self.left[edit.crate] -= 1
-        why = next(
-            (line for line in output.splitlines() if re.search(r"\berror[:\[]", line)),
-            "it is proved with it",
-        )
-        word = "refused" if verdict else "NOT REFUSED"
-        say(f"{edit}: {word}, in {edit.function}: {verdict or why}")
+        if verdict:
+            say(f"{edit}: refused, in {edit.function}: {verdict}")
+        else:
+            errors = (it for it in output.splitlines() if re.search(r"\berror[:\[]", it))
+            why = next(errors, "it is proved with it")
+            say(f"{edit}: NOT REFUSED, in {edit.function}: {why}")
 
     def try_group(self, bench, seed, group, planted):
         """Judges the edits of a group; one of whom nothing is known then is tried alone."""
         with tempfile.TemporaryDirectory(prefix="wrong-bodies-") as room:
-            link(seed, f"{room}/kept")
-            _, output = bench.check(
-                planted, f"{room}/kept", [it.function for it in group if bench.has(it.function)]
-            )
+            kept = f"{room}/kept"
+            link(seed, kept)
+            functions = [it.function for it in group if bench.has(it.function)]
+            _, output = bench.check(planted, kept, functions)
             for it in group:
                 verdict = it.judge(output)
-                if not verdict and len(group) > 1:
+                if verdict:
+                    self.settle(it, verdict, output)
+                elif len(group) > 1:
                     self.try_group(bench, seed, [it], it.planted(bench.texts))
                 else:
-                    self.settle(
-                        it,
-                        verdict or self.refused_elsewhere(bench, planted, f"{room}/kept"),
-                        output,
-                    )
+                    self.settle(it, self.refused_elsewhere(bench, planted, kept), output)
 
     def refused_elsewhere(self, bench, planted, kept):
         """What is refused if a body is planted whose own function isn't, in the whole crate."""
@@ -228,53 +216,55 @@ class Trial:
         return status == 1 and found and f"not there, but {found[1]}, which says less"
 
     def try_crate(self, name):
+        """Tries the wrong bodies of a crate whose turn it is."""
         bench = Bench(name, self.libraries, self.places)
         is_whole = self.asked.all or name in self.asked.crates or self.sums.get(name) != bench.sum
         edits = [it for it in bench.edits if is_whole or str(it) in self.named]
         self.left[name] = len(edits)
-        if not edits:
-            return
-        with tempfile.TemporaryDirectory(
-            prefix="wrong-bodies-"
-        ) as seed, concurrent.futures.ThreadPoolExecutor(8) as pool:
-            for it in [it for it in edits if it.planted(bench.texts) is None]:
-                self.settle(
-                    it,
-                    None,
-                    "error: its old text isn't in its file once, or the new one is the same",
-                )
-                edits.remove(it)
-            begun = [
-                it for it in (CRATES / name / "out/incremental", self.kept / name) if it.is_dir()
-            ]
-            link(begun[0], f"{seed}/kept") if begun else os.mkdir(f"{seed}/kept")
-            status, output = bench.check(
-                bench.texts,
-                f"{seed}/kept",
-                sorted({it.function for it in edits if bench.has(it.function)}),
-            )
-            if status:
-                raise RuntimeError(f"its functions aren't proved as they stand: {output[-2000:]}")
-            shutil.rmtree(self.kept / name, ignore_errors=True)
-            link(f"{seed}/kept", self.kept / name)
-            list(
-                pool.map(
-                    lambda it: self.try_group(bench, f"{seed}/kept", *it),
-                    groups(edits, bench.texts),
-                )
-            )
-        if is_whole and not any(it.startswith(f"{name}/") for it in self.failed):
+        if edits:
+            self.try_edits(bench, edits)
+        if edits and is_whole and not any(it.startswith(f"{name}/") for it in self.failed):
             with self.alone:
                 self.sums[name] = bench.sum
-                SUMS.write_text(
-                    "".join(f"{it} {self.sums[it]}\n" for it in listed() if it in self.sums)
-                )
+                lines = [f"{it} {self.sums[it]}\n" for it in listed() if it in self.sums]
+                SUMS.write_text("".join(lines))
+
+    def try_edits(self, bench, edits):
+        """Tries edits of a crate: those that apply, over its functions as they stand."""
+        applying = [it for it in edits if it.planted(bench.texts) is not None]
+        for it in edits:
+            if it not in applying:
+                self.settle(it, None, f"error: {NOT_ONCE}")
+        with tempfile.TemporaryDirectory(prefix="wrong-bodies-") as room:
+            seed = f"{room}/kept"
+            self.prove_as_it_stands(bench, applying, seed)
+            with concurrent.futures.ThreadPoolExecutor(8) as pool:
+                begun = [
+                    pool.submit(self.try_group, bench, seed, *it)
+                    for it in groups(applying, bench.texts)
+                ]
+            for it in begun:
+                it.result()
+
+    def prove_as_it_stands(self, bench, edits, seed):
+        """Proves the functions of edits unchanged, and keeps that in a folder and for later runs."""
+        kept = self.kept / bench.crate
+        begun = [it for it in (CRATES / bench.crate / "out/incremental", kept) if it.is_dir()]
+        if begun:
+            link(begun[0], seed)
+        else:
+            os.mkdir(seed)
+        functions = sorted({it.function for it in edits if bench.has(it.function)})
+        status, output = bench.check(bench.texts, seed, functions)
+        if status:
+            raise RuntimeError(f"its functions aren't proved as they stand: {output[-2000:]}")
+        shutil.rmtree(kept, ignore_errors=True)
+        link(seed, kept)
 
     def beside(self, command):
         """Runs a command that proves the crates, passes on what it says, and returns its status."""
-        with subprocess.Popen(
-            command, cwd=TOP, stdout=subprocess.PIPE, stderr=subprocess.STDOUT, text=True
-        ) as process:
+        pipes = {"stdout": subprocess.PIPE, "stderr": subprocess.STDOUT, "text": True}
+        with subprocess.Popen(command, cwd=TOP, **pipes) as process:
             for line in process.stdout:
                 say(line.rstrip("\n"))
                 if proved := PROVED.match(line):
@@ -299,17 +289,16 @@ class Trial:
         say(f"{proved}{len(self.refused)} wrong bodies refused{waiting}")
 
     def end(self, status):
-        """Says the last words."""
+        """Says the last words; the status of the program."""
         self.pool.shutdown()
         for name, it in self.crates.items():
             if it.exception():
                 self.failed.append(name)
                 say(f"{name}: its wrong bodies weren't tried: {it.exception()}")
-        say(
-            "".join(f"NOT REFUSED: {it}\n" for it in self.failed)
-            + f"wrong bodies: {len(self.refused)} refused, {len(self.failed)} not"
-        )
-        return status or bool(self.failed)
+        for it in self.failed:
+            say(f"NOT REFUSED: {it}")
+        say(f"wrong bodies: {len(self.refused)} refused, {len(self.failed)} not")
+        return status or int(bool(self.failed))
 
 
 def main():

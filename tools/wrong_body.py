@@ -1,26 +1,43 @@
 """A wrong body: how it is planted in its crate, beside others, and what a check says of it."""
 
 import re
+from typing import NamedTuple
 
+# Where a function begins, or an item ends.
+HEAD = re.compile(r"^\s*(?:pub(?:\(\w+\))? )?(?:const )?fn (\w+)|^\}", re.M)
 # Errors of a proof that names what the edit took away, or rests on what isn't proved.
 OF_NAMES = re.compile(r"has no field|is not in scope|has no `|was not admitted")
+# What says less than a goal that is false.
+LIMIT = "a limit of the prover, which says less"
+LOST_NAME = "a name that the edit took away, which says less"
 
 
-def only_file(old, texts):
-    """The file that has an old text, if no other has it."""
-    files = [it for it, text in texts.items() if old in text]
-    return files[0] if len(files) == 1 else None
+class Change(NamedTuple):
+    """A text, the file that has it once, and what takes its place. An empty file is the only one of
+    the crate that has the text."""
+
+    file: str
+    old: str
+    new: str
+
+    def place(self, texts):
+        """The name of the file, or nothing if several have the text, or none."""
+        if self.file:
+            return self.file
+        files = [name for name, text in texts.items() if self.old in text]
+        return files[0] if len(files) == 1 else ""
 
 
 class Edit:
     """A wrong body, as its file has it."""
 
     def __init__(self, path):
-        self.crate, self.name, self.pairs, given = path.parts[-3], path.stem, [], {}
+        self.crate, self.name, self.changes = path.parts[-3], path.stem, []
+        given = {"file": ""}
         for word, text in re.findall(r"^(\w+): ?(.*)", path.read_text(), re.M):
             given[word] = text
             if word == "new":
-                self.pairs.append((given.get("file", "").strip(), given["old"], text))
+                self.changes.append(Change(given["file"].strip(), given["old"], text))
         self.function = given["fn"].strip()
 
     def __str__(self):
@@ -29,50 +46,52 @@ class Edit:
     def planted(self, texts):
         """The texts of a crate's files with this edit in them, or None if it doesn't apply."""
         found = dict(texts)
-        for file, old, new in self.pairs:
-            file = file or only_file(old, found)
-            if found.get(file, "").count(old) != 1:
+        for change in self.changes:
+            file = change.place(found)
+            if found.get(file, "").count(change.old) != 1:
                 return None
-            found[file] = found[file].replace(old, new)
+            found[file] = found[file].replace(change.old, change.new)
         return found if found != texts else None
 
     def is_local(self, texts):
         """Whether it changes its function alone, and so nothing of those that are planted beside
         it."""
-        above = [
-            texts[file or only_file(old, texts)].partition(old)[0] for file, old, _ in self.pairs
-        ]
-        heads = [
-            re.findall(r"^\s*(?:pub(?:\(\w+\))? )?(?:const )?fn (\w+)|^\}", it, re.M)
-            for it in above
-        ]
-        return all(it and it[-1] == self.function.split("::")[-1] for it in heads)
+        for change in self.changes:
+            above = texts[change.place(texts)].partition(change.old)[0]
+            heads = HEAD.findall(above)
+            if not heads or heads[-1] != self.function.split("::")[-1]:
+                return False
+        return True
 
     def judge(self, output):
         """The goal at which a check refuses its function. False: the function is proved. None: that
         waits for another's proof."""
-        line = re.search(
-            rf"((?:^(?!fn ).*\n)*)^fn {re.escape(f'{self.crate}::{self.function}')}: (.*)",
-            output,
-            re.M,
-        )
-        if not line or line[2].startswith("proved"):
-            return False if line else None
-        goal = re.search(r"did not prove (`[^`]*`)|could not tell", line[2]) or re.search(
-            r"it is not proved that .*\((`[^`]*`)\)", line[1]
-        )
+        name = re.escape(f"{self.crate}::{self.function}")
+        # the lines above its own, up to another function's, and what is said of it
+        line = re.search(rf"((?:^(?!fn ).*\n)*)^fn {name}: (.*)", output, re.M)
+        if line is None:
+            return None
+        above, said = line.groups()
+        if said.startswith("proved"):
+            return False
+        goal = re.search(r"did not prove (`[^`]*`)|could not tell", said)
+        goal = goal or re.search(r"it is not proved that .*\((`[^`]*`)\)", above)
         if goal:
-            return goal[1] or "a limit of the prover, which says less"
-        errors = re.findall(
-            rf"^\./proofs/{self.function.replace('::', '/')}/\w+\.antt:\d+:\d+: error: (.*)",
-            output,
-            re.M,
-        )
-        if wrong := [it for it in errors if not OF_NAMES.search(it)]:
-            return (re.match(r"`[^`]*`", wrong[0]) or [wrong[0][:80]])[
-                0
-            ] + ", at its written answer"
-        return None if "it calls" in line[2] else "a name that the edit took away, which says less"
+            return goal[1] or LIMIT
+        if error := self.error_of_answer(output):
+            return f"{error}, at its written answer"
+        return None if "it calls" in said else LOST_NAME
+
+    def error_of_answer(self, output):
+        """The first error in the function's written answers that isn't of a lost name: the goal
+        that it begins with, or its first letters."""
+        folder = self.function.replace("::", "/")
+        form = rf"^\./proofs/{folder}/\w+\.antt:\d+:\d+: error: (.*)"
+        errors = [it for it in re.findall(form, output, re.M) if not OF_NAMES.search(it)]
+        if not errors:
+            return ""
+        goal = re.match(r"`[^`]*`", errors[0])
+        return goal[0] if goal else errors[0][:80]
 
 
 def groups(edits, texts):
@@ -80,14 +99,20 @@ def groups(edits, texts):
     they are."""
     while edits:
         group, planted, later = [], texts, []
-        for it in edits:
-            is_alone = group and not (it.is_local(texts) and group[0].is_local(texts))
-            more = (
-                None
-                if is_alone or it.function in [other.function for other in group]
-                else it.planted(planted)
-            )
-            (later if more is None else group).append(it)
-            planted = more or planted
+        for edit in edits:
+            more = edit.planted(planted) if fits(edit, group, texts) else None
+            if more is None:
+                later.append(edit)
+            else:
+                group.append(edit)
+                planted = more
         yield group, planted
         edits = later
+
+
+def fits(edit, group, texts):
+    """Whether an edit may stand beside those of a group."""
+    if not group:
+        return True
+    is_own = edit.function not in [it.function for it in group]
+    return is_own and edit.is_local(texts) and group[0].is_local(texts)
