@@ -119,14 +119,15 @@ class Package(unittest.TestCase):
             (room / name).symlink_to(TOP.parent / name)
         out = room / "c" / OUT.relative_to(TOP)
         (out / "taken").unlink(missing_ok=True)  # where rt is missing
-        names = ["compile_proved.sum", "proved.sum", *(f"v{it}.a" for it in (1, 2, 3, 4))]
-        if (out / "libraries").exists():  # where rt is there
-            names.insert(2, "libraries")
+        names = ["compile_proved.sum", "proved.sum", "libraries", "v1.a", "v2.a", "v3.a", "v4.a"]
         for at, name in enumerate(names):
-            os.utime(out / name, (at, at))  # older than all sources
+            if (out / name).exists():
+                os.utime(out / name, (at, at))  # older than all sources
+        # one that proves nothing, if one was there
+        rt = "false" if (out / "libraries").exists() else "no-such-rt"
 
         def made(*words):
-            return run("make", "RT=false", *words, at=room / "c")
+            return run("make", f"RT={rt}", *words, at=room / "c")
 
         made()
         self.assertNotIn(COMPILER, made())
