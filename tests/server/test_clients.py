@@ -15,6 +15,7 @@ from typing import Any
 from unittest import mock
 
 from client_case import ClientCase
+from served import until
 
 
 class Clients(ClientCase):
@@ -233,9 +234,12 @@ class Clients(ClientCase):
         R, service = self.server.Reply, self.serving("--idle", "1")
         service.enrol(ada="secret")
 
+        def is_closed() -> bool:
+            return service.stats()["clients"] == 1  # the one who looks
+
         async def used(client: Any) -> None:
             self.assertIs(await client.verify("ada", "secret"), R.YES)
-            await asyncio.sleep(1.6)
+            await asyncio.to_thread(until, is_closed, "it is closed")
             self.assertIs(await client.verify("ada", "secret"), R.YES)
             service.stop()
             with self.assertRaises(self.server.Unavailable):

@@ -246,7 +246,7 @@ class Limits(Case):
         status = pathlib.Path(f"/proc/{service.process.pid}/status").read_text()
         (resident,) = re.findall(r"VmRSS:\s+(\d+)", status)
         self.assertLess(int(resident), 100_000)
-        time.sleep(2.5)
+        until(lambda: service.stats()["clients"] == 1, "they are closed")
         for client in slow:
             client.socket.settimeout(60)
             with contextlib.suppress(ConnectionError):
