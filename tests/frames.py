@@ -1,11 +1,13 @@
-"""What a reporter of errors keeps of an exception: the variables of its frames, and its text."""
+"""What a reporter of errors keeps of an exception: the variables of its frames, and its text; and
+which files a call enters."""
 
 from __future__ import annotations
 
 import ctypes
 import functools
 import pathlib
-from collections.abc import Collection, Iterator, Mapping
+import sys
+from collections.abc import Callable, Collection, Iterator, Mapping
 from typing import Any
 
 TOP = pathlib.Path(__file__).resolve().parent.parent
@@ -75,3 +77,21 @@ def _held(value: Any) -> Iterator[Any]:
         yield value.value
     elif isinstance(value, ctypes._Pointer) and value:
         yield value.contents
+
+
+def files_entered(folder: pathlib.Path, act: Callable[[], object]) -> list[str]:
+    """The files below a folder whose functions are called meanwhile, each once, by their names from
+    the top of the tree."""
+    found = dict[str, None]()
+
+    def note(frame: Any, event: str, _: object) -> None:
+        path = pathlib.Path(frame.f_code.co_filename)
+        if event == "call" and folder in path.parents:
+            found.setdefault(str(path.relative_to(TOP)))
+
+    sys.setprofile(note)
+    try:
+        act()
+    finally:
+        sys.setprofile(None)
+    return [*found]

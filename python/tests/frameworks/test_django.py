@@ -1,6 +1,7 @@
 """rigzumal.django: operations and rollbacks, reports of errors, costs, databases."""
 
 import itertools
+import re
 import sys
 from unittest import mock
 
@@ -21,8 +22,8 @@ from users_app.models import Person
 import rigzumal
 from rigzumal.django import backends, forms, passwords
 from rigzumal.django.hashers import Argon2PasswordHasher
-from tests.frames import shown
-from tests.helpers import each
+from tests.frames import files_entered, shown
+from tests.helpers import PYTHON, TOP, each
 
 (OURS,), THEIRS = settings.AUTHENTICATION_BACKENDS, f"{ModelBackend.__module__}.ModelBackend"
 VALIDATORS = "django.contrib.auth.password_validation.password_changed"
@@ -46,6 +47,20 @@ class Operations(Ann, TestCase):
         User.objects.update(password=hashers.make_password("old", hasher="md5"))
         self.assertEqual(authenticate(username="ann", password="old"), self.ann)
         self.assertTrue(stands(self.ann).startswith("argon2$"))
+
+
+class Files(Ann, TestCase):
+    def test_files_of_a_login(self):
+        """docs/ARCHITECTURE.md has those that a login passes, once Django has begun."""
+
+        def log_in():
+            self.assertEqual(authenticate(username="ann", password="old"), self.ann)
+
+        log_in()
+        found = files_entered(PYTHON / "rigzumal", log_in)
+        page = (TOP / "docs/ARCHITECTURE.md").read_text()
+        (row,) = re.findall(r"^\| a login by Django's `authenticate`.*", page, re.M)
+        self.assertEqual(re.findall(r"python/\S+\.py", row), found)
 
 
 class Reports(Cheap, TransactionTestCase):
