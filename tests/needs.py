@@ -37,6 +37,7 @@ UNSEEN = {
     "a toolchain that makes that build",
     "bytes out of band at Unix sockets",
     "huge pages",
+    "programs of `make dist`",
     "programs of `make programs`",
     "set-user-ID programs in the temporary folder",
 }

@@ -55,7 +55,7 @@ FOLDERS = (
         long=["booted", "torture"],
     ),
     Folder("tests/tools", is_package=True, needs_library=False),
-    Folder("tests/packages", is_package=True, packing=["install"]),
+    Folder("tests/packages", is_package=True, packing=["install"], long=["empty_root"]),
     Folder("c/tests", packing=["package"], parts={"programs": 3, "secrets": 3, "calls": 2}),
     Folder("c/pam/tests", quiet=["answers"]),
     Folder("python/tests/hashers", options=WARNINGS),

@@ -72,8 +72,8 @@ def sum_of(data):
     return hashlib.sha256(data).hexdigest()
 
 
-class Dist(helpers.Case):
-    seconds = 900
+class Packing(helpers.Case):
+    """A test of what is packed of a clone, by each of the packers."""
 
     def setUp(self):
         super().setUp()
@@ -110,6 +110,10 @@ class Dist(helpers.Case):
         packer.run(top, "/usr/bin/python3 tools/dist.py")
         packer.run(top / "out", f"sha256sum -c --status {NAME}.tar.xz.sha256")
         return top / "out" / f"{NAME}.tar.xz"
+
+
+class Dist(Packing):
+    seconds = 900
 
     def test_same_bytes(self):
         """A tarball, and the wheel and the packages that are built in it."""
