@@ -45,7 +45,7 @@ credkeep-ask --server list
 printf 'auth required pam_rigzumal.so\\naccount required pam_permit.so\\n' > /etc/pam.d/users
 printf 'fresh\\n' | pamtester users ada authenticate 2>&1
 printf 'guess\\n' | pamtester users ada authenticate 2>&1 || echo "status $?"
-{ kill $!; wait $!; } 2> /dev/null || true
+{{ kill $!; wait $!; }} 2> /dev/null || true
 make -C /home/builder/{NAME} uninstall > log 2>&1
 find /usr/local /usr/lib -name '*rigzumal*' -o -name 'cred*'
 """
