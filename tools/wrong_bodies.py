@@ -247,7 +247,7 @@ class Trial:
                 it.result()
 
     def prove_as_it_stands(self, bench, edits, seed):
-        """Proves the functions of edits unchanged, and keeps that in a folder and beyond this run."""
+        """Proves the functions of edits unchanged, in a folder, and keeps that for later runs."""
         kept = self.kept / bench.crate
         begun = [it for it in (CRATES / bench.crate / "out/incremental", kept) if it.is_dir()]
         if begun:
