@@ -15,7 +15,7 @@ GROUP = re.compile(rb"^\d+:(?:name=systemd)?:((?:/[^/\n]+){1,2})", re.M)
 
 @functools.lru_cache(maxsize=1)
 def ranges_in(path: str, _version: tuple[int, ...]) -> list[tuple[range, str]]:
-    """Ranges of uids with the names or uids of their owners, in a version of a file of subuid(5)."""
+    """Ranges of uids with their owners, in a version of a file of subuid(5): names, or uids."""
     with open(path, encoding="utf-8", errors="replace") as file:
         lines = map(RANGE.fullmatch, file)
         return [(range(int(it[2]), int(it[2]) + int(it[3])), it[1]) for it in lines if it]
