@@ -197,10 +197,11 @@ class Rules(Base):
         self.assertIs(accounts.verify("ann", b"\xff\t"), Reply.YES)
 
     def test_a_hook_that_answers_no_text(self):
+        told = "`prepare` must return"
         for answer in (None, b"one", 1, True, ("one",)):
             accounts = self.set_up(prepare=lambda it: answer)
-            self.assertRaisesRegex(TypeError, "`prepare` answers", accounts.verify, "ann", "one")
-            self.assertRaisesRegex(TypeError, "`prepare` answers", accounts.reset, "ann", "one")
+            self.assertRaisesRegex(TypeError, told, accounts.verify, "ann", "one")
+            self.assertRaisesRegex(TypeError, told, accounts.reset, "ann", "one")
         self.assertRaises(TypeError, self.accounts, prepare="NFC")
         for wrong in ("8", True, -1, 257):
             error = ValueError if type(wrong) is int else TypeError
