@@ -81,8 +81,8 @@ MEMORY = "--memory: a hash under --setting needs more:"
 UNNAMED = "a word or an option too many, which isn't shown: it may be a password"
 NEAR = "an unknown option, which isn't shown;"
 SLIPS = [
-    ("list --wait 5", "list: --wait stands before FILE"),
-    ("list --wait=5", "list: --wait stands before FILE"),
+    ("list --wait 5", "list: write --wait before FILE"),
+    ("list --wait=5", "list: write --wait before FILE"),
     ("list --waitt 5", f"list: {NEAR} --wait is similar"),
     ("list --cost", f"list: {NEAR} --costs is similar"),
     ("serve --most-memroy=5", f"serve: {NEAR} --most-memory is similar"),
@@ -101,7 +101,7 @@ SLIPS = [
 ]
 EARLY = [
     (["--waitt", "5"], f"list: {NEAR} --wait is similar"),
-    (["--costs"], "list: --costs stands behind list"),
+    (["--costs"], "list: write --costs behind list"),
     (["--update"], "list: it has no option --update"),
 ]
 

@@ -55,7 +55,7 @@ impl fmt::Display for FileFault {
             FileFault::Empty => f.write_str("it is empty; init begins a book in it"),
             FileFault::NoDatabase => f.write_str("it is no database"),
             FileFault::Journal => f.write_str(
-                "another program was stopped in a change of it; open it with sqlite3 first",
+                "another program was killed amid a change; open the file with sqlite3 first",
             ),
             FileFault::Owner => f.write_str("another user owns it"),
             FileFault::Mode => f.write_str("others can read or write it; chmod 600 first"),

@@ -132,8 +132,8 @@ fn write_slip<W: Write>(out: &mut W, verb: Verb, slip: Slip) -> io::Result<()> {
     write!(out, "credkeep: {word}: ")?;
     match slip {
         Slip::Unnamed => write_unnamed(out, verb),
-        Slip::Late(option) => writeln!(out, "--{option} stands before FILE"),
-        Slip::Early(option) => writeln!(out, "--{option} stands behind {word}"),
+        Slip::Late(option) => writeln!(out, "write --{option} before FILE"),
+        Slip::Early(option) => writeln!(out, "write --{option} behind {word}"),
         Slip::Elsewhere(option) => writeln!(out, "it has no option --{option}"),
         Slip::Misspelt(option) => writeln!(
             out,
