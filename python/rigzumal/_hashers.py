@@ -27,7 +27,6 @@ LOW_MEMORY: Final = 8192  # KiB; a lower number is one of MiB, more often than n
 _has_warned = False
 
 # The numbers of rigzumal.h for what is out of range.
-_RANGE: Final = 5
 _SALT: Final = 6
 _TAG: Final = 7
 _LANES: Final = 14
@@ -235,7 +234,7 @@ class PasswordHasher(_Hasher):
             salt_len=in_range("salt_len", salt_len, self._LEAST_SALT, 48, _SALT),
             type=Type(type),
             secret=several[0] if several else one,
-            threads=in_range("threads", threads, 1, _MOST, _RANGE),
+            threads=in_range("threads", threads, 1, _MOST, _library.RANGE),
             secrets=several,
         )
         _warn_of(memory_cost)
