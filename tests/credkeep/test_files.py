@@ -115,7 +115,7 @@ class FormatTest(BookTest):
 
     def test_journal(self) -> None:
         pathlib.Path(f"{self.book.path}-journal").write_bytes(b"x" * 512)
-        self.assertFails(self.book("list"), 5, "open it with sqlite3 first")
+        self.assertFails(self.book("list"), 5, "open the file with sqlite3 first")
 
     def is_refused(self, piece: bytes, accounts: dict[str, str]) -> bool:
         """Whether a damaged file is refused. Otherwise it is the same book, or one in which one

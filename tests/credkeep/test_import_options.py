@@ -54,10 +54,13 @@ UPDATES: list[tuple[Accounts, int]] = [
     ({"eve": SCRYPT, "cat": "", "bob": OTHER, "a": ""}, 2),
     ({}, 0),
 ]
-# Records behind a lock.
+# Records behind a lock, or a mark.
 LOCKED = (
     f"!{RECORD}",
     f"*{RECORD}",
+    f"~{RECORD}",
+    f"!~{RECORD}",
+    "~",
     "!",
     "*",
     "!!",
@@ -74,6 +77,9 @@ BARRED = (
     ":1000:1000::/home/eve::proxy allow_real_nets=local",
     "::::::noauthenticate",
 )
+# Accounts with their marks, as an export writes them, and marks that none writes.
+KEPT = {"eve": f"!{RECORD}", "fay": f"~{OTHER}", "gus": f"!~{SCRYPT}", "hal": "!", "ivy": RECORD}
+UNKNOWN = ("!!", f"~!{RECORD}", f"!~~{RECORD}", "! ")
 # Records that take eight passes over their memory, nine, and as many as there can be.
 WORK = [f"$argon2id$v=19$m=8,t={t},p=1${SALT}${TAG}" for t in (8, 9, 4294967295)]
 
@@ -128,6 +134,23 @@ IMPORTS: list[tuple[str, str, tuple[int, ...] | None, dict[int, str], Accounts]]
     ("--disable-locked", f"ann:!{RECORD}\n", None, {1: "1 exists"}, {}),
     ("--disable-locked --skip-existing", f"ann:!{RECORD}\n", (0, 0, 1), {}, {}),
     ("--disable-locked --update", f"ann:!{RECORD}\n", (0, 1), {}, {"ann": ""}),
+    # By choice an account has its record behind ! or ~, and is locked, or must change it.
+    ("--keep-locked", lines_of(KEPT), (5,), {}, KEPT),
+    (
+        "--keep-locked --update",
+        f"ann:!{OTHER}\nbob:~\n",
+        (0, 2),
+        {},
+        {"ann": f"!{OTHER}", "bob": "~"},
+    ),
+    ("--keep-locked", f"ann:!{OTHER}\n", None, {1: "1 exists"}, {}),
+    ("--keep-locked --skip-existing", f"ann:!{OTHER}\n", (0, 0, 1), {}, {}),
+    *(("--keep-locked", f"eve:{it}\n", None, {1: "1 shape"}, {}) for it in UNKNOWN),
+    ("--keep-locked", "eve:!$6$salt$abc\n", None, {1: "2 scheme"}, {}),
+    ("--keep-locked --most-memory 256K", f"eve:!{ABOVE}\n", None, {1: "18 costly"}, {}),
+    # But * is no record, and a field that bars the user is no mark.
+    *(("--keep-locked", f"eve:*{it}\n", None, {1: "17 locked"}, {}) for it in ("", RECORD)),
+    *(("--keep-locked", f"eve:!{RECORD}{it}\n", None, {1: "17 locked"}, {}) for it in BARRED),
     # A record that takes more passes over its memory than that is bad.
     ("--skip-bad --most-work 64", lines_of(WORKED), (1, 0, 0, 2), COSTLY, {"n0": WORK[0]}),
     ("--skip-bad --most-work 4G", lines_of(WORKED), (2, 0, 0, 1), {3: "18 costly"}, TWO_WORKED),
@@ -184,9 +207,10 @@ class OptionsTest(ImportTest):
         the file is changed."""
         before, good = {"ann": RECORD, "bob": ""}, f"ann:\nbob:{RECORD}\ncat:\n"
         bad = f"ann:{OTHER}\n\nbad\ncat:{RECORD}\ncat:\ndan:!x\n# end\n"
-        choices = ("--skip-bad", "--disable-locked", "--update", "--skip-existing")
+        choices = ("--skip-bad", "--disable-locked", "--keep-locked", "--update", "--skip-existing")
         every = [it for count in range(4) for it in itertools.combinations(choices, count)]
-        every = [it for it in every if not {"--update", "--skip-existing"} <= {*it}]
+        exclude = ({"--update", "--skip-existing"}, {"--disable-locked", "--keep-locked"})
+        every = [it for it in every if not any(both <= {*it} for both in exclude)]
         for given, options in itertools.product((good, bad), every):
             with self.subTest(given=given, options=options):
                 book = self.begun(before)

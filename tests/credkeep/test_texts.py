@@ -42,7 +42,7 @@ NAMES = [
 
 # A bad setting, and how its fault ends.
 SETTINGS = [
-    ("sha1", "a field is missing, or there is one too many (1 shape)"),
+    ("sha1", "in single quotes (1 shape)"),
     ("$2b$12$x$y", "(2 scheme)"),
     (f"$argon2id$v=16$m=8,t=1,p=1${SALT}", "(3 version)"),
     (f"$argon2id$v=19$m=64M,t=1,p=1${SALT}", "(4 params)"),
@@ -81,8 +81,8 @@ MEMORY = "--memory: a hash under --setting needs more:"
 UNNAMED = "a word or an option too many, which isn't shown: it may be a password"
 NEAR = "an unknown option, which isn't shown;"
 SLIPS = [
-    ("list --wait 5", "list: --wait stands before FILE"),
-    ("list --wait=5", "list: --wait stands before FILE"),
+    ("list --wait 5", "list: write --wait before FILE"),
+    ("list --wait=5", "list: write --wait before FILE"),
     ("list --waitt 5", f"list: {NEAR} --wait is similar"),
     ("list --cost", f"list: {NEAR} --costs is similar"),
     ("serve --most-memroy=5", f"serve: {NEAR} --most-memory is similar"),
@@ -101,7 +101,7 @@ SLIPS = [
 ]
 EARLY = [
     (["--waitt", "5"], f"list: {NEAR} --wait is similar"),
-    (["--costs"], "list: --costs stands behind list"),
+    (["--costs"], "list: write --costs behind list"),
     (["--update"], "list: it has no option --update"),
 ]
 
@@ -140,6 +140,10 @@ REFUSED = [
     (
         "import --update --skip-existing".split(),
         "credkeep: --skip-existing and --update exclude each other: .*",
+    ),
+    (
+        "import --keep-locked --disable-locked".split(),
+        "credkeep: --disable-locked and --keep-locked exclude each other: .*",
     ),
     *(
         (

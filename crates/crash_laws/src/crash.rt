@@ -2,8 +2,8 @@
 
 ghost use Rattle.std.specs.Prelude.{◌≡◌, ◌≤◌, IfErr, IfOk, IfSome, IsTrue, None, Some};
 ghost use Rattle.std.specs.FinMap as fin;
-ghost use Rattle.cred_book.specs.Accounts.{Accounts, register_capacity};
-ghost use Rattle.cred_file.specs.{Keeps.HoldsBook, Keeps.IsOrWith, Opening.IsForWant};
+ghost use Rattle.cred_book.specs.Accounts.{register_capacity};
+ghost use Rattle.cred_file.specs.{Cells.Cells, Kept.cells, Keeps.HoldsBook, Keeps.IsOrWith, Opening.IsForWant};
 ghost use Rattle.crash_laws.specs.Crashes.{IsHonest, IsLeft};
 ghost use Rattle.sqlite.specs.{Held.state, State.HasCleanDisk, Steps.IsFresh, Tree.Trees};
 ghost use Rattle.sqlite_trees.specs.View.{IsClean, doubt};
@@ -25,7 +25,8 @@ pub struct Restart<S: Alter> {
 
 /// Two runs, the first of which stops after so many calls of its store: while it opens the book,
 /// makes the change, or closes the book. The machine crashes there, and the next run opens the
-/// book: as it was, or with the change, and surely with it if the change was answered `Ok`.
+/// book: as it was, or with the change, and surely with it if the change was answered `Ok`. The
+/// marks of its accounts are as whole as their records.
 ///
 /// `None` if the disk failed, or memory was refused, before the database was open again.
 pub fn crash_amid<S: Alter + Reopen + Drop>(
@@ -35,11 +36,11 @@ pub fn crash_amid<S: Alter + Reopen + Drop>(
     change: Attempt,
 ) -> Option<Restart<S>>
     requires fresh { IsClean (S.Store.view store) → IsFresh (S.Store.view store) }
-    ensures kept { IfSome result (λ r. IfOk r.opened (λ b. IsHonest S.Store → (book : Accounts)
+    ensures kept { IfSome result (λ r. IfOk r.opened (λ b. IsHonest S.Store → (book : Cells)
         × HoldsBook (S.Store.view store).committed book
-        × IsLeft book None change r.answer b.book)) }
+        × IsLeft book None change r.answer (cells b))) }
     ensures refused { IfSome result (λ r. IfErr r.opened (λ e.
-        HasCleanDisk (state S.Store e.1) → (book : Accounts)
+        HasCleanDisk (state S.Store e.1) → (book : Cells)
         → HoldsBook (S.Store.view store).committed book → fin.len book ≤ register_capacity
         → IsForWant e.0)) }
 {
@@ -65,7 +66,7 @@ pub fn open_until<S: Alter + Drop>(
     requires fresh { IsClean (S.Store.view store) → IsFresh (S.Store.view store) }
     ensures whole { IfOk result (λ b. b.lost ≡ None) }
     ensures found { IfOk result (λ b. IsClean (S.Store.view b.conn.store.store)
-        → HoldsBook (S.Store.view store).committed b.book) }
+        → HoldsBook (S.Store.view store).committed (cells b)) }
     ensures numbered { IfErr result (λ s. IsClean (S.Store.view s)
         → IsTrue (S.Store.view s).is_numbered) }
     ensures clean { IfErr result (λ s.
@@ -93,7 +94,7 @@ pub fn crash_in_change<S: Alter + Reopen + Drop>(
     change: Attempt,
 ) -> Option<Restart<S>>
     ensures kept { IfSome result (λ r. IfOk r.opened (λ b. HasCleanDisk (state S.Store b.conn)
-        → IsLeft book.book book.lost change r.answer b.book)) }
+        → IsLeft (cells book) book.lost change r.answer (cells b))) }
     ensures refused { IfSome result (λ r. IfErr r.opened (λ e.
         HasCleanDisk (state S.Store e.1) → IsForWant e.0)) }
 {
@@ -108,12 +109,17 @@ pub fn crash_in_change<S: Alter + Reopen + Drop>(
 
 /// Makes the change, with its answer.
 fn make<S: Alter>(book: &mut FileBook<S>, change: Attempt) -> Result<(), BookError>
-    ensures { (left : Accounts) → IsOrWith book.new.book book.new.lost left
-        → IsLeft book.old.book book.old.lost change (Some result) left }
+    ensures { (left : Cells) → IsOrWith (cells book.new) book.new.lost left
+        → IsLeft (cells book.old) book.old.lost change (Some result) left }
 {
     match change {
         Attempt::Put { name, stored } => book.put(&name, stored),
-        Attempt::TakeIn { added, changed } => book.take_in(added, changed),
+        Attempt::Mark { name, mark } => book.mark(&name, mark),
+        Attempt::TakeIn {
+            added,
+            changed,
+            marks,
+        } => book.take_in(added, changed, marks),
         Attempt::Delete(name) => book.delete(&name),
         Attempt::Rename { name, other } => book.rename(&name, &other),
     }

@@ -6,7 +6,7 @@ ghost use Rattle.sqlite_trees.specs.Memory.{memory_view};
 
 use crate::{Restart, crash_amid};
 use cred_book::{BookError, Name, Register};
-use cred_file::{Attempt, FileBook};
+use cred_file::{Attempt, FileBook, Mark, Marks};
 use cred_phc::{Record, parse_record};
 use sqlite::Connection;
 use sqlite_trees::memory::MemStore;
@@ -20,18 +20,22 @@ const A: &str =
 const B: &str =
     "$argon2id$v=19$m=256,t=2,p=2$c29tZXNhbHQ$bQk8UB/VmZZF4Oo79iDXuL5/0ttZwg2f/5U52iv1cDc";
 
-/// The accounts a, b and c before a change: the record's letter, `-` for none, and a space for no
-/// account.
-const BEFORE: &str = "A- ";
+/// The accounts a, b and c before a change: the record's letter, small under a lock, `-` for no
+/// record, `!` for a lock alone, and a space for no account.
+const BEFORE: &str = "A! ";
 
 /// Each change, and the accounts after it.
-static CHANGES: [(&str, &str); 6] = [
-    ("put a B", "B- "),
-    ("put b A", "AA "),
-    ("put c -", "A--"),
-    ("delete a", " - "),
-    ("rename a c", " -A"),
-    ("add c A, change a B", "B-A"),
+static CHANGES: [(&str, &str); 10] = [
+    ("put a B", "B! "),
+    ("put b A", "Aa "),
+    ("put c -", "A!-"),
+    ("lock a", "a! "),
+    ("unlock b", "A- "),
+    ("delete a", " ! "),
+    ("delete b", "A  "),
+    ("rename a c", " !A"),
+    ("rename b c", "A !"),
+    ("add c a, change a B", "B!a"),
 ];
 
 /// More calls than a run takes.
@@ -64,6 +68,13 @@ fn register<R: Abort>(rt: &R, alloc: Global, at: &str, letter: &str) -> Register
     book
 }
 
+fn mark(locked: bool) -> Mark {
+    Mark {
+        locked,
+        must_change: false,
+    }
+}
+
 fn change_of<R: Abort>(rt: &R, alloc: Global, text: &str) -> Attempt {
     let mut words = text.split(' ');
     match (words.next(), words.next(), words.next()) {
@@ -71,15 +82,28 @@ fn change_of<R: Abort>(rt: &R, alloc: Global, text: &str) -> Attempt {
             name: name(rt, at),
             stored: stored(rt, letter),
         },
+        (Some("lock"), Some(at), None) => Attempt::Mark {
+            name: name(rt, at),
+            mark: mark(true),
+        },
+        (Some("unlock"), Some(at), None) => Attempt::Mark {
+            name: name(rt, at),
+            mark: mark(false),
+        },
         (Some("delete"), Some(at), None) => Attempt::Delete(name(rt, at)),
         (Some("rename"), Some(at), Some(other)) => Attempt::Rename {
             name: name(rt, at),
             other: name(rt, other),
         },
-        _ => Attempt::TakeIn {
-            added: register(rt, alloc, "c", "A"),
-            changed: register(rt, alloc, "a", "B"),
-        },
+        _ => {
+            let mut marks = Marks::new(alloc);
+            marks.put(&name(rt, "c"), mark(true)).expect(rt, "memory");
+            Attempt::TakeIn {
+                added: register(rt, alloc, "c", "A"),
+                changed: register(rt, alloc, "a", "B"),
+                marks,
+            }
+        }
     }
 }
 
@@ -92,13 +116,17 @@ fn store<R: Abort>(rt: &R, alloc: Global) -> MemStore
     book.put(&name(rt, "a"), stored(rt, "A"))
         .expect(rt, "memory");
     book.put(&name(rt, "b"), None).expect(rt, "memory");
+    book.mark(&name(rt, "b"), mark(true)).expect(rt, "memory");
     book.close().into_store()
 }
 
-fn letter_of<R: Abort>(rt: &R, book: &Register, at: &str) -> u8 {
+fn letter_of<R: Abort>(rt: &R, book: &Register, locked: bool, at: &str) -> u8 {
     match book.show(&name(rt, at)) {
+        Ok(None) if locked => b'!',
         Ok(None) => b'-',
+        Ok(found) if found == stored(rt, "A") && locked => b'a',
         Ok(found) if found == stored(rt, "A") => b'A',
+        Ok(found) if found == stored(rt, "B") && locked => b'b',
         Ok(found) if found == stored(rt, "B") => b'B',
         Ok(_) => b'?',
         Err(_) => b' ',
@@ -111,7 +139,10 @@ fn crash<R: Abort>(rt: &R, alloc: Global, change: &str, calls: u64) -> Outcome {
         rt, "memory",
     );
     let book = opened.ok().expect(rt, "a book");
-    let accounts = ["a", "b", "c"].map(|at| letter_of(rt, book.book(), at));
+    let accounts = ["a", "b", "c"].map(|at| {
+        let locked = book.mark_of(&name(rt, at)).locked;
+        letter_of(rt, book.book(), locked, at)
+    });
     Outcome { answer, accounts }
 }
 

@@ -2,6 +2,8 @@ mod Fits
 mod Imported
 mod Reading
 mod Records
+pub mod Heeding
+mod Becoming
 pub mod Tallies
 mod Renaming
 mod Misread

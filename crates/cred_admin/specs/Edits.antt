@@ -2,10 +2,11 @@
 use Rattle.std.specs.Io.KnownBytes.{Appends, Keeps}
 use Rattle.std.specs.Prelude.{◌≡◌, ◌⊎◌, ℕ, Bool, true, false, ◌&&◌, not, List, codes, nat_lt, Option, Some, None, Result, Ok, Err, IfErr}
 use Rattle.cred_phc.specs.Values.{RecordValue}
-use Rattle.cred_book.specs.{Accounts.Accounts, declared.error.BookError.BookError}
+use Rattle.cred_book.specs.declared.error.BookError.{BookError}
+use Rattle.cred_file.specs.Cells.{marked, unmarked}
 use Rattle.cred_admin.specs.{Listing.Tells, Listing.passwd_line, Statuses.fault_of_book, declared.edit_reply.EditReply.EditReply, declared.edits.Edit.Edit}
-use Rattle.cred_admin.specs.declared.edits.Edit.TheVariants.{Disable, Delete, Rename}
-use Rattle.cred_admin.specs.{declared.fault.Fault.Fault, declared.status.Status.Status}
+use Rattle.cred_admin.specs.declared.edits.Edit.TheVariants.{Disable, Delete, Rename, Lock, Unlock, Expire}
+use Rattle.cred_admin.specs.{Marked.MarkedBook, Marked.expired, Marked.locked, Marked.marked_book, Marked.unlocked, Marked.with_mark, Marked.with_record, declared.fault.Fault.Fault, declared.status.Status.Status}
 use Rattle.cred_admin.specs.declared.status.Status.TheVariants.{Done, No}
 use Rattle.cred_cli.specs.{Outcome.FrontWritten, Watched.Writing}
 use Rattle.std.specs.FinMap as map
@@ -20,7 +21,11 @@ abbrev pub edit_line : EditReply → List ℕ
 edit_line reply.Disabled = codes "disabled\n"
 edit_line reply.Deleted = codes "deleted\n"
 edit_line reply.Renamed = codes "renamed\n"
+edit_line reply.Locked = codes "locked\n"
+edit_line reply.Unlocked = codes "unlocked\n"
+edit_line reply.Expired = codes "expired\n"
 edit_line reply.Absent = codes "absent\n"
+edit_line reply.NotLocked = codes "none\n"
 edit_line reply.Exists = codes "exists\n"
 edit_line reply.NoAccount = codes "noaccount\n"
 
@@ -28,7 +33,11 @@ abbrev pub edit_status : EditReply → Status
 edit_status reply.Disabled = Done
 edit_status reply.Deleted = Done
 edit_status reply.Renamed = Done
+edit_status reply.Locked = Done
+edit_status reply.Unlocked = Done
+edit_status reply.Expired = Done
 edit_status reply.Absent = No None
+edit_status reply.NotLocked = No None
 edit_status reply.Exists = No None
 edit_status reply.NoAccount = No None
 
@@ -38,49 +47,78 @@ told r = (edit_line r, edit_status r)
 -- ---- what is done
 
 -- the record is taken away, and the name stays
-abbrev pub disabling_at : Accounts → List ℕ → Option (Option RecordValue) → EditReply × Accounts
+abbrev pub disabling_at : MarkedBook → List ℕ → Option (Option RecordValue) → EditReply × MarkedBook
 disabling_at book name None = (reply.NoAccount, book)
 disabling_at book name (Some None) = (reply.Absent, book)
-disabling_at book name (Some (Some there)) = (reply.Disabled, map.insert book name None)
+disabling_at book name (Some (Some there)) = (reply.Disabled, with_record book name None)
 
-abbrev pub disabling : Accounts → List ℕ → EditReply × Accounts
-disabling book name = disabling_at book name (map.get book name)
+abbrev pub disabling : MarkedBook → List ℕ → EditReply × MarkedBook
+disabling book name = disabling_at book name (map.get book.accounts name)
 
--- the name is taken out, with its record
-abbrev pub deletion_at : Accounts → List ℕ → Option (Option RecordValue) → EditReply × Accounts
+-- the name is taken out, with its record and its mark
+abbrev pub deletion_at : MarkedBook → List ℕ → Option (Option RecordValue) → EditReply × MarkedBook
 deletion_at book name None = (reply.NoAccount, book)
-deletion_at book name (Some stored) = (reply.Deleted, map.remove book name)
+deletion_at book name (Some stored) =
+    (reply.Deleted, marked_book (map.remove book.accounts name) (marked book.marks name unmarked))
 
-abbrev pub deletion : Accounts → List ℕ → EditReply × Accounts
-deletion book name = deletion_at book name (map.get book name)
+abbrev pub deletion : MarkedBook → List ℕ → EditReply × MarkedBook
+deletion book name = deletion_at book name (map.get book.accounts name)
 
--- the record goes to another name, which isn't there yet
-abbrev pub renaming_at : Accounts → List ℕ → List ℕ → Option (Option RecordValue) → Bool
-    → EditReply × Accounts
+-- the record and the mark go to another name, which isn't there yet
+abbrev pub renaming_at : MarkedBook → List ℕ → List ℕ → Option (Option RecordValue) → Bool
+    → EditReply × MarkedBook
 renaming_at book name other None is_there = (reply.NoAccount, book)
 renaming_at book name other (Some stored) true = (reply.Exists, book)
-renaming_at book name other (Some stored) false =
-    (reply.Renamed, map.insert (map.remove book name) other stored)
+renaming_at book name other (Some stored) false = (
+  reply.Renamed,
+  marked_book (map.insert (map.remove book.accounts name) other stored)
+      (marked (marked book.marks other (book.marks name)) name unmarked),
+)
 
-abbrev pub renaming : Accounts → List ℕ → List ℕ → EditReply × Accounts
+abbrev pub renaming : MarkedBook → List ℕ → List ℕ → EditReply × MarkedBook
 renaming book name other =
-    renaming_at book name other (map.get book name) (map.contains_key book other)
+    renaming_at book name other (map.get book.accounts name) (map.contains_key book.accounts other)
 
-abbrev pub edited : Accounts → Edit → EditReply × Accounts
+-- each password of the account is wrong from now on
+abbrev pub locking_at : MarkedBook → List ℕ → Option (Option RecordValue) → EditReply × MarkedBook
+locking_at book name None = (reply.NoAccount, book)
+locking_at book name (Some stored) = (reply.Locked, with_mark book name (locked (book.marks name)))
+
+-- and no longer
+abbrev pub unlocking_at : MarkedBook → List ℕ → Option (Option RecordValue) → Bool
+    → EditReply × MarkedBook
+unlocking_at book name None is_locked = (reply.NoAccount, book)
+unlocking_at book name (Some stored) false = (reply.NotLocked, book)
+unlocking_at book name (Some stored) true =
+    (reply.Unlocked, with_mark book name (unlocked (book.marks name)))
+
+-- the password that stands must be changed
+abbrev pub expiry_at : MarkedBook → List ℕ → Option (Option RecordValue) → EditReply × MarkedBook
+expiry_at book name None = (reply.NoAccount, book)
+expiry_at book name (Some None) = (reply.Absent, book)
+expiry_at book name (Some (Some there)) =
+    (reply.Expired, with_mark book name (expired (book.marks name)))
+
+abbrev pub edited : MarkedBook → Edit → EditReply × MarkedBook
 edited book (Disable name) = disabling book name
 edited book (Delete name) = deletion book name
 edited book (Rename name other) = renaming book name other
+edited book (Lock name) = locking_at book name (map.get book.accounts name)
+edited book (Unlock name) =
+    unlocking_at book name (map.get book.accounts name) (book.marks name).locked
+edited book (Expire name) = expiry_at book name (map.get book.accounts name)
 
 abbrev pub is_renamed : EditReply → Bool
 is_renamed reply.Renamed = true
 is_renamed _ = false
 
 -- an account would be renamed, and there is no room for one more name, which that takes
-abbrev pub lacks_room : ℕ → Accounts → Edit → Bool
-lacks_room room book edit = is_renamed (edited book edit).0 && not (nat_lt (map.len book) room)
+abbrev pub lacks_room : ℕ → MarkedBook → Edit → Bool
+lacks_room room book edit =
+    is_renamed (edited book edit).0 && not (nat_lt (map.len book.accounts) room)
 
 -- what a keeper does; memory runs out only if the change could have been made
-abbrev pub EditsWithin : ℕ → Accounts → Accounts → Edit → Result EditReply BookError → Type 0
+abbrev pub EditsWithin : ℕ → MarkedBook → MarkedBook → Edit → Result EditReply BookError → Type 0
 EditsWithin room old new edit (Ok r) =
     (lacks_room room old edit ≡ false) × ((r, new) ≡ edited old edit)
 EditsWithin room old new edit (Err error.Full) = (lacks_room room old edit ≡ true) × (new ≡ old)
@@ -91,7 +129,7 @@ EditsWithin room old new edit (Err _) = ⊥
 -- ---- what comes of it
 
 -- the change is made, and answered or not; or it is not made, and nothing is written
-abbrev pub Edits : ℕ → Accounts → Accounts → Edit → Writing → Result Status Fault → Type 0
+abbrev pub Edits : ℕ → MarkedBook → MarkedBook → Edit → Writing → Result Status Fault → Type 0
 Edits room old new edit w ended = ((r : EditReply) × EditsWithin room old new edit (Ok r)
     × Tells (told r) w ended × IfErr ended (λ e. e ≡ fault.Write))
     ⊎ ((e : BookError) × EditsWithin room old new edit (Err e)
@@ -99,14 +137,14 @@ Edits room old new edit w ended = ((r : EditReply) × EditsWithin room old new e
 
 -- The line of the account is written, and then its record is taken away; a fault leaves the account
 -- as it is. Where there is no record, that is answered.
-abbrev pub DisablesShown : Accounts → Accounts → List ℕ → Option (Option RecordValue) → Writing
+abbrev pub DisablesShown : MarkedBook → MarkedBook → List ℕ → Option (Option RecordValue) → Writing
     → Result Status Fault → Type 0
 DisablesShown old new name None w r = (new ≡ old) × Tells (told reply.NoAccount) w r
 DisablesShown old new name (Some None) w r = (new ≡ old) × Tells (told reply.Absent) w r
-DisablesShown old new name (Some (Some v)) w (Ok status) = (new ≡ map.insert old name None)
-    × Appends w.before w.now (passwd_line (name, Some v)) × (status ≡ Done)
+DisablesShown old new name (Some (Some v)) w (Ok status) = (new ≡ with_record old name None)
+    × Appends w.before w.now (passwd_line (old.marks name) (name, Some v)) × (status ≡ Done)
 DisablesShown old new name (Some (Some v)) w (Err fault.Write) = (new ≡ old)
-    × (w.failed ≡ true) × FrontWritten w.before w.now (passwd_line (name, Some v))
+    × (w.failed ≡ true) × FrontWritten w.before w.now (passwd_line (old.marks name) (name, Some v))
 DisablesShown old new name (Some (Some v)) w (Err fault.Memory) = (new ≡ old)
-    × (Keeps w.before w.now ⊎ Appends w.before w.now (passwd_line (name, Some v)))
+    × (Keeps w.before w.now ⊎ Appends w.before w.now (passwd_line (old.marks name) (name, Some v)))
 DisablesShown old new name (Some (Some v)) w (Err _) = ⊥

@@ -6,9 +6,10 @@ use Rattle.cred_phc.specs.declared.error.PhcError.{PhcError}
 use Rattle.cred_book.specs.{Accounts.Accounts, Accounts.register_capacity, Errors.error_number as refusal_number, Errors.error_word as refusal_word}
 use Rattle.cred_book.specs.{Names.made_name, declared.error.BookError.BookError}
 use Rattle.cred_cli.specs.{Costs.exceeds, declared.costs.CostBounds.CostBounds}
-use Rattle.cred_admin.specs.{Listing.Entry, declared.entry.LineFault.LineFault, declared.entry.Said.Said, declared.import.Rules.Rules}
+use Rattle.cred_file.specs.{Cells.AllMarks, Cells.mark_at, Cells.mark_of, Cells.marked, Cells.rest_of, Cells.unmarked, declared.mark.Mark.Mark}
+use Rattle.cred_admin.specs.{declared.entry.Entry.Entry, declared.entry.LineFault.LineFault, declared.entry.Said.Said, declared.import.Rules.Rules}
 use Rattle.cred_admin.specs.declared.entry.LineFault.TheVariants.{Line, Text, Book, Costly, Locked as IsLocked}
-use Rattle.cred_admin.specs.declared.entry.Said.TheVariants.{Nothing, Account, Locked}
+use Rattle.cred_admin.specs.declared.entry.Said.TheVariants.{Nothing, Account}
 use Rattle.cred_admin.specs.{declared.import.BadLine.BadLine, declared.import.Existing.Existing}
 use Rattle.cred_admin.specs.declared.import.Existing.TheVariants.{Refused, Kept, Updated}
 use Rattle.cred_admin.specs.{declared.import.Gathered.Gathered, declared.import.ImportFault.ImportFault, declared.import.LockedRecords.LockedRecords}
@@ -61,13 +62,22 @@ abbrev pub stored_at : List ℕ → Result (Option RecordValue) LineFault
 stored_at [] = Ok None
 stored_at (c ∷ cs) = stored_as (read_record (record_part (c ∷ cs)))
 
-abbrev pub said_with : List ℕ → Result (Option RecordValue) LineFault → Result Said LineFault
-said_with name (Ok stored) = Ok (Account name stored)
-said_with name (Err e) = Err e
+abbrev pub entry : List ℕ → Option RecordValue → Mark → Entry
+entry name stored mark = record { name = name; stored = stored; mark = mark }
 
--- the record stands behind ! or * (bytes 33 and 42), as `passwd -l` writes it
+abbrev pub said_with : List ℕ → Mark → Result (Option RecordValue) LineFault
+    → Result Said LineFault
+said_with name m (Ok stored) = Ok (Account (entry name stored m))
+said_with name m (Err e) = Err e
+
+-- * (byte 42) stands in place of a record
+abbrev pub is_star : List ℕ → Bool
+is_star text = starts_with nat_eq text (42 ∷ [])
+
+-- the record stands behind ! (byte 33), as `passwd -l` writes it, behind * or behind ~ (byte 126)
 abbrev pub is_locked : List ℕ → Bool
-is_locked text = starts_with nat_eq text (33 ∷ []) || starts_with nat_eq text (42 ∷ [])
+is_locked text =
+    starts_with nat_eq text (33 ∷ []) || (is_star text || starts_with nat_eq text (126 ∷ []))
 
 -- An item of Dovecot's extra fields with which a right password lets its user in nowhere (nologin,
 -- noauthenticate), or only from some networks (allow_nets, allow_real_nets). It counts with any
@@ -85,26 +95,37 @@ has_bar field = list_any bars (pieces 32 field)
 abbrev pub is_barred : List (List ℕ) → Bool
 is_barred others = list_any has_bar others
 
+-- A line whose record is locked is at fault; or its account has no record; or it has the marks and
+-- the record that stand there, as an export writes them: so a user whom a field bars is at fault.
+abbrev pub said_locked : LockedRecords → List ℕ → Bool → List ℕ → Result Said LineFault
+said_locked locked.Refused name barred text = Err IsLocked
+said_locked locked.Disabled name barred text = Ok (Account (entry name None unmarked))
+said_locked locked.Kept name barred text =
+    if barred || is_star text then Err IsLocked
+    else said_with name (mark_of text) (stored_at (rest_of text))
+
 -- the name is judged before the record
-abbrev pub said_as : Result (List ℕ) BookError → Bool → List ℕ → Result Said LineFault
-said_as (Ok name) barred text =
-    if barred || is_locked text then Ok (Locked name) else said_with name (stored_at text)
-said_as (Err e) barred text = Err (Book e)
+abbrev pub said_as : LockedRecords → Result (List ℕ) BookError → Bool → List ℕ
+    → Result Said LineFault
+said_as how (Ok name) barred text =
+    if barred || is_locked text then said_locked how name barred text
+    else said_with name unmarked (stored_at text)
+said_as how (Err e) barred text = Err (Book e)
 
 -- the first two fields count, and those behind them if they bar the user
-abbrev pub said_in : List (List ℕ) → Result Said LineFault
-said_in (name ∷ text ∷ others) = said_as (made_name name) (is_barred others) text
-said_in _ = Err Line
+abbrev pub said_in : LockedRecords → List (List ℕ) → Result Said LineFault
+said_in how (name ∷ text ∷ others) = said_as how (made_name name) (is_barred others) text
+said_in how _ = Err Line
 
 -- it is empty, or begins with # (byte 35)
 abbrev pub is_remark : List ℕ → Bool
 is_remark line = length line == 0 || starts_with nat_eq line (35 ∷ [])
 
 -- a line is cut at every colon
-unfoldable pub said_of : List ℕ → Result Said LineFault
-said_of line =
+unfoldable pub said_of : LockedRecords → List ℕ → Result Said LineFault
+said_of how line =
     if is_remark (without_return line) then Ok Nothing
-    else said_in (pieces 58 (without_return line))
+    else said_in how (pieces 58 (without_return line))
 
 -- ---- all of them
 
@@ -113,16 +134,23 @@ abbrev pub import_lines : List ℕ → List (List ℕ)
 import_lines text = pieces 10 text
 
 -- What the lines so far come to: the accounts that are new, those in the book that have another
--- record from now on, how many lines name one that is there and stays, and the lines that aren't
--- good.
+-- record from now on, the marks of both, how many lines name one that is there and stays, and the
+-- lines that aren't good.
 pub record Tally : Type 0 where
   pub accounts : Accounts
   pub changed : Accounts
+  pub marks : AllMarks
   pub kept : ℕ
   pub bad : List BadLine
 
 abbrev pub nothing_yet : Tally
-nothing_yet = record { accounts = map.empty; changed = map.empty; kept = 0; bad = [] }
+nothing_yet = record {
+  accounts = map.empty;
+  changed = map.empty;
+  marks = mark_at map.empty;
+  kept = 0;
+  bad = [];
+}
 
 abbrev pub with_bad : Tally → ℕ → LineFault → Tally
 with_bad t n why = record t { bad = t.bad ++ record { number = n; why = why } ∷ [] }
@@ -130,30 +158,29 @@ with_bad t n why = record t { bad = t.bad ++ record { number = n; why = why } �
 abbrev pub with_kept : Tally → Tally
 with_kept t = record t { kept = t.kept + 1 }
 
+abbrev pub with_mark : Tally → Entry → Tally
+with_mark t e = record t { marks = marked t.marks e.name e.mark }
+
 abbrev pub with_account : Tally → Entry → Tally
-with_account t e = record t { accounts = map.insert t.accounts e.0 e.1 }
+with_account t e =
+    with_mark (record t { accounts = map.insert t.accounts e.name e.stored }) e
 
 abbrev pub with_change : Tally → Entry → Tally
-with_change t e = record t { changed = map.insert t.changed e.0 e.1 }
+with_change t e = with_mark (record t { changed = map.insert t.changed e.name e.stored }) e
 
 -- a line whose account is in the book; it may be changed once
 abbrev pub with_existing : Existing → Tally → ℕ → Entry → Tally
 with_existing Refused t n e = with_bad t n (Book error.Exists)
 with_existing Kept t n e = with_kept t
 with_existing Updated t n e =
-    if map.contains_key t.changed e.0 then with_bad t n (Book error.Exists) else with_change t e
+    if map.contains_key t.changed e.name then with_bad t n (Book error.Exists) else with_change t e
 
 -- the account of a line is new in the book and among the lines, or not
 abbrev pub with_entry : Existing → Accounts → Tally → ℕ → Entry → Tally
 with_entry how book t n e =
-    if map.contains_key book e.0 then with_existing how t n e
-    else if map.contains_key t.accounts e.0 then with_bad t n (Book error.Exists)
+    if map.contains_key book e.name then with_existing how t n e
+    else if map.contains_key t.accounts e.name then with_bad t n (Book error.Exists)
     else with_account t e
-
--- a line whose record is locked is at fault, or of an account without a record
-abbrev pub with_locked : Rules → Accounts → Tally → ℕ → List ℕ → LockedRecords → Tally
-with_locked rules book t n name locked.Refused = with_bad t n IsLocked
-with_locked rules book t n name locked.Disabled = with_entry rules.existing book t n (name, None)
 
 -- a record asks for more memory or work than is allowed
 abbrev pub is_costly : CostBounds → Option RecordValue → Bool
@@ -162,10 +189,9 @@ is_costly most None = false
 
 abbrev pub with_said : Rules → Accounts → Tally → ℕ → Said → Tally
 with_said rules book t n Nothing = t
-with_said rules book t n (Account name stored) =
-    if is_costly rules.most stored then with_bad t n Costly
-    else with_entry rules.existing book t n (name, stored)
-with_said rules book t n (Locked name) = with_locked rules book t n name rules.locked
+with_said rules book t n (Account e) =
+    if is_costly rules.most e.stored then with_bad t n Costly
+    else with_entry rules.existing book t n e
 
 abbrev pub with_line : Rules → Accounts → Tally → ℕ → Result Said LineFault → Tally
 with_line rules book t n (Ok said) = with_said rules book t n said
@@ -175,15 +201,20 @@ with_line rules book t n (Err why) = with_bad t n why
 unfoldable pub tally_from : Rules → Accounts → Tally → ℕ → List (List ℕ) → Tally
 tally_from rules book t n [] = t
 tally_from rules book t n (line ∷ lines) =
-    tally_from rules book (with_line rules book t n (said_of line)) (n + 1) lines
+    tally_from rules book (with_line rules book t n (said_of rules.locked line)) (n + 1) lines
 
 -- what the lines of a text come to, before a book
 abbrev pub tally : Rules → Accounts → List ℕ → Tally
 tally rules book text = tally_from rules book nothing_yet 1 (import_lines text)
 
 abbrev pub tally_of : Gathered → Tally
-tally_of g =
-    record { accounts = g.accounts; changed = g.changed; kept = g.kept; bad = g.bad.items }
+tally_of g = record {
+  accounts = g.accounts;
+  changed = g.changed;
+  marks = mark_at g.marks;
+  kept = g.kept;
+  bad = g.bad.items;
+}
 
 -- what a line adds makes this of what there was; or there was no memory, or the accounts are too many
 -- for any book
@@ -195,26 +226,20 @@ Comes next now (Err _) = ⊥
 
 -- ---- what it comes to, in the words of who wrote the lines
 
-abbrev pub locked_entry : List ℕ → LockedRecords → Option Entry
-locked_entry name locked.Refused = None
-locked_entry name locked.Disabled = Some (name, None)
-
--- the account of a good line, with its record or none
+-- the account of a good line
 abbrev pub entry_with : Rules → Result Said LineFault → Option Entry
 entry_with rules (Ok Nothing) = None
-entry_with rules (Ok (Account name stored)) =
-    if is_costly rules.most stored then None else Some (name, stored)
-entry_with rules (Ok (Locked name)) = locked_entry name rules.locked
+entry_with rules (Ok (Account e)) = if is_costly rules.most e.stored then None else Some e
 entry_with rules (Err why) = None
 
 abbrev pub entry_of : Rules → List ℕ → Option Entry
-entry_of rules line = entry_with rules (said_of line)
+entry_of rules line = entry_with rules (said_of rules.locked line)
 
 -- none of the good lines is of this name
 abbrev pub HasNone : Rules → List ℕ → List (List ℕ) → Type 0
 HasNone rules name [] = ⊤
 HasNone rules name (line ∷ lines) =
-    ((e : Entry) → entry_of rules line ≡ Some e → name ≡ e.0 → ⊥) × HasNone rules name lines
+    ((e : Entry) → entry_of rules line ≡ Some e → name ≡ e.name → ⊥) × HasNone rules name lines
 
 -- a good line of a text, the first one of its name
 pub record IsFirst (rules : Rules) (text : List ℕ) (e : Entry) : Type 0 where
@@ -223,7 +248,7 @@ pub record IsFirst (rules : Rules) (text : List ℕ) (e : Entry) : Type 0 where
   pub rest : List (List ℕ)
   pub cut : import_lines text ≡ front ++ line ∷ rest
   pub says : entry_of rules line ≡ Some e
-  pub first : HasNone rules e.0 front
+  pub first : HasNone rules e.name front
 
 -- A call on the reader failed; or none did, and there was no memory; or there are too many accounts
 -- for any book. A call had failed before, and now.

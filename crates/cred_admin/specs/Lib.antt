@@ -7,6 +7,7 @@ pub mod Lines
 pub mod Listing
 pub mod Seen
 pub mod Settings
+pub mod Marked
 pub mod Statuses
 pub use Rattle.cred_cli.specs.Costs
 pub use Rattle.cred_cli.specs.Outcome

@@ -1,7 +1,9 @@
 -- What lists and exports write.
-use Rattle.std.specs.Prelude.{◌≡◌, ℕ, List, [], ◌∷◌, ◌++◌, Option, Some, None, Result, Ok, Err, true, ◌⊎◌, ◌<◌, codes, length, take}
+use Rattle.std.specs.Prelude.{◌≡◌, ℕ, List, [], ◌∷◌, ◌++◌, Option, Some, None, Result, Ok, Err, true, ◌⊎◌, ◌<◌, codes, if◌then◌else◌, length, take}
 use Rattle.std.specs.{Io.KnownBytes.Appends, Io.KnownBytes.Keeps, List.flat_map}
 use Rattle.cred_phc.specs.{Values.RecordValue, Text.record_text, Text.scheme_text}
+use Rattle.cred_file.specs.{Cells.mark_text, declared.mark.Mark.Mark}
+use Rattle.cred_admin.specs.Marked.{MarkedBook}
 use Rattle.cred_book.specs.declared.reply.Reply.TheVariants as reply
 use Rattle.cred_admin.specs.declared.listing.Line.{Line}
 use Rattle.cred_admin.specs.declared.listing.Line.TheVariants as line
@@ -27,13 +29,14 @@ abbrev pub detail_of : Detail → Option RecordValue → List ℕ
 detail_of detail None = []
 detail_of detail (Some v) = detail_text detail v
 
--- the name, a colon (byte 58), the detail or nothing, and a line end
-abbrev pub detail_line : Detail → Entry → List ℕ
-detail_line detail e = e.0 ++ 58 ∷ detail_of detail e.1 ++ 10 ∷ []
+-- the name, a colon (byte 58), the mark as the book's file has it, the detail or nothing, and a
+-- line end
+abbrev pub detail_line : Detail → Mark → Entry → List ℕ
+detail_line detail m e = e.0 ++ 58 ∷ mark_text m ++ detail_of detail e.1 ++ 10 ∷ []
 
 -- as a passwd-file has it
-abbrev pub passwd_line : Entry → List ℕ
-passwd_line e = detail_line Record e
+abbrev pub passwd_line : Mark → Entry → List ℕ
+passwd_line m e = detail_line Record m e
 
 -- ---- in JSON (RFC 8259), where neither a name nor a record has a byte that wants an escape
 
@@ -46,31 +49,39 @@ abbrev pub json_detail : Detail → Option RecordValue → List ℕ
 json_detail detail None = codes "null"
 json_detail detail (Some v) = 34 ∷ detail_text detail v ++ 34 ∷ []
 
-abbrev pub json_line : Detail → Entry → List ℕ
-json_line detail e = codes "{\"name\":\"" ++ e.0 ++ codes "\",\"" ++ detail_word detail ++ codes "\":"
-    ++ json_detail detail e.1 ++ codes "}\n"
+-- the marks of an account that has some
+abbrev pub json_marks : Mark → List ℕ
+json_marks m = (if m.locked then codes ",\"locked\":true" else [])
+    ++ (if m.must_change then codes ",\"expired\":true" else [])
+
+abbrev pub json_line : Detail → Mark → Entry → List ℕ
+json_line detail m e = codes "{\"name\":\"" ++ e.0 ++ codes "\",\"" ++ detail_word detail
+    ++ codes "\":" ++ json_detail detail e.1 ++ json_marks m ++ codes "}\n"
 
 -- ---- all of them
 
--- what a list writes of each
-abbrev pub line_text : Line → Entry → List ℕ
-line_text line.Name = name_line
-line_text (line.Passwd detail) = detail_line detail
-line_text (line.Json detail) = json_line detail
+-- what a list writes of each, with its mark
+abbrev pub line_text : Line → Mark → Entry → List ℕ
+line_text line.Name m e = name_line e
+line_text (line.Passwd detail) m e = detail_line detail m e
+line_text (line.Json detail) m e = json_line detail m e
+
+abbrev pub marked_line : Line → MarkedBook → Entry → List ℕ
+marked_line line book e = line_text line (book.marks e.0) e
 
 -- ---- one account
 
 -- what is written of an account's entry, and the status that goes with it
-abbrev pub shown_at : Detail → Option (Option RecordValue) → List ℕ × Status
-shown_at detail None = (reply_line reply.NoAccount, status_of reply.NoAccount None)
-shown_at detail (Some None) = (reply_line reply.Absent, status_of reply.Absent None)
-shown_at detail (Some (Some v)) = (detail_text detail v ++ 10 ∷ [], Done)
+abbrev pub shown_at : Detail → Mark → Option (Option RecordValue) → List ℕ × Status
+shown_at detail m None = (reply_line reply.NoAccount, status_of reply.NoAccount None)
+shown_at detail m (Some None) = (reply_line reply.Absent, status_of reply.Absent None)
+shown_at detail m (Some (Some v)) = ((mark_text m ++ detail_text detail v) ++ 10 ∷ [], Done)
 
 -- the same in JSON
-abbrev pub json_at : Detail → List ℕ → Option (Option RecordValue) → List ℕ × Status
-json_at detail name None = (codes "null\n", No None)
-json_at detail name (Some None) = (json_line detail (name, None), No None)
-json_at detail name (Some (Some v)) = (json_line detail (name, Some v), Done)
+abbrev pub json_at : Detail → List ℕ → Mark → Option (Option RecordValue) → List ℕ × Status
+json_at detail name m None = (codes "null\n", No None)
+json_at detail name m (Some None) = (json_line detail m (name, None), No None)
+json_at detail name m (Some (Some v)) = (json_line detail m (name, Some v), Done)
 
 -- ---- what becomes of a text
 

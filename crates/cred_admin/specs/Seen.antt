@@ -1,6 +1,6 @@
 -- What is seen of a command.
 use Rattle.std.specs.Prelude.{◌≡◌, List, ◌++◌, ℕ, false}
-use Rattle.cred_book.specs.Accounts.{Accounts}
+use Rattle.cred_admin.specs.Marked.{MarkedBook}
 use Rattle.cred_cli.specs.Watched.{Basis, Contract, Fits, Reading, Transcript, Writing, ended_of, given_of}
 use Rattle.cred_cli.specs.declared.watched.Watched.{Watched}
 
@@ -8,10 +8,10 @@ use Rattle.cred_cli.specs.declared.watched.Watched.{Watched}
 pub record Seen : Type 0 where
   pub reading : Reading
   pub writing : Writing
-  pub old : Accounts
-  pub new : Accounts
+  pub old : MarkedBook
+  pub new : MarkedBook
 
-abbrev pub seen : Reading → Writing → Accounts → Accounts → Seen
+abbrev pub seen : Reading → Writing → MarkedBook → MarkedBook → Seen
 seen r w old new = record { reading = r; writing = w; old = old; new = new }
 
 -- a transcript tells where lines end only if the reader wasn't at its end before

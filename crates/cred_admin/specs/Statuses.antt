@@ -1,8 +1,11 @@
 -- The exit statuses, and when each is answered.
-use Rattle.std.specs.Prelude.{ℕ, ◌-◌, ◌==◌, if◌then◌else◌, List, length, Option, Some, None, slice_get}
+use Rattle.std.specs.Prelude.{ℕ, ◌-◌, ◌==◌, if◌then◌else◌, List, codes, length, Option, Some, None, slice_get}
 use Rattle.cred_book.specs.{declared.error.BookError.BookError, declared.reply.Reply.Reply}
 use Rattle.cred_admin.specs.{declared.fault.Fault.Fault, declared.status.Hint.Hint, declared.status.Hint.TheVariants.CarriageReturn}
 use Rattle.cred_admin.specs.declared.status.Status.{Status}
+use Rattle.cred_admin.specs.declared.verdict.Verdict.{Verdict}
+use Rattle.cred_admin.specs.declared.verdict.Verdict.TheVariants.{Told, Expired, Same}
+use Rattle.cred_cli.specs.Texts.{reply_line}
 use Rattle.cred_admin.specs.declared.status.Status.TheVariants.{Done, Usage, Io, Memory, No, Database, Data}
 use Rattle.cred_book.specs.declared.error.BookError.TheVariants as error
 use Rattle.cred_book.specs.declared.reply.Reply.TheVariants as reply
@@ -56,3 +59,15 @@ status_of reply.Exists hint = No None
 status_of reply.Absent hint = No None
 status_of (reply.Changed now) hint = No None
 status_of reply.NoAccount hint = No None
+
+-- ---- what is answered to a try
+
+abbrev pub verdict_line : Verdict → List ℕ
+verdict_line (Told r) = reply_line r
+verdict_line Expired = codes "expired\n"
+verdict_line Same = codes "same\n"
+
+abbrev pub verdict_status : Verdict → Option Hint → Status
+verdict_status (Told r) hint = status_of r hint
+verdict_status Expired hint = No None
+verdict_status Same hint = No None

@@ -10,9 +10,10 @@ use crate::operation::Operation;
 use crate::password::{NewPassword, Passwords, Typed, read_passwords};
 use crate::printing::tell;
 use crate::setting::NewSetting;
-use crate::status::{Status, hint_of, status_of};
+use crate::status::{Status, hint_of};
+use crate::verdict::{verdict_line, verdict_status};
 use cred_book::{Name, Request};
-use cred_cli::{Tools, Watched, reply_line};
+use cred_cli::{Tools, Watched};
 use std::io::{Read, Write};
 use std::thread::Threads;
 
@@ -49,8 +50,10 @@ impl Command {
         }
     }
 
-    /// Reads the passwords, does the whole operation, and then writes the reply: `noaccount` or
-    /// `absent` where the account or its record is missing.
+    /// Reads the passwords, does the whole operation, and then writes the answer: `noaccount` or
+    /// `absent` where the account or its record is missing. A locked account answers as if each
+    /// password were wrong. A right password that must be changed is `expired`, and a change to
+    /// itself is `same`.
     ///
     /// Only a call of the reader or the writer may wait: else every body returns, and is bound by
     /// this.
@@ -73,9 +76,13 @@ impl Command {
         ensures memory { result ≡ Err Fault.Memory → failed_of reader.new ≡ failed_of reader.old }
     {
         let typed = read_passwords(tools.alloc, self.passwords(), reader)?;
-        let reply = self.operation(name, &typed).work(tools, keeper)?;
+        let verdict = self.operation(name, &typed).work(tools, keeper)?;
         let hint = hint_of(&typed.first);
-        tell(reply_line(&reply), status_of(&reply, hint), writer)
+        tell(
+            verdict_line(&verdict),
+            verdict_status(&verdict, hint),
+            writer,
+        )
     }
 
     /// The operation of the command with these passwords.

@@ -14,8 +14,16 @@ pub enum EditReply {
     Deleted,
     /// The record has the other name now.
     Renamed,
+    /// The account is locked.
+    Locked,
+    /// The account isn't locked any more.
+    Unlocked,
+    /// The password must be changed.
+    Expired,
     /// The account has no record.
     Absent,
+    /// The account isn't locked.
+    NotLocked,
     /// The other name exists already.
     Exists,
     /// The name doesn't exist.
@@ -30,7 +38,11 @@ pub fn edit_line(reply: EditReply) -> &'static [u8]
         EditReply::Disabled => b"disabled\n",
         EditReply::Deleted => b"deleted\n",
         EditReply::Renamed => b"renamed\n",
+        EditReply::Locked => b"locked\n",
+        EditReply::Unlocked => b"unlocked\n",
+        EditReply::Expired => b"expired\n",
         EditReply::Absent => b"absent\n",
+        EditReply::NotLocked => b"none\n",
         EditReply::Exists => b"exists\n",
         EditReply::NoAccount => b"noaccount\n",
     }
@@ -41,7 +53,14 @@ pub(crate) fn edit_status(reply: EditReply) -> Status
     ensures { result ≡ edit_status reply }
 {
     match reply {
-        EditReply::Disabled | EditReply::Deleted | EditReply::Renamed => Status::Done,
-        EditReply::Absent | EditReply::Exists | EditReply::NoAccount => Status::No(None),
+        EditReply::Disabled
+        | EditReply::Deleted
+        | EditReply::Renamed
+        | EditReply::Locked
+        | EditReply::Unlocked
+        | EditReply::Expired => Status::Done,
+        EditReply::Absent | EditReply::NotLocked | EditReply::Exists | EditReply::NoAccount => {
+            Status::No(None)
+        }
     }
 }

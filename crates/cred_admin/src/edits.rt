@@ -4,7 +4,7 @@ ghost use Rattle.std.specs.Prelude.{◌≡◌};
 ghost use Rattle.std.specs.FinMap as map;
 ghost use Rattle.cred_book.specs.Accounts.{register_capacity};
 ghost use Rattle.cred_cli.specs.Watched.{Basis, writing_on};
-ghost use Rattle.cred_admin.specs.Edits.{DisablesShown, Edits, EditsWithin};
+ghost use Rattle.cred_admin.specs.{Edits.DisablesShown, Edits.Edits, Edits.EditsWithin, Marked.expired, Marked.kept_book, Marked.locked, Marked.unlocked};
 ghost use Rattle.cred_admin.specs.declared.edits.Edit.TheVariants as change;
 
 use crate::detail::Detail;
@@ -16,7 +16,7 @@ use crate::printing::{tell, write_whole};
 use crate::status::Status;
 use cred_book::{BookError, Name};
 use cred_cli::Watched;
-use cred_file::FileBook;
+use cred_file::{FileBook, Mark};
 use sqlite::Alter;
 use std::alloc::Global;
 use std::io::Write;
@@ -30,10 +30,17 @@ pub enum Edit {
     Delete(Name),
     /// Gives the account of the first name the second one.
     Rename(Name, Name),
+    /// Makes each password of the account wrong.
+    Lock(Name),
+    /// Ends a lock.
+    Unlock(Name),
+    /// Makes the account's password one that must be changed.
+    Expire(Name),
 }
 
-/// Changes an account, and writes the outcome: `disabled`, `deleted` or `renamed`; `absent`
-/// if it has no record to remove; `exists` if the second name exists; or `noaccount`.
+/// Changes an account, and writes the outcome: `disabled`, `deleted`, `renamed`, `locked`,
+/// `unlocked` or `expired`; `absent` if it has no record to remove or to change; `none` if it isn't
+/// locked; `exists` if the second name exists; or `noaccount`.
 ///
 /// Errors: `Memory`, and `Full` if an account would be renamed and the book has no room for one
 /// more name: nothing is written or changed; `Write`.
@@ -58,17 +65,22 @@ pub(crate) fn make_edit<S: Alter>(
     book: &mut FileBook<S>,
     edit: &Edit,
 ) -> Result<EditReply, BookError>
-    ensures { EditsWithin register_capacity book.old.book book.new.book edit.now result }
+    ensures { EditsWithin register_capacity (kept_book book.old) (kept_book book.new) edit.now
+        result }
 {
     match *edit {
         Edit::Disable(name) => disable(book, &name),
         Edit::Delete(name) => delete(book, &name),
         Edit::Rename(name, other) => rename(book, &name, &other),
+        Edit::Lock(name) => lock(book, &name),
+        Edit::Unlock(name) => unlock(book, &name),
+        Edit::Expire(name) => expire(book, &name),
     }
 }
 
+#[tactic(auto, using(crate::proofs::Renaming::disabled))]
 fn disable<S: Alter>(book: &mut FileBook<S>, name: &Name) -> Result<EditReply, BookError>
-    ensures { EditsWithin register_capacity book.old.book book.new.book
+    ensures { EditsWithin register_capacity (kept_book book.old) (kept_book book.new)
         (change.Disable name.now) result }
 {
     match book.book().show(name) {
@@ -82,9 +94,9 @@ fn disable<S: Alter>(book: &mut FileBook<S>, name: &Name) -> Result<EditReply, B
     }
 }
 
-#[tactic(auto, using(crate::proofs::Renaming::renaming))]
+#[tactic(auto, using(crate::proofs::Renaming::deleting))]
 fn delete<S: Alter>(book: &mut FileBook<S>, name: &Name) -> Result<EditReply, BookError>
-    ensures { EditsWithin register_capacity book.old.book book.new.book
+    ensures { EditsWithin register_capacity (kept_book book.old) (kept_book book.new)
         (change.Delete name.now) result }
 {
     match book.delete(name) {
@@ -100,7 +112,7 @@ fn rename<S: Alter>(
     name: &Name,
     other: &Name,
 ) -> Result<EditReply, BookError>
-    ensures { EditsWithin register_capacity book.old.book book.new.book
+    ensures { EditsWithin register_capacity (kept_book book.old) (kept_book book.new)
         (change.Rename name.now other.now) result }
 {
     let accounts = book.book();
@@ -119,6 +131,82 @@ fn rename<S: Alter>(
     }
 }
 
+#[tactic(auto, using(crate::proofs::Renaming::marking))]
+fn lock<S: Alter>(book: &mut FileBook<S>, name: &Name) -> Result<EditReply, BookError>
+    ensures { EditsWithin register_capacity (kept_book book.old) (kept_book book.new)
+        (change.Lock name.now) result }
+{
+    let mark = locked(book.marks().at(name));
+    match book.mark(name, mark) {
+        Ok(()) => Ok(EditReply::Locked),
+        Err(BookError::NoAccount) => Ok(EditReply::NoAccount),
+        Err(_) => Err(BookError::Memory),
+    }
+}
+
+#[tactic(auto, using(crate::proofs::Renaming::marking))]
+fn unlock<S: Alter>(book: &mut FileBook<S>, name: &Name) -> Result<EditReply, BookError>
+    ensures { EditsWithin register_capacity (kept_book book.old) (kept_book book.new)
+        (change.Unlock name.now) result }
+{
+    let mark = book.marks().at(name);
+    if !mark.locked {
+        if book.book().contains(name) {
+            return Ok(EditReply::NotLocked);
+        }
+        return Ok(EditReply::NoAccount);
+    }
+    match book.mark(name, unlocked(mark)) {
+        Ok(()) => Ok(EditReply::Unlocked),
+        Err(BookError::NoAccount) => Ok(EditReply::NoAccount),
+        Err(_) => Err(BookError::Memory),
+    }
+}
+
+#[tactic(auto, using(crate::proofs::Renaming::marking))]
+fn expire<S: Alter>(book: &mut FileBook<S>, name: &Name) -> Result<EditReply, BookError>
+    ensures { EditsWithin register_capacity (kept_book book.old) (kept_book book.new)
+        (change.Expire name.now) result }
+{
+    match book.book().show(name) {
+        Ok(Some(_)) => {}
+        Ok(None) => return Ok(EditReply::Absent),
+        Err(_) => return Ok(EditReply::NoAccount),
+    }
+    let mark = expired(book.marks().at(name));
+    match book.mark(name, mark) {
+        Ok(()) => Ok(EditReply::Expired),
+        Err(_) => Err(BookError::Memory),
+    }
+}
+
+fn locked(mark: Mark) -> Mark
+    ensures { result ≡ locked mark }
+{
+    Mark {
+        locked: true,
+        must_change: mark.must_change,
+    }
+}
+
+fn unlocked(mark: Mark) -> Mark
+    ensures { result ≡ unlocked mark }
+{
+    Mark {
+        locked: false,
+        must_change: mark.must_change,
+    }
+}
+
+fn expired(mark: Mark) -> Mark
+    ensures { result ≡ expired mark }
+{
+    Mark {
+        locked: mark.locked,
+        must_change: true,
+    }
+}
+
 /// Writes the account's line of a passwd-file, and then removes its record. The line comes
 /// first, so that a record isn't lost by a failed write.
 ///
@@ -131,7 +219,7 @@ pub fn disable_shown<K: Host, W: Write>(
     writer: &mut Watched<W>,
 ) -> Result<Status, Fault>
     ensures { (basis : Basis) → DisablesShown (K.book keeper.old) (K.book keeper.new) name.now
-        (map.get (K.book keeper.old) name.now)
+        (map.get (K.book keeper.old).accounts name.now)
         (writing_on basis W.contents writer.old writer.new) result }
 {
     let stored = match keeper.accounts().show(name) {
@@ -139,9 +227,15 @@ pub fn disable_shown<K: Host, W: Write>(
         Ok(None) => return tell(edit_line(EditReply::Absent), Status::No(None), writer),
         Err(_) => return tell(edit_line(EditReply::NoAccount), Status::No(None), writer),
     };
-    let line = line_of(alloc, Line::Passwd(Detail::Record), name, Some(stored))?;
+    let line = line_of(
+        alloc,
+        Line::Passwd(Detail::Record),
+        name,
+        keeper.mark_of(name),
+        Some(stored),
+    )?;
     write_whole(writer, &line)?;
-    let Ok(()) = keeper.put(name, None) else {
+    let Ok(_) = keeper.edit(&Edit::Disable(*name)) else {
         return Err(Fault::Memory);
     };
     Ok(Status::Done)

@@ -6,11 +6,14 @@
 //! begins with `#` say nothing.
 
 ghost use Rattle.std.specs.{Prelude.◌≡◌, List.list_any};
-ghost use Rattle.cred_admin.specs.Import.{bars, behind_braces, behind_word, has_bar, is_barred, is_locked, is_remark, line_number, line_word, record_part, said_as, said_of, stored_at, without_return};
+ghost use Rattle.cred_admin.specs.Import.{bars, behind_braces, behind_word, has_bar, is_barred, is_locked, is_remark, is_star, line_number, line_word, record_part, said_as, said_locked, said_of, said_with, stored_at, without_return};
+ghost use Rattle.cred_file.specs.Cells.{begins, mark_of, past, rest_of};
 ghost use Rattle.cred_book.specs.Names.{made_name};
 ghost use Rattle.cred_phc.specs.Pieces.{pieces};
 
+use crate::import::LockedRecords;
 use cred_book::{BookError, Name};
+use cred_file::Mark;
 use cred_phc::{PhcError, Pieces, Record, parse_record};
 
 /// The fault of a line.
@@ -61,17 +64,23 @@ impl LineFault {
 pub(crate) enum Said {
     /// Nothing: the line is empty, or a remark.
     Nothing,
-    /// An account, with this record or none.
-    Account { name: Name, stored: Option<Record> },
-    /// An account whose record is locked, or whose user is barred.
-    Locked { name: Name },
+    /// An account.
+    Account(Entry),
+}
+
+/// An account of a line, with its record or none, and its mark.
+#[derive(Clone, Copy, Debug, PartialEq, Eq)]
+pub(crate) struct Entry {
+    pub(crate) name: Name,
+    pub(crate) stored: Option<Record>,
+    pub(crate) mark: Mark,
 }
 
 /// Reads a line, which is cut at every colon: the first field is the name, and the second one has
 /// the record. The name is judged before the record. The others count only if they bar the user.
 #[tactic(auto, unfolding(crate::specs::Import::said_of))]
-pub(crate) fn said_of(line: &[u8]) -> Result<Said, LineFault>
-    ensures { result ≡ said_of line.now }
+pub(crate) fn said_of(line: &[u8], locked: LockedRecords) -> Result<Said, LineFault>
+    ensures { result ≡ said_of locked line.now }
 {
     let line = without_return(line);
     if is_remark(line) {
@@ -79,7 +88,7 @@ pub(crate) fn said_of(line: &[u8]) -> Result<Said, LineFault>
     }
     let mut fields = Pieces::new(line, b':');
     match (fields.next(), fields.next()) {
-        (Some(name), Some(text)) => said_as(name, is_barred(fields), text),
+        (Some(name), Some(text)) => said_as(locked, name, is_barred(fields), text),
         _ => Err(LineFault::Line),
     }
 }
@@ -91,22 +100,83 @@ fn is_remark(line: &[u8]) -> bool
     line.is_empty() || line.starts_with(b"#")
 }
 
-fn said_as(name: &[u8], barred: bool, text: &[u8]) -> Result<Said, LineFault>
-    ensures { result ≡ said_as (made_name name.now) barred text.now }
+fn said_as(locked: LockedRecords, name: &[u8], barred: bool, text: &[u8]) -> Result<Said, LineFault>
+    ensures { result ≡ said_as locked (made_name name.now) barred text.now }
 {
     let name = Name::new(name).map_err(|refusal| LineFault::Book(refusal))?;
     if barred || is_locked(text) {
-        return Ok(Said::Locked { name });
+        return said_locked(locked, name, barred, text);
     }
-    let stored = stored_at(text)?;
-    Ok(Said::Account { name, stored })
+    said_with(name, Mark::none(), text)
 }
 
-/// Whether a second field has a record that `passwd -l` locked, or `*` in place of a record.
+/// The account of a line whose record is locked, or whose user a field bars.
+fn said_locked(
+    locked: LockedRecords,
+    name: Name,
+    barred: bool,
+    text: &[u8],
+) -> Result<Said, LineFault>
+    ensures { result ≡ said_locked locked name barred text.now }
+{
+    match locked {
+        LockedRecords::Disabled => Ok(Said::Account(Entry {
+            name,
+            stored: None,
+            mark: Mark::none(),
+        })),
+        LockedRecords::Kept if !barred && !is_star(text) => {
+            let (mark, text) = cut_mark(text);
+            said_with(name, mark, text)
+        }
+        LockedRecords::Refused | LockedRecords::Kept => Err(LineFault::Locked),
+    }
+}
+
+fn said_with(name: Name, mark: Mark, text: &[u8]) -> Result<Said, LineFault>
+    ensures { result ≡ said_with name mark (stored_at text.now) }
+{
+    let stored = stored_at(text)?;
+    Ok(Said::Account(Entry { name, stored, mark }))
+}
+
+/// The mark that stands before a record, and the text behind it.
+fn cut_mark(text: &[u8]) -> (Mark, &[u8])
+    ensures mark { result.0 ≡ mark_of text.now }
+    ensures rest { result.1.now ≡ rest_of text.now }
+{
+    let (locked, text) = cut(text, b'!');
+    let (must_change, text) = cut(text, b'~');
+    (
+        Mark {
+            locked,
+            must_change,
+        },
+        text,
+    )
+}
+
+/// Whether a text begins with this byte, and the text behind that.
+fn cut(text: &[u8], byte: u8) -> (bool, &[u8])
+    ensures { (result.0 ≡ begins byte text.now) × (result.1.now ≡ past byte text.now) }
+{
+    match text {
+        [first, rest @ ..] if *first == byte => (true, rest),
+        _ => (false, text),
+    }
+}
+
+/// Whether a second field has a record that `passwd -l` or an export marked, or `*` in its place.
 fn is_locked(text: &[u8]) -> bool
     ensures { result ≡ is_locked text.now }
 {
-    text.starts_with(b"!") || text.starts_with(b"*")
+    text.starts_with(b"!") || (is_star(text) || text.starts_with(b"~"))
+}
+
+fn is_star(text: &[u8]) -> bool
+    ensures { result ≡ is_star text.now }
+{
+    text.starts_with(b"*")
 }
 
 /// Whether one of the fields behind the record bars the user.

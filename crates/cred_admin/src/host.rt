@@ -3,7 +3,7 @@
 use crate::edit_reply::EditReply;
 use crate::edits::{Edit, make_edit};
 use cred_book::{BookError, Name, Register, Reply, Worked};
-use cred_file::FileBook;
+use cred_file::{FileBook, Mark};
 use cred_phc::Record;
 use sqlite::Alter;
 
@@ -12,13 +12,14 @@ use sqlite::Alter;
 /// Its calls return: none of them has a handle by which it may wait. They answer `Memory` if memory
 /// runs out and no other error is due; the book stays then.
 pub trait Host {
-    ghost use Rattle.std.specs.Prelude.{◌≡◌, ℕ, Bool};
-    ghost use Rattle.cred_book.specs.{Accounts.Accounts, Accounts.most_accounts, Calls.AdmitsWithin, Calls.Loads, Commits.Commits};
-    ghost use Rattle.cred_admin.specs.Edits.{EditsWithin};
+    ghost use Rattle.std.specs.Prelude.{◌≡◌, ℕ, Bool, None, Some};
+    ghost use Rattle.cred_book.specs.{Accounts.most_accounts, Calls.AdmitsWithin, Calls.Loads, Commits.Commits};
+    ghost use Rattle.cred_admin.specs.{Edits.EditsWithin, Marked.Becomes, Marked.MarkedBook, Marked.with_account, Marked.with_commit, Marked.with_put, Marked.with_record, Marked.with_replaced};
     ghost use Rattle.cred_file.specs.Edits.{PutsEntry, TakesIn};
     ghost use Rattle.std.specs.FinMap as map;
 
-    ghost book: { Self → Accounts };
+    /// The accounts with their marks.
+    ghost book: { Self → MarkedBook };
 
     ghost capacity: { ℕ } = { most_accounts };
 
@@ -28,31 +29,49 @@ pub trait Host {
 
     /// The accounts.
     fn accounts(&self) -> &Register
-        ensures { result.now ≡ book self.now };
+        ensures { result.now ≡ (book self.now).accounts };
 
-    /// Adds a name, with no record.
+    /// The mark of an account.
+    fn mark_of(&self, name: &Name) -> Mark
+        ensures { result ≡ (book self.now).marks name.now };
+
+    /// Adds a name, with no record and no mark.
     ///
     /// Errors: `Exists` if the book has the name; `Full`; `Memory`.
     fn admit(&mut self, name: Name) -> Result<(), BookError>
-        ensures { AdmitsWithin capacity (book self.old) (book self.new) name result };
+        ensures done { AdmitsWithin capacity (book self.old).accounts (book self.new).accounts name
+            result }
+        ensures whole { Becomes result (book self.old) (book self.new)
+            (with_account (book self.old) name None) };
 
-    /// Gives the account this record, in place of any other.
+    /// Gives the account this record, in place of any other. It need not be changed any more, and a
+    /// lock stays.
     ///
     /// Errors: `NoAccount` if the book doesn't have the name; `Memory`.
     fn load(&mut self, name: &Name, stored: Record) -> Result<(), BookError>
-        ensures { Loads (book self.old) (book self.new) name.now stored result };
+        ensures done { Loads (book self.old).accounts (book self.new).accounts name.now stored
+            result }
+        ensures whole { Becomes result (book self.old) (book self.new)
+            (with_record (book self.old) name.now (Some stored)) };
 
-    /// Puts a record, or none, at a name, which is added if it doesn't exist, in one change.
+    /// Puts a record, or none, at a name, which is added if it doesn't exist, in one change. A new
+    /// account has no mark; another need not be changed any more, and keeps its lock.
     ///
     /// Errors: `Full` if the name doesn't exist and there is no room for it; `Memory`.
     fn put(&mut self, name: &Name, stored: Option<Record>) -> Result<(), BookError>
-        ensures { PutsEntry capacity (book self.old) (book self.new) name.now stored result };
+        ensures done { PutsEntry capacity (book self.old).accounts (book self.new).accounts name.now
+            stored result }
+        ensures whole { Becomes result (book self.old) (book self.new)
+            (with_put (book self.old) name.now stored) };
 
-    /// Does the whole operation if the record still equals the copy, and otherwise nothing.
+    /// Does the whole operation if the record still equals the copy, and otherwise nothing. It
+    /// heeds no mark: `commit_try` does.
     ///
     /// Errors: `Memory`; the work comes back.
     fn commit(&mut self, worked: Worked) -> Result<Reply, (Worked, BookError)>
-        ensures { Commits (book self.old) (book self.new) worked result };
+        ensures done { Commits (book self.old).accounts (book self.new).accounts worked result }
+        ensures whole { Becomes result (book self.old) (book self.new)
+            (with_commit (book self.old) worked) };
 
     /// Changes an account for which no password is asked.
     ///
@@ -62,11 +81,15 @@ pub trait Host {
         ensures { EditsWithin capacity (book self.old) (book self.new) edit.now result };
 
     /// Gives each of these accounts its record there, or none, in place of any other: all of them
-    /// together, so that a crash leaves the book with all of it, or with none.
+    /// together, so that a crash leaves the book with all of it, or with none. None of them need be
+    /// changed any more, and locks stay.
     ///
     /// Errors: `NoAccount` if one of the names has no account; `Memory`. The book stays.
     fn replace_all(&mut self, changed: Register) -> Result<(), BookError>
-        ensures { TakesIn capacity (book self.old) (book self.new) map.empty changed result };
+        ensures done { TakesIn capacity (book self.old).accounts (book self.new).accounts map.empty
+            changed result }
+        ensures whole { Becomes result (book self.old) (book self.new)
+            (with_replaced (book self.old) changed) };
 
     /// Whether it has failed for good. An error with which it hasn't failed is want of memory.
     fn has_failed(&self) -> bool
@@ -76,8 +99,9 @@ pub trait Host {
 impl<S: Alter> Host for FileBook<S> {
     ghost use Rattle.std.specs.Prelude.{is_some};
     ghost use Rattle.cred_book.specs.Accounts.{register_capacity};
+    ghost use Rattle.cred_admin.specs.Marked.{kept_book};
 
-    ghost book = { λ b. b.book };
+    ghost book = { λ b. kept_book b };
 
     ghost capacity = { register_capacity };
 
@@ -87,18 +111,26 @@ impl<S: Alter> Host for FileBook<S> {
         self.book()
     }
 
+    fn mark_of(&self, name: &Name) -> Mark {
+        self.marks().at(name)
+    }
+
+    #[tactic(auto, using(crate::proofs::Becoming::admitted))]
     fn admit(&mut self, name: Name) -> Result<(), BookError> {
         FileBook::admit(self, name)
     }
 
+    #[tactic(auto, using(crate::proofs::Becoming::loaded))]
     fn load(&mut self, name: &Name, stored: Record) -> Result<(), BookError> {
         FileBook::load(self, name, stored)
     }
 
+    #[tactic(auto, using(crate::proofs::Becoming::put_anew))]
     fn put(&mut self, name: &Name, stored: Option<Record>) -> Result<(), BookError> {
         FileBook::put(self, name, stored)
     }
 
+    #[tactic(auto, using(crate::proofs::Becoming::committed_whole))]
     fn commit(&mut self, worked: Worked) -> Result<Reply, (Worked, BookError)> {
         FileBook::commit(self, worked)
     }
@@ -107,6 +139,7 @@ impl<S: Alter> Host for FileBook<S> {
         make_edit(self, edit)
     }
 
+    #[tactic(auto, using(crate::proofs::Becoming::replaced))]
     fn replace_all(&mut self, changed: Register) -> Result<(), BookError> {
         FileBook::replace_all(self, changed)
     }

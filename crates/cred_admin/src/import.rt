@@ -4,12 +4,13 @@ ghost use Rattle.std.specs.Prelude.{◌≡◌, ◌⊎◌, ◌<◌, IfErr, IfOk, 
 ghost use Rattle.std.specs.FinMap as map;
 ghost use Rattle.cred_book.specs.Accounts.{register_capacity};
 ghost use Rattle.cred_cli.specs.Watched.{Basis, failed_of, left_on};
-ghost use Rattle.cred_admin.specs.Import.{Comes, GatherFails, is_costly, nothing_yet, said_of, tally, tally_of, with_bad, with_entry, with_existing, with_line};
+ghost use Rattle.cred_admin.specs.Import.{Comes, GatherFails, is_costly, nothing_yet, said_of, tally, tally_of, with_bad, with_entry, with_existing, with_line, with_mark};
 ghost use Rattle.cred_admin.specs.{Seen.FitsSince, declared.import.ImportFault.TheVariants.Memory as OutOfMemory};
 
-use crate::entry::{LineFault, Said, said_of};
-use cred_book::{BookError, Name, Register};
+use crate::entry::{Entry, LineFault, Said, said_of};
+use cred_book::{BookError, Register};
 use cred_cli::{CostBounds, Watched, exceeds};
+use cred_file::Marks;
 use cred_phc::{Pieces, Record};
 use std::alloc::{AllocError, Global};
 use std::io::Read;
@@ -28,13 +29,16 @@ pub enum Existing {
     Updated,
 }
 
-/// The treatment of a locked record: one after `!` or `*`.
+/// The treatment of a locked record: one after `!`, `~` or `*`, or of a user whom a field bars.
 #[derive(Clone, Copy, Debug, PartialEq, Eq)]
 pub enum LockedRecords {
     /// The line is refused.
     Refused,
     /// The account of the line has no record.
     Disabled,
+    /// The account has its record, and the marks `!` and `~`, as an export writes them. A line with
+    /// `*`, or with a field that bars its user, is refused.
+    Kept,
 }
 
 /// The rules of an import.
@@ -65,9 +69,6 @@ pub struct BadLine {
     pub why: LineFault,
 }
 
-/// An account of a line, with its record or none.
-type Entry = (Name, Option<Record>);
-
 /// The reason why an import changes nothing.
 #[derive(Debug, Drop)]
 pub enum ImportFault {
@@ -96,6 +97,8 @@ pub struct Gathered {
     pub accounts: Register,
     /// The existing accounts that change, with their records from then on.
     pub changed: Register,
+    /// The marks of both.
+    pub marks: Marks,
     /// The number of lines whose account exists and stays as it is.
     pub kept: u64,
     /// The refused lines, in their order.
@@ -177,6 +180,7 @@ impl Gathered {
         Gathered {
             accounts: Register::new(alloc),
             changed: Register::new(alloc),
+            marks: Marks::new(alloc),
             kept: 0,
             bad: Vec::new(alloc),
         }
@@ -191,27 +195,19 @@ impl Gathered {
         line: &[u8],
     ) -> Result<(), ImportFault>
         requires { self.old.kept < number }
-        ensures { Comes (with_line rules book.now (tally_of self.old) number (said_of line.now))
-            (tally_of self.new) result }
+        ensures { Comes (with_line rules book.now (tally_of self.old) number
+            (said_of rules.locked line.now)) (tally_of self.new) result }
     {
-        let said = match said_of(line) {
+        let said = match said_of(line, rules.locked) {
             Ok(said) => said,
             Err(why) => return self.refuse(number, why),
         };
         match &said {
             Said::Nothing => Ok(()),
-            Said::Account { stored, .. } if rules.is_costly(stored) => {
+            Said::Account(entry) if rules.is_costly(&entry.stored) => {
                 self.refuse(number, LineFault::Costly)
             }
-            Said::Account { name, stored } => {
-                self.take_entry(book, rules.existing, number, (*name, *stored))
-            }
-            Said::Locked { name } => match rules.locked {
-                LockedRecords::Refused => self.refuse(number, LineFault::Locked),
-                LockedRecords::Disabled => {
-                    self.take_entry(book, rules.existing, number, (*name, None))
-                }
-            },
+            Said::Account(entry) => self.take_entry(book, rules.existing, number, *entry),
         }
     }
 
@@ -226,11 +222,11 @@ impl Gathered {
         ensures { Comes (with_entry how book.now (tally_of self.old) number entry)
             (tally_of self.new) result }
     {
-        if book.contains(&entry.0) {
+        if book.contains(&entry.name) {
             return self.take_existing(how, number, entry);
         }
-        match self.accounts.enter(entry.0, entry.1) {
-            Ok(()) => Ok(()),
+        match self.accounts.enter(entry.name, entry.stored) {
+            Ok(()) => self.mark(entry),
             Err(BookError::Exists) => self.refuse(number, LineFault::Book(BookError::Exists)),
             Err(BookError::Full) => Err(ImportFault::Full),
             Err(_) => Err(ImportFault::Memory),
@@ -249,11 +245,21 @@ impl Gathered {
                 Ok(())
             }
             Existing::Refused => self.refuse(number, LineFault::Book(BookError::Exists)),
-            Existing::Updated => match self.changed.enter(entry.0, entry.1) {
-                Ok(()) => Ok(()),
+            Existing::Updated => match self.changed.enter(entry.name, entry.stored) {
+                Ok(()) => self.mark(entry),
                 Err(BookError::Exists) => self.refuse(number, LineFault::Book(BookError::Exists)),
                 Err(_) => Err(ImportFault::Memory),
             },
+        }
+    }
+
+    /// Adds the mark of an account.
+    fn mark(&mut self, entry: Entry) -> Result<(), ImportFault>
+        ensures { Comes (with_mark (tally_of self.old) entry) (tally_of self.new) result }
+    {
+        match self.marks.put(&entry.name, entry.mark) {
+            Ok(()) => Ok(()),
+            Err(_) => Err(ImportFault::Memory),
         }
     }
 

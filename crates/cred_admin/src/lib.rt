@@ -22,6 +22,7 @@ mod printing;
 mod setting;
 mod showing;
 mod status;
+mod verdict;
 
 pub use command::Command;
 pub use detail::Detail;
@@ -39,3 +40,4 @@ pub use printing::tell;
 pub use setting::{NewSetting, setting_of};
 pub use showing::{show, show_json};
 pub use status::{Hint, Status};
+pub use verdict::{Verdict, commit_try, verdict_line};

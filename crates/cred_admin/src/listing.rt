@@ -4,15 +4,18 @@ ghost use Rattle.std.specs.Prelude.{◌≡◌, ◌++◌, ◌<◌, length, IfErr,
 ghost use Rattle.std.specs.FinMap as map;
 ghost use Rattle.cred_phc.specs.Values.{RecordValue};
 ghost use Rattle.cred_cli.specs.{Outcome.FrontWritten, Watched.Basis, Watched.failed_of, Watched.held_on, Watched.writing_on};
-ghost use Rattle.cred_admin.specs.Listing.{IsPiece, Prints, json_detail, line_text, detail_word};
+ghost use Rattle.cred_admin.specs.Listing.{IsPiece, Prints, json_detail, json_marks, line_text, detail_word, marked_line};
+ghost use Rattle.cred_file.specs.Cells.{mark_text};
 ghost use Rattle.cred_admin.specs.declared.listing.TheConstants.{PIECE};
 
 use crate::detail::{Detail, detail_text};
 use crate::fault::Fault;
+use crate::host::Host;
 use crate::printing::write_whole;
 use crate::status::Status;
-use cred_book::{Name, Register};
+use cred_book::Name;
 use cred_cli::Watched;
+use cred_file::Mark;
 use cred_phc::Record;
 use std::alloc::{AllocError, Global};
 use std::io::Write;
@@ -30,9 +33,11 @@ pub fn a_piece_has_64_kib()
 pub enum Line {
     /// Its name.
     Name,
-    /// A line of a passwd-file: `NAME:` and this detail of its record, if it has one.
+    /// A line of a passwd-file: `NAME:` and this detail of its record, if it has one. Before the
+    /// detail there is `!` if the account is locked, and `~` if its password must be changed.
     Passwd(Detail),
     /// JSON: `{"name":"NAME","record":"RECORD"}`, or with `"costs"`; `null` is no record.
+    /// A locked account has `"locked":true`, and one that must be changed `"expired":true`.
     Json(Detail),
 }
 
@@ -40,18 +45,26 @@ pub enum Line {
 /// time, however many there are. `import` reads those of `Line::Passwd(Detail::Record)`.
 ///
 /// Errors: `Memory`, and some first lines are written, perhaps none and never all; `Write`.
-pub fn list<W: Write>(
+pub fn list<K: Host, W: Write>(
     alloc: Global,
-    book: &Register,
+    keeper: &K,
     line: Line,
     writer: &mut Watched<W>,
 ) -> Result<Status, Fault>
-    ensures { (basis : Basis) → Prints (line_text line) (map.entries book.now)
+    ensures { (basis : Basis) → Prints (marked_line line (K.book keeper.now))
+        (map.entries (K.book keeper.now).accounts)
         (writing_on basis W.contents writer.old writer.new) result }
 {
     let mut text = Vec::new(alloc);
-    for (name, slot) in book.iter() {
-        push_line(alloc, &mut text, line, name, slot.stored())?;
+    for (name, slot) in keeper.accounts().iter() {
+        push_line(
+            alloc,
+            &mut text,
+            line,
+            name,
+            keeper.mark_of(name),
+            slot.stored(),
+        )?;
         write_piece(writer, &mut text)?;
     }
     write_whole(writer, &text)?;
@@ -80,12 +93,13 @@ pub fn line_of(
     alloc: Global,
     line: Line,
     name: &Name,
+    mark: Mark,
     stored: Option<Record>,
 ) -> Result<Vec<u8>, AllocError>
-    ensures { IfOk result (λ text. text.items ≡ line_text line (name.now, stored)) }
+    ensures { IfOk result (λ text. text.items ≡ line_text line mark (name.now, stored)) }
 {
     let mut text = Vec::new(alloc);
-    push_line(alloc, &mut text, line, name, stored)?;
+    push_line(alloc, &mut text, line, name, mark, stored)?;
     Ok(text)
 }
 
@@ -94,10 +108,11 @@ fn push_line(
     text: &mut Vec<u8>,
     line: Line,
     name: &Name,
+    mark: Mark,
     stored: Option<Record>,
 ) -> Result<(), AllocError>
     ensures { OnOk result
-        (text.new.items ≡ text.old.items ++ line_text line (name.now, stored)) }
+        (text.new.items ≡ text.old.items ++ line_text line mark (name.now, stored)) }
 {
     match line {
         Line::Name => {
@@ -108,6 +123,7 @@ fn push_line(
         Line::Passwd(detail) => {
             text.extend_from_slice(name.bytes())?;
             text.push(b':')?;
+            text.extend_from_slice(mark_text(mark))?;
             if let Some(stored) = stored {
                 let shown = detail_text(alloc, &stored, detail)?;
                 text.extend_from_slice(&shown)?;
@@ -122,9 +138,35 @@ fn push_line(
             text.extend_from_slice(detail_word(detail))?;
             text.extend_from_slice(b"\":")?;
             push_json_detail(alloc, text, detail, stored)?;
+            text.extend_from_slice(json_marks(mark))?;
             text.extend_from_slice(b"}\n")?;
             Ok(())
         }
+    }
+}
+
+/// The mark as the book's file has it before a record: `!` of a lock, and `~` of a password that
+/// must be changed.
+pub(crate) fn mark_text(mark: Mark) -> &'static [u8]
+    ensures { result.now ≡ mark_text mark }
+{
+    match (mark.locked, mark.must_change) {
+        (true, true) => b"!~",
+        (true, false) => b"!",
+        (false, true) => b"~",
+        (false, false) => b"",
+    }
+}
+
+/// The marks that an account has, as members of its object.
+fn json_marks(mark: Mark) -> &'static [u8]
+    ensures { result.now ≡ json_marks mark }
+{
+    match (mark.locked, mark.must_change) {
+        (true, true) => b",\"locked\":true,\"expired\":true",
+        (true, false) => b",\"locked\":true",
+        (false, true) => b",\"expired\":true",
+        (false, false) => b"",
     }
 }
 

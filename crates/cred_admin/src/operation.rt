@@ -3,13 +3,14 @@
 ghost use Rattle.std.specs.Prelude.{◌≡◌, IfOk, OnErr, true};
 ghost use Rattle.std.specs.FinMap as map;
 ghost use Rattle.cred_book.specs.Works.{is_for_current};
-ghost use Rattle.cred_admin.specs.Commands.{Works, has_record, is_current_operation, reset_step};
+ghost use Rattle.cred_admin.specs.{Commands.Works, Commands.is_current_operation, Commands.reset_step, Commands.takes_first};
 ghost use Rattle.cred_admin.specs.declared.operation.Operation.TheVariants as operation;
 
 use crate::fault::Fault;
 use crate::host::Host;
 use crate::setting::NewSetting;
-use cred_book::{Name, Register, Reply, Request};
+use crate::verdict::{Verdict, commit_try};
+use cred_book::{Name, Reply, Request};
 use cred_cli::Tools;
 use cred_phc::{Password, Record};
 use cred_pool::NoGate;
@@ -43,7 +44,7 @@ impl Operation {
         &self,
         tools: &Tools<'_, T>,
         keeper: &mut K,
-    ) -> Result<Reply, Fault>
+    ) -> Result<Verdict, Fault>
         requires { is_current_operation self.now ≡ true }
         ensures { Works K.capacity (K.book keeper.old) (K.book keeper.new) self.now result }
     {
@@ -60,19 +61,19 @@ fn settle<T: Threads + Sync, K: Host>(
     tools: &Tools<'_, T>,
     keeper: &mut K,
     request: Request,
-) -> Result<Reply, Fault>
+) -> Result<Verdict, Fault>
     requires { is_for_current request ≡ true }
     ensures { Works K.capacity (K.book keeper.old) (K.book keeper.new)
         (operation.Ask request) result }
 {
     let Ok(ticket) = keeper.accounts().begin(request) else {
-        return Ok(Reply::NoAccount);
+        return Ok(Verdict::Told(Reply::NoAccount));
     };
     let Ok(worked) = ticket.work(tools.rt, tools.alloc, tools.workers, &NoGate) else {
         return Err(Fault::Memory);
     };
-    match keeper.commit(worked) {
-        Ok(reply) => Ok(reply),
+    match commit_try(keeper, worked) {
+        Ok(verdict) => Ok(verdict),
         Err(_) => Err(Fault::Memory),
     }
 }
@@ -83,25 +84,26 @@ fn enrol<T: Threads + Sync, K: Host>(
     name: &Name,
     setting: &NewSetting,
     pw: &Password,
-) -> Result<Reply, Fault>
+) -> Result<Verdict, Fault>
     ensures { Works K.capacity (K.book keeper.old) (K.book keeper.new)
         (operation.Enrol name.now setting.now pw.now) result }
 {
-    if has_record(keeper.accounts(), name) {
-        return Ok(Reply::Exists);
+    if !takes_first(keeper, name) {
+        return Ok(Verdict::Told(Reply::Exists));
     }
     let stored = tools.hashing().made(&setting.setting(), pw)?;
     keeper.put(name, Some(stored))?;
-    Ok(Reply::Enrolled)
+    Ok(Verdict::Told(Reply::Enrolled))
 }
 
-/// Whether the account exists and has a record.
-fn has_record(accounts: &Register, name: &Name) -> bool
-    ensures { result ≡ has_record accounts.now name.now }
+/// Whether a first record may be put at a name: it has none, and isn't locked.
+fn takes_first<K: Host>(keeper: &K, name: &Name) -> bool
+    ensures { result ≡ takes_first (K.book keeper.now) name.now }
 {
-    match accounts.show(name) {
-        Ok(stored) => stored.is_some(),
-        Err(_) => false,
+    match keeper.accounts().show(name) {
+        Ok(Some(_)) => false,
+        Ok(None) => !keeper.mark_of(name).locked,
+        Err(_) => true,
     }
 }
 
@@ -111,20 +113,20 @@ fn reset<T: Threads + Sync, K: Host>(
     name: &Name,
     setting: &NewSetting,
     pw: &Password,
-) -> Result<Reply, Fault>
+) -> Result<Verdict, Fault>
     ensures { Works K.capacity (K.book keeper.old) (K.book keeper.new)
         (operation.Reset name.now setting.now pw.now) result }
 {
     if !keeper.accounts().contains(name) {
-        return Ok(Reply::NoAccount);
+        return Ok(Verdict::Told(Reply::NoAccount));
     }
     let stored = tools.hashing().made(&setting.setting(), pw)?;
     let reply = put_in_place(keeper, name, stored)?;
-    Ok(reply)
+    Ok(Verdict::Told(reply))
 }
 
-/// Gives the account this record, in place of any other. If memory runs out the book stays; it runs
-/// out only if the account exists.
+/// Gives the account this record, in place of any other. It need not be changed any more, and a
+/// lock stays. If memory runs out the book stays; it runs out only if the account exists.
 pub fn put_in_place<K: Host>(
     keeper: &mut K,
     name: &Name,
@@ -133,7 +135,7 @@ pub fn put_in_place<K: Host>(
     ensures done { IfOk result (λ reply.
         (reply, K.book keeper.new) ≡ reset_step (K.book keeper.old) name.now stored) }
     ensures refused { OnErr result (K.book keeper.new ≡ K.book keeper.old) }
-    ensures there { OnErr result (map.contains_key (K.book keeper.old) name.now ≡ true) }
+    ensures there { OnErr result (map.contains_key (K.book keeper.old).accounts name.now ≡ true) }
 {
     let reply = match keeper.accounts().show(name) {
         Ok(None) => Reply::Enrolled,

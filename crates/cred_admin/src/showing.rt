@@ -7,33 +7,39 @@ ghost use Rattle.cred_admin.specs.Listing.{Tells, json_at, shown_at};
 
 use crate::detail::{Detail, detail_text};
 use crate::fault::Fault;
-use crate::listing::{Line, line_of};
+use crate::host::Host;
+use crate::listing::{Line, line_of, mark_text};
 use crate::printing::tell;
 use crate::status::Status;
-use cred_book::{Keeper, Name, Reply};
+use cred_book::{Name, Reply};
 use cred_cli::{Watched, reply_line};
 use std::alloc::Global;
 use std::io::Write;
 
-/// Writes this detail of an account's record, in a line.
+/// Writes this detail of an account's record, in a line, behind its mark: `!` if it is locked, and
+/// `~` if its password must be changed.
 ///
 /// The line is `absent` without a record, or `noaccount`. Errors: `Memory`: nothing is
 /// written; `Write`.
-pub fn show<K: Keeper, W: Write>(
+pub fn show<K: Host, W: Write>(
     alloc: Global,
     keeper: &K,
     name: &Name,
     detail: Detail,
     writer: &mut Watched<W>,
 ) -> Result<Status, Fault>
-    ensures { (basis : Basis) → Tells (shown_at detail (map.get (K.book keeper.now) name.now))
+    ensures { (basis : Basis) → Tells (shown_at detail ((K.book keeper.now).marks name.now)
+        (map.get (K.book keeper.now).accounts name.now))
         (writing_on basis W.contents writer.old writer.new) result }
 {
-    match keeper.show(name) {
+    match keeper.accounts().show(name) {
         Err(_) => tell(reply_line(&Reply::NoAccount), Status::No(None), writer),
         Ok(None) => tell(reply_line(&Reply::Absent), Status::No(None), writer),
         Ok(Some(stored)) => {
-            let mut text = detail_text(alloc, &stored, detail)?;
+            let mut text = Vec::new(alloc);
+            text.extend_from_slice(mark_text(keeper.mark_of(name)))?;
+            let shown = detail_text(alloc, &stored, detail)?;
+            text.extend_from_slice(&shown)?;
             text.extend_from_slice(b"\n")?;
             tell(&text, Status::Done, writer)
         }
@@ -43,7 +49,7 @@ pub fn show<K: Keeper, W: Write>(
 /// Writes an account with this detail of its record in JSON, in a line.
 ///
 /// The line is `null` if no such account exists. Errors: `Memory`: nothing is written; `Write`.
-pub fn show_json<K: Keeper, W: Write>(
+pub fn show_json<K: Host, W: Write>(
     alloc: Global,
     keeper: &K,
     name: &Name,
@@ -51,17 +57,24 @@ pub fn show_json<K: Keeper, W: Write>(
     writer: &mut Watched<W>,
 ) -> Result<Status, Fault>
     ensures { (basis : Basis)
-        → Tells (json_at detail name.now (map.get (K.book keeper.now) name.now))
+        → Tells (json_at detail name.now ((K.book keeper.now).marks name.now)
+        (map.get (K.book keeper.now).accounts name.now))
         (writing_on basis W.contents writer.old writer.new) result }
 {
-    match keeper.show(name) {
+    match keeper.accounts().show(name) {
         Err(_) => tell(b"null\n", Status::No(None), writer),
         Ok(None) => {
-            let text = line_of(alloc, Line::Json(detail), name, None)?;
+            let text = line_of(alloc, Line::Json(detail), name, keeper.mark_of(name), None)?;
             tell(&text, Status::No(None), writer)
         }
         Ok(Some(stored)) => {
-            let text = line_of(alloc, Line::Json(detail), name, Some(stored))?;
+            let text = line_of(
+                alloc,
+                Line::Json(detail),
+                name,
+                keeper.mark_of(name),
+                Some(stored),
+            )?;
             tell(&text, Status::Done, writer)
         }
     }

@@ -15,10 +15,10 @@ use Rattle.sqlite_sql.specs.Ops.{unary, binary, is_true, from_truth}
 use Rattle.sqlite_rules.specs.{Edit.taken_by, Edit.put_all, Edit.next_rowid, Edit.is_taken, Edit.are_fresh, Cast.cast_row, Calls.ids_of, Action.works}
 use Rattle.sqlite_trees.specs.Tree.{put_row, without_rowid}
 use Rattle.sqlite.proofs.Callers.{one_step, one_permutation}
-use Rattle.cred_phc.specs.Values.{RecordValue}
-use Rattle.cred_book.specs.{Accounts.Accounts, Names.is_name, Names.name_cmp}
+use Rattle.cred_file.specs.Cells.{Cell, Cells, blank}
+use Rattle.cred_book.specs.{Names.is_name, Names.name_cmp}
 use Rattle.sqlite_schema.specs.declared.schema.Keys.{Keys}
-use Rattle.cred_file.specs.{Schema.account, Schema.book_schema, Edits.renamed}
+use Rattle.cred_file.specs.{Schema.account, Schema.book_schema, Edits.moved}
 use Rattle.cred_file.specs.Table.{Line, Says, Tells, has_name, StandsFor}
 use Rattle.std.specs.FinMap.{get-remove}
 use Rattle.cred_book.proofs.Rows.{row_over}
@@ -33,7 +33,7 @@ cast_int : (n : ℤ) → cast Integer (Int n) ≡ Int n
 unfolding unary
 cast_int n = cond_both _ (Int n) (Int n) (λ v. v ≡ Int n) (λ e. refl) (λ e. refl)
 
-cast_told : (value : Value) (v : Option RecordValue) → Tells value v → cast Rattle.sqlite.specs.Kind.TheVariants.Text value ≡ value
+cast_told : (value : Value) (v : Cell) → Tells value v → cast Rattle.sqlite.specs.Kind.TheVariants.Text value ≡ value
 cast_told Null v tells = refl
 cast_told (Text t) v tells = refl
 cast_told _ v tells = absurd tells
@@ -83,20 +83,20 @@ matched_rows params (r ∷ rs) = elim (passes params r) as (λ b. cond b ((param
 abbrev pub AreQuiet : List Table → Type 0
 AreQuiet beside = (keys : Keys) (db : Trees) (edit : Edit) → works (book_schema beside) keys 0 edit.table.tree (taken_by db edit) edit.news ≡ []
 
-pub absent_now : (book : Accounts) (name : List ℕ) → fin.contains_key (fin.remove book name) name ≡ false
+pub absent_now : (book : Cells) (name : List ℕ) → fin.contains_key (fin.remove book name) name ≡ false
 absent_now book name = ap is_some (get-remove nat_list_cmp_total book name name ∙ ap (λ b. cond b None (fin.get book name)) ((eq_by_cmp_equiv nat_list_cmp_total).refl name))
 
 -- an UPDATE of the row of a name, by two terms for the name and the value
 abbrev rewriting : Term → Term → Query
 rewriting name value = record matched { project = col 1 0 ∷ col 1 0 ∷ name ∷ value ∷ [] }
 
-module _ (beside : List Table) (quiet : AreQuiet beside) (limit : Option ℕ) (mode : Mode) (name : List ℕ) (db after : Database) (text : List ℕ) (tally : Tally) (book : Accounts)
+module _ (beside : List Table) (quiet : AreQuiet beside) (limit : Option ℕ) (mode : Mode) (name : List ℕ) (db after : Database) (text : List ℕ) (tally : Tally) (book : Cells)
     (has : db.schema ≡ book_schema beside) (stands : StandsFor (db.trees 0) book) where
   abbrev trees : Trees
   trees = db.trees
 
   -- what stands at the name is taken out, and this is put at that name or another
-  rewrites : fin.contains_key book name ≡ true → (more : Row) (one two : Term) (other : List ℕ) (v : Option RecordValue) → fin.contains_key (fin.remove book name) other ≡ false
+  rewrites : fin.contains_key book name ≡ true → (more : Row) (one two : Term) (other : List ℕ) (v : Cell) → fin.contains_key (fin.remove book name) other ≡ false
       → ((r : Row) (l : Line) → Says r l → l.name ≡ name → fin.get book name ≡ Some l.stored
       → (value : Value) × Tells value v × IsTrue (is_name other) × (◌≡◌ {A = Row} (eval one ((Text name ∷ more) ∷ r ∷ []) ∷ eval two ((Text name ∷ more) ∷ r ∷ []) ∷ []) (Text other ∷ value ∷ [])))
       → Does limit mode (Text name ∷ more) db text None (Update 0 (record { lets = []; body = rewriting one two })) (Ok (tally, after))
@@ -132,7 +132,7 @@ module _ (beside : List Table) (quiet : AreQuiet beside) (limit : Option ℕ) (m
       let is : after.trees 0 ≡ put_row row (without_rowid l.id (trees 0)) = ap (λ (d : Database). d.trees 0) now ∙ ap (λ (w : Written). w.trees 0) (same_value written.2) ∙ step.rows ∙ changed in
       (ap (λ (d : Database). d.schema) now, subst (λ rows. StandsFor rows (fin.insert (fin.remove book name) other v)) (sym is) made)
 
-  pub does_update : (value : Value) (v : Option RecordValue) → Tells value v → fin.contains_key book name ≡ true
+  pub does_update : (value : Value) (v : Cell) → Tells value v → fin.contains_key book name ≡ true
       → Does limit mode (Text name ∷ value ∷ []) db text None (Update 0 (record { lets = []; body = matched })) (Ok (tally, after))
       → (after.schema ≡ book_schema beside) × StandsFor (after.trees 0) (fin.insert book name v)
   does_update value v tells there does =
@@ -141,12 +141,12 @@ module _ (beside : List Table) (quiet : AreQuiet beside) (limit : Option ℕ) (m
 
   pub does_rename : (other : List ℕ) → IsTrue (is_name other) → fin.contains_key book name ≡ true → fin.contains_key (fin.remove book name) other ≡ false
       → Does limit mode (Text name ∷ Text other ∷ []) db text None (Update 0 (record { lets = []; body = renaming })) (Ok (tally, after))
-      → (after.schema ≡ book_schema beside) × StandsFor (after.trees 0) (renamed book name other)
+      → (after.schema ≡ book_schema beside) × StandsFor (after.trees 0) (moved book name other)
   does_rename other named there absent =
-      rewrites there (Text other ∷ []) (col 0 1) (col 1 2) other (unwrap_or (fin.get book name) None) absent
-      (λ r l says is kept. (column r 2, subst (Tells (column r 2)) (sym (ap (λ o. unwrap_or o None) kept)) says.stored, named, refl))
+      rewrites there (Text other ∷ []) (col 0 1) (col 1 2) other (unwrap_or (fin.get book name) blank) absent
+      (λ r l says is kept. (column r 2, subst (Tells (column r 2)) (sym (ap (λ o. unwrap_or o blank) kept)) says.stored, named, refl))
 
-  pub does_insert : (named : IsTrue (is_name name)) (value : Value) (v : Option RecordValue) → Tells value v → fin.contains_key book name ≡ false
+  pub does_insert : (named : IsTrue (is_name name)) (value : Value) (v : Cell) → Tells value v → fin.contains_key book name ≡ false
       → Does limit mode (Text name ∷ value ∷ []) db text None (Insert 0 (Values terms 3)) (Ok (tally, after))
       → (after.schema ≡ book_schema beside) × StandsFor (after.trees 0) (fin.insert book name v)
   does_insert named value v tells absent does =

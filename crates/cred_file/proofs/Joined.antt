@@ -9,12 +9,11 @@ use Rattle.std.specs.FinMap as fin
 use Rattle.std.specs.FinMap.Entries.{below_all}
 use Rattle.std.specs.FinMap.{get-empty, get-entries, get-from_entries, get-insert, get-remove, len-entries, len-insert}
 use Rattle.std.specs.Cmp.Lexicographic.{nat_list_cmp_total}
-use Rattle.sqlite.specs.State.{State, HasCleanDisk}
 use Rattle.cred_phc.specs.Values.{RecordValue}
 use Rattle.cred_book.proofs.Rows.{no_some, same_rows}
 use Rattle.cred_book.specs.{Accounts.Accounts, Names.name_cmp}
-use Rattle.cred_file.specs.{Edits.AreApart, Edits.AreThere, Edits.joined, Edits.taken_in, Keeps.Has}
-use Rattle.cred_file.specs.Transactions.{IsUnderWay, KeepsOthers, MakesWithin}
+use Rattle.cred_file.specs.{Edits.AreApart, Edits.AreThere, Edits.joined, Edits.taken_in}
+use Rattle.cred_file.specs.Transactions.{KeepsOthers}
 
 abbrev pub Entries : Type 0
 Entries = List (List ℕ × Option RecordValue)
@@ -90,7 +89,7 @@ module _ (more : Accounts) (k : List ℕ) (slot : Option RecordValue) (left : En
   pub among : fin.contains_key more k ≡ true
   among = are.each k (ap (λ b. is_some (cond b (Some slot) (find k left))) ((eq_by_cmp_equiv nat_list_cmp_total).refl k))
 
-  none_again : (q : List ℕ) → ties q k ≡ true → find q left ≡ None
+  pub none_again : (q : List ℕ) → ties q k ≡ true → find q left ≡ None
   none_again = find_below k left (and_l _ _ are.sorted)
 
 -- ---- the accounts that are added in turn
@@ -156,25 +155,6 @@ one_replaced old more now after rest left k v slot was is same put = record {
   entered = one_entered old more now after rest left k v slot was.entered is same put;
   there = subst (λ b. AreThere b more) (sym put) (there_put now more k v was.there);
 }
-
--- and so it is with the table, whatever book it stood for
-abbrev pub AreUpdated : State → State → Accounts → Entries → Type 0
-AreUpdated old new more rest =
-    HasCleanDisk new → (first book : Accounts) → AreThere book more → IsUnderWay old first book → (now : Accounts) × IsUnderWay new first now × AreReplaced book more now rest
-
-pub none_updated : (s : State) (more : Accounts) → AreUpdated s s more (fin.entries more)
-none_updated s more clean first book there begun = (book, begun, none_replaced book more there)
-
-pub one_updated : (old mid new : State) (more : Accounts) (rest left : Entries) (k : List ℕ) (v slot : Option RecordValue) → AreUpdated old mid more rest → rest ≡ (k, slot) ∷ left → v ≡ slot → (HasCleanDisk new → HasCleanDisk mid)
-    → (HasCleanDisk new → MakesWithin mid new (Has k) (λ b. fin.insert b k v)) → AreUpdated old new more left
-one_updated old mid new more rest left k v slot was is same early does clean first book there begun =
-    let now = was (early clean) first book there begun in
-    (_, does clean first now.0 (still_there book more now.0 rest left k slot now.2 is) now.1, one_replaced book more now.0 _ rest left k v slot now.2 is same refl)
-
-pub all_updated : (old new : State) (more : Accounts) (rest : Entries) → AreUpdated old new more rest → rest ≡ [] → HasCleanDisk new → MakesWithin old new (λ b. AreThere b more) (λ b. joined b more)
-all_updated old new more rest was none clean first book there begun =
-    let now = was clean first book there begun in
-    subst (IsUnderWay new first) (all_entered book more now.0 rest now.2.entered none) now.1
 
 -- ---- and taken out again
 

@@ -11,13 +11,13 @@ use Rattle.sqlite.specs.State.{State, HasCleanDisk, Survives, Executes, CommitsB
 use Rattle.sqlite.specs.{declared.run.Mode.Mode, Does.Does, Does.Tally, Held.Held, Held.state, Store.Ghosts}
 use Rattle.sqlite_schema.specs.declared.command.Command.{Command}
 use Rattle.sqlite.proofs.Callers.{IsPlain, command_of, statement_of, runs_as}
-use Rattle.cred_phc.specs.{Values.IsRecord, Values.RecordValue, Text.record_text, Reading.read_record}
-use Rattle.cred_phc.proofs.RecordLaws.{read_back}
-use Rattle.std.proofs.{Common.nat_lt, Common.◌<◌, Common.false, Common.◌||◌, Common.OnOk, Common.IfErr, Common.IfOk, lemmas.Bool.lt-ltb, lemmas.Bool.le-ltb}
+use Rattle.cred_phc.specs.{Values.RecordValue}
+use Rattle.std.proofs.{Common.nat_lt, Common.◌<◌, Common.false, Common.◌||◌, Common.OnOk, Common.IfErr, lemmas.Bool.lt-ltb, lemmas.Bool.le-ltb}
+use Rattle.cred_file.specs.Cells.{Cell, Cells}
 use Rattle.cred_book.specs.{Accounts.Accounts, Accounts.register_capacity, Calls.EntersWithin, Names.is_name, declared.error.BookError.BookError}
 use Rattle.sqlite_catalog.specs.Listing.{IsSound}
 use Rattle.cred_file.specs.Schema.{IsBookSchema, book_schema, statistics, insert_text, update_text, delete_text, rename_text}
-use Rattle.cred_file.specs.{Failures.Changes, Failures.Refuses, Table.StandsFor, Table.IsTextOf, Table.Tells, Edits.after_attempt, Edits.renamed, Edits.PutsEntry}
+use Rattle.cred_file.specs.{Failures.Changes, Failures.Refuses, Table.StandsFor, Table.Tells, Edits.after_attempt, Edits.moved, Edits.PutsEntry}
 use Rattle.cred_file.specs.{Keeps.HoldsBook, Keeps.IsTableOf, Keeps.IsRenamable, Keeps.LeavesOnly, Keeps.Keeps, Keeps.IsOrWith, declared.fault.Lost.Lost}
 use Rattle.sqlite_trees.specs.View.{doubt}
 use Rattle.cred_book.specs.declared.error.BookError.TheVariants as error
@@ -30,7 +30,7 @@ abbrev pub IsSettled : State → Type 0
 IsSettled s = (db : Trees) → IsTrue s.is_open → s.may_leave db → db ≡ s.committed.trees
 
 -- the trees of a sound database
-pub holds : (db : Trees) (book : Accounts) (of : Database) → IsBookSchema of.schema → IsSound of.schema of.trees → StandsFor (of.trees 0) book → db ≡ of.trees → HoldsBook db book
+pub holds : (db : Trees) (book : Cells) (of : Database) → IsBookSchema of.schema → IsSound of.schema of.trees → StandsFor (of.trees 0) book → db ≡ of.trees → HoldsBook db book
 holds db book of schema sound stands is = record {
   schema = of.schema;
   of_book = schema;
@@ -53,21 +53,21 @@ only_writes params ends_nothing s text db (inl h) = absurd (elim h.0 [ inl e ↦
 only_writes params ends_nothing s text db (inr h) = h
 
 -- a statement that makes one book of another
-pub record IsStep (sql : List ℕ) (params : Row) (command : Command) (from to : Accounts) : Type 1 where
+pub record IsStep (sql : List ℕ) (params : Row) (command : Command) (from to : Cells) : Type 1 where
   pub means : (schema : Schema) → IsBookSchema schema → Means schema sql command
   pub does : (beside : List Table) → AreQuiet beside → (limit : Option ℕ) (mode : Mode) (db after : Database) (text : List ℕ) (tally : Tally) → db.schema ≡ book_schema beside → StandsFor (db.trees 0) from
       → Does limit mode params db text None command (Ok (tally, after)) → (after.schema ≡ book_schema beside) × StandsFor (after.trees 0) to
   pub runs : (old new : State) (text : List ℕ) (count : ℕ) → Runs old new None command text params count → Writes old new None command text params count
   pub ends_nothing : (command ≡ Commit → ⊥) × ((name : List ℕ) → command ≡ Release name → ⊥)
 
-module _ {sql : List ℕ} {params : Row} {command : Command} {from to : Accounts} (it : IsStep sql params command from to) where
+module _ {sql : List ℕ} {params : Row} {command : Command} {from to : Cells} (it : IsStep sql params command from to) where
   -- with the statistics and without them
   pub step_does : (schema : Schema) → IsBookSchema schema → (limit : Option ℕ) (mode : Mode) (db after : Database) (text : List ℕ) (tally : Tally) → db.schema ≡ schema → StandsFor (db.trees 0) from
       → Does limit mode params db text None command (Ok (tally, after)) → (after.schema ≡ schema) × StandsFor (after.trees 0) to
   step_does schema is limit mode db after text tally has stands d = of_book (λ s. db.schema ≡ s → (after.schema ≡ s) × StandsFor (after.trees 0) to)
       (λ has. it.does [] (λ k d e. refl) limit mode db after text tally has stands d) (λ has. it.does (statistics ∷ []) (λ k d e. refl) limit mode db after text tally has stands d) schema is has
 
-module _ {sql : List ℕ} {params : Row} {command : Command} {from to : Accounts} (it : IsStep sql params command from to) (old new : State) where
+module _ {sql : List ℕ} {params : Row} {command : Command} {from to : Cells} (it : IsStep sql params command from to) (old new : State) where
   pub step_done : (count : ℕ) → IsSettled new → IsTableOf old from → Executes sql params old new (Ok count) → IsTableOf new to
   step_done count settled was h =
       let w = it.runs old new _ count (runs_as sql params old new old.now.schema refl command (it.means _ was.schema).0 (it.means _ was.schema).1 count h) in
@@ -92,13 +92,8 @@ module _ {sql : List ℕ} {params : Row} {command : Command} {from to : Accounts
             (to, inr refl, holds db to m.2 (subst IsBookSchema (sym made.0) was.schema) m.4 made.1 m.5)
       ]
 
--- a record that is written is told by its text
-pub text_told : {A E : Type 0} (r : Result A E) (items : A → List ℕ) (v : RecordValue) → IfOk r (λ t. items t ≡ record_text v) → OnOk r (IsRecord v) → IfOk r (λ t. IsTextOf (items t) (Some v))
-text_told (Ok t) items v is ranges = ap read_record is ∙ read_back v ranges
-text_told (Err e) items v is ranges = tt
-
 -- what is bound for such a value is the value
-pub bound_told : (value : Value) (v : Option RecordValue) → Tells value v → bound_value value ≡ value
+pub bound_told : (value : Value) (v : Cell) → Tells value v → bound_value value ≡ value
 bound_told Null v tells = refl
 bound_told (Text t) v tells = refl
 bound_told _ v tells = absurd tells
@@ -115,8 +110,8 @@ when_err (Ok count) f = tt
 when_err (Err e) f = f e refl
 
 -- a statement that is a step from each book that fits
-pub changes : {S : Type 0} (g : Ghosts S) (old new : Held S) {sql : List ℕ} {params : Row} {command : Command} {Fits : Accounts → Type 0} {after : Accounts → Accounts} {Fails : Error → Type 0}
-    → ((book : Accounts) → Fits book → IsStep sql params command book (after book)) → ((e : Error) → Refuses g old new sql params e → Fails e) → (r : Result ℕ Error) → IsSettled (state g new)
+pub changes : {S : Type 0} (g : Ghosts S) (old new : Held S) {sql : List ℕ} {params : Row} {command : Command} {Fits : Cells → Type 0} {after : Cells → Cells} {Fails : Error → Type 0}
+    → ((book : Cells) → Fits book → IsStep sql params command book (after book)) → ((e : Error) → Refuses g old new sql params e → Fails e) → (r : Result ℕ Error) → IsSettled (state g new)
     → (HasCleanDisk (state g new) → Executes sql params (state g old) (state g new) r) → Survives (state g old) (state g new) (CommitsBy sql params (state g old)) → Changes g old new Fits after Fails r
 changes g old new {sql} {params} step fails r settled runs survives =
     let was = state g old in
@@ -128,8 +123,8 @@ changes g old new {sql} {params} step fails r settled runs survives =
       clean = survives.clean;
     }
 
-module _ (book : Accounts) (name : List ℕ) where
-  pub insert_step : (value : Value) (v : Option RecordValue) → IsTrue (is_name name) → Tells value v → fin.contains_key book name ≡ false
+module _ (book : Cells) (name : List ℕ) where
+  pub insert_step : (value : Value) (v : Cell) → IsTrue (is_name name) → Tells value v → fin.contains_key book name ≡ false
       → IsStep insert_text (Text name ∷ value ∷ []) (Insert 0 (Values terms 3)) book (fin.insert book name v)
   insert_step value v named tells absent = record {
     means = insert_is;
@@ -138,7 +133,7 @@ module _ (book : Accounts) (name : List ℕ) where
     ends_nothing = (λ e. cc, λ n e. cc);
   }
 
-  pub update_step : (value : Value) (v : Option RecordValue) → Tells value v → fin.contains_key book name ≡ true
+  pub update_step : (value : Value) (v : Cell) → Tells value v → fin.contains_key book name ≡ true
       → IsStep update_text (Text name ∷ value ∷ []) (Update 0 (record { lets = []; body = matched })) book (fin.insert book name v)
   update_step value v tells there = record {
     means = update_is;
@@ -157,7 +152,7 @@ module _ (book : Accounts) (name : List ℕ) where
   }
 
   pub rename_step : (other : List ℕ) → IsTrue (is_name other) → IsRenamable name other book
-      → IsStep rename_text (Text name ∷ Text other ∷ []) (Update 0 (record { lets = []; body = renaming })) book (renamed book name other)
+      → IsStep rename_text (Text name ∷ Text other ∷ []) (Update 0 (record { lets = []; body = renaming })) book (moved book name other)
   rename_step other named fits = record {
     means = rename_is;
     does = λ beside quiet limit mode db after text tally has stands. does_rename beside quiet limit mode name db after text tally book has stands other named fits.0 fits.1;
@@ -168,7 +163,7 @@ module _ (book : Accounts) (name : List ℕ) where
 -- ---- what a book in a database keeps true
 
 -- a table of the book, with no change lost
-pub keeps_first : {S : Type 0} (g : Ghosts S) (new : Held S) (book : Accounts) → fin.len book ≤ register_capacity → (HasCleanDisk (state g new) → IsTableOf (state g new) book) → Keeps g new book None
+pub keeps_first : {S : Type 0} (g : Ghosts S) (new : Held S) (book : Cells) → fin.len book ≤ register_capacity → (HasCleanDisk (state g new) → IsTableOf (state g new) book) → Keeps g new book None
 keeps_first g new book low made = record {
   table = λ clean none. made clean;
   left = λ clean. (made clean).left;
@@ -176,11 +171,11 @@ keeps_first g new book low made = record {
 }
 
 -- the book fits, as it is kept
-pub fits : {S : Type 0} {g : Ghosts S} {conn : Held S} {book : Accounts} (lost : Option Lost) → Keeps g conn book lost → false ≡ is_some lost → fin.len book ≤ register_capacity
+pub fits : {S : Type 0} {g : Ghosts S} {conn : Held S} {book : Cells} (lost : Option Lost) → Keeps g conn book lost → false ≡ is_some lost → fin.len book ≤ register_capacity
 fits {book = book} lost keeps whole = keeps.few book (subst (λ l. IsOrWith book l book) (sym (no_some lost (sym whole))) refl)
 
-module _ {S : Type 0} (g : Ghosts S) (old new : Held S) (book : Accounts) (lost : Option Lost) (keeps : Keeps g old book lost) (whole : false ≡ is_some lost)
-    (clean : doubt (state g old).is_clean ≤ doubt (state g new).is_clean) (now after : Accounts) where
+module _ {S : Type 0} (g : Ghosts S) (old new : Held S) (book : Cells) (lost : Option Lost) (keeps : Keeps g old book lost) (whole : false ≡ is_some lost)
+    (clean : doubt (state g old).is_clean ≤ doubt (state g new).is_clean) (now after : Cells) where
   none : lost ≡ None
   none = no_some lost (sym whole)
 
@@ -203,11 +198,11 @@ module _ {S : Type 0} (g : Ghosts S) (old new : Held S) (book : Accounts) (lost 
   }))
 
 -- how many accounts there are with a new name, and with an old one
-pub len_new : (book : Accounts) (name : List ℕ) (v : Option RecordValue) → fin.contains_key book name ≡ false → fin.len book < register_capacity → fin.len (fin.insert book name v) ≤ register_capacity
+pub len_new : (book : Cells) (name : List ℕ) (v : Cell) → fin.contains_key book name ≡ false → fin.len book < register_capacity → fin.len (fin.insert book name v) ≤ register_capacity
 len_new book name v absent room =
     let grown : fin.len (fin.insert book name v) ≡ fin.len book + 1 = len-insert nat_list_cmp_total book name v ∙ ap (λ b. cond b (fin.len book) (fin.len book + 1)) absent in omega (arith, grown, room)
 
-pub len_old : (book : Accounts) (name : List ℕ) (v : Option RecordValue) → fin.contains_key book name ≡ true → fin.len book ≤ register_capacity → fin.len (fin.insert book name v) ≤ register_capacity
+pub len_old : (book : Cells) (name : List ℕ) (v : Cell) → fin.contains_key book name ≡ true → fin.len book ≤ register_capacity → fin.len (fin.insert book name v) ≤ register_capacity
 len_old book name v there low =
     let same : fin.len (fin.insert book name v) ≡ fin.len book = len-insert nat_list_cmp_total book name v ∙ ap (λ b. cond b (fin.len book) (fin.len book + 1)) there in omega (arith, same, low)
 

@@ -7,7 +7,7 @@ use Rattle.std.specs.declared.cmp.Ordering.TheVariants.{Less, Equal, Greater}
 use Rattle.sqlite.specs.{declared.types.Value.TheVariants.Int, Order.Row, Order.column, Order.value_cmp}
 use Rattle.sqlite_trees.specs.{Tree.has_rowid, View.is_int}
 use Rattle.sqlite_value.proofs.OrderLemmas.{value_cmp_total, value_cmp-Int}
-use Rattle.cred_book.specs.Accounts.{Accounts}
+use Rattle.cred_file.specs.Cells.{Cells}
 use Rattle.cred_file.specs.declared.fault.OpenFault.{OpenFault}
 use Rattle.cred_file.specs.declared.fault.OpenFault.TheVariants as fault
 use Rattle.cred_file.specs.Table.{Line, has_id, has_name}
@@ -45,7 +45,7 @@ next_rises front tail r row rises =
     let second : get_or rows (length front + 1) r ≡ row = get_or_at (front ++ r ∷ []) row tail r (length front + 1) (length-append front (r ∷ [])) in
     subst₂ (λ a b. is_lt (value_cmp (column a 0) (column b 0)) ≡ false) second first (rises (length front) r (omega arith) (omega (arith, length-append (front ++ r ∷ []) (row ∷ tail), length-append front (r ∷ []))))
 
-module _ (prior tail : List Row) (row : Row) (book : Accounts) (last : Option ℤ) (draft : IsDraftOf prior book last) (rises : IsRising (prior ++ row ∷ tail)) where
+module _ (prior tail : List Row) (row : Row) (book : Cells) (last : Option ℤ) (draft : IsDraftOf prior book last) (rises : IsRising (prior ++ row ∷ tail)) where
   abbrev rows : List Row
   rows = prior ++ row ∷ tail
 

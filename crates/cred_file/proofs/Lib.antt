@@ -1,10 +1,15 @@
 pub mod Texts
+pub mod CellLaws
+pub mod Marked
 pub mod TableLemmas
 pub mod Changes
 pub mod Keeping
 pub mod Removing
 pub mod Within
 pub mod Joined
+pub mod JoinedCells
+pub mod LocksStay
+pub mod SoFar
 pub mod Copied
 pub mod Judged
 pub mod Creating

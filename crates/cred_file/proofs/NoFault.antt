@@ -9,8 +9,9 @@ use Rattle.sqlite.specs.declared.types.Value.{Value}
 use Rattle.sqlite.specs.declared.types.Value.TheVariants.{Null, Int, Text}
 use Rattle.sqlite.specs.{Order.Row, Order.column, Order.value_cmp, State.State, Effect.IsDatabase}
 use Rattle.sqlite_value.proofs.OrderLemmas.{value_cmp_total, value_cmp-Text}
-use Rattle.cred_phc.specs.{Values.RecordValue, declared.error.PhcError.PhcError}
-use Rattle.cred_book.specs.Accounts.{Accounts, register_capacity}
+use Rattle.cred_phc.specs.{declared.error.PhcError.PhcError}
+use Rattle.cred_file.specs.Cells.{Cell, Cells}
+use Rattle.cred_book.specs.Accounts.{register_capacity}
 use Rattle.cred_file.specs.declared.fault.OpenFault.{OpenFault}
 use Rattle.cred_file.specs.declared.fault.OpenFault.TheVariants as fault
 use Rattle.cred_book.specs.Names.{name_cmp}
@@ -27,11 +28,11 @@ narrower test wide fails (x ∷ xs) e = let parts = or_parts (wide x) (list_any 
 none_pass : (test : Row → Bool) → ((row : Row) (l : Line) → Says row l → test row ≡ false) → (rows : List Row) (ls : List Line) → AllZip Says rows ls → list_any test rows ≡ false
 none_pass test fails rows ls all = any_line test (λ l. false) fails rows ls all ∙ list_any_none (λ l. false) ls (λ k d low. refl)
 
-told : (why : Option PhcError) (v : Value) (stored : Option RecordValue) → Tells v stored → is_no_record why v ≡ false
+told : (why : Option PhcError) (v : Value) (stored : Cell) → Tells v stored → is_no_record why v ≡ false
 told None Null stored tells = refl
 told (Some e) Null stored tells = refl
-told None (Text t) (Some v) tells = refl
-told (Some e) (Text t) (Some v) tells = ap (is_refused e) tells
+told None (Text t) stored tells = refl
+told (Some e) (Text t) stored tells = ap (is_refused e) tells
 told _ _ _ tells = absurd tells
 
 -- ---- no name twice
@@ -73,7 +74,7 @@ never is isnt = absurd (true≢false (sym is ∙ isnt))
 
 -- a table has as many rows as its book has accounts
 as_many_of : (rows : List Row) (ls : List Line) → AllZip Says rows ls → AreApart ls → length rows ≡ fin.len (fin.from_entries {R = name_cmp} (map entry_of ls))
-as_many_of [] [] all apart = sym (len-empty name_cmp (Option RecordValue))
+as_many_of [] [] all apart = sym (len-empty name_cmp Cell)
 as_many_of (r ∷ rows) (l ∷ ls) all apart =
     let rest = fin.from_entries {R = name_cmp} (map entry_of ls) in
     let absent = sym (any_known l.name rows rest (record { lines = ls; each = all.1; apart = apart.2; book_is = refl })) ∙ apart.1 in
@@ -81,10 +82,10 @@ as_many_of (r ∷ rows) (l ∷ ls) all apart =
     omega (arith, grown, as_many_of rows ls all.1 apart.2)
 as_many_of _ _ all apart = absurd all
 
-pub as_many : (rows : List Row) (book : Accounts) → StandsFor rows book → length rows ≡ fin.len book
-as_many rows book s = as_many_of rows s.lines s.each s.apart ∙ ap (λ (b : Accounts). fin.len b) s.book_is
+pub as_many : (rows : List Row) (book : Cells) → StandsFor rows book → length rows ≡ fin.len book
+as_many rows book s = as_many_of rows s.lines s.each s.apart ∙ ap (λ (b : Cells). fin.len b) s.book_is
 
-pub no_fault : (rows : List Row) (book : Accounts) → fin.len book ≤ register_capacity → StandsFor rows book → (why : OpenFault) → AreAtFault rows why → IsForWant why
+pub no_fault : (rows : List Row) (book : Cells) → fin.len book ≤ register_capacity → StandsFor rows book → (why : OpenFault) → AreAtFault rows why → IsForWant why
 no_fault rows book few s (fault.NoName id) h =
     never h (narrower _ (λ row. is_no_name (column row 1)) (λ row other. and_right _ _ other) rows (none_pass (λ row. is_no_name (column row 1)) (λ row l says. ap is_no_name says.name ∙ ap not says.is_name) rows s.lines s.each))
 no_fault rows book few s (fault.NoRecord id why) h =
@@ -96,7 +97,7 @@ no_fault rows book few s (fault.Database e) h = tt
 no_fault rows book few s _ h = absurd h
 
 -- a sound database that a crash left of a book is refused for want alone
-pub for_want : (old new : State) (book : Accounts) → fin.len book ≤ register_capacity → HoldsBook old.now.trees book → IsDatabase old.now → (why : OpenFault) → IsUnopened old new why → IsForWant why
+pub for_want : (old new : State) (book : Cells) → fin.len book ≤ register_capacity → HoldsBook old.now.trees book → IsDatabase old.now → (why : OpenFault) → IsUnopened old new why → IsForWant why
 for_want old new book few holds sound why (inl no_book) = absurd (no_book.1 (still_book old.now.trees holds.schema old.now.schema holds.of_book holds.sound sound))
 for_want old new book few holds sound why (inr (inl rows)) = no_fault (old.now.trees 0) book few holds.stands why rows.0
 for_want old new book few holds sound why (inr (inr failed)) = subst IsForWant (sym failed.1) tt

@@ -7,12 +7,12 @@ use Rattle.std.specs.FinMap as fin
 use Rattle.sqlite.specs.{declared.types.Value.TheVariants.Int, Order.Row, Order.value_cmp}
 use Rattle.sqlite_trees.specs.Tree.{has_rowid}
 use Rattle.sqlite_value.proofs.OrderLemmas.{value_cmp-Int}
-use Rattle.cred_book.specs.Accounts.{Accounts}
+use Rattle.cred_file.specs.Cells.{Cells}
 use Rattle.cred_file.specs.Table.{StandsFor}
 use Rattle.cred_file.specs.Drafts.{IsDraftOf, IsAdded, is_past}
 use Rattle.cred_file.proofs.Shuffled.{shuffled, stands_more}
 
-pub no_rows : (book : Accounts) (last : Option ℤ) → book ≡ fin.empty → last ≡ None → IsDraftOf [] book last
+pub no_rows : (book : Cells) (last : Option ℤ) → book ≡ fin.empty → last ≡ None → IsDraftOf [] book last
 no_rows book last empty none = subst (IsDraftOf [] book) (sym none) (record { stands = record { lines = []; each = tt; apart = tt; book_is = sym empty }; below = λ id past. refl; ends = refl })
 
 is_less : (o : Ordering) → is_lt o ≡ true → o ≡ Less
@@ -25,7 +25,7 @@ further : (last : Option ℤ) (a b : ℤ) → is_past last a ≡ true → int_cm
 further None a b past less = refl
 further (Some id) a b past less = ap is_lt (int_cmp_total.trans id a b (is_less _ past) less)
 
-pub draft_push : (rows : List Row) (book : Accounts) (last : Option ℤ) (row : Row) (after : Accounts) (next : Option ℤ) → IsDraftOf rows book last → IsAdded row book last after next
+pub draft_push : (rows : List Row) (book : Cells) (last : Option ℤ) (row : Row) (after : Cells) (next : Option ℤ) → IsDraftOf rows book last → IsAdded row book last after next
     → IsDraftOf (rows ++ row ∷ []) after next
 draft_push rows book last row after next d a =
     let l = a.line in

@@ -7,7 +7,7 @@ use Rattle.sqlite_trees.proofs.ListLemmas.{map-map}
 use Rattle.sqlite_value.proofs.OrderLemmas.{then-Equal}
 use Rattle.sqlite.specs.{Effect.Database, Effect.IsDatabase, State.State, State.Shown, State.IsUnchanged, State.CommitsShowing, State.Survives}
 use Rattle.sqlite.proofs.Callers.{reads_as, never_commits}
-use Rattle.cred_book.specs.Accounts.{Accounts}
+use Rattle.cred_file.specs.Cells.{Cells}
 use Rattle.cred_file.specs.{Schema.IsBookSchema, Table.StandsFor, Keeps.IsTableOf, Opening.rows_text, Opening.IsAsBefore}
 use Rattle.cred_file.proofs.{Texts.all_rows, Texts.rows_is, Texts.rows_listed, Texts.rows_plain, Keeping.IsSettled, Keeping.holds, Shuffled.shown}
 
@@ -68,7 +68,7 @@ pub as_before : (old new : State) → IsUnchanged old new → IsAsBefore old new
 as_before old new same = record { now = same.0.now_is; committed = same.0.committed_is; mode = same.0.mode; is_open = both_true old.is_open new.is_open same.0.was_open same.0.is_open }
 
 -- a sound database at rest, whose table stands for the book
-pub is_table : (s : State) (book : Accounts) → IsSettled s → IsTrue s.is_open → s.in_transaction ≡ false → s.now ≡ s.committed → IsDatabase s.now → IsBookSchema s.now.schema
+pub is_table : (s : State) (book : Cells) → IsSettled s → IsTrue s.is_open → s.in_transaction ≡ false → s.now ≡ s.committed → IsDatabase s.now → IsBookSchema s.now.schema
     → StandsFor (s.now.trees 0) book → IsTableOf s book
 is_table s book settled is_open autocommit rest sound schema stands = record {
   schema = schema;

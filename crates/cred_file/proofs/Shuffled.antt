@@ -10,12 +10,14 @@ use Rattle.sqlite.specs.{declared.types.Value.TheVariants.Int, Order.Row, Order.
 use Rattle.sqlite_trees.proofs.ListLemmas.{IsPermutation-filter, along_permutation, filter-map}
 use Rattle.sqlite_trees.specs.{Tree.has_rowid, Tree.put_row, Tree.rowid, Tree.without_rowid, View.is_int}
 use Rattle.sqlite_value.proofs.OrderLemmas.{value_cmp_total}
-use Rattle.cred_book.proofs.Rows.{remove_again, same_rows}
-use Rattle.cred_book.specs.{Accounts.Accounts, Names.name_cmp}
+use Rattle.cred_book.proofs.Rows.{same_rows}
+use Rattle.cred_file.specs.Cells.{Cells}
+use Rattle.cred_book.specs.{Names.name_cmp}
 use Rattle.cred_file.specs.declared.fault.OpenFault.{OpenFault}
 use Rattle.cred_file.specs.declared.fault.OpenFault.TheVariants as fault
 use Rattle.cred_file.specs.Table.{Line, Says, entry_of, has_id, has_name, AreApart, StandsFor}
 use Rattle.cred_file.specs.Opening.{agree, is_no_name, is_no_record, is_repeated, AreAtFault}
+use Rattle.cred_file.proofs.CellLaws.{removed_again}
 use Rattle.cred_file.proofs.TableLemmas.{any_known, any_line, any_map, any_rows, id_symm, name_symm, numbered, said_once, same_name}
 
 -- what the query shows of a row
@@ -72,7 +74,7 @@ turn x y xs (l ∷ m ∷ ls) all apart =
 chain : (xs ys zs : List Row) → SayAsMuch xs ys → SayAsMuch ys zs → SayAsMuch xs zs
 chain xs ys zs h k ls all apart = let r = h ls all apart in let s = k r.0 r.1 r.2 in (s.0, s.1, s.2, (λ t. s.3.0 t ∙ r.3.0 t, λ q. s.3.1 q ∙ r.3.1 q))
 
-stands : (xs ys : List Row) → SayAsMuch xs ys → (book : Accounts) → StandsFor xs book → StandsFor ys book
+stands : (xs ys : List Row) → SayAsMuch xs ys → (book : Cells) → StandsFor xs book → StandsFor ys book
 stands xs ys as_much book s =
     let r = as_much s.lines s.each s.apart in
     record {
@@ -82,13 +84,13 @@ stands xs ys as_much book s =
       book_is = same_rows _ _ (λ q. get-from_entries nat_list_cmp_total (map entry_of r.0) q ∙ r.3.1 q ∙ sym (get-from_entries nat_list_cmp_total (map entry_of s.lines) q)) ∙ s.book_is;
     }
 
-pub shuffled : (xs ys : List Row) (book : Accounts) → IsPermutation xs ys → StandsFor xs book → StandsFor ys book
+pub shuffled : (xs ys : List Row) (book : Cells) → IsPermutation xs ys → StandsFor xs book → StandsFor ys book
 shuffled xs ys book p = stands xs ys (along_permutation SayAsMuch same skip turn chain xs ys p) book
 
 -- ---- a row more
 
 -- a new name in front of the others
-pub stands_more : (rows : List Row) (book : Accounts) (row : Row) (l : Line) → Says row l → StandsFor rows book → list_any (has_rowid l.id) rows ≡ false → fin.contains_key book l.name ≡ false
+pub stands_more : (rows : List Row) (book : Cells) (row : Row) (l : Line) → Says row l → StandsFor rows book → list_any (has_rowid l.id) rows ≡ false → fin.contains_key book l.name ≡ false
     → StandsFor (row ∷ rows) (fin.insert book l.name l.stored)
 stands_more rows book row l says s free absent = record {
   lines = l ∷ s.lines;
@@ -109,7 +111,7 @@ put_says row id is (r ∷ rows) free =
       | Greater ↦ λ e. same (row ∷ r ∷ rows)
     ] parts.0)
 
-pub stands_put : (rows : List Row) (book : Accounts) (row : Row) (new : Line) → Says row new → StandsFor rows book → list_any (has_rowid new.id) rows ≡ false → fin.contains_key book new.name ≡ false
+pub stands_put : (rows : List Row) (book : Cells) (row : Row) (new : Line) → Says row new → StandsFor rows book → list_any (has_rowid new.id) rows ≡ false → fin.contains_key book new.name ≡ false
     → StandsFor (put_row row rows) (fin.insert book new.name new.stored)
 stands_put rows book row new says s free absent =
     stands (row ∷ rows) (put_row row rows) (put_says row new.id says.id rows free) _ (stands_more rows book row new says s free absent)
@@ -175,11 +177,11 @@ module _ (test : Row → Bool) (name : List ℕ) (finds : (r : Row) (l : Line) �
   row_in _ _ all apart e = absurd all
 
   -- the row of a name that the book has
-  pub row_of : (rows : List Row) (book : Accounts) (s : StandsFor rows book) → fin.contains_key book name ≡ true → (r : Row) × (l : Line) × IsRowOf test name rows r l
+  pub row_of : (rows : List Row) (book : Cells) (s : StandsFor rows book) → fin.contains_key book name ≡ true → (r : Row) × (l : Line) × IsRowOf test name rows r l
   row_of rows book s there = row_in rows s.lines s.each s.apart (any_known name rows book s ∙ there)
 
 -- the row in front taken away
-front_less : (row : Row) (rows : List Row) (book : Accounts) (l : Line) → Says row l → StandsFor (row ∷ rows) book → (fin.get book l.name ≡ Some l.stored) × StandsFor rows (fin.remove book l.name)
+front_less : (row : Row) (rows : List Row) (book : Cells) (l : Line) → Says row l → StandsFor (row ∷ rows) book → (fin.get book l.name ≡ Some l.stored) × StandsFor rows (fin.remove book l.name)
 front_less row rows book l says s = by_lines s.lines s.each s.apart s.book_is
   where
     by_lines : (ls : List Line) → AllZip Says (row ∷ rows) ls → AreApart ls → fin.from_entries (map entry_of ls) ≡ book → (fin.get book l.name ≡ Some l.stored) × StandsFor rows (fin.remove book l.name)
@@ -190,10 +192,10 @@ front_less row rows book l says s = by_lines s.lines s.each s.apart s.book_is
         let absent = sym (any_known m.name rows rest others) ∙ apart.1 in
         subst (λ (l : Line). (fin.get book l.name ≡ Some l.stored) × StandsFor rows (fin.remove book l.name)) (sym (said_once row l m says all.0)) (
           ap (λ b. fin.get b m.name) (sym is) ∙ get-insert nat_list_cmp_total rest m.name m.stored m.name ∙ ap (λ b. cond b (Some m.stored) (fin.get rest m.name)) ((eq_by_cmp_equiv nat_list_cmp_total).refl m.name),
-          subst (StandsFor rows) (sym (ap (λ b. fin.remove b m.name) (sym is) ∙ remove_again rest m.name m.stored absent)) others,
+          subst (StandsFor rows) (sym (ap (λ b. fin.remove b m.name) (sym is) ∙ removed_again rest m.name m.stored absent)) others,
         )
 
-pub stands_without : (test : Row → Bool) (rows : List Row) (book : Accounts) (name : List ℕ) (s : StandsFor rows book) (r : Row) (l : Line) → IsRowOf test name rows r l
+pub stands_without : (test : Row → Bool) (rows : List Row) (book : Cells) (name : List ℕ) (s : StandsFor rows book) (r : Row) (l : Line) → IsRowOf test name rows r l
     → (fin.get book name ≡ Some l.stored) × StandsFor (without_rowid l.id rows) (fin.remove book name)
 stands_without test rows book name s r l it =
     subst (λ n. (fin.get book n ≡ Some l.stored) × StandsFor (without_rowid l.id rows) (fin.remove book n)) it.named
@@ -207,7 +209,7 @@ each_shown (r ∷ rows) (l ∷ ls) all = (record { id = all.0.id; name = all.0.n
 each_shown _ _ all = absurd all
 
 -- the rows of the answer stand for the book that the table's rows stand for
-pub stands_unshown : (table answer : List Row) (book : Accounts) → IsPermutation answer (map shown table) → StandsFor answer book → StandsFor table book
+pub stands_unshown : (table answer : List Row) (book : Cells) → IsPermutation answer (map shown table) → StandsFor answer book → StandsFor table book
 stands_unshown table answer book p s = let t = shuffled answer (map shown table) book p s in record { lines = t.lines; each = each_shown table t.lines t.each; apart = t.apart; book_is = t.book_is }
 
 counted : (test : Row → Bool) (rows answer : List Row) → IsPermutation answer (map shown rows) → length (filter test answer) ≡ length (filter (λ r. test (shown r)) rows)

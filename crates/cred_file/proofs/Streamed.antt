@@ -9,7 +9,7 @@ use Rattle.sqlite_schema.specs.declared.command.Command.{Command}
 use Rattle.sqlite_resolve.specs.declared.compiled.Compiled.{Compiled}
 use Rattle.sqlite.proofs.Callers.{EndsIn, IsPlain, begins_shown, command_of, given_begin, unchanged_then}
 use Rattle.sqlite.proofs.StreamLemmas.{fails_since}
-use Rattle.cred_book.specs.Accounts.{Accounts}
+use Rattle.cred_file.specs.Cells.{Cells}
 use Rattle.cred_file.specs.{declared.fault.OpenFault.OpenFault, Schema.IsBookSchema, Table.StandsFor, Drafts.IsDraftOf, Drafts.IsNotAdded}
 use Rattle.cred_file.specs.Opening.{AreAtFault, rows_text}
 use Rattle.cred_file.proofs.{LeftOut.left_out, Selected.IsRising, Selected.selected, Shuffled.fault_unshown, Shuffled.shown, Shuffled.stands_unshown}
@@ -38,7 +38,7 @@ module _ {S : Type 0} (g : Ghosts S) (old : State) (h : Held S) (has : IsBookSch
       (r.0, subst (λ (d : Database). IsPermutation (given ++ r.0) (map shown (d.trees 0))) same.0.now_is s.0, s.1)
 
   -- so one that is left out is at fault in the table
-  pub fault_first : (prior : List Row) (row : Row) → HasGiven g rows_text [] h (prior ++ row ∷ []) → (book : Accounts) (last : Option ℤ) → IsDraftOf prior book last
+  pub fault_first : (prior : List Row) (row : Row) → HasGiven g rows_text [] h (prior ++ row ∷ []) → (book : Cells) (last : Option ℤ) → IsDraftOf prior book last
       → (why : OpenFault) → IsNotAdded row book last why → AreAtFault (old.now.trees 0) why
   fault_first prior row it book last draft why h =
       let f = first_of (prior ++ row ∷ []) it in
@@ -46,7 +46,7 @@ module _ {S : Type 0} (g : Ghosts S) (old : State) (h : Held S) (has : IsBookSch
       fault_unshown (old.now.trees 0) (prior ++ row ∷ f.0) (subst (λ rows. IsPermutation rows (map shown (old.now.trees 0))) all f.1) why (left_out prior f.0 row book last draft (subst IsRising all f.2) why h)
 
   -- and once all are given, the book is the table's
-  pub stands_last : (new : State) (given : List Row) → Shown rows_text [] now new given → (book : Accounts) → StandsFor given book → StandsFor (old.now.trees 0) book
+  pub stands_last : (new : State) (given : List Row) → Shown rows_text [] now new given → (book : Cells) → StandsFor given book → StandsFor (old.now.trees 0) book
   stands_last new given shows book stands =
       let p = (selected now new has_now given shows).0 in
       subst (λ (d : Database). StandsFor (d.trees 0) book) same.0.now_is (stands_unshown (now.now.trees 0) given book p stands)

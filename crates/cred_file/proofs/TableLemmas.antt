@@ -1,5 +1,5 @@
 -- What the lines of a table say of its rows and of the book.
-use Rattle.std.proofs.Common.{◌≡◌, ℕ, ℤ, List, [], ◌∷◌, map, Bool, true, ◌||◌, Option, Some, None, is_some, refl, sym, ap, ◌∙◌}
+use Rattle.std.proofs.Common.{◌≡◌, ℕ, ℤ, List, [], ◌∷◌, map, Bool, true, ◌||◌, is_some, refl, sym, ap, ◌∙◌}
 use Rattle.std.specs.{List.AllZip, List.list_any, Ordering.is_eq, Ordering.eq_by_cmp, Cmp.Equal-is, Cmp.eq_by_cmp_equiv, Cmp.Lexicographic.nat_list_cmp_total}
 use Rattle.std.specs.FinMap as fin
 use Rattle.std.specs.FinMap.{get-from_entries}
@@ -9,9 +9,9 @@ use Rattle.sqlite.specs.declared.types.Value.TheVariants.{Null, Int, Text}
 use Rattle.sqlite.specs.Order.{Row, value_cmp}
 use Rattle.sqlite_trees.specs.Tree.{has_rowid}
 use Rattle.sqlite_value.proofs.OrderLemmas.{value_cmp_total}
-use Rattle.cred_phc.specs.Values.{RecordValue}
 use Rattle.cred_book.proofs.Rows.{same_names}
-use Rattle.cred_book.specs.{Accounts.Accounts, Names.name_cmp}
+use Rattle.cred_file.specs.Cells.{Cell, Cells}
+use Rattle.cred_book.specs.{Names.name_cmp}
 use Rattle.cred_file.specs.Table.{Line, Says, Tells, entry_of, has_id, has_name, StandsFor}
 
 pub id_symm : (a b : ℤ) → is_eq (value_cmp (Int a) (Int b)) ≡ is_eq (value_cmp (Int b) (Int a))
@@ -24,12 +24,10 @@ pub same_name : (a b : List ℕ) → eq_by_cmp name_cmp a b ≡ true → a ≡ b
 same_name a b e = same_names a b ((Equal-is (name_cmp a b)).0 e)
 
 -- what a row says it says once
-told_once : (v : Value) (a b : Option RecordValue) → Tells v a → Tells v b → a ≡ b
-told_once Null None None p q = refl
-told_once Null None (Some y) p q = absurd q
-told_once (Text t) (Some x) None p q = absurd q
-told_once (Text t) (Some x) (Some y) p q = let same = sym p ∙ q in cc
-told_once _ _ b p q = absurd p
+told_once : (v : Value) (a b : Cell) → Tells v a → Tells v b → a ≡ b
+told_once Null a b p q = p ∙ sym q
+told_once (Text t) a b p q = let same = sym p ∙ q in cc
+told_once _ a b p q = absurd p
 
 pub said_once : (row : Row) (l m : Line) → Says row l → Says row m → l ≡ m
 said_once row l m p q =
@@ -65,7 +63,7 @@ any_map test f [] = refl
 any_map test f (x ∷ xs) = ap (λ b. test (f x) || b) (any_map test f xs)
 
 -- the names of the lines, as the book has them
-pub any_known : (name : List ℕ) (rows : List Row) (book : Accounts) (s : StandsFor rows book) → list_any (has_name name) s.lines ≡ fin.contains_key book name
+pub any_known : (name : List ℕ) (rows : List Row) (book : Cells) (s : StandsFor rows book) → list_any (has_name name) s.lines ≡ fin.contains_key book name
 any_known name rows book s =
-    sym (any_map (eq_by_cmp name_cmp name) (λ (e : List ℕ × Option RecordValue). e.0) (map entry_of s.lines) ∙ any_map (λ (e : List ℕ × Option RecordValue). eq_by_cmp name_cmp name e.0) entry_of s.lines)
+    sym (any_map (eq_by_cmp name_cmp name) (λ (e : List ℕ × Cell). e.0) (map entry_of s.lines) ∙ any_map (λ (e : List ℕ × Cell). eq_by_cmp name_cmp name e.0) entry_of s.lines)
     ∙ sym (is_some-find name_cmp name (map entry_of s.lines)) ∙ ap is_some (sym (get-from_entries nat_list_cmp_total (map entry_of s.lines) name)) ∙ ap (λ b. fin.contains_key b name) s.book_is

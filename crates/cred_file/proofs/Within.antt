@@ -1,37 +1,29 @@
 -- What happens to the table within a transaction, and as it is committed.
-use Rattle.std.proofs.Common.{arith, ◌≡◌, ◌⊎◌, inl, inr, ℕ, List, true, false, OnErr, Ok, Err, Result, refl, sym, ap, subst, ◌∙◌}
+use Rattle.std.proofs.Common.{◌≡◌, ◌⊎◌, inl, inr, ℕ, List, true, false, OnErr, Ok, Err, Result, refl, sym, ap, subst, ◌∙◌}
 use Rattle.sqlite.specs.{Order.Row, Tree.Trees, Effect.Database, Listing.understood}
 use Rattle.sqlite_schema.specs.declared.command.Command.{Command}
 use Rattle.sqlite.specs.{State.State, State.HasCleanDisk, State.Survives, State.Executes, State.Shows, State.mode_of, Held.Held, Held.state, Store.Ghosts}
 use Rattle.sqlite.proofs.{Callers.runs_as, Callers.statement_of, StateLemmas.survives_then}
 use Rattle.sqlite_catalog.specs.Listing.{IsSound}
-use Rattle.cred_book.specs.{Accounts.Accounts}
-use Rattle.cred_file.specs.{Edits.AreThere, Edits.joined, Edits.taken_in, Schema.IsBookSchema, Table.StandsFor, Keeps.IsTableOf, Keeps.LeavesOnly}
-use Rattle.cred_file.specs.Transactions.{IsUnderWay, MakesWithin}
-use Rattle.cred_file.proofs.{Joined.there_still, Keeping.IsSettled, Keeping.IsStep, Keeping.holds, Keeping.step_does}
+use Rattle.cred_file.specs.Cells.{Cells}
+use Rattle.cred_file.specs.{Schema.IsBookSchema, Table.StandsFor, Keeps.IsTableOf, Keeps.LeavesOnly}
+use Rattle.cred_file.specs.Transactions.{IsUnderWay}
+use Rattle.cred_file.proofs.{Keeping.IsSettled, Keeping.IsStep, Keeping.holds, Keeping.step_does}
 
 -- nothing is committed until the commit
-pub still : (old new : State) (P : Accounts → Type 0) → HasCleanDisk new → Survives old new (λ _. ⊥) → LeavesOnly old P → LeavesOnly new P
+pub still : (old new : State) (P : Cells → Type 0) → HasCleanDisk new → Survives old new (λ _. ⊥) → LeavesOnly old P → LeavesOnly new P
 still old new P clean s was db may = elim (s.crash clean db may) [ inl before ↦ was db before | inr none ↦ absurd none ]
 
-pub begun : {S : Type 0} (g : Ghosts S) (conn now : Held S) (book : Accounts) → now ≡ record conn { in_transaction = true } → IsTableOf (state g conn) book → IsUnderWay (state g now) book book
+pub begun : {S : Type 0} (g : Ghosts S) (conn now : Held S) (book : Cells) → now ≡ record conn { in_transaction = true } → IsTableOf (state g conn) book → IsUnderWay (state g now) book book
 begun g conn now book is was = subst (λ h. IsUnderWay (state g h) book book) (sym is) (record { schema = was.schema; stands = was.stands; sound = was.sound; inside = refl; left = was.left })
 
 -- a transaction that isn't committed leaves the first book
-pub uncommitted : (old mid new : State) (book other : Accounts) → HasCleanDisk new → Survives old mid (λ _. ⊥) → Survives mid new (λ _. ⊥) → LeavesOnly old (λ b. b ≡ book) → LeavesOnly new (λ b. (b ≡ book) ⊎ (b ≡ other))
+pub uncommitted : (old mid new : State) (book other : Cells) → HasCleanDisk new → Survives old mid (λ _. ⊥) → Survives mid new (λ _. ⊥) → LeavesOnly old (λ b. b ≡ book) → LeavesOnly new (λ b. (b ≡ book) ⊎ (b ≡ other))
 uncommitted old mid new book other clean one two was db may =
     let l = still old new (λ b. b ≡ book) clean (survives_then old mid new _ _ _ (λ _ db none. none) (λ _ db none. none) one two) was db may in (l.0, inl l.1, l.2)
 
--- accounts are entered, and then others have the records of these
-pub written : {start mid more : State} (book added changed : Accounts) → AreThere book changed → IsUnderWay start book book → Survives mid more (λ _. ⊥)
-    → (HasCleanDisk mid → MakesWithin start mid (λ b. b ≡ book) (λ b. joined b added)) → (HasCleanDisk more → MakesWithin mid more (λ b. AreThere b changed) (λ b. joined b changed))
-    → HasCleanDisk more → IsUnderWay more book (taken_in book added changed)
-written {mid = mid} book added changed there first s entered updated clean =
-    let early : HasCleanDisk mid = omega (arith, s.clean, clean) in
-    updated clean book (joined book added) (there_still book added changed there) (entered early book book refl first)
-
 -- a statement that makes one book of another
-module _ {sql : List ℕ} {params : Row} {command : Command} {from to : Accounts} (it : IsStep sql params command from to) (old new : State) (first : Accounts) where
+module _ {sql : List ℕ} {params : Row} {command : Command} {from to : Cells} (it : IsStep sql params command from to) (old new : State) (first : Cells) where
   pub within : (count : ℕ) → HasCleanDisk new → Survives old new (λ _. ⊥) → IsUnderWay old first from → Executes sql params old new (Ok count) → IsUnderWay new first to
   within count clean s was h =
       let w = it.runs old new _ count (runs_as sql params old new old.now.schema refl command (it.means _ was.schema).0 (it.means _ was.schema).1 count h) in
@@ -46,7 +38,7 @@ module _ {sql : List ℕ} {params : Row} {command : Command} {from to : Accounts
 
 -- ---- the commit
 
-pub committed : (old new : State) (first book : Accounts) → IsSettled new → IsUnderWay old first book → Shows old new old.now old.now false → IsTableOf new book
+pub committed : (old new : State) (first book : Cells) → IsSettled new → IsUnderWay old first book → Shows old new old.now old.now false → IsTableOf new book
 committed old new first book settled was shown =
     let trees : new.now.trees ≡ old.now.trees = ap (λ (d : Database). d.trees) shown.now_is in
     let schema = subst IsBookSchema (sym (ap (λ (d : Database). d.schema) shown.now_is)) was.schema in
@@ -65,7 +57,7 @@ committed old new first book settled was shown =
       );
     }
 
-pub commit_left : (old new : State) (first book : Accounts) → HasCleanDisk new → IsUnderWay old first book → Survives old new (λ db. db ≡ old.now.trees) → LeavesOnly new (λ b. (b ≡ first) ⊎ (b ≡ book))
+pub commit_left : (old new : State) (first book : Cells) → HasCleanDisk new → IsUnderWay old first book → Survives old new (λ db. db ≡ old.now.trees) → LeavesOnly new (λ b. (b ≡ first) ⊎ (b ≡ book))
 commit_left old new first book clean was s db may = elim (s.crash clean db may) [
   | inl before ↦ let l = was.left db before in (l.0, inl l.1, l.2)
   | inr is ↦ (book, inr refl, holds db book old.now was.schema was.sound was.stands is)

@@ -2,7 +2,7 @@
 use Rattle.std.specs.Prelude.{◌≡◌, ◌≢◌, ◌⊎◌}
 use Rattle.std.specs.FinMap as fin
 use Rattle.sqlite.specs.{Held.Held, Held.state, State.State, Store.Ghosts, Tree.Trees}
-use Rattle.cred_book.specs.Accounts.{Accounts}
+use Rattle.cred_file.specs.Cells.{Cells}
 use Rattle.cred_file.specs.declared.fault.OpenFault.{OpenFault}
 use Rattle.cred_file.specs.declared.fault.OpenFault.TheVariants as fault
 use Rattle.cred_file.specs.{Keeps.HoldsBook, Schema.no_schema}
@@ -16,6 +16,6 @@ IsUncopied g old new (fault.Database e) = (state g old).now.schema ≡ no_schema
 IsUncopied g old new _ = ⊥
 
 -- a crash leaves what it could leave before, an empty book, or the whole copy
-abbrev pub MayCopy : State → State → Accounts → Type 0
+abbrev pub MayCopy : State → State → Cells → Type 0
 MayCopy old new book = (db : Trees) → new.may_leave db
     → old.may_leave db ⊎ (HoldsBook db fin.empty ⊎ HoldsBook db book)

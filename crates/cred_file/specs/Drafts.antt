@@ -4,7 +4,8 @@ use Rattle.std.specs.{List.list_any, Ordering.int_cmp, Ordering.is_lt}
 use Rattle.std.specs.FinMap as fin
 use Rattle.sqlite.specs.{declared.types.Value.TheVariants.Int, Order.Row, Order.column}
 use Rattle.sqlite_trees.specs.{Tree.has_rowid, View.is_int}
-use Rattle.cred_book.specs.Accounts.{Accounts, register_capacity}
+use Rattle.cred_file.specs.Cells.{Cells}
+use Rattle.cred_book.specs.Accounts.{register_capacity}
 use Rattle.cred_file.specs.declared.fault.OpenFault.{OpenFault}
 use Rattle.cred_file.specs.declared.fault.OpenFault.TheVariants as fault
 use Rattle.cred_file.specs.{Table.Line, Table.Says, Table.StandsFor, Opening.corrupt, Opening.is_no_name, Opening.is_no_record}
@@ -21,13 +22,13 @@ EndsAt rows (Some id) =
     (front : List Row) × (row : Row) × (rows ≡ front ++ row ∷ []) × (column row 0 ≡ Int id)
 
 -- the rows so far stand for the book, and the last of them has this id, above which is none
-pub record IsDraftOf (rows : List Row) (book : Accounts) (last : Option ℤ) : Type 0 where
+pub record IsDraftOf (rows : List Row) (book : Cells) (last : Option ℤ) : Type 0 where
   pub stands : StandsFor rows book
   pub below : (id : ℤ) → is_past last id ≡ true → list_any (has_rowid id) rows ≡ false
   pub ends : EndsAt rows last
 
 -- one row more
-pub record IsAdded (row : Row) (book : Accounts) (last : Option ℤ) (after : Accounts)
+pub record IsAdded (row : Row) (book : Cells) (last : Option ℤ) (after : Cells)
     (next : Option ℤ) : Type 0 where
   pub line : Line
   pub says : Says row line
@@ -37,7 +38,7 @@ pub record IsAdded (row : Row) (book : Accounts) (last : Option ℤ) (after : Ac
   pub next_is : next ≡ Some line.id
 
 -- why a row is not added: it says no line, or there is no place for what it says
-abbrev pub IsNotAdded : Row → Accounts → Option ℤ → OpenFault → Type 0
+abbrev pub IsNotAdded : Row → Cells → Option ℤ → OpenFault → Type 0
 IsNotAdded row book last (fault.NoName id) =
     (column row 0 ≡ Int id) × (is_no_name (column row 1) ≡ true)
 IsNotAdded row book last (fault.NoRecord id why) =

@@ -1,9 +1,11 @@
 -- What a change makes of a book, and what the calls answer that make one.
-use Rattle.std.specs.Prelude.{◌≡◌, ℕ, ◌+◌, ◌≤◌, ◌<◌, ◌||◌, Bool, List, ◌++◌, nat_lt, Option, None, unwrap_or, Result, Ok, Err, true, false}
+use Rattle.std.specs.Prelude.{◌≡◌, ℕ, ◌+◌, ◌≤◌, ◌<◌, ◌||◌, Bool, List, ◌++◌, ⊤, nat_lt, Option, None, unwrap_or, Result, Ok, Err, true, false}
 use Rattle.std.specs.FinMap as fin
 use Rattle.cred_phc.specs.Values.{RecordValue}
-use Rattle.cred_book.specs.{Accounts.Accounts, declared.error.BookError.BookError}
+use Rattle.cred_book.specs.{Accounts.Accounts, Names.name_cmp, declared.error.BookError.BookError}
 use Rattle.cred_book.specs.declared.error.BookError.TheVariants as error
+use Rattle.cred_file.specs.Cells.{AllMarks, Cells, Marks, blank, cells_of, mark_at, mark_in, marked, marking, renewal, renewed_with}
+use Rattle.cred_file.specs.declared.mark.Mark.{Mark}
 use Rattle.cred_file.specs.declared.fault.Attempt.{Attempt}
 use Rattle.cred_file.specs.declared.fault.Attempt.TheVariants as attempt
 
@@ -20,11 +22,54 @@ joined book more = fin.from_entries (fin.entries more ++ fin.entries book)
 abbrev pub taken_in : Accounts → Accounts → Accounts → Accounts
 taken_in book added changed = joined (joined book added) changed
 
-abbrev pub after_attempt : Accounts → Attempt → Accounts
-after_attempt book (attempt.Put name stored) = fin.insert book name stored
-after_attempt book (attempt.TakeIn added changed) = taken_in book added changed
-after_attempt book (attempt.Delete name) = fin.remove book name
-after_attempt book (attempt.Rename name other) = renamed book name other
+-- ---- the same of accounts with marks
+
+-- the marks go with the name
+abbrev pub moved : Cells → List ℕ → List ℕ → Cells
+moved cells name other =
+    fin.insert (fin.remove cells name) other (unwrap_or (fin.get cells name) blank)
+
+abbrev pub joined_cells : Cells → Cells → Cells
+joined_cells cells more = fin.from_entries (fin.entries more ++ fin.entries cells)
+
+-- added accounts have the marks that are given
+abbrev pub with_added : Cells → Accounts → Marks → Cells
+with_added cells added given = joined_cells cells (cells_of added (mark_at given))
+
+-- changed ones have these with their new record, and their lock stays
+abbrev pub with_changed : Cells → Accounts → Marks → Cells
+with_changed cells changed given = joined_cells cells
+    (cells_of changed (λ name. renewed_with (mark_at given name) (mark_in cells name)))
+
+abbrev pub taken_cells : Cells → Accounts → Accounts → Marks → Cells
+taken_cells cells added changed given =
+    with_changed (with_added cells added given) changed given
+
+abbrev pub after_attempt : Cells → Attempt → Cells
+after_attempt cells (attempt.Put name stored) =
+    fin.insert cells name (renewal cells name stored)
+after_attempt cells (attempt.Mark name mark) = fin.insert cells name (marking cells name mark)
+after_attempt cells (attempt.TakeIn added changed marks) = taken_cells cells added changed marks
+after_attempt cells (attempt.Delete name) = fin.remove cells name
+after_attempt cells (attempt.Rename name other) = moved cells name other
+
+-- no name is in both
+abbrev pub AreApart : {V : Type 0} → fin.FinMap name_cmp V → Accounts → Type 0
+AreApart book more =
+    (name : List ℕ) → fin.contains_key more name ≡ true → fin.contains_key book name ≡ false
+
+-- it gives records to accounts that are there, or to new ones
+abbrev pub IsOfRecords : Cells → Attempt → Type 0
+IsOfRecords cells (attempt.Put name stored) = ⊤
+IsOfRecords cells (attempt.TakeIn added changed marks) = AreApart cells added
+IsOfRecords cells _ = ⊥
+
+-- a change is made whole, or not at all
+abbrev pub Becomes : {E : Type 0} → Cells → Cells → Cells → Result (Unit {0}) E → Type 0
+Becomes old new after (Ok _) = new ≡ after
+Becomes old new after (Err _) = new ≡ old
+
+-- ---- what the calls answer, and the book
 
 -- the name is there, or there is room for one more
 abbrev pub has_room_for : ℕ → Accounts → List ℕ → Bool
@@ -69,17 +114,13 @@ Renames room old new name other (Err error.Memory) =
     MayRename old name other × (fin.len old < room) × (new ≡ old)
 Renames room old new name other (Err error.Name) = ⊥
 
--- no name is in both, and one is
-abbrev pub AreApart : Accounts → Accounts → Type 0
-AreApart book more =
-    (name : List ℕ) → fin.contains_key more name ≡ true → fin.contains_key book name ≡ false
-
+-- a name is in both
 abbrev pub Meet : Accounts → Accounts → Type 0
 Meet book more =
     (name : List ℕ) × (fin.contains_key more name ≡ true) × (fin.contains_key book name ≡ true)
 
 -- all names of the one are in the other, or one is missing there
-abbrev pub AreThere : Accounts → Accounts → Type 0
+abbrev pub AreThere : {V W : Type 0} → fin.FinMap name_cmp V → fin.FinMap name_cmp W → Type 0
 AreThere book changed =
     (name : List ℕ) → fin.contains_key changed name ≡ true → fin.contains_key book name ≡ true
 
@@ -103,3 +144,14 @@ TakesIn room old new added changed (Err error.Full) = MayTakeIn old added change
 TakesIn room old new added changed (Err error.Memory) = MayTakeIn old added changed
     × (fin.len old + fin.len added ≤ room) × (new ≡ old)
 TakesIn room old new added changed (Err error.Name) = ⊥
+
+-- the mark of a name that is there is this one, and all else stays
+abbrev pub SetsMark : Accounts → Accounts → AllMarks → AllMarks → List ℕ → Mark
+    → Result (Unit {0}) BookError → Type 0
+SetsMark old new was now name m (Ok _) =
+    (fin.contains_key old name ≡ true) × (new ≡ old) × (now ≡ marked was name m)
+SetsMark old new was now name m (Err error.NoAccount) =
+    (fin.contains_key old name ≡ false) × (new ≡ old) × (now ≡ was)
+SetsMark old new was now name m (Err error.Memory) =
+    (fin.contains_key old name ≡ true) × (new ≡ old) × (now ≡ was)
+SetsMark old new was now name m (Err _) = ⊥

@@ -1,13 +1,13 @@
 -- Why no book is begun, and what is said of a change that is lost.
-use Rattle.std.specs.Prelude.{◌≡◌, ◌≢◌, ◌≤◌, ℕ, Bool, if◌then◌else◌, List, [], ◌∷◌, Option, Some, None, IfErr, IfSome, OnOk, Result, Err}
+use Rattle.std.specs.Prelude.{◌≡◌, ◌≢◌, ◌≤◌, ℕ, Bool, if◌then◌else◌, List, [], ◌∷◌, Some, None, IfErr, IfSome, OnOk, Result, Err}
 use Rattle.sqlite.specs.{declared.error.Error.Error, declared.types.Value.Value, declared.types.Value.TheVariants.Text, Held.Held, Held.state, Order.Row}
 use Rattle.sqlite.specs.{State.Executes, State.HasCleanDisk, Store.Ghosts}
 use Rattle.sqlite_trees.specs.View.{doubt}
-use Rattle.cred_phc.specs.Values.{RecordValue}
-use Rattle.cred_book.specs.{Accounts.Accounts, declared.error.BookError.BookError}
+use Rattle.cred_file.specs.Cells.{Cell, Cells}
+use Rattle.cred_book.specs.{declared.error.BookError.BookError}
 use Rattle.cred_file.specs.{declared.fault.Attempt.Attempt, declared.fault.Lost.Lost, declared.fault.OpenFault.OpenFault}
 use Rattle.cred_file.specs.declared.fault.OpenFault.TheVariants as fault
-use Rattle.cred_file.specs.{Kept.Kept, Schema.create_text, Schema.delete_text, Schema.insert_text, Schema.no_schema, Schema.rename_text, Schema.update_text}
+use Rattle.cred_file.specs.{Edits.Becomes, Edits.after_attempt, Kept.Kept, Kept.cells, Schema.create_text, Schema.delete_text, Schema.insert_text, Schema.no_schema, Schema.rename_text, Schema.update_text}
 use Rattle.cred_file.specs.{Keeps.Makes, Keeps.MayMake, Table.Tells}
 
 -- if the disk returns what was written, the statement was run and this was its error
@@ -29,8 +29,8 @@ abbrev pub put_text : Bool → List ℕ
 put_text is_there = if is_there then update_text else insert_text
 
 -- the statement that puts a record, or none, at a name was refused
-abbrev pub FailsToPut : {S : Type 0} → Ghosts S → Held S → Held S → Bool → List ℕ
-    → Option RecordValue → Error → Type 0
+abbrev pub FailsToPut : {S : Type 0} → Ghosts S → Held S → Held S → Bool → List ℕ → Cell
+    → Error → Type 0
 FailsToPut g old new is_there name stored e = (value : Value) × Tells value stored
     × Refuses g old new (put_text is_there) (Text name ∷ value ∷ []) e
 
@@ -45,8 +45,8 @@ FailsToRename g old new name other = Refuses g old new rename_text (Text name �
 
 -- What a statement comes to that changes the table. Done, it makes one book of another; a crash
 -- leaves the one or the other; an error of it is of this kind.
-pub record Changes {S : Type 0} (g : Ghosts S) (old new : Held S) (Fits : Accounts → Type 0)
-    (after : Accounts → Accounts) (Fails : Error → Type 0) (r : Result ℕ Error) : Type 0 where
+pub record Changes {S : Type 0} (g : Ghosts S) (old new : Held S) (Fits : Cells → Type 0)
+    (after : Cells → Cells) (Fails : Error → Type 0) (r : Result ℕ Error) : Type 0 where
   pub done : HasCleanDisk (state g new) → OnOk r (Makes (state g old) (state g new) Fits after)
   pub left : HasCleanDisk (state g new) → MayMake (state g old) (state g new) Fits after
   pub refused : IfErr r Fails
@@ -65,8 +65,10 @@ pub record Loses {S : Type 0} (attempt : Attempt) (Fails : Error → Type 0) (ol
   pub lost : old.lost ≡ None → IfSome new.lost (IsLossOf attempt Fails)
 
 -- likewise, and the call that makes this change answers Ok only if it is written, so that nothing
--- was lost and nothing is
+-- was lost and nothing is; then the accounts and their marks are those that it makes, and after an
+-- error they are as they were
 pub record Remembers {S : Type 0} (attempt : Attempt) (Fails : Error → Type 0) (old new : Kept S)
     (result : Result (Unit {0}) BookError) : Type 0 where
+  pub made : Becomes (cells old) (cells new) (after_attempt (cells old) attempt) result
   pub written : OnOk result ((old.lost ≡ None) × (new.lost ≡ None))
   pub loses : Loses attempt Fails old new

@@ -1,6 +1,7 @@
 -- Definitions that contracts cite: the table, the book that its rows stand for, what is kept, what
 -- is opened, and why a call fails.
 pub mod Schema
+pub mod Cells
 pub mod Table
 pub mod Edits
 pub mod Keeps

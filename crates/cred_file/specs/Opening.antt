@@ -6,8 +6,9 @@ use Rattle.sqlite.specs.declared.types.Value.TheVariants.{Null, Text}
 use Rattle.sqlite.specs.{declared.error.Error.Error, declared.error.Error.TheVariants.SqliteFailure, declared.error.ErrorCode.TheVariants.DatabaseCorrupt}
 use Rattle.sqlite.specs.{Order.Row, Order.column, Order.value_cmp, State.State, State.FailsToQuery}
 use Rattle.sqlite_trees.specs.{Tree.has_rowid, View.is_int}
-use Rattle.cred_phc.specs.{Errors.error_number, Reading.read_record, Values.RecordValue, declared.error.PhcError.PhcError}
-use Rattle.cred_book.specs.{Accounts.Accounts, Accounts.register_capacity, Names.is_name}
+use Rattle.cred_phc.specs.{Errors.error_number, declared.error.PhcError.PhcError}
+use Rattle.cred_file.specs.Cells.{Cell, Cells, read_cell}
+use Rattle.cred_book.specs.{Accounts.register_capacity, Names.is_name}
 use Rattle.cred_file.specs.declared.fault.OpenFault.{OpenFault}
 use Rattle.cred_file.specs.declared.fault.OpenFault.TheVariants as fault
 use Rattle.cred_file.specs.{Schema.IsBookSchema, Table.StandsFor}
@@ -21,13 +22,13 @@ is_no_name (Text t) = not (is_name t)
 is_no_name _ = true
 
 -- it has this fault
-abbrev pub is_refused : PhcError → Result RecordValue PhcError → Bool
+abbrev pub is_refused : PhcError → Result Cell PhcError → Bool
 is_refused why (Ok stored) = false
 is_refused why (Err e) = error_number e == error_number why
 
--- a text that is refused as a record, with this fault
+-- a text that is refused as a cell, with this fault
 abbrev pub is_bad_text : PhcError → Value → Bool
-is_bad_text why (Text t) = is_refused why (read_record t)
+is_bad_text why (Text t) = is_refused why (read_cell t)
 is_bad_text why _ = false
 
 -- neither NULL nor a text
@@ -85,7 +86,7 @@ pub record IsAsBefore (old new : State) : Type 0 where
   pub is_open : new.is_open ≡ old.is_open
 
 -- the book is the one that the rows stand for, and nothing has changed
-pub record IsFound (old new : State) (book : Accounts) : Type 0 where
+pub record IsFound (old new : State) (book : Cells) : Type 0 where
   pub schema : IsBookSchema old.now.schema
   pub stands : StandsFor (old.now.trees 0) book
   pub same : IsAsBefore old new

@@ -3,6 +3,8 @@
 ghost use Rattle.std.specs.Prelude.{◌≡◌};
 ghost use Rattle.cred_file.specs.declared.fault.Attempt.TheVariants as Attempt;
 
+use crate::mark::Mark;
+use crate::marks::Marks;
 use cred_book::{Name, Register};
 use cred_phc::{PhcError, Record};
 use sqlite::Error;
@@ -18,8 +20,8 @@ pub enum OpenFault {
     NoBook,
     /// This row has no valid name.
     NoName(i64),
-    /// This row has neither NULL nor the text of a record: its text has this fault, or its value is
-    /// no text.
+    /// This row has neither NULL nor the text of marks and a record: its text has this fault, or
+    /// its value is no text.
     NoRecord { row: i64, why: Option<PhcError> },
     /// This row has a name that another row has.
     Twice(i64),
@@ -43,21 +45,37 @@ pub struct Lost {
 /// A change of a book that was attempted.
 #[derive(Drop)]
 pub enum Attempt {
-    /// The record of a name is set, or removed.
-    Put { name: Name, stored: Option<Record> },
-    /// Accounts are added, and the records of others are replaced, all together.
-    TakeIn { added: Register, changed: Register },
+    /// The record of a name is set, or removed; its lock stays.
+    Put {
+        name: Name,
+        stored: Option<Record>,
+    },
+    /// The marks of an account are set.
+    Mark {
+        name: Name,
+        mark: Mark,
+    },
+    /// Accounts are added, and the records of others are replaced, with these marks, all together.
+    TakeIn {
+        added: Register,
+        changed: Register,
+        marks: Marks,
+    },
     /// A name is removed, with its record.
     Delete(Name),
     /// An account gets another name.
-    Rename { name: Name, other: Name },
+    Rename {
+        name: Name,
+        other: Name,
+    },
 }
 
 impl fmt::Debug for Attempt {
     fn fmt<W: fmt::Write>(&self, f: &mut fmt::Formatter<W>) -> fmt::Result {
         match self {
             Attempt::Put { name, .. } => write!(f, "Put {{ name: {name:?} }}"),
-            Attempt::TakeIn { added, changed } => {
+            Attempt::Mark { name, mark } => write!(f, "Mark {{ name: {name:?}, mark: {mark:?} }}"),
+            Attempt::TakeIn { added, changed, .. } => {
                 let (added, changed) = (added.len(), changed.len());
                 write!(f, "TakeIn {{ added: {added}, changed: {changed} }}")
             }

@@ -5,7 +5,7 @@ mod copy;
 mod edits;
 
 ghost use Rattle.sqlite.specs.Held.{state};
-ghost use Rattle.cred_file.specs.{Schema.no_schema, Failures.IsUnbegun, Keeps.Keeps, Keeps.MayBegin, Opening.IsFound, Opening.IsUnopened};
+ghost use Rattle.cred_file.specs.{Cells.mark_in, Schema.no_schema, Failures.IsUnbegun, Kept.cells, Keeps.Keeps, Keeps.MayBegin, Opening.IsFound, Opening.IsUnopened};
 ghost use Rattle.std.specs.Prelude.{◌≡◌, true, false, IfErr, IfOk, IfSome, MatchBool, None, OnOk, Some, option_map};
 ghost use Rattle.std.specs.FinMap as fin;
 ghost use Rattle.cred_book.specs.{Accounts.register_capacity, Calls.AdmitsWithin, Calls.Loads, Calls.Shows, Commits.Begins, Commits.Commits};
@@ -14,6 +14,8 @@ ghost use Rattle.sqlite.specs.State.{HasCleanDisk, Survives};
 
 use crate::catalogue::is_of_book;
 use crate::fault::{Lost, OpenFault};
+use crate::mark::Mark;
+use crate::marks::Marks;
 use crate::statements::{create_table, read_table};
 use cred_book::{BookError, Keeper, Name, Register, Reply, Request, Ticket, Worked};
 use cred_phc::Record;
@@ -23,8 +25,10 @@ use std::alloc::Global;
 use std::marker::Model;
 use std::sync::Wait;
 
-/// A book of at most 2^24 accounts, in a table. As long as the disk returns the written bytes, a
-/// crash between calls leaves this book.
+/// A book of at most 2^24 accounts with their marks, in a table. As long as the disk returns the
+/// written bytes, a crash between calls leaves this book.
+///
+/// The marks change nothing here but themselves: a caller looks at them before it answers.
 ///
 /// If the database fails, the change that was under way is lost: it may be kept or not. After that
 /// the book accepts no other change, and `lost` describes the lost one.
@@ -33,20 +37,22 @@ pub struct FileBook<S: Alter> {
     alloc: Global,
     conn: Connection<S>,
     book: Register,
+    marks: Marks,
     lost: Option<Lost>,
 }
 
 impl<S: Alter> Model for FileBook<S> {
     ghost use Rattle.cred_file.specs.Kept.{Kept, kept_code};
     ghost use Rattle.cred_file.specs.Keeps.{Keeps};
+    ghost use Rattle.cred_file.specs.Cells.{cells_of, mark_at};
 
     ghost Value = { Kept S };
 
     ghost coded = { kept_code S.code };
 
-    ghost view = { λ b. record { book = b.book; lost = b.lost; conn = b.conn } };
+    ghost view = { λ b. record { book = b.book; marks = b.marks; lost = b.lost; conn = b.conn } };
 
-    ghost invariant = { λ b. Keeps S.Store b.conn b.book b.lost };
+    ghost invariant = { λ b. Keeps S.Store b.conn (cells_of b.book (mark_at b.marks)) b.lost };
 }
 
 impl<S: Alter> FileBook<S> {
@@ -58,7 +64,8 @@ impl<S: Alter> FileBook<S> {
         mut conn: Connection<S>,
     ) -> Result<FileBook<S>, (OpenFault, Connection<S>)>
         requires autocommit { conn.in_transaction ≡ false }
-        ensures empty { IfOk result (λ b. (b.book ≡ fin.empty) × (b.lost ≡ None)) }
+        ensures empty { IfOk result (λ b.
+            (b.book ≡ fin.empty) × (cells b ≡ fin.empty) × (b.lost ≡ None)) }
         ensures begun { IfOk result (λ _. (state S.Store conn).now.schema ≡ no_schema) }
         ensures refused { IfErr result (λ e. IsUnbegun S.Store conn e.1 e.0) }
         ensures left { IfErr result (λ e. HasCleanDisk (state S.Store e.1)
@@ -68,11 +75,13 @@ impl<S: Alter> FileBook<S> {
             return Err((OpenFault::NotEmpty, conn));
         }
         let book = Register::new(alloc);
+        let marks = Marks::new(alloc);
         match create_table(&mut conn) {
             Ok(_) => Ok(FileBook {
                 alloc,
                 conn,
                 book,
+                marks,
                 lost: None,
             }),
             Err(error) => Err((OpenFault::Database(error), conn)),
@@ -91,7 +100,7 @@ impl<S: Alter> FileBook<S> {
         requires autocommit { conn.in_transaction ≡ false }
         ensures whole { IfOk result (λ b. b.lost ≡ None) }
         ensures found { IfOk result (λ b. HasCleanDisk (state S.Store b.conn)
-            → IsFound (state S.Store conn) (state S.Store b.conn) b.book) }
+            → IsFound (state S.Store conn) (state S.Store b.conn) (cells b)) }
         ensures refused { IfErr result (λ e. HasCleanDisk (state S.Store e.1)
             → IsUnopened (state S.Store conn) (state S.Store e.1) e.0) }
         ensures kept { IfOk result (λ b.
@@ -105,10 +114,11 @@ impl<S: Alter> FileBook<S> {
             Err(_) => return Err((OpenFault::Memory, conn)),
         }
         match read_table(alloc, &mut conn) {
-            Ok(book) => Ok(FileBook {
+            Ok((book, marks)) => Ok(FileBook {
                 alloc,
                 conn,
                 book,
+                marks,
                 lost: None,
             }),
             Err(fault) => Err((fault, conn)),
@@ -122,6 +132,23 @@ impl<S: Alter> FileBook<S> {
         &self.book
     }
 
+    /// The marks of its accounts.
+    pub fn marks(&self) -> &Marks
+        ensures { result.now ≡ self.now.marks }
+    {
+        &self.marks
+    }
+
+    /// The marks of a name; none if the book doesn't have it.
+    pub fn mark_of(&self, name: &Name) -> Mark
+        ensures { result ≡ mark_in (cells self.now) name.now }
+    {
+        if !self.book.contains(name) {
+            return Mark::none();
+        }
+        self.marks.at(name)
+    }
+
     /// The change that was under way as the database failed, if it did.
     pub fn lost(&self) -> Option<&Lost>
         ensures { option_map (λ l. l.now) result ≡ self.now.lost }
@@ -132,7 +159,7 @@ impl<S: Alter> FileBook<S> {
     /// A law: the table is the book's until a change is lost, and a crash leaves the book, or the
     /// book with the lost change.
     pub fn keeps(&self)
-        ensures { Keeps S.Store self.now.conn self.now.book self.now.lost }
+        ensures { Keeps S.Store self.now.conn (cells self.now) self.now.lost }
     {
         let _ = &self.lost;
     }
@@ -140,7 +167,7 @@ impl<S: Alter> FileBook<S> {
     /// Returns the connection, which keeps the book.
     pub fn close(self) -> Connection<S>
         ensures same { result ≡ self.conn }
-        ensures kept { Keeps S.Store result self.book self.lost }
+        ensures kept { Keeps S.Store result (cells self) self.lost }
     {
         self.conn
     }
@@ -160,6 +187,7 @@ impl<S: Alter> Keeper for FileBook<S> {
     ghost use Rattle.cred_book.specs.Calls.{AdmitsWithin, Loads};
     ghost use Rattle.cred_book.specs.Commits.{Commits, judgement};
     ghost use Rattle.cred_book.specs.Works.{makes_change, name_of};
+    ghost use Rattle.cred_file.specs.{Cells.blank, Cells.renewal, Kept.cells};
     ghost use Rattle.cred_file.specs.Failures.{FailsToPut, Loses, Remembers};
     ghost use Rattle.cred_file.specs.declared.fault.Attempt.TheVariants as Attempt;
 
@@ -170,7 +198,7 @@ impl<S: Alter> Keeper for FileBook<S> {
     fn admit<R: Wait>(&mut self, _rt: &R, name: Name) -> Result<(), BookError>
         ensures done { AdmitsWithin register_capacity self.old.book self.new.book name result }
         ensures remembers { Remembers (Attempt.Put name None)
-            (FailsToPut S.Store self.old.conn self.new.conn false name None)
+            (FailsToPut S.Store self.old.conn self.new.conn false name blank)
             self.old self.new result }
     {
         FileBook::admit(self, name)
@@ -179,8 +207,8 @@ impl<S: Alter> Keeper for FileBook<S> {
     fn load<R: Wait>(&mut self, _rt: &R, name: &Name, stored: Record) -> Result<(), BookError>
         ensures done { Loads self.old.book self.new.book name.now stored result }
         ensures remembers { Remembers (Attempt.Put name.now (Some stored))
-            (FailsToPut S.Store self.old.conn self.new.conn true name.now (Some stored))
-            self.old self.new result }
+            (FailsToPut S.Store self.old.conn self.new.conn true name.now
+            (renewal (cells self.old) name.now (Some stored))) self.old self.new result }
     {
         FileBook::load(self, name, stored)
     }
@@ -200,7 +228,8 @@ impl<S: Alter> Keeper for FileBook<S> {
         ensures written { OnOk result (self.new.lost ≡ self.old.lost) }
         ensures loses { Loses (Attempt.Put (name_of worked.0) (judgement self.old.book worked).1)
             (FailsToPut S.Store self.old.conn self.new.conn true (name_of worked.0)
-            (judgement self.old.book worked).1) self.old self.new }
+            (renewal (cells self.old) (name_of worked.0) (judgement self.old.book worked).1))
+            self.old self.new }
     {
         FileBook::commit(self, worked)
     }

@@ -1,10 +1,14 @@
 //! Laws of a book that is opened from files, and of one in which a name was changed. A law is
 //! a function that does nothing.
 
-ghost use Rattle.std.specs.Prelude.{◌≡◌, false, List, true, ℕ};
+ghost use Rattle.std.specs.Prelude.{◌≡◌, ◌++◌, false, List, Ok, Some, true, ℕ};
+ghost use Rattle.cred_phc.specs.{Reading.read_record, Text.IsRecordText, Text.record_text, Values.IsRecord, Values.RecordValue};
+ghost use Rattle.cred_file.specs.declared.mark.Mark.{Mark};
+ghost use Rattle.cred_file.specs.Cells.{cell, mark_in, mark_text, read_cell, unmarked};
+ghost use Rattle.cred_file.specs.declared.fault.Attempt.{Attempt};
 ghost use Rattle.std.specs.FinMap as fin;
 ghost use Rattle.cred_book.specs.Accounts.{Accounts};
-ghost use Rattle.cred_file.specs.{Edits.renamed, Keeps.HoldsBook, Opening.IsFound};
+ghost use Rattle.cred_file.specs.{Cells.Cells, Edits.IsOfRecords, Edits.after_attempt, Edits.renamed, Keeps.HoldsBook, Opening.IsFound};
 ghost use Rattle.sqlite.specs.{Files.HoldsDatabase, Held.Held, Held.state, Start.FindsIn, State.IsLive, State.Opens, Tree.Trees};
 
 use sqlite::Alter;
@@ -13,7 +17,7 @@ use sqlite::Alter;
 /// then finds is the one of that database. The first three premises are clauses of the one,
 /// `opened` and `found`, and the fourth is the clause `found` of the other.
 pub fn files_hold_the_book<S: Alter>()
-    ensures { (image : _) (old new : Held S) (book : Accounts)
+    ensures { (image : _) (old new : Held S) (book : Cells)
         → Opens (state S.Store old) → IsLive (state S.Store old)
         → FindsIn image (state S.Store old)
         → IsFound (state S.Store old) (state S.Store new) book
@@ -27,4 +31,27 @@ pub fn a_renamed_name_is_gone()
     ensures { (book : Accounts) (name other : List ℕ) → fin.contains_key book name ≡ true
         → fin.contains_key book other ≡ false
         → fin.contains_key (renamed book name other) name ≡ false }
+{}
+
+/// A lock stays, whatever records are put: only a change of marks, a removal and a renaming take it
+/// from its name.
+#[tactic(auto, using(crate::proofs::LocksStay::lock_stays))]
+pub fn a_lock_stays()
+    ensures { (cells : Cells) (change : Attempt) (name : List ℕ) → IsOfRecords cells change
+        → (mark_in cells name).locked ≡ true
+        → (mark_in (after_attempt cells change) name).locked ≡ true }
+{}
+
+/// The text of marks and a record is read as these.
+#[tactic(auto, using(crate::proofs::CellLaws::read_marked))]
+pub fn marks_are_read_back()
+    ensures { (m : Mark) (v : RecordValue) → IsRecord v
+        → read_cell (mark_text m ++ record_text v) ≡ Ok (cell (Some v) m) }
+{}
+
+/// A row that an older program wrote has no mark: its text is read as the record that it was.
+#[tactic(auto, using(crate::proofs::CellLaws::old_read))]
+pub fn old_rows_are_unmarked()
+    ensures { (text : List ℕ) (v : RecordValue) → IsRecordText text v → read_record text ≡ Ok v
+        → read_cell text ≡ Ok (cell (Some v) unmarked) }
 {}

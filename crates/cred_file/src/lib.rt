@@ -5,6 +5,8 @@ mod catalogue;
 mod fault;
 mod file_book;
 mod laws;
+mod mark;
+mod marks;
 mod reading;
 mod restart;
 mod statements;
@@ -12,5 +14,10 @@ mod transaction;
 
 pub use fault::{Attempt, Lost, OpenFault};
 pub use file_book::FileBook;
-pub use laws::{a_renamed_name_is_gone, files_hold_the_book};
+pub use laws::{
+    a_lock_stays, a_renamed_name_is_gone, files_hold_the_book, marks_are_read_back,
+    old_rows_are_unmarked,
+};
+pub use mark::Mark;
+pub use marks::Marks;
 pub use restart::{crash_and_open, reopen};

@@ -1,14 +1,18 @@
 //! The book that the rows of a table hold.
 
 ghost use Rattle.std.specs.Prelude.{◌≡◌, ◌≤◌, ℤ, true, IfErr, IfOk, IsTrue, MatchOption, MatchResult, None, Option};
-ghost use Rattle.cred_book.specs.{Accounts.Accounts, Accounts.register_capacity, Names.is_name};
+ghost use Rattle.cred_book.specs.{Accounts.register_capacity, Names.is_name};
 ghost use Rattle.cred_file.specs.Drafts.{IsAdded, IsNotAdded, is_past};
 ghost use Rattle.cred_file.specs.{Opening.AreAtFault, Opening.corrupt, Opening.is_no_name, Opening.is_no_record, Table.Says, Table.StandsFor, Table.Tells};
 ghost use Rattle.sqlite.specs.{declared.types.Value.TheVariants.Text, Order.column};
 ghost use Rattle.sqlite_value.specs.Value.{owned};
 ghost use Rattle.std.specs.FinMap as fin;
+ghost use Rattle.std.specs.Result.{result_map_both};
+ghost use Rattle.cred_file.specs.Cells.{Cells, begins, cell, cells_of, mark_at, past, read_cell};
 
 use crate::fault::OpenFault;
+use crate::mark::Mark;
+use crate::marks::Marks;
 use cred_book::{BookError, Name, Register};
 use cred_phc::{PhcError, Record, parse_record};
 use sqlite::types::ValueRef;
@@ -21,6 +25,7 @@ struct Entry {
     id: i64,
     name: Name,
     stored: Option<Record>,
+    mark: Mark,
 }
 
 /// The book of the rows so far, and the id of the last one. The rows come in the order of their
@@ -28,38 +33,46 @@ struct Entry {
 #[derive(Drop)]
 pub(crate) struct Draft {
     book: Register,
+    marks: Marks,
     last: Option<i64>,
 }
 
 impl Draft {
     pub(crate) fn new(alloc: Global) -> Draft
-        ensures { (result.book ≡ fin.empty) × (result.last ≡ None) }
+        ensures { (cells_of result.book (mark_at result.marks) ≡ fin.empty) × (result.last ≡ None) }
     {
         Draft {
             book: Register::new(alloc),
+            marks: Marks::new(alloc),
             last: None,
         }
     }
 
     /// The book, once all rows are added.
-    pub(crate) fn into_book(self) -> Register
-        ensures book { result ≡ self.book }
-        ensures few { fin.len result ≤ register_capacity }
+    pub(crate) fn into_book(self) -> (Register, Marks)
+        ensures book { result ≡ (self.book, self.marks) }
+        ensures few { fin.len result.0 ≤ register_capacity }
     {
         let _few = self.book.len();
-        self.book
+        (self.book, self.marks)
     }
 
     pub(crate) fn add(&mut self, row: &Row) -> Result<(), OpenFault>
-        ensures added { IfOk result (λ _. IsAdded row.now self.old.book self.old.last
-            self.new.book self.new.last) }
-        ensures left_out { IfErr result (IsNotAdded row.now self.old.book self.old.last) }
+        ensures added { IfOk result (λ _. IsAdded row.now
+            (cells_of self.old.book (mark_at self.old.marks)) self.old.last
+            (cells_of self.new.book (mark_at self.new.marks)) self.new.last) }
+        ensures left_out { IfErr result (IsNotAdded row.now
+            (cells_of self.old.book (mark_at self.old.marks)) self.old.last) }
     {
         let entry = read_entry(row)?;
         if !is_past(self.last, entry.id) {
             return Err(OpenFault::Database(corrupt_error()));
         }
         self.last = Some(entry.id);
+        match self.marks.put(&entry.name, entry.mark) {
+            Ok(()) => {}
+            Err(_) => return Err(OpenFault::Memory),
+        }
         match self.book.enter(entry.name, entry.stored) {
             Ok(()) => Ok(()),
             Err(BookError::Exists) => Err(OpenFault::Twice(entry.id)),
@@ -80,8 +93,8 @@ fn is_past(last: Option<i64>, id: i64) -> bool
 
 fn read_entry(row: &Row) -> Result<Entry, OpenFault>
     ensures says { IfOk result (λ e. Says row.now
-        (record { id = e.id; name = e.name; stored = e.stored })) }
-    ensures unread { (book : Accounts) (last : Option ℤ)
+        (record { id = e.id; name = e.name; stored = cell e.stored e.mark })) }
+    ensures unread { (book : Cells) (last : Option ℤ)
         → IfErr result (IsNotAdded row.now book last) }
 {
     let ValueRef::Int(id) = value_at(row, 0) else {
@@ -91,7 +104,12 @@ fn read_entry(row: &Row) -> Result<Entry, OpenFault>
         return Err(OpenFault::NoName(id));
     };
     match read_stored(value_at(row, 2)) {
-        Ok(stored) => Ok(Entry { id, name, stored }),
+        Ok((stored, mark)) => Ok(Entry {
+            id,
+            name,
+            stored,
+            mark,
+        }),
         Err(why) => Err(OpenFault::NoRecord { row: id, why }),
     }
 }
@@ -122,18 +140,57 @@ fn read_name(value: ValueRef<'_>) -> Option<Name>
     }
 }
 
-/// NULL means no record, which is no fault. The fault is that of the text; another value has none.
-fn read_stored(value: ValueRef<'_>) -> Result<Option<Record>, Option<PhcError>>
-    ensures { MatchResult result (Tells (owned value.entry))
+/// NULL means no record and no mark, which is no fault. The fault is that of the text; another
+/// value has none.
+fn read_stored(value: ValueRef<'_>) -> Result<(Option<Record>, Mark), Option<PhcError>>
+    ensures { MatchResult result (λ c. Tells (owned value.entry) (cell c.0 c.1))
         (λ why. is_no_record why (owned value.entry) ≡ true) }
 {
     match value {
-        ValueRef::Null => Ok(None),
-        ValueRef::Text(text) => match parse_record(text) {
-            Ok(stored) => Ok(Some(stored)),
+        ValueRef::Null => Ok((None, Mark::none())),
+        ValueRef::Text(text) => match read_text(text) {
+            Ok(it) => Ok(it),
             Err(fault) => Err(Some(fault)),
         },
         _ => Err(None),
+    }
+}
+
+/// The marks at the front of a text, and the record after them, if there is one.
+fn read_text(text: &[u8]) -> Result<(Option<Record>, Mark), PhcError>
+    ensures { result_map_both (λ c. cell c.0 c.1) (λ e. e) result ≡ read_cell text.now }
+{
+    let behind = past(b'!', text);
+    let rest = past(b'~', behind);
+    let mark = Mark {
+        locked: begins(b'!', text),
+        must_change: begins(b'~', behind),
+    };
+    if rest.is_empty() && mark.is_marked() {
+        return Ok((None, mark));
+    }
+    match parse_record(rest) {
+        Ok(stored) => Ok((Some(stored), mark)),
+        Err(fault) => Err(fault),
+    }
+}
+
+fn begins(byte: u8, text: &[u8]) -> bool
+    ensures { result ≡ begins byte text.now }
+{
+    match text {
+        [first, ..] => *first == byte,
+        [] => false,
+    }
+}
+
+/// The text after this byte, if it begins with it.
+fn past(byte: u8, text: &[u8]) -> &[u8]
+    ensures { result.now ≡ past byte text.now }
+{
+    match text {
+        [first, rest @ ..] if *first == byte => rest,
+        _ => text,
     }
 }
 

@@ -1,7 +1,7 @@
 //! The next run opens the book that a run kept, even after a crash.
 
 ghost use Rattle.std.specs.Prelude.{IfErr, IfOk, IfSome, IsTrue};
-ghost use Rattle.cred_file.specs.{Keeps.IsOrWith, Keeps.MayLeave, Keeps.MayRefuse, Opening.IsForWant};
+ghost use Rattle.cred_file.specs.{Kept.cells, Keeps.IsOrWith, Keeps.MayLeave, Keeps.MayRefuse, Opening.IsForWant};
 ghost use Rattle.sqlite.specs.{Held.state, State.HasCleanDisk};
 ghost use Rattle.sqlite_trees.specs.View.{IsClean};
 
@@ -22,7 +22,7 @@ pub fn crash_and_open<S: Alter + Reopen + Drop>(
     book: FileBook<S>,
 ) -> Option<Result<FileBook<S>, (OpenFault, Connection<S>)>>
     ensures kept { IfSome result (λ r. IfOk r (λ b. HasCleanDisk (state S.Store b.conn)
-        → IsOrWith book.book book.lost b.book)) }
+        → IsOrWith (cells book) book.lost (cells b))) }
     ensures refused { IfSome result (λ r. IfErr r (λ e. HasCleanDisk (state S.Store e.1)
         → IsForWant e.0)) }
 {
@@ -38,7 +38,7 @@ pub fn reopen<S: Alter + Reopen + Drop>(
 ) -> Option<Result<FileBook<S>, (OpenFault, Connection<S>)>>
     requires { IsClean (S.Store.view store) → IsTrue (S.Store.view store).is_numbered }
     ensures found { IfSome result (λ r. IfOk r (λ b. HasCleanDisk (state S.Store b.conn)
-        → MayLeave S.Store store b.book)) }
+        → MayLeave S.Store store (cells b))) }
     ensures refused { IfSome result (λ r. IfErr r (λ e. HasCleanDisk (state S.Store e.1)
         → MayRefuse S.Store store e.0)) }
 {

@@ -3,7 +3,7 @@
 ghost use Rattle.std.specs.Prelude.{◌≡◌, ◌≤◌, [], true, false, IfErr, IfOk, OnOk};
 ghost use Rattle.std.specs.FinMap as fin;
 ghost use Rattle.cred_book.specs.Accounts.{register_capacity};
-ghost use Rattle.cred_file.specs.{Edits.renamed, Failures.Changes, Failures.FailsToDelete, Failures.FailsToPut, Failures.FailsToRename, Failures.Refuses};
+ghost use Rattle.cred_file.specs.{Cells.cell, Cells.cells_of, Cells.mark_at, Cells.mark_text, Edits.moved, Failures.Changes, Failures.FailsToDelete, Failures.FailsToPut, Failures.FailsToRename, Failures.Refuses};
 ghost use Rattle.cred_file.specs.Schema.{IsBookSchema, create_text, no_schema};
 ghost use Rattle.cred_file.specs.Keeps.{Has, IsRenamable, IsTableOf, Lacks, MayBegin};
 ghost use Rattle.cred_file.specs.{Table.IsTextOf, Table.StandsFor, Table.Tells, Opening.IsFound, Opening.IsUnopened};
@@ -11,31 +11,55 @@ ghost use Rattle.sqlite.specs.{State.HasCleanDisk, State.IsUnchanged, State.Surv
 ghost use Rattle.sqlite_value.specs.Value.{owned};
 
 use crate::fault::OpenFault;
+use crate::mark::Mark;
+use crate::marks::Marks;
 use crate::reading::Draft;
 use cred_book::{Name, Register};
 use cred_phc::{PhcError, Record, write_record};
 use sqlite::types::ValueRef;
 use sqlite::{Alter, Connection, Error};
-use std::alloc::Global;
+use std::alloc::{AllocError, Global};
 
-/// The text of a record, for its row; empty without a record.
-pub(crate) fn text_of(alloc: Global, stored: &Option<Record>) -> Result<Vec<u8>, PhcError>
-    ensures { IfOk result (λ text. IsTextOf text.items stored.now) }
+/// The text of an account, for its row: its marks, and its record; empty without any of them.
+pub(crate) fn text_of(
+    alloc: Global,
+    stored: &Option<Record>,
+    mark: Mark,
+) -> Result<Vec<u8>, PhcError>
+    ensures { IfOk result (λ text. IsTextOf text.items (cell stored.now mark)) }
 {
-    match stored {
-        None => Ok(Vec::new(alloc)),
-        Some(it) => write_record(alloc, it),
-    }
+    let mut text = mark_text(alloc, mark)?;
+    let Some(it) = stored else {
+        return Ok(text);
+    };
+    let record = write_record(alloc, it)?;
+    text.extend_from_slice(&record)?;
+    Ok(text)
 }
 
-/// The value in the row: the text, or NULL for no record.
-pub(crate) fn value_of<'a>(text: &'a [u8], stored: &Option<Record>) -> ValueRef<'a>
-    requires { IsTextOf text.now stored.now }
-    ensures { Tells (owned result) stored.now }
+/// The marks alone.
+fn mark_text(alloc: Global, mark: Mark) -> Result<Vec<u8>, AllocError>
+    ensures { IfOk result (λ text. text.items ≡ mark_text mark) }
 {
-    match stored {
-        None => ValueRef::Null,
-        Some(_) => ValueRef::Text(text),
+    let mut text = Vec::new(alloc);
+    if mark.locked {
+        text.push(b'!')?;
+    }
+    if mark.must_change {
+        text.push(b'~')?;
+    }
+    Ok(text)
+}
+
+/// The value in the row: the text, or NULL for no record and no mark.
+pub(crate) fn value_of<'a>(text: &'a [u8], stored: &Option<Record>, mark: Mark) -> ValueRef<'a>
+    requires { IsTextOf text.now (cell stored.now mark) }
+    ensures { Tells (owned result) (cell stored.now mark) }
+{
+    if stored.is_none() && !mark.is_marked() {
+        ValueRef::Null
+    } else {
+        ValueRef::Text(text)
     }
 }
 
@@ -45,15 +69,16 @@ pub(crate) fn insert_row<S: Alter>(
     name: &Name,
     text: &[u8],
     stored: &Option<Record>,
+    mark: Mark,
 ) -> Result<usize, Error>
-    requires { IsTextOf text.now stored.now }
+    requires { IsTextOf text.now (cell stored.now mark) }
     ensures { Changes S.Store conn.old conn.new (Lacks name.now)
-        (λ book. fin.insert book name.now stored.now)
-        (FailsToPut S.Store conn.old conn.new false name.now stored.now) result }
+        (λ book. fin.insert book name.now (cell stored.now mark))
+        (FailsToPut S.Store conn.old conn.new false name.now (cell stored.now mark)) result }
 {
     conn.execute(
         "INSERT INTO account (name, record) VALUES (?1, ?2)",
-        &[ValueRef::Text(name.bytes()), value_of(text, stored)],
+        &[ValueRef::Text(name.bytes()), value_of(text, stored, mark)],
     )
 }
 
@@ -63,15 +88,16 @@ pub(crate) fn update_row<S: Alter>(
     name: &Name,
     text: &[u8],
     stored: &Option<Record>,
+    mark: Mark,
 ) -> Result<usize, Error>
-    requires { IsTextOf text.now stored.now }
+    requires { IsTextOf text.now (cell stored.now mark) }
     ensures { Changes S.Store conn.old conn.new (Has name.now)
-        (λ book. fin.insert book name.now stored.now)
-        (FailsToPut S.Store conn.old conn.new true name.now stored.now) result }
+        (λ book. fin.insert book name.now (cell stored.now mark))
+        (FailsToPut S.Store conn.old conn.new true name.now (cell stored.now mark)) result }
 {
     conn.execute(
         "UPDATE account SET record = ?2 WHERE name = ?1",
-        &[ValueRef::Text(name.bytes()), value_of(text, stored)],
+        &[ValueRef::Text(name.bytes()), value_of(text, stored, mark)],
     )
 }
 
@@ -93,7 +119,7 @@ pub(crate) fn rename_row<S: Alter>(
     other: &Name,
 ) -> Result<usize, Error>
     ensures { Changes S.Store conn.old conn.new (IsRenamable name.now other.now)
-        (λ book. renamed book name.now other.now)
+        (λ book. moved book name.now other.now)
         (FailsToRename S.Store conn.old conn.new name.now other.now) result }
 {
     conn.execute(
@@ -122,14 +148,16 @@ pub(crate) fn create_table<S: Alter>(conn: &mut Connection<S>) -> Result<usize, 
 pub(crate) fn read_table<S: Alter>(
     alloc: Global,
     conn: &mut Connection<S>,
-) -> Result<Register, OpenFault>
+) -> Result<(Register, Marks), OpenFault>
     requires schema { IsBookSchema (state S.Store conn.old).now.schema }
     requires autocommit { conn.old.in_transaction ≡ false }
     ensures found { HasCleanDisk (state S.Store conn.new)
-        → IfOk result (IsFound (state S.Store conn.old) (state S.Store conn.new)) }
+        → IfOk result (λ r. IsFound (state S.Store conn.old) (state S.Store conn.new)
+        (cells_of r.0 (mark_at r.1))) }
     ensures table { HasCleanDisk (state S.Store conn.new)
-        → IfOk result (IsTableOf (state S.Store conn.new)) }
-    ensures few { IfOk result (λ book. fin.len book ≤ register_capacity) }
+        → IfOk result (λ r. IsTableOf (state S.Store conn.new)
+        (cells_of r.0 (mark_at r.1))) }
+    ensures few { IfOk result (λ r. fin.len r.0 ≤ register_capacity) }
     ensures fault { HasCleanDisk (state S.Store conn.new)
         → IfErr result (IsUnopened (state S.Store conn.old) (state S.Store conn.new)) }
     ensures left { Survives (state S.Store conn.old) (state S.Store conn.new) (λ _. ⊥) }
@@ -141,13 +169,17 @@ pub(crate) fn read_table<S: Alter>(
 }
 
 /// The rows are read one at a time, so that they take no memory beside the book.
-fn read_rows<S: Alter>(alloc: Global, conn: &mut Connection<S>) -> Result<Register, OpenFault>
+fn read_rows<S: Alter>(
+    alloc: Global,
+    conn: &mut Connection<S>,
+) -> Result<(Register, Marks), OpenFault>
     requires { IsBookSchema (state S.Store conn.old).now.schema }
     ensures stands { HasCleanDisk (state S.Store conn.new)
-        → IfOk result (StandsFor ((state S.Store conn.old).now.trees 0)) }
+        → IfOk result (λ r. StandsFor ((state S.Store conn.old).now.trees 0)
+        (cells_of r.0 (mark_at r.1))) }
     ensures same { HasCleanDisk (state S.Store conn.new) → OnOk result
         (IsUnchanged (state S.Store conn.old) (state S.Store conn.new)) }
-    ensures few { IfOk result (λ book. fin.len book ≤ register_capacity) }
+    ensures few { IfOk result (λ r. fin.len r.0 ≤ register_capacity) }
     ensures fault { HasCleanDisk (state S.Store conn.new)
         → IfErr result (IsUnopened (state S.Store conn.old) (state S.Store conn.new)) }
     ensures left { Survives (state S.Store conn.old) (state S.Store conn.new) (λ _. ⊥) }

@@ -1,14 +1,16 @@
 //! Adding accounts, and replacing the records of others, in one transaction.
 
-ghost use Rattle.std.specs.Prelude.{◌≡◌, ◌⊎◌, ◌≤◌, ◌+◌, cond, false, List, None, ℕ, OnErr, OnOk, Option};
+ghost use Rattle.std.specs.Prelude.{◌≡◌, ◌⊎◌, ◌≤◌, ◌+◌, cond, false, List, None, ℕ, OnErr, OnOk};
 ghost use Rattle.std.specs.FinMap as fin;
-ghost use Rattle.cred_phc.specs.Values.{RecordValue};
-ghost use Rattle.cred_file.specs.{Edits.AreThere, Edits.joined, Edits.taken_in, Keeps.Has, Keeps.IsTableOf, Keeps.Lacks, Keeps.LeavesOnly, Table.Tells};
-ghost use Rattle.cred_file.specs.Transactions.{KeepsOthers, MakesWithin};
+ghost use Rattle.cred_book.specs.Accounts.{Accounts};
+ghost use Rattle.cred_file.specs.{Cells.AllMarks, Cells.Cells, Cells.cell, Cells.cells_of, Cells.mark_at, Edits.AreApart, Edits.AreThere, Edits.joined, Edits.taken_cells, Edits.taken_in, Keeps.Has, Keeps.IsTableOf, Keeps.Lacks, Keeps.LeavesOnly, Table.Tells};
+ghost use Rattle.cred_file.specs.Transactions.{AgreeOn, HasRoom, IsUnderWay, KeepsOthers, MakesWithin, added_mark, changed_mark, marks_with, taken_marks};
 ghost use Rattle.sqlite.specs.{State.HasCleanDisk, State.Shows, State.Survives, Held.state};
 ghost use Rattle.sqlite_value.specs.Value.{owned};
 ghost use Rattle.sqlite_trees.specs.View.{doubt};
 
+use crate::mark::Mark;
+use crate::marks::Marks;
 use crate::statements::{text_of, value_of};
 use cred_book::{Name, Register};
 use cred_phc::Record;
@@ -16,36 +18,62 @@ use sqlite::types::ValueRef;
 use sqlite::{Alter, Connection, Error, ErrorCode, Transaction};
 use std::alloc::Global;
 
+/// Accounts that are taken in together: new ones, and new records of others, with these marks.
+#[derive(Clone, Copy)]
+pub(crate) struct Batch<'a> {
+    pub(crate) added: &'a Register,
+    pub(crate) changed: &'a Register,
+    pub(crate) marks: &'a Marks,
+}
+
 /// Adds accounts to the book, and their rows to the table, and replaces the records of others, all
-/// by one transaction. The book has the replaced records once they are written: so nothing can fail
-/// after that. After an error it has some of the new accounts and no replaced record, and a crash
-/// leaves a table with none of the changes, or with all.
+/// by one transaction. The book has the replaced records and the marks once they are written: so
+/// nothing can fail after that. After an error it has some of the new accounts, no replaced record
+/// and no other mark, and a crash leaves a table with none of the changes, or with all.
 pub(crate) fn take_together<S: Alter>(
     alloc: Global,
     conn: &mut Connection<S>,
     book: &mut Register,
-    added: &Register,
-    changed: &Register,
+    marks: &mut Marks,
+    batch: Batch<'_>,
 ) -> Result<(), Error>
     requires autocommit { conn.old.in_transaction ≡ false }
-    requires there { AreThere book.old changed.now }
-    ensures book { OnOk result (book.new ≡ taken_in book.old added.now changed.now) }
-    ensures part { OnErr result (KeepsOthers book.old added.now book.new) }
+    requires apart { AreApart book.old batch.added.now }
+    requires there { AreThere book.old batch.changed.now }
+    ensures book { OnOk result
+        (book.new ≡ taken_in book.old batch.entry.added.now batch.entry.changed.now) }
+    ensures part { OnErr result (KeepsOthers book.old batch.entry.added.now book.new) }
+    ensures marks { OnOk result (mark_at marks.new ≡ taken_marks (mark_at marks.old)
+        batch.entry.added.now batch.entry.changed.now batch.entry.marks.now) }
+    ensures unmarked { OnErr result (mark_at marks.new ≡ mark_at marks.old) }
     ensures taken { HasCleanDisk (state S.Store conn.new) → OnOk result
-        (IsTableOf (state S.Store conn.old) book.old
-        → IsTableOf (state S.Store conn.new) (taken_in book.old added.now changed.now)) }
+        (IsTableOf (state S.Store conn.old) (cells_of book.old (mark_at marks.old))
+        → IsTableOf (state S.Store conn.new) (taken_cells (cells_of book.old (mark_at marks.old))
+        batch.entry.added.now batch.entry.changed.now batch.entry.marks.now)) }
     ensures left { HasCleanDisk (state S.Store conn.new)
-        → IsTableOf (state S.Store conn.old) book.old
+        → IsTableOf (state S.Store conn.old) (cells_of book.old (mark_at marks.old))
         → LeavesOnly (state S.Store conn.new)
-        (λ b. (b ≡ book.old) ⊎ (b ≡ taken_in book.old added.now changed.now)) }
+        (λ b. (b ≡ cells_of book.old (mark_at marks.old))
+        ⊎ (b ≡ taken_cells (cells_of book.old (mark_at marks.old)) batch.entry.added.now
+        batch.entry.changed.now batch.entry.marks.now)) }
     ensures clean { doubt (state S.Store conn.old).is_clean
         ≤ doubt (state S.Store conn.new).is_clean }
 {
+    let Batch {
+        added,
+        changed,
+        marks: given,
+    } = batch;
+    let Ok(_) = marks.hold_all(given) else {
+        return Err(out_of_memory());
+    };
     let mut tx = conn.transaction();
-    enter_each(alloc, &mut tx, book, added)?;
-    update_each(alloc, &mut tx, changed)?;
+    enter_each(alloc, &mut tx, book, added, given)?;
+    update_each(alloc, &mut tx, marks, changed, given)?;
     finish(tx)?;
     replace_each(book, changed);
+    mark_added(marks, added, given);
+    mark_changed(marks, changed, given);
     Ok(())
 }
 
@@ -60,35 +88,40 @@ fn finish<S: Alter>(tx: Transaction<'_, S>) -> Result<(), Error>
     tx.commit()
 }
 
-/// Adds the accounts in turn, in the order of their names.
+/// Adds the accounts in turn, in the order of their names, with the marks that are given.
 fn enter_each<S: Alter>(
     alloc: Global,
     tx: &mut Transaction<'_, S>,
     book: &mut Register,
     more: &Register,
+    given: &Marks,
 ) -> Result<(), Error>
     ensures same_reference { tx.new.conn.ghost_name ≡ tx.old.conn.ghost_name }
     ensures book { OnOk result (book.new ≡ joined book.old more.now) }
     ensures part { OnErr result (KeepsOthers book.old more.now book.new) }
     ensures entered { HasCleanDisk (state S.Store tx.new.conn.now) → OnOk result
-        (MakesWithin (state S.Store tx.old.conn.now) (state S.Store tx.new.conn.now)
-        (λ b. b ≡ book.old) (λ b. joined b more.now)) }
+        ((first : Cells) (marks : AllMarks)
+        → IsUnderWay (state S.Store tx.old.conn.now) first (cells_of book.old marks)
+        → IsUnderWay (state S.Store tx.new.conn.now) first
+        (cells_of book.new (marks_with (added_mark given.now) marks more.now))) }
     ensures survives { Survives (state S.Store tx.old.conn.now)
         (state S.Store tx.new.conn.now) (λ _. ⊥) }
 {
     for (name, slot) in more.iter() {
-        enter_one(alloc, tx, book, name, &slot.stored())?;
+        let mark = given.at(name);
+        enter_one(alloc, tx, book, name, &slot.stored(), mark)?;
     }
     Ok(())
 }
 
-/// Adds a name, with a record or none, in the book, and then its row.
+/// Adds a name, with a record or none, in the book, and then its row, with its mark.
 fn enter_one<S: Alter>(
     alloc: Global,
     tx: &mut Transaction<'_, S>,
     book: &mut Register,
     name: &Name,
     stored: &Option<Record>,
+    mark: Mark,
 ) -> Result<(), Error>
     ensures same_reference { tx.new.conn.ghost_name ≡ tx.old.conn.ghost_name }
     ensures book { OnOk result ((fin.contains_key book.old name.now ≡ false)
@@ -96,7 +129,7 @@ fn enter_one<S: Alter>(
     ensures same { OnErr result (book.new ≡ book.old) }
     ensures entered { HasCleanDisk (state S.Store tx.new.conn.now) → OnOk result
         (MakesWithin (state S.Store tx.old.conn.now) (state S.Store tx.new.conn.now)
-        (Lacks name.now) (λ b. fin.insert b name.now stored.now)) }
+        (Lacks name.now) (λ b. fin.insert b name.now (cell stored.now mark))) }
     ensures survives { Survives (state S.Store tx.old.conn.now)
         (state S.Store tx.new.conn.now) (λ _. ⊥) }
 {
@@ -104,7 +137,7 @@ fn enter_one<S: Alter>(
         Ok(()) => {}
         Err(_) => return Err(out_of_memory()),
     }
-    match insert_stored(alloc, tx, name, stored) {
+    match insert_stored(alloc, tx, name, stored, mark) {
         Ok(()) => Ok(()),
         Err(error) => {
             book.remove(name);
@@ -113,69 +146,78 @@ fn enter_one<S: Alter>(
     }
 }
 
-/// Adds the row of a name that doesn't exist, with a record or none.
+/// Adds the row of a name that doesn't exist, with a record or none, and its mark.
 fn insert_stored<S: Alter>(
     alloc: Global,
     tx: &mut Transaction<'_, S>,
     name: &Name,
     stored: &Option<Record>,
+    mark: Mark,
 ) -> Result<(), Error>
     ensures same_reference { tx.new.conn.ghost_name ≡ tx.old.conn.ghost_name }
     ensures entered { HasCleanDisk (state S.Store tx.new.conn.now) → OnOk result
         (MakesWithin (state S.Store tx.old.conn.now) (state S.Store tx.new.conn.now)
-        (Lacks name.now) (λ b. fin.insert b name.now stored.now)) }
+        (Lacks name.now) (λ b. fin.insert b name.now (cell stored.now mark))) }
     ensures survives { Survives (state S.Store tx.old.conn.now)
         (state S.Store tx.new.conn.now) (λ _. ⊥) }
 {
-    let Ok(text) = text_of(alloc, stored) else {
+    let Ok(text) = text_of(alloc, stored, mark) else {
         return Err(out_of_memory());
     };
     tx.execute(
         "INSERT INTO account (name, record) VALUES (?1, ?2)",
-        &[ValueRef::Text(name.bytes()), value_of(&text, stored)],
+        &[ValueRef::Text(name.bytes()), value_of(&text, stored, mark)],
     )?;
     Ok(())
 }
 
-/// Replaces the records in the rows of these accounts, in the order of their names.
+/// Replaces the records in the rows of these accounts, in the order of their names, with the marks
+/// that are given; a lock stays.
 fn update_each<S: Alter>(
     alloc: Global,
     tx: &mut Transaction<'_, S>,
+    marks: &Marks,
     changed: &Register,
+    given: &Marks,
 ) -> Result<(), Error>
     ensures same_reference { tx.new.conn.ghost_name ≡ tx.old.conn.ghost_name }
     ensures updated { HasCleanDisk (state S.Store tx.new.conn.now) → OnOk result
-        (MakesWithin (state S.Store tx.old.conn.now) (state S.Store tx.new.conn.now)
-        (λ b. AreThere b changed.now) (λ b. joined b changed.now)) }
+        ((first : Cells) (book : Accounts) (m : AllMarks) → AreThere book changed.now
+        → AgreeOn changed.now m (mark_at marks.now)
+        → IsUnderWay (state S.Store tx.old.conn.now) first (cells_of book m)
+        → IsUnderWay (state S.Store tx.new.conn.now) first (cells_of (joined book changed.now)
+        (marks_with (changed_mark given.now) m changed.now))) }
     ensures survives { Survives (state S.Store tx.old.conn.now)
         (state S.Store tx.new.conn.now) (λ _. ⊥) }
 {
     for (name, slot) in changed.iter() {
-        update_stored(alloc, tx, name, &slot.stored())?;
+        let mark = marks.at(name).renewed_with(given.at(name));
+        update_stored(alloc, tx, name, &slot.stored(), mark)?;
     }
     Ok(())
 }
 
-/// Writes a record, or none, in the row of an existing name.
+/// Writes a record, or none, with a mark in the row of an existing name.
 fn update_stored<S: Alter>(
     alloc: Global,
     tx: &mut Transaction<'_, S>,
     name: &Name,
     stored: &Option<Record>,
+    mark: Mark,
 ) -> Result<(), Error>
     ensures same_reference { tx.new.conn.ghost_name ≡ tx.old.conn.ghost_name }
     ensures updated { HasCleanDisk (state S.Store tx.new.conn.now) → OnOk result
         (MakesWithin (state S.Store tx.old.conn.now) (state S.Store tx.new.conn.now)
-        (Has name.now) (λ b. fin.insert b name.now stored.now)) }
+        (Has name.now) (λ b. fin.insert b name.now (cell stored.now mark))) }
     ensures survives { Survives (state S.Store tx.old.conn.now)
         (state S.Store tx.new.conn.now) (λ _. ⊥) }
 {
-    let Ok(text) = text_of(alloc, stored) else {
+    let Ok(text) = text_of(alloc, stored, mark) else {
         return Err(out_of_memory());
     };
     tx.execute(
         "UPDATE account SET record = ?2 WHERE name = ?1",
-        &[ValueRef::Text(name.bytes()), value_of(&text, stored)],
+        &[ValueRef::Text(name.bytes()), value_of(&text, stored, mark)],
     )?;
     Ok(())
 }
@@ -191,6 +233,31 @@ fn replace_each(book: &mut Register, changed: &Register)
 {
     for (name, slot) in changed.iter() {
         book.replace(name, slot.stored());
+    }
+}
+
+/// Gives new accounts their marks, which can't fail.
+fn mark_added(marks: &mut Marks, added: &Register, given: &Marks)
+    requires { HasRoom marks.old given.now }
+    ensures marks { mark_at marks.new
+        ≡ marks_with (added_mark given.now) (mark_at marks.old) added.now }
+    ensures room { HasRoom marks.new given.now }
+{
+    for (name, _) in added.iter() {
+        let mark = given.at(name);
+        marks.set(name, mark);
+    }
+}
+
+/// Gives accounts the marks that come with their new records, which can't fail; a lock stays.
+fn mark_changed(marks: &mut Marks, changed: &Register, given: &Marks)
+    requires { HasRoom marks.old given.now }
+    ensures { mark_at marks.new
+        ≡ marks_with (changed_mark given.now) (mark_at marks.old) changed.now }
+{
+    for (name, _) in changed.iter() {
+        let mark = marks.at(name).renewed_with(given.at(name));
+        marks.set(name, mark);
     }
 }
 

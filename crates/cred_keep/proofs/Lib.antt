@@ -1,4 +1,5 @@
 mod Copied
+mod NoneBad
 mod NotTaken
 mod OnBasis
 mod Ran

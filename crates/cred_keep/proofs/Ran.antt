@@ -10,13 +10,13 @@ both None P Q p q = p
 both (Some x) P Q p q = (p, q)
 
 pub ran : (s : Seen) (r : Result End ScriptFault)
-    → IfOk r (λ end. IfSome s.reading.input (λ bytes. IsAnswered register_capacity s.old bytes s.writing.before s.writing.now s.new end.lines))
+    → IfOk r (λ end. IfSome s.reading.input (λ bytes. IsAnswered register_capacity s.old.accounts bytes s.writing.before s.writing.now s.new.accounts end.lines))
     → OnOk r (IfSome s.reading.input (λ bytes. length bytes ≤ longest_script))
-    → IfErr r (λ fault. IfSome s.reading.input (λ bytes. ScriptFails register_capacity s.old bytes s.reading.left s.writing.before s.writing.now s.new fault))
+    → IfErr r (λ fault. IfSome s.reading.input (λ bytes. ScriptFails register_capacity s.old.accounts bytes s.reading.left s.writing.before s.writing.now s.new.accounts fault))
     → IfErr r (HasCause s.reading.failed s.writing.failed) → RunsPrompt s → RunsWithin longest_script s r
 ran s (Ok end) done short fault cause prompt = (
   both s.reading.input (λ bytes. length bytes ≤ longest_script)
-      (λ bytes. IsAnswered register_capacity s.old bytes s.writing.before s.writing.now s.new end.lines) short done,
+      (λ bytes. IsAnswered register_capacity s.old.accounts bytes s.writing.before s.writing.now s.new.accounts end.lines) short done,
   prompt,
 )
 ran s (Err e) done short fault cause prompt = (cause, fault, prompt)

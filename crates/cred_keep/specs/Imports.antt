@@ -5,27 +5,37 @@ use Rattle.cred_book.specs.Accounts.{Accounts, register_capacity}
 use Rattle.cred_admin.specs.{Import.Tally, Import.tally, declared.import.ImportFault.ImportFault}
 use Rattle.cred_admin.specs.declared.import.ImportFault.TheVariants as fault
 use Rattle.cred_cli.specs.Watched.{Reading}
-use Rattle.cred_file.specs.Edits.{taken_in}
+use Rattle.cred_file.specs.{Cells.AllMarks, Cells.renewed_with, Edits.taken_in, Transactions.marks_with}
+use Rattle.cred_admin.specs.Marked.{MarkedBook, marked_book}
 use Rattle.cred_keep.specs.{declared.import.BadLines.TheVariants.Refused, declared.import.Counts.Counts}
 use Rattle.cred_keep.specs.declared.import.Counts.TheVariants.{Hidden, Plain, Json}
 use Rattle.cred_keep.specs.{declared.import.Effect.Effect, declared.import.Effect.TheVariants.Made, declared.import.Effect.TheVariants.Foretold}
 use Rattle.cred_keep.specs.{declared.import.Imported.Imported, declared.import.Importing.Importing}
 
--- the book with these accounts, and with these records at others; a dry run changes nothing
-abbrev pub book_after : Effect → Accounts → Accounts → Accounts → Accounts
-book_after Made book added changed = taken_in book added changed
-book_after Foretold book added changed = book
+-- the marks of a book that takes in accounts with these; a lock stays
+abbrev pub given_marks : AllMarks → Accounts → Accounts → AllMarks → AllMarks
+given_marks marks added changed given =
+    marks_with (λ name. renewed_with (given name))
+    (marks_with (λ name m. given name) marks added) changed
+
+-- The book with these accounts, and with these records at others, each with the mark that is given.
+-- A dry run changes nothing.
+abbrev pub book_after : Effect → MarkedBook → Accounts → Accounts → AllMarks → MarkedBook
+book_after Made book added changed given = marked_book (taken_in book.accounts added changed)
+    (given_marks book.marks added changed given)
+book_after Foretold book added changed given = book
 
 -- they are taken in if there is room for them, and otherwise all stays
-abbrev pub Takes : Effect → Accounts → Accounts → Accounts → Accounts
+abbrev pub Takes : Effect → MarkedBook → MarkedBook → Accounts → Accounts → AllMarks
     → Result (Unit {0}) ImportFault → Type 0
-Takes effect old new added changed (Ok _) =
-    (map.len old + map.len added ≤ register_capacity) × (new ≡ book_after effect old added changed)
-Takes effect old new added changed (Err fault.Full) =
-    (register_capacity < map.len old + map.len added) × (new ≡ old)
-Takes effect old new added changed (Err fault.Memory) = new ≡ old
-Takes effect old new added changed (Err fault.Read) = ⊥
-Takes effect old new added changed (Err (fault.Lines bad)) = ⊥
+Takes effect old new added changed given (Ok _) =
+    (map.len old.accounts + map.len added ≤ register_capacity)
+    × (new ≡ book_after effect old added changed given)
+Takes effect old new added changed given (Err fault.Full) =
+    (register_capacity < map.len old.accounts + map.len added) × (new ≡ old)
+Takes effect old new added changed given (Err fault.Memory) = new ≡ old
+Takes effect old new added changed given (Err fault.Read) = ⊥
+Takes effect old new added changed given (Err (fault.Lines bad)) = ⊥
 
 -- how many accounts are new, how many have another record, and how many lines name one that is
 -- there and stays, or aren't good
@@ -38,13 +48,13 @@ counts_text Json added changed kept bad = codes "{\"added\":" ++ decimal added
     ++ codes ",\"updated\":" ++ decimal changed ++ codes ",\"there\":" ++ decimal kept
     ++ codes ",\"bad\":" ++ decimal bad ++ codes "}\n"
 
--- No line is bad, or the bad ones are left out; what the others come to is taken in; and what is
--- told of it is so.
-pub record TakesAll (how : Importing) (old new : Accounts) (t : Tally) (made : Imported)
+-- No line is bad, or the bad ones are left out; what the others come to is taken in, with their
+-- marks; and what is told of it is so.
+pub record TakesAll (how : Importing) (old new : MarkedBook) (t : Tally) (made : Imported)
     : Type 0 where
   pub good : how.bad ≡ Refused → t.bad ≡ []
-  pub room : map.len old + map.len t.accounts ≤ register_capacity
-  pub book : new ≡ book_after how.effect old t.accounts t.changed
+  pub room : map.len old.accounts + map.len t.accounts ≤ register_capacity
+  pub book : new ≡ book_after how.effect old t.accounts t.changed t.marks
   pub effect : made.effect ≡ how.effect
   pub added : made.added ≡ map.len t.accounts
   pub changed : made.changed ≡ map.len t.changed
@@ -55,17 +65,17 @@ pub record TakesAll (how : Importing) (old new : Accounts) (t : Tally) (made : I
 
 -- What the lines come to is taken in; or some lines are bad, there would be too many accounts, a call
 -- on the reader failed, or none did and there was no memory, and the book is as it was.
-abbrev pub Imports : Importing → Reading → Accounts → Accounts → Result Imported ImportFault
+abbrev pub Imports : Importing → Reading → MarkedBook → MarkedBook → Result Imported ImportFault
     → Type 0
 Imports how r old new (Ok made) =
     (text : List ℕ) × IfSome r.input (λ bytes. text ≡ bytes)
-    × TakesAll how old new (tally how.rules old text) made
+    × TakesAll how old new (tally how.rules old.accounts text) made
 Imports how r old new (Err (fault.Lines bad)) =
     (text : List ℕ) × IfSome r.input (λ bytes. text ≡ bytes) × (how.bad ≡ Refused)
-    × (bad.items ≡ (tally how.rules old text).bad) × (0 < length bad.items) × (new ≡ old)
+    × (bad.items ≡ (tally how.rules old.accounts text).bad) × (0 < length bad.items) × (new ≡ old)
 Imports how r old new (Err fault.Full) =
     (text : List ℕ) × IfSome r.input (λ bytes. text ≡ bytes)
-    × (register_capacity < map.len old + map.len (tally how.rules old text).accounts)
+    × (register_capacity < map.len old.accounts + map.len (tally how.rules old.accounts text).accounts)
     × (new ≡ old)
 Imports how r old new (Err fault.Memory) = (r.failed ≡ false) × (new ≡ old)
 Imports how r old new (Err fault.Read) = (r.failed ≡ true) × (new ≡ old)

@@ -4,6 +4,7 @@ pub mod Imports
 pub mod Orders
 pub use Rattle.cred_admin.specs.Edits
 pub use Rattle.cred_admin.specs.Import
+pub use Rattle.cred_admin.specs.Marked
 pub use Rattle.cred_admin.specs.Seen
 pub use Rattle.cred_cli.specs.Calls
 pub use Rattle.cred_cli.specs.Outcome

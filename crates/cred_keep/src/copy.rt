@@ -2,8 +2,7 @@
 
 ghost use Rattle.std.specs.Prelude.{◌≡◌, false, IfErr, IfOk};
 ghost use Rattle.std.specs.FinMap as map;
-ghost use Rattle.cred_book.specs.Accounts.{Accounts};
-ghost use Rattle.cred_file.specs.{Keeps.IsTableOf, Opening.IsFound, Opening.IsUnopened};
+ghost use Rattle.cred_file.specs.{Cells.Cells, Kept.cells, Keeps.IsTableOf, Opening.IsFound, Opening.IsUnopened};
 ghost use Rattle.cred_keep.specs.Copy.{IsUncopied, IsUnwritten};
 ghost use Rattle.sqlite.specs.{State.HasCleanDisk, State.Survives, Held.state};
 
@@ -30,7 +29,7 @@ pub fn count_accounts<S: Alter>(
 ) -> (Connection<S>, Result<usize, OpenFault>)
     requires autocommit { conn.in_transaction ≡ false }
     ensures found { HasCleanDisk (state S.Store result.0) → IfOk result.1 (λ count.
-        (book : Accounts) × IsFound (state S.Store conn) (state S.Store result.0) book
+        (book : Cells) × IsFound (state S.Store conn) (state S.Store result.0) book
         × (count ≡ map.len book)) }
     ensures refused { HasCleanDisk (state S.Store result.0)
         → IfErr result.1 (IsUnopened (state S.Store conn) (state S.Store result.0)) }
@@ -45,9 +44,9 @@ pub fn count_accounts<S: Alter>(
     }
 }
 
-/// Copies the book of one database into another, which is empty, by one transaction, and returns
-/// the number of accounts. The target's table stands for the source's book, and a crash leaves it.
-/// The source isn't changed. Both connections come back.
+/// Copies the book of one database with its marks into another, which is empty, by one transaction,
+/// and returns the number of accounts. The target's table stands for the source's book, and a crash
+/// leaves it. The source isn't changed. Both connections come back.
 ///
 /// Errors: `Source` with the error of `FileBook::open`; `Target` with that of
 /// `FileBook::create_copy`.
@@ -59,7 +58,7 @@ pub fn copy_book<S: Alter, D: Alter>(
     requires source { source.in_transaction ≡ false }
     requires target { target.in_transaction ≡ false }
     ensures copied { HasCleanDisk (state S.Store result.0) → HasCleanDisk (state D.Store result.1)
-        → IfOk result.2 (λ count. (book : Accounts)
+        → IfOk result.2 (λ count. (book : Cells)
         × IsFound (state S.Store source) (state S.Store result.0) book
         × IsTableOf (state D.Store result.1) book × (count ≡ map.len book)) }
     ensures refused { IfErr result.2
@@ -75,8 +74,8 @@ pub fn copy_book<S: Alter, D: Alter>(
     }
 }
 
-/// Copies a kept book into an empty database, by one transaction, and returns the number of
-/// accounts.
+/// Copies a kept book with its marks into an empty database, by one transaction, and returns the
+/// number of accounts.
 ///
 /// Errors: `Target` with that of `FileBook::create_copy`.
 pub fn copy_into<S: Alter, D: Alter>(
@@ -86,10 +85,11 @@ pub fn copy_into<S: Alter, D: Alter>(
 ) -> (Connection<D>, Result<usize, CopyFault>)
     requires autocommit { target.in_transaction ≡ false }
     ensures copied { HasCleanDisk (state D.Store result.0) → IfOk result.1 (λ count.
-        IsTableOf (state D.Store result.0) book.now.book × (count ≡ map.len book.now.book)) }
-    ensures refused { IfErr result.1 (IsUnwritten D.Store target result.0 book.now.book) }
+        IsTableOf (state D.Store result.0) (cells book.now)
+        × (count ≡ map.len (cells book.now))) }
+    ensures refused { IfErr result.1 (IsUnwritten D.Store target result.0 (cells book.now)) }
 {
-    match FileBook::create_copy(alloc, target, book.book()) {
+    match FileBook::create_copy(alloc, target, book.book(), book.marks()) {
         Ok(copy) => {
             let count = copy.book().len();
             (copy.close(), Ok(count))

@@ -1,14 +1,15 @@
 //! Importing the lines of a passwd-file, all or none.
 
 ghost use Rattle.std.specs.Prelude.{◌≡◌, IfErr, IfOk, false, length, string_bytes};
-ghost use Rattle.cred_admin.specs.Seen.{FitsSince};
+ghost use Rattle.cred_admin.specs.{Marked.kept_book, Seen.FitsSince};
 ghost use Rattle.cred_cli.specs.Watched.{Basis, failed_of, reading_on};
+ghost use Rattle.cred_file.specs.Cells.{mark_at};
 ghost use Rattle.cred_keep.specs.Imports.{Imports, Takes, counts_text};
 
 use cred_admin::{BadLine, Gathered, ImportFault, Rules, gather};
 use cred_book::{BookError, Register};
 use cred_cli::Watched;
-use cred_file::FileBook;
+use cred_file::{FileBook, Marks};
 use sqlite::Alter;
 use std::alloc::{AllocError, Global};
 use std::io::Read;
@@ -78,12 +79,13 @@ pub(crate) fn import<S: Alter, R: Read>(
 ) -> Result<Imported, ImportFault>
     requires { failed_of reader.old ≡ false }
     ensures { (basis : Basis) → FitsSince basis reader.old reader.new
-        → Imports how (reading_on basis R.remaining reader.old reader.new) book.old.book
-        book.new.book result }
+        → Imports how (reading_on basis R.remaining reader.old reader.new) (kept_book book.old)
+        (kept_book book.new) result }
 {
     let Gathered {
         accounts,
         changed,
+        marks,
         kept,
         bad,
     } = gather(alloc, book.book(), how.rules, reader)?;
@@ -100,7 +102,7 @@ pub(crate) fn import<S: Alter, R: Read>(
         text: Vec::new(alloc),
     };
     made.text = counts_text(alloc, how.counts, &made)?.into_bytes();
-    take(book, how.effect, accounts, changed)?;
+    take(book, how.effect, accounts, changed, marks)?;
     Ok(made)
 }
 
@@ -143,19 +145,22 @@ fn json_counts(
     )
 }
 
-/// Adds accounts and replaces the records of others, or checks that the book has room for them.
+/// Adds accounts and replaces the records of others, with these marks, or checks that the book has
+/// room for them.
 fn take<S: Alter>(
     book: &mut FileBook<S>,
     effect: Effect,
     added: Register,
     changed: Register,
+    marks: Marks,
 ) -> Result<(), ImportFault>
-    ensures { Takes effect book.old.book book.new.book added changed result }
+    ensures { Takes effect (kept_book book.old) (kept_book book.new) added changed (mark_at marks)
+        result }
 {
     match effect {
         Effect::Foretold if book.has_room_for(&added) => Ok(()),
         Effect::Foretold => Err(ImportFault::Full),
-        Effect::Made => match book.take_in(added, changed) {
+        Effect::Made => match book.take_in(added, changed, marks) {
             Ok(()) => Ok(()),
             Err(BookError::Full) => Err(ImportFault::Full),
             Err(_) => Err(ImportFault::Memory),

@@ -2,8 +2,8 @@
 
 ghost use Rattle.std.specs.Prelude.{◌≡◌, ◌⊎◌, ℕ, List, false, true};
 ghost use Rattle.cred_cli.specs.Watched.{Basis, IsLogged, IsNew, MayFollow, reading, reading_on, transcript_reading, transcript_writing, writing, writing_on};
-ghost use Rattle.cred_admin.specs.Seen.{FitsSince, seen};
-ghost use Rattle.cred_keep.specs.Orders.{IsRefused, IsServed, Performs, is_script, is_unread};
+ghost use Rattle.cred_admin.specs.{Marked.kept_book, Seen.FitsSince, Seen.seen};
+ghost use Rattle.cred_keep.specs.Orders.{CarriesOut, IsRefused, IsServed, Performs, has_marks, is_script, is_unread};
 
 use crate::import::{Importing, import};
 use crate::outcome::{Ending, Failure, command_end, import_end, run_end};
@@ -22,14 +22,14 @@ use std::thread::Threads;
 /// An order on a kept book.
 #[derive(Clone, Copy)]
 pub enum Order {
-    /// Runs a script.
+    /// Runs a script, unless an account is marked.
     Run,
-    /// Answers the lines of a script for as long as they come, but refuses a line whose setting or
-    /// record needs more than this.
+    /// Answers the lines of a script for as long as they come, unless an account is marked, but
+    /// refuses a line whose setting or record needs more than this.
     Serve { most: CostBounds },
     /// Does a command on one account, with its passwords.
     Account { name: Name, command: Command },
-    /// Disables, deletes or renames an account without its password.
+    /// Disables, deletes, renames, locks, unlocks or expires an account without its password.
     Edit { edit: Edit },
     /// Writes the account's line of a passwd-file, and removes its record without its password.
     DisableShown { name: Name },
@@ -41,6 +41,15 @@ pub enum Order {
     List { line: Line },
     /// Imports a passwd-file.
     Import { how: Importing },
+}
+
+impl Order {
+    /// Whether it answers lines as they come.
+    fn is_script(&self) -> bool
+        ensures { result ≡ is_script self.now }
+    {
+        matches!(self, Order::Run | Order::Serve { .. })
+    }
 }
 
 /// Opens the book of a database, and does an order on it; the connection comes back. If the
@@ -84,7 +93,7 @@ pub fn serve_in<T: Threads + Sync, S: Alter, R: Read, W: Write, F: Write>(
     }
 }
 
-/// Does an order on a kept book.
+/// Does an order on a kept book. A script heeds no marks, so it isn't begun if an account has one.
 fn perform<T: Threads + Sync, S: Alter, R: Read, W: Write>(
     tools: &Tools<'_, T>,
     book: &mut FileBook<S>,
@@ -96,7 +105,41 @@ fn perform<T: Threads + Sync, S: Alter, R: Read, W: Write>(
     requires new_writer { IsNew writer.old }
     ensures done { (basis : Basis) → FitsSince basis reader.old reader.new
         → Performs order.now (seen (reading_on basis R.remaining reader.old reader.new)
-        (writing_on basis W.contents writer.old writer.new) book.old.book book.new.book) result }
+        (writing_on basis W.contents writer.old writer.new) (kept_book book.old)
+        (kept_book book.new)) result }
+    ensures logged { is_script order.now ≡ true → IsLogged reader.old reader.new }
+    ensures unread { is_unread order.now ≡ true → reader.new ≡ reader.old }
+{
+    if order.is_script() && has_marks(book) {
+        return Err(Failure::Marked);
+    }
+    carry_out(tools, book, order, reader, writer)
+}
+
+/// Whether an account of the book is marked.
+fn has_marks<S: Alter>(book: &FileBook<S>) -> bool
+    ensures { result ≡ has_marks (kept_book book.now) }
+{
+    let marks = book.marks();
+    book.book()
+        .iter()
+        .any(|(name, _)| marks.at(name).is_marked())
+}
+
+/// Does an order on a kept book, whatever marks its accounts have.
+fn carry_out<T: Threads + Sync, S: Alter, R: Read, W: Write>(
+    tools: &Tools<'_, T>,
+    book: &mut FileBook<S>,
+    order: &Order,
+    reader: &mut Watched<R>,
+    writer: &mut Watched<W>,
+) -> Result<Ending, Failure>
+    requires new_reader { IsNew reader.old }
+    requires new_writer { IsNew writer.old }
+    ensures done { (basis : Basis) → FitsSince basis reader.old reader.new
+        → CarriesOut order.now (seen (reading_on basis R.remaining reader.old reader.new)
+        (writing_on basis W.contents writer.old writer.new) (kept_book book.old)
+        (kept_book book.new)) result }
     ensures logged { is_script order.now ≡ true → IsLogged reader.old reader.new }
     ensures unread { is_unread order.now ≡ true → reader.new ≡ reader.old }
 {
@@ -114,7 +157,7 @@ fn perform<T: Threads + Sync, S: Alter, R: Read, W: Write>(
         Order::ShowJson { name, detail } => {
             command_end(show_json(tools.alloc, book, name, *detail, writer))
         }
-        Order::List { line } => command_end(list(tools.alloc, book.book(), *line, writer)),
+        Order::List { line } => command_end(list(tools.alloc, book, *line, writer)),
         Order::Import { how } => import_end(import(tools.alloc, book, *how, reader), writer),
     }
 }

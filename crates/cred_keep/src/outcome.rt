@@ -39,6 +39,8 @@ pub enum Failure {
     Import(ImportFault),
     /// A script met this fault.
     Script(ScriptFault),
+    /// An account is marked, and a script heeds no mark: nothing was read or written.
+    Marked,
     /// The database failed; the book's `lost` is the change that was under way.
     Database,
 }
@@ -55,7 +57,7 @@ impl Failure {
             Failure::Import(ImportFault::Memory) => Status::Memory,
             Failure::Script(ScriptFault::Memory) => Status::Memory,
             Failure::Import(ImportFault::Full | ImportFault::Lines(_)) => Status::Data,
-            Failure::Script(ScriptFault::TooLong) => Status::Data,
+            Failure::Script(ScriptFault::TooLong) | Failure::Marked => Status::Data,
             Failure::Database => Status::Database,
         }
     }

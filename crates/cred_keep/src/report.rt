@@ -80,6 +80,11 @@ pub fn explain<F: Write>(faults: &mut F, failure: &Failure, lost: Option<&Lost>)
         ),
         Failure::Command(fault) => writeln!(faults, "credkeep: {fault}"),
         Failure::Script(fault) => writeln!(faults, "credkeep: {fault}"),
+        Failure::Marked => writeln!(
+            faults,
+            "credkeep: an account is locked, or its password must be changed, which lines \
+             without tags don't heed: serve --tagged does"
+        ),
         Failure::Import(ImportFault::Read) => writeln!(faults, "credkeep: reading failed"),
         Failure::Import(ImportFault::Memory) => writeln!(faults, "credkeep: out of memory"),
         Failure::Import(ImportFault::Full) => writeln!(
@@ -93,15 +98,22 @@ pub fn explain<F: Write>(faults: &mut F, failure: &Failure, lost: Option<&Lost>)
 fn tell_lost<F: Write>(faults: &mut F, lost: &Lost) -> io::Result<()> {
     write!(faults, "credkeep: the database failed: {}; ", lost.error)?;
     match &lost.attempt {
-        Attempt::Put { name, .. } | Attempt::Delete(name) | Attempt::Rename { name, .. } => {
+        Attempt::Put { name, .. }
+        | Attempt::Mark { name, .. }
+        | Attempt::Delete(name)
+        | Attempt::Rename { name, .. } => {
             write!(faults, "the change of ")?;
             faults.write_all(name.bytes())?;
             writeln!(faults, " may be kept or not")
         }
-        Attempt::TakeIn { added, changed } if added.len() == 0 => {
+        Attempt::TakeIn { added, changed, .. } if added.len() == 0 => {
             tell_lost_changes(faults, changed)
         }
-        Attempt::TakeIn { added, changed } => tell_lost_import(faults, added.len(), changed.len()),
+        Attempt::TakeIn { added, changed, .. } => tell_lost_import(
+            faults,
+            added.len(),
+            changed.len(),
+        ),
     }
 }
 
@@ -151,7 +163,8 @@ fn tell_why<F: Write>(faults: &mut F, why: LineFault) -> io::Result<()> {
         LineFault::Book(refusal) => write!(faults, "{refusal}"),
         LineFault::Locked => write!(
             faults,
-            "its record is locked, by !, * or a field as nologin: --disable-locked drops it"
+            "its record is locked, by !, ~, * or a field as nologin: --disable-locked drops it, \
+             and --keep-locked keeps one behind ! or ~"
         ),
         LineFault::Costly => write!(
             faults,

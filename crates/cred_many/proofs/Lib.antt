@@ -1,5 +1,8 @@
--- Lemmas: lines that came, what was seen of records, commits, changes together, names in a row, what is told, what a writer takes, and a history
+-- Lemmas: lines that came, what was seen of records, commits, changes together, names in a row, what is told, what a lock bars, what a writer takes, and a history
 -- that goes on.
+pub mod Beside
+pub mod Concerns
+pub mod Locked
 pub mod Commits
 pub mod Lines
 pub mod Listed

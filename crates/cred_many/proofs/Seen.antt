@@ -4,7 +4,8 @@ use Rattle.std.proofs.{lemmas.Bool.cond_both, lemmas.List.length-set, lemmas.Lis
 use Rattle.std.proofs.lemmas.List.Elements.{All-append, All-drop, All-get_or, All-same, All-set, All-take, All-weaker}
 use Rattle.std.specs.{List.All, List.remove, Str.bytes_eq}
 use Rattle.cred_phc.specs.Values.{RecordValue}
-use Rattle.cred_book.specs.{Accounts.Accounts, Works.same}
+use Rattle.cred_book.specs.Works.{same}
+use Rattle.cred_admin.specs.Marked.{MarkedBook}
 use Rattle.cred_book.proofs.Equality.{same-Decides}
 use Rattle.cred_cli.proofs.Fronts.{set_here}
 use Rattle.cred_many.specs.{declared.ask.Ask.Ask, declared.open.Open.Open, declared.open.Sight.Sight, declared.fault.ServiceFault.ServiceFault, Asks.Entry, Served.answers, Served.book_after, Served.change_from, Served.changes, Served.done, Served.line_at, Served.name_asked, Served.record_at, Served.tries}
@@ -24,13 +25,13 @@ one_by_one a b c true is = let one : a ≡ b = (same-Decides a b).0 is in rw one
 one_by_one a b c false is = let few = small (same a c) in omega (arith, few)
 
 module _ (capacity : ℕ) (name : List ℕ) where
-  changes-append : (book : Accounts) (xs ys : List Entry) → changes capacity book name (xs ++ ys) ≡ changes capacity book name xs + changes capacity (book_after capacity book xs) name ys
+  changes-append : (book : MarkedBook) (xs ys : List Entry) → changes capacity book name (xs ++ ys) ≡ changes capacity book name xs + changes capacity (book_after capacity book xs) name ys
   unfolding changes book_after
   changes-append book [] ys = omega arith
   changes-append book (x ∷ xs) ys = let r = changes-append (done capacity book x.ask).1 xs ys in omega (arith, r)
 
   -- where it stands otherwise it changed
-  noticed : (book : Accounts) (xs : List Entry) → change_from (record_at book name) (record_at (book_after capacity book xs) name) ≤ changes capacity book name xs
+  noticed : (book : MarkedBook) (xs : List Entry) → change_from (record_at book name) (record_at (book_after capacity book xs) name) ≤ changes capacity book name xs
   unfolding changes book_after
   noticed book [] = let none = alike (record_at book name) in omega (arith, none)
   noticed book (x ∷ xs) =
@@ -39,12 +40,12 @@ module _ (capacity : ℕ) (name : List ℕ) where
       let rest = noticed later xs in
       omega (arith, first, rest)
 
-pub book_after-append : (capacity : ℕ) (book : Accounts) (xs ys : List Entry) → book_after capacity book (xs ++ ys) ≡ book_after capacity (book_after capacity book xs) ys
+pub book_after-append : (capacity : ℕ) (book : MarkedBook) (xs ys : List Entry) → book_after capacity book (xs ++ ys) ≡ book_after capacity (book_after capacity book xs) ys
 unfolding book_after
 book_after-append capacity book [] ys = refl
 book_after-append capacity book (x ∷ xs) ys = book_after-append capacity (done capacity book x.ask).1 xs ys
 
-pub answers-append : (capacity : ℕ) (book : Accounts) (xs ys : List Entry)
+pub answers-append : (capacity : ℕ) (book : MarkedBook) (xs ys : List Entry)
     → answers capacity book (xs ++ ys) ≡ answers capacity book xs ++ answers capacity (book_after capacity book xs) ys
 unfolding answers book_after
 answers-append capacity book [] ys = refl
@@ -62,7 +63,7 @@ numbers_set left place x y is same =
     let there = slice_get-map (λ (o : Open). o.number) left place ∙ ap (option_map (λ (o : Open). o.number)) is in
     map-set (λ (o : Open). o.number) left place y ∙ ap (set (numbers left) place) (same ∙ sym (get_or_from_slice_get (numbers left) place x.number 0 there)) ∙ set-get_or (numbers left) place 0
 
-module _ (capacity : ℕ) (opening : Accounts) (list : List Entry) where
+module _ (capacity : ℕ) (opening : MarkedBook) (list : List Entry) where
   abbrev Holds : Open → Type 0
   Holds = SightHolds capacity opening list
 

@@ -5,7 +5,7 @@ use Rattle.std.proofs.{lemmas.List.drop-map, lemmas.List.get_or-append-add, lemm
 use Rattle.std.proofs.lemmas.List.Sorted.{IsPermutation-append_left, IsPermutation-append_right, IsPermutation-cons, IsPermutation-refl, IsPermutation-remove, IsPermutation-sym, IsPermutation-trans}
 use Rattle.std.specs.{List.All, List.range_with_len, List.remove, List.Sorted.IsPermutation, Option.option_or}
 use Rattle.cred_phc.specs.Values.{RecordValue}
-use Rattle.cred_book.specs.Accounts.{Accounts}
+use Rattle.cred_admin.specs.Marked.{MarkedBook}
 use Rattle.cred_cli.specs.{History.Refused, Script.lines_of, Texts.line_of}
 use Rattle.cred_cli.proofs.{Readings.if_known, Unended.length-unended}
 use Rattle.cred_many.specs.{Asks.Entry, Asks.entry, Asks.refused, Served.AreFor, Served.HasCause, Served.IsFor, Served.IsGivenUp, Served.IsWritten, Served.Moment, Served.NeedsMemory, Served.Stands, Served.StandsAtEnd, Served.answers, Served.book_after, Served.done, Served.entry_numbers, Served.line_at, Served.most_together, Served.record_at}
@@ -102,7 +102,7 @@ once_opened ns left came once =
 
 -- ---- a history that goes on
 
-pub served_first : (capacity : ℕ) (s : Service) (now : Written) (book : Accounts) (left : List Open) → left ≡ [] → book ≡ s.opening → now ≡ s.before
+pub served_first : (capacity : ℕ) (s : Service) (now : Written) (book : MarkedBook) (left : List Open) → left ≡ [] → book ≡ s.opening → now ≡ s.before
     → History capacity s now book None left 0
 unfolding answers book_after
 served_first capacity s now book left none is same = rw none (record {
@@ -114,7 +114,7 @@ served_first capacity s now book left none is same = rw none (record {
   text = record { bytes = 0; front = rw same (takes_none s.before); whole = λ _. refl; most = omega arith };
 })
 
-module _ (capacity : ℕ) (s : Service) (old now : Written) (book later : Accounts) (es : List Entry) (left rest : List Open) (came : ℕ) (failed : Bool) (f : Option ServiceFault) where
+module _ (capacity : ℕ) (s : Service) (old now : Written) (book later : MarkedBook) (es : List Entry) (left rest : List Open) (came : ℕ) (failed : Bool) (f : Option ServiceFault) where
   -- by a few lines, whether their answers were written whole or the writer failed
   pub served_on : (h : History capacity s old book None left came)
       → IfSome s.input (λ bytes. (i : ℕ) (d : Entry) → i < length es → IsFor capacity s bytes (h.list ++ take i es) (get_or es i d))
@@ -137,7 +137,7 @@ module _ (capacity : ℕ) (s : Service) (old now : Written) (book later : Accoun
 
 -- ---- a step
 
-module _ (capacity : ℕ) (s : Service) (old now : Written) (book later : Accounts) (line : Entry) (left rest : List Open) (place came : ℕ) (answer : List ℕ) (failed : Bool) (was f : Option ServiceFault)
+module _ (capacity : ℕ) (s : Service) (old now : Written) (book later : MarkedBook) (line : Entry) (left rest : List Open) (place came : ℕ) (answer : List ℕ) (failed : Bool) (was f : Option ServiceFault)
     (ready : IsReady was left place line.number) (came_is : IfSome s.input (λ bytes. IsLine s bytes line))
     (closed : rest ≡ remove left place) (told : IsConcluded (line.tag ++ 32 ∷ answer) old now failed f) (served : ∥ History capacity s old book was left came ∥₁) where
   -- the line is answered as what it asks for, or as it is given up
@@ -168,7 +168,7 @@ module _ (capacity : ℕ) (s : Service) (old now : Written) (book later : Accoun
   pub given_up : later ≡ book → answer ≡ line_of (Refused refusal.Busy) → IsBusy left place line.ask → ∥ History capacity s now later f rest came ∥₁
   given_up same is busy = answered_as (refused refusal.Busy) same is (λ h. inr (inr (refl, worn capacity s.opening h.list left place line.ask h.seen busy)))
 
-module _ (capacity : ℕ) (s : Service) (now : Written) (book : Accounts) (left : List Open) (came : ℕ) (was : Option ServiceFault) where
+module _ (capacity : ℕ) (s : Service) (now : Written) (book : MarkedBook) (left : List Open) (came : ℕ) (was : Option ServiceFault) where
   -- the lines stay
   on_same : (h : History capacity s now book was left came) (why : Option ServiceFault) (rest : List Open) (next : ℕ) → IsPermutation (entry_numbers h.list ++ numbers rest) (range_with_len 0 next)
       → All (SightHolds capacity s.opening h.list) rest → IsWritten capacity s now h.list why → History capacity s now book why rest next
@@ -209,7 +209,7 @@ line_missing s input e came h behind = IfSome_then input h (λ bytes is all.
 
 -- ---- the whole
 
-module _ (capacity : ℕ) (s : Service) (now : Written) (book : Accounts) (left : List Open) (came : ℕ) (source writer keeper : Bool) where
+module _ (capacity : ℕ) (s : Service) (now : Written) (book : MarkedBook) (left : List Open) (came : ℕ) (source writer keeper : Bool) where
   abbrev told_at : Option ServiceFault → Moment
   told_at f = record { book = book; written = now; source_failed = source; writer_failed = writer; keeper_failed = keeper; fault = f; pending = numbers left; came = came }
 

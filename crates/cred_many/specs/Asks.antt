@@ -5,10 +5,10 @@ use Rattle.cred_phc.specs.{Number.number_of, Pieces.pieces, Ranges.between, Read
 use Rattle.cred_book.specs.{Works.Task, Works.is_for_current, declared.request.Request.Request}
 use Rattle.cred_cli.specs.{Costs.exceeds, Costs.request_exceeds, declared.costs.CostBounds.CostBounds, declared.refusal.Refusal.Refusal}
 use Rattle.cred_cli.specs.Events.{longest_line, name_and_password, name_and_record, name_field, name_password_setting, only_name, request_of}
-use Rattle.cred_admin.specs.declared.edits.Edit.TheVariants.{Disable, Delete, Rename}
+use Rattle.cred_admin.specs.declared.edits.Edit.TheVariants.{Disable, Delete, Rename, Lock, Unlock, Expire}
 use Rattle.cred_many.specs.{declared.ask.Ask.Ask, declared.ask.QuickAsk.QuickAsk}
 use Rattle.cred_many.specs.declared.ask.Ask.TheVariants.{Quick, Whole, Login, Reset}
-use Rattle.cred_many.specs.declared.ask.QuickAsk.TheVariants.{Account, Load, Show, DisableShown, Bad, Edit, List as Names}
+use Rattle.cred_many.specs.declared.ask.QuickAsk.TheVariants.{Account, Load, Show, DisableShown, Bad, Edit, List as Names, ListMarks}
 use Rattle.cred_book.specs.declared.request.Request.TheVariants as request
 use Rattle.cred_cli.specs.declared.refusal.Refusal.TheVariants as refusal
 
@@ -26,6 +26,12 @@ count_field text = in_page (number_of text)
 abbrev pub list_ask : List (List ℕ) → Result QuickAsk Refusal
 list_ask (x ∷ n ∷ []) = name_field x >>= λ from. count_field n >>= λ most. Ok (Names from most)
 list_ask _ = Err refusal.Line
+
+-- `marks FROM COUNT`
+abbrev pub marks_ask : List (List ℕ) → Result QuickAsk Refusal
+marks_ask (x ∷ n ∷ []) =
+    name_field x >>= λ from. count_field n >>= λ most. Ok (ListMarks from most)
+marks_ask _ = Err refusal.Line
 
 -- `disable NAME` and `disable NAME show`
 abbrev pub disable_ask : List (List ℕ) → Result QuickAsk Refusal
@@ -62,10 +68,17 @@ ask_of drawn (word ∷ fields) =
     else if bytes_eq word (codes "show") then
     (only_name fields >>= λ name. Ok (Quick (Show name)))
     else if bytes_eq word (codes "list") then (list_ask fields >>= λ list. Ok (Quick list))
+    else if bytes_eq word (codes "marks") then (marks_ask fields >>= λ list. Ok (Quick list))
     else if bytes_eq word (codes "disable") then (disable_ask fields >>= λ it. Ok (Quick it))
     else if bytes_eq word (codes "delete") then
     (only_name fields >>= λ name. Ok (Quick (Edit (Delete name))))
     else if bytes_eq word (codes "rename") then (rename_ask fields >>= λ it. Ok (Quick it))
+    else if bytes_eq word (codes "lock") then
+    (only_name fields >>= λ name. Ok (Quick (Edit (Lock name))))
+    else if bytes_eq word (codes "unlock") then
+    (only_name fields >>= λ name. Ok (Quick (Edit (Unlock name))))
+    else if bytes_eq word (codes "expire") then
+    (only_name fields >>= λ name. Ok (Quick (Edit (Expire name))))
     else hashed_ask drawn word fields
 
 -- what is hashed for it: a login is an upgrade, and a reset hashes as the first record does

@@ -2,10 +2,12 @@
 -- whose changes are made together. Of it public clauses cite `moment`, `numbers`, `HasTurn` and
 -- `IsAnswered` alone.
 use Rattle.std.specs.{List.range_with_len, List.remove, List.Sorted.IsPermutation, Option.option_or, Str.bytes_eq}
-use Rattle.std.specs.Prelude.{◌≡◌, ◌⊎◌, ℕ, ◌<◌, ◌≤◌, ◌+◌, List, [], ◌∷◌, ◌++◌, Bool, true, false, All, if◌then◌else◌, IfSome, Option, Some, None, length, map, set, slice_get}
+use Rattle.std.specs.Prelude.{◌≡◌, ◌⊎◌, ℕ, ◌<◌, ◌≤◌, ◌+◌, List, [], ◌∷◌, ◌++◌, Bool, true, All, if◌then◌else◌, IfSome, Option, Some, None, length, map, set, slice_get}
 use Rattle.cred_phc.specs.Values.{RecordValue}
-use Rattle.cred_book.specs.{Accounts.Accounts, Works.Task, declared.reply.Reply.Reply}
-use Rattle.cred_cli.specs.{History.Answer, History.Changed, Steps.reply_answer, Watched.failed_of}
+use Rattle.cred_book.specs.{Accounts.Accounts, Works.Task}
+use Rattle.cred_file.specs.Cells.{unmarked}
+use Rattle.cred_admin.specs.Marked.{MarkedBook}
+use Rattle.cred_cli.specs.Watched.{failed_of}
 use Rattle.cred_many.specs.{Asks.Entry, Service.IsLine, Service.Service, declared.ask.Ask.Ask, declared.fault.ServiceFault.ServiceFault}
 use Rattle.cred_many.specs.Served.{AreFor, IsWritten, Moment, answers, book_after, change_from, changes, entry_numbers, most_together, name_asked, record_at, tries}
 use Rattle.cred_many.specs.Transcript.{TakesFront, TakesMore, Written, written_of}
@@ -16,7 +18,7 @@ use Rattle.std.specs.FinMap as fin
 
 -- The account's record was seen to change no oftener than it did, and nor is it if it stands otherwise
 -- behind these lines.
-abbrev pub SightHolds : ℕ → Accounts → List Entry → Open → Type 0
+abbrev pub SightHolds : ℕ → MarkedBook → List Entry → Open → Type 0
 SightHolds capacity opening list line = IfSome line.sight (λ s.
     s.changes + change_from s.stored (record_at (book_after capacity opening list) s.name)
     ≤ changes capacity opening s.name list)
@@ -93,14 +95,6 @@ abbrev pub IsConcluded : List ℕ → Written → Written → Bool → Option Se
 IsConcluded text old new failed why = ((why ≡ None) × TakesMore old new text)
     ⊎ ((why ≡ Some Write) × TakesFront old new text × (failed ≡ true))
 
--- the record isn't the one that was copied
-abbrev pub is_change : Answer → Bool
-is_change Changed = true
-is_change _ = false
-
-abbrev pub is_changed : Reply → Bool
-is_changed r = is_change (reply_answer r)
-
 -- ---- changes that are made together
 
 -- the lines of what is hashed
@@ -112,20 +106,23 @@ abbrev pub AreReplaced : Accounts → Accounts → Accounts → Type 0
 AreReplaced old changed new =
     (name : List ℕ) → fin.get new name ≡ option_or (fin.get changed name) (fin.get old name)
 
--- Lines that came, a few. Done in their order, they give these accounts their records, and have this
--- text of answers.
-pub record IsGroup (capacity : ℕ) (s : Service) (book changed : Accounts) (list : List Entry)
-    (text : List ℕ) : Type 0 where
+-- Lines that came, a few. Done in their order, they give these accounts their records, and have
+-- this text of answers. None of these accounts is marked.
+pub record IsGroup (capacity : ℕ) (s : Service) (book : MarkedBook) (changed : Accounts)
+    (list : List Entry) (text : List ℕ) : Type 0 where
   pub came : IfSome s.input (λ bytes. All (IsLine s bytes) list)
   pub few : length list ≤ most_together
-  pub after : AreReplaced book changed (book_after capacity book list)
+  pub after : AreReplaced book.accounts changed (book_after capacity book list).accounts
+  pub marks : (book_after capacity book list).marks ≡ book.marks
+  pub plain : (name : List ℕ) → fin.contains_key changed name ≡ true
+      → book.marks name ≡ unmarked
   pub text_is : text ≡ answers capacity book list
 
 -- ---- the whole
 
 -- what a scribe has that has these, where functions tell the book and the failure of a keeper, and
 -- the bytes of a writer
-abbrev pub moment : {K W : Type 0} → (K → Accounts) → (K → Bool) → (W → Option (List ℕ)) → K
+abbrev pub moment : {K W : Type 0} → (K → MarkedBook) → (K → Bool) → (W → Option (List ℕ)) → K
     → Output W → ℕ → Bool → Moment
 moment book failed contents keeper output came source_failed = record {
   book = book keeper;
@@ -139,7 +136,7 @@ moment book failed contents keeper output came source_failed = record {
 }
 
 -- one history, of which each open line saw what it notes
-pub record History (capacity : ℕ) (s : Service) (now : Written) (book : Accounts)
+pub record History (capacity : ℕ) (s : Service) (now : Written) (book : MarkedBook)
     (why : Option ServiceFault) (open_lines : List Open) (came : ℕ) : Type 0 where
   pub list : List Entry
   pub each : IfSome s.input (λ bytes. AreFor capacity s bytes list)

@@ -2,14 +2,16 @@
 use Rattle.std.specs.{List.range_with_len, List.Sorted.IsPermutation, Option.option_map}
 use Rattle.std.specs.Prelude.{◌≡◌, ◌≢◌, ◌⊎◌, ℕ, ◌<◌, ◌≤◌, ◌+◌, ◌-◌, ◌^◌, List, [], ◌∷◌, ◌++◌, Bool, true, false, if◌then◌else◌, IfSome, is_some, nat_lt, Option, Some, None, length, map, take, slice_get, slice_index_or, unwrap_or}
 use Rattle.cred_phc.specs.Values.{RecordValue}
-use Rattle.cred_book.specs.{Accounts.Accounts, Works.name_of, Works.new_record, Works.same, Works.seq, declared.reply.Reply.Reply}
+use Rattle.cred_file.specs.declared.mark.Mark.{Mark}
+use Rattle.cred_book.specs.{Works.name_of, Works.new_record, Works.same, declared.reply.Reply.Reply}
 use Rattle.cred_cli.specs.{History.Done, History.Refused, History.show_answer, Script.lines_of, Texts.line_of, Texts.reply_line}
 use Rattle.cred_cli.specs.Watched.{failed_of}
 use Rattle.cred_admin.specs.{Commands.reset_step, Edits.disabling, Edits.edit_line, Edits.edit_status, Edits.edited, Edits.lacks_room, Listing.passwd_line}
-use Rattle.cred_many.specs.{Asks.Entry, Asks.hashed_for, Asks.refused, Names.names_line, Names.page, Service.Service, Service.asked, declared.ask.Ask.Ask}
+use Rattle.cred_admin.specs.{Marked.MarkedBook, Marked.tried, Marked.with_account, Marked.with_record, Statuses.verdict_line, declared.verdict.Verdict.Verdict, declared.verdict.Verdict.TheVariants.Told}
+use Rattle.cred_many.specs.{Asks.Entry, Asks.hashed_for, Asks.refused, Names.marked_page, Names.marks_line, Names.names_line, Names.page, Service.Service, Service.asked, declared.ask.Ask.Ask}
 use Rattle.cred_many.specs.Transcript.{TakesMore, Written, written_of}
 use Rattle.cred_many.specs.declared.ask.Ask.TheVariants.{Quick, Whole, Login, Reset}
-use Rattle.cred_many.specs.declared.ask.QuickAsk.TheVariants.{Account, Load, Show, DisableShown, Bad, Edit as Change, List as Names}
+use Rattle.cred_many.specs.declared.ask.QuickAsk.TheVariants.{Account, Load, Show, DisableShown, Bad, Edit as Change, List as Names, ListMarks}
 use Rattle.cred_many.specs.{declared.ending.Served.Served, declared.fault.ServiceFault.ServiceFault}
 use Rattle.std.specs.FinMap as fin
 use Rattle.cred_book.specs.declared.error.BookError.TheVariants as error
@@ -34,33 +36,51 @@ abbrev pub told_reply : Ask → Reply → Reply
 told_reply (Login name pw setting) r = login_reply r
 told_reply _ r = r
 
--- the line of an account whose record is taken away, or that it has none
-abbrev pub disabled_line : List ℕ → Option (Option RecordValue) → List ℕ
-disabled_line name None = edit_line edit.NoAccount
-disabled_line name (Some None) = edit_line edit.Absent
-disabled_line name (Some (Some stored)) = passwd_line (name, Some stored)
+abbrev pub login_verdict : Verdict → Verdict
+login_verdict (Told r) = Told (login_reply r)
+login_verdict verdict = verdict
+
+-- the verdict under which it is answered
+abbrev pub told_verdict : Ask → Verdict → Verdict
+told_verdict ask (Told r) = Told (told_reply ask r)
+told_verdict ask verdict = verdict
+
+-- the line of an account whose record is taken away, with its mark, or that it has none
+abbrev pub disabled_line : List ℕ → Mark → Option (Option RecordValue) → List ℕ
+disabled_line name m None = edit_line edit.NoAccount
+disabled_line name m (Some None) = edit_line edit.Absent
+disabled_line name m (Some (Some stored)) = passwd_line m (name, Some stored)
 
 -- the answer to what is asked, with its line end, done whole on the book, and the book after
-abbrev pub done : ℕ → Accounts → Ask → List ℕ × Accounts
+abbrev pub done : ℕ → MarkedBook → Ask → List ℕ × MarkedBook
 done capacity book (Quick (Account name)) =
-    if fin.contains_key book name then (line_of (Refused (refusal.Book error.Exists)), book)
-    else if nat_lt (fin.len book) capacity then (line_of Done, fin.insert book name None)
+    if fin.contains_key book.accounts name
+    then (line_of (Refused (refusal.Book error.Exists)), book)
+    else if nat_lt (fin.len book.accounts) capacity
+    then (line_of Done, with_account book name None)
     else (line_of (Refused (refusal.Book error.Full)), book)
 done capacity book (Quick (Load name stored)) =
-    if fin.contains_key book name then (line_of Done, fin.insert book name (Some stored))
+    if fin.contains_key book.accounts name
+    then (line_of Done, with_record book name (Some stored))
     else (line_of (Refused (refusal.Book error.NoAccount)), book)
-done capacity book (Quick (Show name)) = (line_of (show_answer (fin.get book name)), book)
-done capacity book (Quick (Names from most)) = (names_line (page from most (fin.keys book)), book)
+done capacity book (Quick (Show name)) =
+    (line_of (show_answer (fin.get book.accounts name)), book)
+done capacity book (Quick (Names from most)) =
+    (names_line (page from most (fin.keys book.accounts)), book)
+done capacity book (Quick (ListMarks from most)) = (
+  marks_line book.marks (marked_page book.marks from most (fin.keys book.accounts)),
+  book,
+)
 done capacity book (Quick (Change change)) =
     if lacks_room capacity book change then (line_of (Refused (refusal.Book error.Full)), book)
     else (edit_line (edited book change).0, (edited book change).1)
 done capacity book (Quick (DisableShown name)) =
-    (disabled_line name (fin.get book name), (disabling book name).1)
+    (disabled_line name (book.marks name) (fin.get book.accounts name), (disabling book name).1)
 done capacity book (Quick (Bad why)) = (line_of (Refused why), book)
-done capacity book (Whole r) = (reply_line (seq book r).0, (seq book r).1)
+done capacity book (Whole r) = (verdict_line (tried book r).0, (tried book r).1)
 done capacity book (Login name pw setting) = (
-  reply_line (login_reply (seq book (request.Upgrade name pw setting)).0),
-  (seq book (request.Upgrade name pw setting)).1,
+  verdict_line (login_verdict (tried book (request.Upgrade name pw setting)).0),
+  (tried book (request.Upgrade name pw setting)).1,
 )
 done capacity book (Reset name pw setting) = (
   reply_line (reset_step book name (new_record setting pw)).0,
@@ -68,16 +88,16 @@ done capacity book (Reset name pw setting) = (
 )
 
 -- the answer to a line at this book, as it is written: `TAG ANSWER`
-abbrev pub line_at : ℕ → Accounts → Entry → List ℕ
+abbrev pub line_at : ℕ → MarkedBook → Entry → List ℕ
 line_at capacity book e = e.tag ++ 32 ∷ (done capacity book e.ask).0
 
 -- the book after the lines
-unfoldable pub book_after : ℕ → Accounts → List Entry → Accounts
+unfoldable pub book_after : ℕ → MarkedBook → List Entry → MarkedBook
 book_after capacity book [] = book
 book_after capacity book (e ∷ es) = book_after capacity (done capacity book e.ask).1 es
 
 -- their answers
-unfoldable pub answers : ℕ → Accounts → List Entry → List ℕ
+unfoldable pub answers : ℕ → MarkedBook → List Entry → List ℕ
 answers capacity book [] = []
 answers capacity book (e ∷ es) =
     line_at capacity book e ++ answers capacity (done capacity book e.ask).1 es
@@ -85,14 +105,14 @@ answers capacity book (e ∷ es) =
 -- ---- how often a record changed
 
 -- the record of the name, or none
-abbrev pub record_at : Accounts → List ℕ → Option RecordValue
-record_at book name = unwrap_or (fin.get book name) None
+abbrev pub record_at : MarkedBook → List ℕ → Option RecordValue
+record_at book name = unwrap_or (fin.get book.accounts name) None
 
 abbrev pub change_from : Option RecordValue → Option RecordValue → ℕ
 change_from old new = if same old new then 0 else 1
 
 -- how many of the lines left the name another record than they found
-unfoldable pub changes : ℕ → Accounts → List ℕ → List Entry → ℕ
+unfoldable pub changes : ℕ → MarkedBook → List ℕ → List Entry → ℕ
 changes capacity book name [] = 0
 changes capacity book name (e ∷ es) =
     change_from (record_at book name) (record_at (done capacity book e.ask).1 name)
@@ -106,10 +126,11 @@ name_asked ask = unwrap_or (option_map name_of (hashed_for ask)) []
 
 -- What is asked needs memory at this book: for a hash, a list, the text of a record or a change. No
 -- line is given up for want of it that would be refused anyway.
-abbrev pub NeedsMemory : ℕ → Accounts → Ask → Type 0
+abbrev pub NeedsMemory : ℕ → MarkedBook → Ask → Type 0
 NeedsMemory capacity book (Quick (Account name)) =
-    (fin.contains_key book name ≡ false) × (fin.len book < capacity)
-NeedsMemory capacity book (Quick (Load name stored)) = fin.contains_key book name ≡ true
+    (fin.contains_key book.accounts name ≡ false) × (fin.len book.accounts < capacity)
+NeedsMemory capacity book (Quick (Load name stored)) =
+    fin.contains_key book.accounts name ≡ true
 NeedsMemory capacity book (Quick (Show name)) = is_some (record_at book name) ≡ true
 NeedsMemory capacity book (Quick (Change change)) =
     (edit_status (edited book change).0 ≡ status.Done) × (lacks_room capacity book change ≡ false)
@@ -166,7 +187,7 @@ pub record IsWritten (capacity : ℕ) (s : Service) (now : Written) (list : List
 -- source, the writer or the keeper has failed; why it answers no more; the lines that came and have
 -- no answer yet; and how many came
 pub record Moment : Type 0 where
-  pub book : Accounts
+  pub book : MarkedBook
   pub written : Written
   pub source_failed : Bool
   pub writer_failed : Bool
@@ -201,7 +222,7 @@ pub record Stands (capacity : ℕ) (s : Service) (m : Moment) : Type 0 where
 
 -- what is left of a service, with these lines pending, where these tell the book and the failure of
 -- a keeper, the bytes of a writer, and the failure of a source
-abbrev pub left_of : {K W S : Type 0} → (K → Accounts) → (K → Bool) → (W → Option (List ℕ))
+abbrev pub left_of : {K W S : Type 0} → (K → MarkedBook) → (K → Bool) → (W → Option (List ℕ))
     → (S → Bool) → Served K W S → List ℕ → Moment
 left_of book failed contents source_failed served pending = record {
   book = book served.keeper;

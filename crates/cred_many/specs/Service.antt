@@ -2,7 +2,8 @@
 use Rattle.std.specs.Prelude.{◌≡◌, ℕ, zero, suc, List, [], ◌∷◌, Option, Some, None, slice_get, codes}
 use Rattle.rand_core.specs.Stream.{Stream, fill_bytes}
 use Rattle.cred_phc.specs.{Values.SettingValue, Values.setting_of, declared.scheme.Scheme.Scheme, declared.scheme.Scheme.TheVariants.Scrypt}
-use Rattle.cred_book.specs.Accounts.{Accounts}
+use Rattle.cred_admin.specs.Marked.{MarkedBook, marked_book}
+use Rattle.cred_file.specs.Cells.{unmarked}
 use Rattle.cred_cli.specs.{Costs.no_bounds, Script.lines_of, Script.with_unended, declared.costs.CostBounds.CostBounds}
 use Rattle.cred_many.specs.{Asks.Entry, Asks.entry, Asks.entry_of, Asks.refused, Transcript.Written, Transcript.nothing_written, declared.service.ServiceConfig.ServiceConfig}
 use Rattle.std.specs.FinMap as map
@@ -12,7 +13,7 @@ use Rattle.cred_cli.specs.declared.refusal.Refusal.TheVariants as refusal
 -- costs and from which source of salts settings are drawn, how many KiB all hashes together may
 -- take, and what the costs of a line may ask for
 pub record Service : Type 0 where
-  pub opening : Accounts
+  pub opening : MarkedBook
   pub input : Option (List ℕ)
   pub before : Written
   pub costs : Scheme
@@ -20,7 +21,7 @@ pub record Service : Type 0 where
   pub memory : ℕ
   pub most : CostBounds
 
-abbrev pub service : Accounts → Option (List ℕ) → Written → ServiceConfig → Stream → Service
+abbrev pub service : MarkedBook → Option (List ℕ) → Written → ServiceConfig → Stream → Service
 service opening input before config salts = record {
   opening = opening;
   input = input;
@@ -65,7 +66,7 @@ IsLine s bytes e = slice_get (asked s bytes) e.number ≡ Some e
 -- one that nobody asks
 abbrev pub no_service : Service
 no_service = record {
-  opening = map.empty;
+  opening = marked_book map.empty (λ _. unmarked);
   input = None;
   before = nothing_written;
   costs = Scrypt 1 1 1;

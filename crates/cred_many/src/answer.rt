@@ -7,7 +7,7 @@ ghost use Rattle.cred_many.specs.{Served.NeedsMemory, Served.disabled_line, Serv
 ghost use Rattle.std.specs.FinMap as map;
 
 use crate::ask::QuickAsk;
-use crate::listing::names_line;
+use crate::listing::{marks_line, names_line};
 use cred_admin::{Detail, Edit, EditReply, Host, Line, edit_line, line_of};
 use cred_book::{BookError, Name};
 use cred_cli::{AnswerLine, Refusal};
@@ -46,6 +46,10 @@ pub(crate) fn do_ask<K: Host>(
             let line = names_line(alloc, keeper.accounts(), &from, most)?;
             Ok(AnswerLine::Made(line))
         }
+        QuickAsk::ListMarks(from, most) => {
+            let line = marks_line(alloc, keeper, &from, most)?;
+            Ok(AnswerLine::Made(line))
+        }
         QuickAsk::Edit(edit) => match keeper.edit(&edit) {
             Ok(reply) => Ok(AnswerLine::Fixed(edit_line(reply))),
             Err(BookError::Memory) => Err(AllocError),
@@ -64,7 +68,8 @@ fn disable_shown<K: Host>(
     name: Name,
 ) -> Result<AnswerLine, AllocError>
     ensures answer { IfOk result (λ line.
-        line_bytes line ≡ disabled_line name (map.get (K.book keeper.old) name)) }
+        line_bytes line ≡ disabled_line name ((K.book keeper.old).marks name)
+        (map.get (K.book keeper.old).accounts name)) }
     ensures book { OnOk result (K.book keeper.new ≡ (disabling (K.book keeper.old) name).1) }
     ensures refused { OnErr result (K.book keeper.new ≡ K.book keeper.old) }
     ensures needs { OnErr result (is_some (record_at (K.book keeper.old) name) ≡ true) }
@@ -74,7 +79,14 @@ fn disable_shown<K: Host>(
         Ok(None) => return Ok(AnswerLine::Fixed(edit_line(EditReply::Absent))),
         Err(_) => return Ok(AnswerLine::Fixed(edit_line(EditReply::NoAccount))),
     };
-    let line = line_of(alloc, Line::Passwd(Detail::Record), &name, Some(stored))?;
+    let mark = keeper.mark_of(&name);
+    let line = line_of(
+        alloc,
+        Line::Passwd(Detail::Record),
+        &name,
+        mark,
+        Some(stored),
+    )?;
     match keeper.edit(&Edit::Disable(name)) {
         Ok(_) => Ok(AnswerLine::Made(line)),
         Err(_) => Err(AllocError),

@@ -32,6 +32,8 @@ pub(crate) enum QuickAsk {
     Show(Name),
     /// Asks for the names from this one on, in their order, at most so many.
     List(Name, u16),
+    /// Asks for the marked accounts from this name on, with their marks, at most so many.
+    ListMarks(Name, u16),
     /// Changes an account for which no password is asked.
     Edit(Edit),
     /// Removes an account's record, and asks for its line.

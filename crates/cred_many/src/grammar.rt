@@ -2,14 +2,14 @@
 
 ghost use Rattle.std.specs.Prelude.{◌≡◌, IfOk, map, true};
 ghost use Rattle.cred_phc.specs.Ranges.{is_current};
-ghost use Rattle.cred_many.specs.Asks.{IsSound, ask_of, count_field, disable_ask, hashed_ask, list_ask, rename_ask};
+ghost use Rattle.cred_many.specs.Asks.{IsSound, ask_of, count_field, disable_ask, hashed_ask, list_ask, marks_ask, rename_ask};
 
 use crate::ask::{Ask, QuickAsk};
 use cred_admin::Edit;
 use cred_cli::{Refusal, fields};
 use cred_phc::{PhcError, Setting, decimal};
 
-/// The maximum number of names in a list.
+/// The maximum number of names in a list, with their marks or without.
 const MOST_NAMES: u64 = 1000;
 
 /// The operation of the words after the tag, with the drawn setting if they give none.
@@ -30,6 +30,8 @@ pub(crate) fn ask_of(drawn: Setting, words: &[&[u8]]) -> Result<Ask, Refusal>
         Ok(Ask::Quick(QuickAsk::Show(fields::only_name(fields)?)))
     } else if *word == b"list".as_slice() {
         Ok(Ask::Quick(list_ask(fields)?))
+    } else if *word == b"marks".as_slice() {
+        Ok(Ask::Quick(marks_ask(fields)?))
     } else if *word == b"disable".as_slice() {
         Ok(Ask::Quick(disable_ask(fields)?))
     } else if *word == b"delete".as_slice() {
@@ -37,6 +39,15 @@ pub(crate) fn ask_of(drawn: Setting, words: &[&[u8]]) -> Result<Ask, Refusal>
         Ok(Ask::Quick(QuickAsk::Edit(Edit::Delete(name))))
     } else if *word == b"rename".as_slice() {
         Ok(Ask::Quick(rename_ask(fields)?))
+    } else if *word == b"lock".as_slice() {
+        let name = fields::only_name(fields)?;
+        Ok(Ask::Quick(QuickAsk::Edit(Edit::Lock(name))))
+    } else if *word == b"unlock".as_slice() {
+        let name = fields::only_name(fields)?;
+        Ok(Ask::Quick(QuickAsk::Edit(Edit::Unlock(name))))
+    } else if *word == b"expire".as_slice() {
+        let name = fields::only_name(fields)?;
+        Ok(Ask::Quick(QuickAsk::Edit(Edit::Expire(name))))
     } else {
         hashed_ask(drawn, word, fields)
     }
@@ -47,6 +58,15 @@ fn list_ask(fields: &[&[u8]]) -> Result<QuickAsk, Refusal>
 {
     match fields {
         [from, most] => Ok(QuickAsk::List(fields::name(from)?, count(most)?)),
+        _ => Err(Refusal::Line),
+    }
+}
+
+fn marks_ask(fields: &[&[u8]]) -> Result<QuickAsk, Refusal>
+    ensures { result ≡ marks_ask (map (λ s. s.now) fields.now) }
+{
+    match fields {
+        [from, most] => Ok(QuickAsk::ListMarks(fields::name(from)?, count(most)?)),
         _ => Err(Refusal::Line),
     }
 }

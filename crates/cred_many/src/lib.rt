@@ -32,7 +32,10 @@ pub use costs::Costs;
 pub use ending::{Ending, Served};
 pub use fault::ServiceFault;
 pub use job::{Hashed, Job};
-pub use laws::{a_password_counts_by_its_tags, an_answer_tells_of_its_accounts};
+pub use laws::{
+    a_lock_holds, a_mark_concerns_its_account_alone, a_password_counts_by_its_tags,
+    an_answer_tells_of_its_accounts,
+};
 pub use line::Line;
 pub use scribe::Scribe;
 pub use sender::LineCount;

@@ -3,8 +3,8 @@
 ghost use Rattle.std.specs.Prelude.{◌≡◌, ◌↔◌, ◌+◌, ◌++◌, [], ◌∷◌, Bool, false, IfSome, IsTrue, is_some, length, None, option_map, Some, true, unwrap_or};
 ghost use Rattle.cred_cli.specs.Script.{lines_of};
 ghost use Rattle.cred_book.specs.Works.{is_for_current, name_of};
-ghost use Rattle.cred_many.specs.{Asks.IsJobOf, Asks.hashed_for, Asks.is_reset, Scribe.HasTurn, Scribe.History, Scribe.IsAnswered, Scribe.IsBusy, Scribe.IsReady, Scribe.is_changed, Scribe.moment, Scribe.numbers, Scribe.unseen, declared.ask.Ask.TheVariants.Quick};
-ghost use Rattle.cred_many.specs.{Served.HasCause, Served.NeedsMemory, Served.Stands, Served.StandsAtEnd, Served.left_of, Served.record_at, Served.told_reply, Transcript.written_of};
+ghost use Rattle.cred_many.specs.{Asks.IsJobOf, Asks.hashed_for, Asks.is_reset, Scribe.HasTurn, Scribe.History, Scribe.IsAnswered, Scribe.IsBusy, Scribe.IsReady, Scribe.moment, Scribe.numbers, Scribe.unseen, declared.ask.Ask.TheVariants.Quick};
+ghost use Rattle.cred_many.specs.{Served.HasCause, Served.NeedsMemory, Served.Stands, Served.StandsAtEnd, Served.left_of, Served.record_at, Served.told_reply, Served.told_verdict, Transcript.written_of};
 
 mod groups;
 
@@ -18,7 +18,7 @@ use crate::open::OpenLines;
 use crate::output::Output;
 use crate::service_id::ServiceId;
 use crate::source::Source;
-use cred_admin::{Host, put_in_place};
+use cred_admin::{Host, Verdict, commit_try, put_in_place, verdict_line};
 use cred_book::{BookError, Reply, Request, Ticket, Worked};
 use cred_cli::{Refusal, Watched, reply_line};
 use std::alloc::Global;
@@ -252,7 +252,7 @@ impl<J: ServiceId, K: Host, W: Write> Scribe<J, K, W> {
     }
 
     /// Commits a whole operation, and answers it, if the record still equals the
-    /// copy. Otherwise the record is copied again.
+    /// copy. Otherwise the record is copied again. The account's marks count that stand now.
     pub fn commit(&mut self, hashed: Hashed<J>) -> Option<Job<J>>
         ensures { result ≡ None → HasTurn hashed.0.number self.old.output self.new.output }
     {
@@ -276,17 +276,17 @@ impl<J: ServiceId, K: Host, W: Write> Scribe<J, K, W> {
     {
         let ask = line.ask();
         let request = worked.request();
-        let reply = match self.keeper.commit(worked) {
-            Ok(reply) => reply,
+        let verdict = match commit_try(&mut self.keeper, worked) {
+            Ok(verdict) => verdict,
             Err(_) => {
                 self.refuse(place, line);
                 return None;
             }
         };
-        if is_changed(&reply) {
+        if verdict.is_outdated() {
             return self.job(place, line, request);
         }
-        let answer = reply_line(&told_reply(ask, reply));
+        let answer = verdict_line(&told_verdict(ask, verdict));
         self.output.answer(place, &line, answer);
         None
     }
@@ -369,11 +369,15 @@ fn ticket_of<K: Host>(keeper: &K, request: Request) -> Ticket
     }
 }
 
-/// Whether a commit found another record than the copy.
-fn is_changed(reply: &Reply) -> bool
-    ensures { result ≡ is_changed reply.now }
+/// The verdict under which an operation is answered.
+fn told_verdict(ask: Ask, verdict: Verdict) -> Verdict
+    ensures { result ≡ told_verdict ask verdict }
 {
-    matches!(reply, Reply::Changed { .. })
+    match verdict {
+        Verdict::Told(reply) => Verdict::Told(told_reply(ask, reply)),
+        Verdict::Expired => Verdict::Expired,
+        Verdict::Same => Verdict::Same,
+    }
 }
 
 /// The reply to an operation: that of a login is the reply of a verify.

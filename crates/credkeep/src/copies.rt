@@ -137,10 +137,14 @@ pub(crate) fn verify(host: &HostRuntime, request: &Request<'_>) -> Result<Status
     Ok(status)
 }
 
-/// Makes a draft beside a place. A fault names the draft, as the place itself may be readable.
+/// Makes a draft beside a place. A fault names the draft, as the place itself may be readable; but
+/// of a folder that is missing it names the place.
 fn make_draft<'a>(host: &'a HostRuntime, place: &str, end: &str) -> Result<Draft<'a>, Status> {
     let path = accept(host, place, sidecar(host, place, end))?;
-    accept(host, path.as_str(), Draft::make(host, place, end))
+    match Draft::make(host, place, end) {
+        Err(FileFault::NoFolder) => Err(refuse_file(host, place, FileFault::NoFolder)),
+        made => accept(host, path.as_str(), made),
+    }
 }
 
 /// Copies the book's files at one moment, and reads the copy of the log.

@@ -48,7 +48,8 @@ impl<'a> Draft<'a> {
     /// Makes an empty file, named as the place with this end. A file that a stopped run left there
     /// is used again.
     ///
-    /// Errors: `Busy` if another run is writing it; `Irregular` or `Owner` for a foreign file.
+    /// Errors: `NoFolder`; `Busy` if another run is writing it; `Irregular` or `Owner` for a foreign
+    /// file.
     pub(crate) fn make(rt: &'a HostRuntime, place: &str, end: &str) -> Result<Self, FileFault> {
         let path = sidecar(rt, place, end)?;
         let file = open_or_make(rt, path.as_str())?;
@@ -135,5 +136,8 @@ fn open_or_make(rt: &HostRuntime, path: &str) -> Result<File, FileFault> {
             options.create_new(true).mode(OWNER_ALONE);
         }
     }
-    Ok(options.open(rt, path)?)
+    match if_there(options.open(rt, path))? {
+        Some(file) => Ok(file),
+        None => Err(FileFault::NoFolder),
+    }
 }

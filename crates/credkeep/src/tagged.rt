@@ -1,6 +1,7 @@
 //! A book that answers tagged lines of many clients.
 
 ghost use Rattle.std.specs.Prelude.{◌≡◌, ◌⊎◌, false, IfSome, is_some, length, None};
+ghost use Rattle.cred_admin.specs.Marked.{kept_book};
 ghost use Rattle.cred_book.specs.Accounts.{register_capacity};
 ghost use Rattle.cred_cli.specs.Script.{lines_of};
 ghost use Rattle.cred_keep.specs.Orders.{IsRefused};
@@ -186,10 +187,10 @@ where
     R: Read + Send + Drop + 'static,
     W: Write + Drop,
     G: Rng + Send + Drop + 'static,
-    requires { J.service ≡ service book.book (R.remaining reader) (written_of W.contents writer)
-        config.now (G.stream salts) }
+    requires { J.service ≡ service (kept_book book) (R.remaining reader)
+        (written_of W.contents writer) config.now (G.stream salts) }
     ensures served { ∥ StandsAtEnd register_capacity J.service
-        (left_of (λ b. b.book) (λ b. is_some b.lost) W.contents
+        (left_of kept_book (λ b. is_some b.lost) W.contents
         ⟦<LineReader<R> as Source>⟧.failed result) ∥₁ }
     ensures all { result.fault ≡ None
         → IfSome (R.remaining reader) (λ all. result.lines ≡ length (lines_of all)) }

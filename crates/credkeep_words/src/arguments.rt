@@ -83,8 +83,12 @@ const UPDATE_HELP: &str = "Gives accounts that exist the records of their lines"
 
 const SKIP_BAD_HELP: &str = "Leaves bad lines out, and names each on standard error";
 
-const DISABLE_LOCKED_HELP: &str = "Reads an account whose record is behind ! or *, as passwd -l\n\
+const DISABLE_LOCKED_HELP: &str =
+    "Reads an account whose record is behind !, ~ or *, as passwd -l\n\
     writes it, as one without a record; otherwise such a line is bad";
+
+const KEEP_LOCKED_HELP: &str = "Keeps the marks ! and ~ before a record, as export writes them:\n\
+    an account behind ! is locked, and has its record";
 
 const DRY_RUN_HELP: &str = "Changes nothing, and says what would be done";
 
@@ -126,6 +130,7 @@ pub(crate) enum Word {
     Update,
     SkipBad,
     DisableLocked,
+    KeepLocked,
     DryRun,
     Costs,
     Json,
@@ -172,6 +177,7 @@ impl Word {
             Word::Update => ("update", Form::Flag, UPDATE_HELP),
             Word::SkipBad => ("skip-bad", Form::Flag, SKIP_BAD_HELP),
             Word::DisableLocked => ("disable-locked", Form::Flag, DISABLE_LOCKED_HELP),
+            Word::KeepLocked => ("keep-locked", Form::Flag, KEEP_LOCKED_HELP),
             Word::DryRun => ("dry-run", Form::Flag, DRY_RUN_HELP),
             Word::Costs => ("costs", Form::Flag, COSTS_HELP),
             Word::Json => ("json", Form::Flag, JSON_HELP),

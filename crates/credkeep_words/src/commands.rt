@@ -19,6 +19,9 @@ pub(crate) enum Verb {
     Disable,
     Delete,
     Rename,
+    Lock,
+    Unlock,
+    Expire,
     Show,
     List,
     Export,
@@ -44,6 +47,9 @@ impl Verb {
             Verb::Disable => "disable",
             Verb::Delete => "delete",
             Verb::Rename => "rename",
+            Verb::Lock => "lock",
+            Verb::Unlock => "unlock",
+            Verb::Expire => "expire",
             Verb::Show => "show",
             Verb::List => "list",
             Verb::Export => "export",
@@ -64,7 +70,7 @@ pub(crate) struct CommandText {
     pub(crate) words: &'static [Word],
 }
 
-pub(crate) static COMMANDS: [CommandText; 19] = [
+pub(crate) static COMMANDS: [CommandText; 22] = [
     CommandText {
         verb: Verb::Init,
         about: "Begins an empty book in a new file",
@@ -110,7 +116,8 @@ pub(crate) static COMMANDS: [CommandText; 19] = [
         verb: Verb::Check,
         about: "Says whether a password is right",
         long: "Says whether a password, one line of standard input, is right.\n\
-            Answers yes; or no, absent (no record) or noaccount with status 4.",
+            Answers yes; or no, expired (right, but it must be changed), absent (no record)\n\
+            or noaccount with status 4. A locked account has no right password.",
         usage: "credkeep <FILE> check [OPTIONS] <NAME>",
         words: &[Word::Name, Word::Echo],
     },
@@ -118,7 +125,8 @@ pub(crate) static COMMANDS: [CommandText; 19] = [
         verb: Verb::Change,
         about: "Replaces a password by a new one",
         long: "Replaces a password, the first line of standard input, by a new one, the second.\n\
-            Answers replaced; or wrong, absent or noaccount with status 4.",
+            Answers replaced; or wrong, same (it must be changed to another one), absent or\n\
+            noaccount with status 4.",
         usage: "credkeep <FILE> change [OPTIONS] <NAME>",
         words: &[Word::Name, Word::Setting, Word::EmptyPassword, Word::Echo],
     },
@@ -126,7 +134,7 @@ pub(crate) static COMMANDS: [CommandText; 19] = [
         verb: Verb::Reset,
         about: "Gives an account a new password, without the old one",
         long: "Gives an account a new password, one line of standard input, without the old\n\
-            one.\n\
+            one. A lock stays.\n\
             Answers replaced, or enrolled if it had no record; or noaccount with status 4.",
         usage: "credkeep <FILE> reset [OPTIONS] <NAME>",
         words: &[Word::Name, Word::Setting, Word::EmptyPassword, Word::Echo],
@@ -136,7 +144,7 @@ pub(crate) static COMMANDS: [CommandText; 19] = [
         about: "Rehashes a password by another scheme or costs",
         long: "Rehashes a password, one line of standard input, if its record has another\n\
             scheme or other costs than --setting.\n\
-            Answers upgraded or kept; or wrong, absent or noaccount with status 4.",
+            Answers upgraded or kept; or wrong, expired, absent or noaccount with status 4.",
         usage: "credkeep <FILE> upgrade [OPTIONS] <NAME>",
         words: &[Word::Name, Word::Setting, Word::Echo],
     },
@@ -145,7 +153,7 @@ pub(crate) static COMMANDS: [CommandText; 19] = [
         about: "Removes the record of an account, with its password",
         long: "Removes the record of an account if the password, one line of standard input, is\n\
             right. The name stays.\n\
-            Answers removed; or wrong, absent or noaccount with status 4.",
+            Answers removed; or wrong, expired, absent or noaccount with status 4.",
         usage: "credkeep <FILE> remove [OPTIONS] <NAME>",
         words: &[Word::Name, Word::Echo],
     },
@@ -176,6 +184,32 @@ pub(crate) static COMMANDS: [CommandText; 19] = [
         words: &[Word::Name, Word::NewName],
     },
     CommandText {
+        verb: Verb::Lock,
+        about: "Locks an account: each password is wrong",
+        long: "Locks an account: each password is wrong from now on. The record stays, and reset\n\
+            doesn't end the lock.\n\
+            Answers locked; or noaccount with status 4.",
+        usage: "credkeep <FILE> lock <NAME>",
+        words: &[Word::Name],
+    },
+    CommandText {
+        verb: Verb::Unlock,
+        about: "Unlocks an account",
+        long: "Unlocks an account: its password is right again.\n\
+            Answers unlocked; or none (it isn't locked) or noaccount with status 4.",
+        usage: "credkeep <FILE> unlock <NAME>",
+        words: &[Word::Name],
+    },
+    CommandText {
+        verb: Verb::Expire,
+        about: "Makes a password one that must be changed",
+        long: "Makes the password of an account one that must be changed: until change or reset\n\
+            gives the account another one, a right password is answered expired.\n\
+            Answers expired; or absent (no record) or noaccount with status 4.",
+        usage: "credkeep <FILE> expire <NAME>",
+        words: &[Word::Name],
+    },
+    CommandText {
         verb: Verb::Show,
         about: "Shows the costs of a record, or the record",
         long: "Shows the scheme and the costs of an account's record, or the whole record.\n\
@@ -193,7 +227,9 @@ pub(crate) static COMMANDS: [CommandText; 19] = [
     CommandText {
         verb: Verb::Export,
         about: "Writes the accounts, a line NAME:RECORD each",
-        long: "Writes the accounts, a line NAME:RECORD each, or NAME: if there is no record.",
+        long: "Writes the accounts, a line NAME:RECORD each, or NAME: if there is no record. A\n\
+            record is behind ! if its account is locked, and behind ~ if it must be changed:\n\
+            import --keep-locked reads both.",
         usage: "credkeep <FILE> export",
         words: &[],
     },
@@ -212,6 +248,7 @@ pub(crate) static COMMANDS: [CommandText; 19] = [
             Word::Update,
             Word::SkipBad,
             Word::DisableLocked,
+            Word::KeepLocked,
             Word::MostMemory,
             Word::MostWork,
             Word::DryRun,

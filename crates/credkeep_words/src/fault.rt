@@ -9,6 +9,8 @@ use std::{fmt, io};
 pub enum FileFault {
     NoFile,
     Absent,
+    /// The folder in which it is to be made.
+    NoFolder,
     Irregular,
     Empty,
     NoDatabase,
@@ -51,11 +53,12 @@ impl fmt::Display for FileFault {
                 f.write_str("FILE is empty, or :memory:, which names no file; ./:memory: names one")
             }
             FileFault::Absent => f.write_str("there is no such file; init makes one"),
+            FileFault::NoFolder => f.write_str("its folder doesn't exist; mkdir -p makes one"),
             FileFault::Irregular => f.write_str("it is a folder, a link or a device"),
             FileFault::Empty => f.write_str("it is empty; init begins a book in it"),
             FileFault::NoDatabase => f.write_str("it is no database"),
             FileFault::Journal => f.write_str(
-                "another program was stopped in a change of it; open it with sqlite3 first",
+                "another program was killed amid a change; open the file with sqlite3 first",
             ),
             FileFault::Owner => f.write_str("another user owns it"),
             FileFault::Mode => f.write_str("others can read or write it; chmod 600 first"),

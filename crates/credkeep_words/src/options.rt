@@ -107,10 +107,14 @@ pub(crate) fn importing_in<'a>(values: &ArgMatches<'a>) -> Result<Importing, Ref
         (false, true) => Existing::Updated,
         (false, false) => Existing::Refused,
     };
-    let locked = if values.get_flag("disable-locked") {
-        LockedRecords::Disabled
-    } else {
-        LockedRecords::Refused
+    let locked = match (
+        values.get_flag("disable-locked"),
+        values.get_flag("keep-locked"),
+    ) {
+        (true, true) => return Err(Refusal::Locked),
+        (true, false) => LockedRecords::Disabled,
+        (false, true) => LockedRecords::Kept,
+        (false, false) => LockedRecords::Refused,
     };
     let most = most_in(values)?;
     Ok(Importing {

@@ -18,7 +18,7 @@ use std::alloc::Global;
 use std::random::RandomSource;
 
 /// RFC 9106's second recommended choice: Argon2id, 64 MiB, three passes, four lanes.
-const DEFAULT_SETTING: &str = "$argon2id$v=19$m=65536,t=3,p=4";
+pub(crate) const DEFAULT_SETTING: &str = "$argon2id$v=19$m=65536,t=3,p=4";
 
 /// The default memory of all hashes of tagged lines together, in KiB.
 const DEFAULT_MEMORY: u64 = 2097152;
@@ -53,6 +53,9 @@ pub(crate) fn act_of<'a, R: RandomSource + AllocGlobal>(
         Verb::Disable => disable(values, name_in(values, "name")?),
         Verb::Delete => edit(values, Edit::Delete(name_in(values, "name")?)),
         Verb::Rename => rename(values, name_in(values, "name")?),
+        Verb::Lock => edit(values, Edit::Lock(name_in(values, "name")?)),
+        Verb::Unlock => edit(values, Edit::Unlock(name_in(values, "name")?)),
+        Verb::Expire => edit(values, Edit::Expire(name_in(values, "name")?)),
         Verb::Check => account(values, Command::Check),
         Verb::Remove => account(values, Command::Remove),
         Verb::Add => account(values, Command::Add(new_password_in(rt, values)?)),

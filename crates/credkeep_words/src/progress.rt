@@ -13,7 +13,7 @@ const PAUSE: u64 = 1;
 /// An import of more lines takes long after they are read.
 const MANY_LINES: u64 = 10_000;
 
-const LINES: &str = "lines read, which are taken in together";
+const LINES: &str = "lines read, which are stored together";
 
 /// A line on standard error that is overwritten as an order goes on.
 #[derive(Drop)]

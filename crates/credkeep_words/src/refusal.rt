@@ -2,6 +2,7 @@
 
 use crate::commands::{CommandText, Verb, command_in, write_commands};
 use crate::costs::write_range;
+use crate::orders::DEFAULT_SETTING;
 use crate::slip::{Slip, slip_in};
 use clap::Error;
 use clap::error::ErrorKind;
@@ -36,6 +37,8 @@ pub(crate) enum Refusal<'a> {
     Crowded(u64),
     /// Existing accounts can't both stay as they are and be updated.
     Existing,
+    /// Locked records can't both be dropped and kept.
+    Locked,
     /// The system has no random bytes for a salt.
     Salt,
     /// Memory ran out.
@@ -95,6 +98,11 @@ impl<'a> Refusal<'a> {
                 "credkeep: --skip-existing and --update exclude each other: an existing account is \
                  left, or updated"
             ),
+            Refusal::Locked => writeln!(
+                out,
+                "credkeep: --disable-locked and --keep-locked exclude each other: a locked record \
+                 is dropped, or kept"
+            ),
             Refusal::Words(_) | Refusal::Salt | Refusal::Memory => Ok(()),
         }
     }
@@ -132,8 +140,8 @@ fn write_slip<W: Write>(out: &mut W, verb: Verb, slip: Slip) -> io::Result<()> {
     write!(out, "credkeep: {word}: ")?;
     match slip {
         Slip::Unnamed => write_unnamed(out, verb),
-        Slip::Late(option) => writeln!(out, "--{option} stands before FILE"),
-        Slip::Early(option) => writeln!(out, "--{option} stands behind {word}"),
+        Slip::Late(option) => writeln!(out, "write --{option} before FILE"),
+        Slip::Early(option) => writeln!(out, "write --{option} behind {word}"),
         Slip::Elsewhere(option) => writeln!(out, "it has no option --{option}"),
         Slip::Misspelt(option) => writeln!(
             out,
@@ -151,6 +159,10 @@ fn write_unnamed<W: Write>(out: &mut W, verb: Verb) -> io::Result<()> {
         Verb::Run | Verb::Serve | Verb::Import => {
             writeln!(out, "The input is read from standard input: write < INPUT")
         }
+        Verb::Verify => writeln!(
+            out,
+            "verify reads the whole book; write check NAME to check a password."
+        ),
         _ => writeln!(out, "A password is read from standard input."),
     }
 }
@@ -184,10 +196,18 @@ fn write_setting<W: Write>(out: &mut W, text: &str, why: PhcError) -> io::Result
     writeln!(out, " ({number} {word})")
 }
 
-/// Names the number that is outside its range, or the fault.
+/// Names the number that is outside its range, the form that a setting has, or the fault.
 fn write_fault<W: Write>(out: &mut W, text: &str, why: PhcError) -> io::Result<()> {
     match why {
         PhcError::Range => write_range(out, text),
+        PhcError::Shape => write!(
+            out,
+            "write it as '{DEFAULT_SETTING}' or '$scrypt$ln=17,r=8,p=1', in single quotes"
+        ),
+        PhcError::Version => write!(
+            out,
+            "write v=19 behind the scheme, as in '{DEFAULT_SETTING}'"
+        ),
         PhcError::Params => write!(
             out,
             "the costs are written as m=65536,t=3,p=4, or ln=17,r=8,p=1 for scrypt"

@@ -1,27 +1,38 @@
 //! Adding many accounts to a kept book at once, and replacing the records of many.
 
-ghost use Rattle.std.specs.Prelude.{◌+◌, ◌≤◌, ◌<◌, MatchBool, ⊤};
+ghost use Rattle.std.specs.Prelude.{◌+◌, ◌≤◌, ◌<◌, MatchBool, OnErr, OnOk, ⊤, ◌≡◌};
 ghost use Rattle.std.specs.FinMap as fin;
 ghost use Rattle.cred_book.specs.Accounts.{register_capacity};
 ghost use Rattle.cred_file.specs.{Edits.AreApart, Edits.AreThere, Edits.Meet, Edits.Misses, Edits.TakesIn, Failures.Remembers};
+ghost use Rattle.cred_file.specs.{Cells.mark_at, Cells.renewed, Transactions.changed_marks, Transactions.taken_marks};
 ghost use Rattle.cred_file.specs.declared.fault.Attempt.TheVariants as Attempt;
 
 use super::FileBook;
 use crate::fault::{Attempt, Lost};
-use crate::transaction::{remove_all, take_together};
+use crate::marks::Marks;
+use crate::transaction::{Batch, remove_all, take_together};
 use cred_book::{BookError, Register};
 use sqlite::Alter;
 
 impl<S: Alter> FileBook<S> {
     /// Adds accounts and replaces the records of others, by one transaction of the database: so a
-    /// crash leaves the book as it was, or with all these changes.
+    /// crash leaves the book as it was, or with all these changes. Each of these accounts gets the
+    /// marks that are given, and a lock of one that exists stays. Marks of other names do nothing.
     ///
     /// Errors: `Exists` if the book has one of the names that are added; `NoAccount` if it lacks
     /// one of the others; `Full` if there would be over 2^24 accounts; `Memory` if it runs out, if
     /// the database fails, and if a change is lost.
-    pub fn take_in(&mut self, added: Register, changed: Register) -> Result<(), BookError>
+    pub fn take_in(
+        &mut self,
+        added: Register,
+        changed: Register,
+        marks: Marks,
+    ) -> Result<(), BookError>
         ensures done { TakesIn register_capacity self.old.book self.new.book added changed result }
-        ensures remembers { Remembers (Attempt.TakeIn added changed) (λ _. ⊤)
+        ensures marks { OnOk result (mark_at self.new.marks
+            ≡ taken_marks (mark_at self.old.marks) added changed marks) }
+        ensures unmarked { OnErr result (mark_at self.new.marks ≡ mark_at self.old.marks) }
+        ensures remembers { Remembers (Attempt.TakeIn added changed marks) (λ _. ⊤)
             self.old self.new result }
     {
         if meets(&self.book, &added) {
@@ -36,26 +47,43 @@ impl<S: Alter> FileBook<S> {
         if self.lost.is_some() || !self.conn.is_autocommit() {
             return Err(BookError::Memory);
         }
-        match take_together(self.alloc, &mut self.conn, &mut self.book, &added, &changed) {
+        let batch = Batch {
+            added: &added,
+            changed: &changed,
+            marks: &marks,
+        };
+        let conn = &mut self.conn;
+        match take_together(self.alloc, conn, &mut self.book, &mut self.marks, batch) {
             Ok(()) => Ok(()),
             Err(error) => {
                 remove_all(&mut self.book, &added);
-                self.lost = Some(Lost::new(error, Attempt::TakeIn { added, changed }));
+                let attempt = Attempt::TakeIn {
+                    added,
+                    changed,
+                    marks,
+                };
+                self.lost = Some(Lost::new(error, attempt));
                 Err(BookError::Memory)
             }
         }
     }
 
-    /// Replaces records by one transaction of the database.
+    /// Replaces records by one transaction of the database. These accounts need not be changed any
+    /// more; a lock stays.
     ///
     /// Errors: `NoAccount` if the book lacks one of the names; `Memory` as in `take_in`.
     pub fn replace_all(&mut self, changed: Register) -> Result<(), BookError>
         ensures done { TakesIn register_capacity self.old.book self.new.book fin.empty changed
             result }
-        ensures remembers { Remembers (Attempt.TakeIn fin.empty changed) (λ _. ⊤)
+        ensures marks { OnOk result (mark_at self.new.marks
+            ≡ changed_marks renewed (mark_at self.old.marks) changed) }
+        ensures unmarked { OnErr result (mark_at self.new.marks ≡ mark_at self.old.marks) }
+        ensures remembers { Remembers (Attempt.TakeIn fin.empty changed fin.empty) (λ _. ⊤)
             self.old self.new result }
     {
-        self.take_in(Register::new(self.alloc), changed)
+        let none = Register::new(self.alloc);
+        let unmarked = Marks::new(self.alloc);
+        self.take_in(none, changed, unmarked)
     }
 
     /// Whether the book has room for these accounts, up to 2^24 names.

@@ -1,20 +1,21 @@
 //! A kept book that begins as the copy of another.
 
 ghost use Rattle.std.specs.Prelude.{◌≡◌, false, IfErr, IfOk, None};
-ghost use Rattle.cred_file.specs.{Copies.IsUncopied, Copies.MayCopy, Schema.no_schema};
+ghost use Rattle.cred_file.specs.{Cells.cells_of, Cells.mark_at, Copies.IsUncopied, Copies.MayCopy, Kept.cells, Schema.no_schema};
 ghost use Rattle.sqlite.specs.{State.HasCleanDisk, Held.state};
 
 use super::{FileBook, is_empty};
 use crate::fault::OpenFault;
+use crate::marks::Marks;
 use crate::statements::create_table;
-use crate::transaction::take_together;
+use crate::transaction::{Batch, take_together};
 use cred_book::Register;
 use sqlite::{Alter, Connection};
 use std::alloc::Global;
 
 impl<S: Alter> FileBook<S> {
-    /// Begins a book in an empty database, with all accounts of an existing book: they are
-    /// written by one transaction.
+    /// Begins a book in an empty database, with all accounts of an existing book and their marks:
+    /// they are written by one transaction.
     ///
     /// Errors: `NotEmpty` if a table exists already; `Memory`; `Database`. The connection comes
     /// back, and a crash leaves what it could leave before, an empty book, or all the accounts.
@@ -22,13 +23,16 @@ impl<S: Alter> FileBook<S> {
         alloc: Global,
         mut conn: Connection<S>,
         accounts: &Register,
+        marks: &Marks,
     ) -> Result<FileBook<S>, (OpenFault, Connection<S>)>
         requires autocommit { conn.in_transaction ≡ false }
-        ensures copied { IfOk result (λ b. (b.book ≡ accounts.now) × (b.lost ≡ None)) }
+        ensures copied { IfOk result (λ b. (b.book ≡ accounts.now)
+            × (cells b ≡ cells_of accounts.now (mark_at marks.now)) × (b.lost ≡ None)) }
         ensures begun { IfOk result (λ _. (state S.Store conn).now.schema ≡ no_schema) }
         ensures refused { IfErr result (λ e. IsUncopied S.Store conn e.1 e.0) }
         ensures left { IfErr result (λ e. HasCleanDisk (state S.Store e.1)
-            → MayCopy (state S.Store conn) (state S.Store e.1) accounts.now) }
+            → MayCopy (state S.Store conn) (state S.Store e.1)
+            (cells_of accounts.now (mark_at marks.now))) }
     {
         if !is_empty(conn.schema()) {
             return Err((OpenFault::NotEmpty, conn));
@@ -42,12 +46,19 @@ impl<S: Alter> FileBook<S> {
         }
         let mut book = Register::new(alloc);
         let none = Register::new(alloc);
+        let mut kept = Marks::new(alloc);
+        let batch = Batch {
+            added: accounts,
+            changed: &none,
+            marks,
+        };
         let _few = accounts.len();
-        match take_together(alloc, &mut conn, &mut book, accounts, &none) {
+        match take_together(alloc, &mut conn, &mut book, &mut kept, batch) {
             Ok(()) => Ok(FileBook {
                 alloc,
                 conn,
                 book,
+                marks: kept,
                 lost: None,
             }),
             Err(error) => Err((OpenFault::Database(error), conn)),

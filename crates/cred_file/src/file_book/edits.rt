@@ -1,43 +1,52 @@
 //! The changes of a kept book. Each allocates its memory before it writes the row, so nothing can
 //! fail after that; if the database refuses, the book is as it was.
 
-ghost use Rattle.std.specs.Prelude.{◌≡◌, true, false, IfErr, IfSome, None, OnOk, Some, is_ok, not};
+ghost use Rattle.std.specs.Prelude.{◌≡◌, true, false, IfErr, IfSome, None, OnErr, OnOk, if◌then◌else◌, Some, is_ok, not};
 ghost use Rattle.std.specs.FinMap as fin;
 ghost use Rattle.cred_book.specs.{Accounts.register_capacity, Calls.AdmitsWithin, Calls.EntersWithin, Calls.Loads, Commits.Commits, Commits.judgement};
 ghost use Rattle.cred_book.specs.Works.{name_of};
-ghost use Rattle.cred_file.specs.Edits.{Deletes, PutsEntry, Renames};
+ghost use Rattle.cred_file.specs.Edits.{Deletes, PutsEntry, Renames, SetsMark};
+ghost use Rattle.cred_file.specs.{Cells.blank, Cells.cell, Cells.mark_at, Cells.marked, Cells.marking, Cells.renewal, Cells.renewed, Cells.unmarked, Kept.cells, Kept.mark_of};
 ghost use Rattle.cred_file.specs.{Failures.FailsToDelete, Failures.FailsToPut, Failures.FailsToRename, Failures.Loses, Failures.Remembers};
 ghost use Rattle.cred_file.specs.declared.fault.Attempt.TheVariants as Attempt;
 
 use super::FileBook;
 use crate::fault::{Attempt, Lost};
+use crate::mark::Mark;
 use crate::statements::{delete_row, insert_row, rename_row, text_of, update_row};
 use cred_book::{BookError, Name, Reply, Worked};
 use cred_phc::Record;
 use sqlite::Alter;
 
 impl<S: Alter> FileBook<S> {
-    /// Adds a name, with no record.
+    /// Adds a name, with no record and no marks.
     ///
     /// Errors: `Exists` if the book has the name; `Full` if it has 2^24 names; `Memory` if it runs
     /// out, if the database fails, and if a change is lost.
     pub fn admit(&mut self, name: Name) -> Result<(), BookError>
         ensures done { AdmitsWithin register_capacity self.old.book self.new.book name result }
+        ensures marks { OnOk result (mark_at self.new.marks
+            ≡ marked (mark_at self.old.marks) name unmarked) }
+        ensures unmarked { OnErr result (mark_at self.new.marks ≡ mark_at self.old.marks) }
         ensures remembers { Remembers (Attempt.Put name None)
-            (FailsToPut S.Store self.old.conn self.new.conn false name None)
+            (FailsToPut S.Store self.old.conn self.new.conn false name blank)
             self.old self.new result }
     {
         self.enter(name, None)
     }
 
-    /// Gives the account this record, in place of any other.
+    /// Gives the account this record, in place of any other. The account need not be changed any
+    /// more; a lock stays.
     ///
     /// Errors: `NoAccount` if the book doesn't have the name; `Memory` as in `admit`.
     pub fn load(&mut self, name: &Name, stored: Record) -> Result<(), BookError>
         ensures done { Loads self.old.book self.new.book name.now stored result }
+        ensures marks { OnOk result (mark_at self.new.marks ≡ marked (mark_at self.old.marks)
+            name.now (renewed (mark_at self.old.marks name.now))) }
+        ensures unmarked { OnErr result (mark_at self.new.marks ≡ mark_at self.old.marks) }
         ensures remembers { Remembers (Attempt.Put name.now (Some stored))
-            (FailsToPut S.Store self.old.conn self.new.conn true name.now (Some stored))
-            self.old self.new result }
+            (FailsToPut S.Store self.old.conn self.new.conn true name.now
+            (renewal (cells self.old) name.now (Some stored))) self.old self.new result }
     {
         if !self.book.contains(name) {
             return Err(BookError::NoAccount);
@@ -45,18 +54,26 @@ impl<S: Alter> FileBook<S> {
         self.replace(name, Some(stored))
     }
 
-    /// Does the whole operation if the record still equals the copy, and otherwise nothing.
+    /// Does the whole operation if the record still equals the copy, and otherwise nothing. An
+    /// account whose record changes need not be changed any more; a lock stays, and refuses
+    /// nothing here.
     ///
     /// Errors: `Memory` as in `admit`; the work comes back.
     #[tactic(auto, using(crate::proofs::Judged::judged))]
     pub fn commit(&mut self, worked: Worked) -> Result<Reply, (Worked, BookError)>
         ensures done { Commits self.old.book self.new.book worked result }
+        ensures marks { OnOk result (mark_at self.new.marks
+            ≡ (if (judgement self.old.book worked).2 then marked (mark_at self.old.marks)
+            (name_of worked.0) (renewed (mark_at self.old.marks (name_of worked.0)))
+            else mark_at self.old.marks)) }
+        ensures unmarked { OnErr result (mark_at self.new.marks ≡ mark_at self.old.marks) }
         ensures refused { IfSome self.old.lost (λ _.
             is_ok result ≡ not (judgement self.old.book worked).2) }
         ensures written { OnOk result (self.new.lost ≡ self.old.lost) }
         ensures loses { Loses (Attempt.Put (name_of worked.0) (judgement self.old.book worked).1)
             (FailsToPut S.Store self.old.conn self.new.conn true (name_of worked.0)
-            (judgement self.old.book worked).1) self.old self.new }
+            (renewal (cells self.old) (name_of worked.0) (judgement self.old.book worked).1))
+            self.old self.new }
     {
         let (reply, after, changes) = self.book.judge(&worked);
         if !changes {
@@ -68,7 +85,8 @@ impl<S: Alter> FileBook<S> {
         }
     }
 
-    /// Sets or removes the record of a name, which is added if it doesn't exist.
+    /// Sets or removes the record of a name, which is added if it doesn't exist. An account that
+    /// exists need not be changed any more, and its lock stays; a new one has no marks.
     ///
     /// Errors: `Full` if the name doesn't exist and there are 2^24 others; `Memory` if it runs out,
     /// if the database fails, and if a change is lost.
@@ -76,9 +94,13 @@ impl<S: Alter> FileBook<S> {
     pub fn put(&mut self, name: &Name, stored: Option<Record>) -> Result<(), BookError>
         ensures done { PutsEntry register_capacity self.old.book self.new.book name.now stored
             result }
+        ensures marks { OnOk result (mark_at self.new.marks ≡ marked (mark_at self.old.marks)
+            name.now (renewed (mark_of self.old name.now))) }
+        ensures unmarked { OnErr result (mark_at self.new.marks ≡ mark_at self.old.marks) }
         ensures remembers { Remembers (Attempt.Put name.now stored)
             (FailsToPut S.Store self.old.conn self.new.conn
-            (fin.contains_key self.old.book name.now) name.now stored) self.old self.new result }
+            (fin.contains_key self.old.book name.now) name.now
+            (renewal (cells self.old) name.now stored)) self.old self.new result }
     {
         if self.book.contains(name) {
             self.replace(name, stored)
@@ -87,12 +109,15 @@ impl<S: Alter> FileBook<S> {
         }
     }
 
-    /// Removes a name, with its record.
+    /// Removes a name, with its record and its marks.
     ///
     /// Errors: `NoAccount` if the name doesn't exist; `Memory` if the database fails, or a change
     /// was lost before.
     pub fn delete(&mut self, name: &Name) -> Result<(), BookError>
         ensures done { Deletes self.old.book self.new.book name.now result }
+        ensures marks { OnOk result (mark_at self.new.marks
+            ≡ marked (mark_at self.old.marks) name.now unmarked) }
+        ensures unmarked { OnErr result (mark_at self.new.marks ≡ mark_at self.old.marks) }
         ensures remembers { Remembers (Attempt.Delete name.now)
             (FailsToDelete S.Store self.old.conn self.new.conn name.now)
             self.old self.new result }
@@ -106,6 +131,7 @@ impl<S: Alter> FileBook<S> {
         match delete_row(&mut self.conn, name) {
             Ok(_) => {
                 self.book.remove(name);
+                self.marks.forget(name);
                 Ok(())
             }
             Err(error) => {
@@ -116,7 +142,7 @@ impl<S: Alter> FileBook<S> {
         }
     }
 
-    /// Gives an account another name.
+    /// Gives an account another name, which its record and its marks go to.
     ///
     /// Errors: `NoAccount` if the name doesn't exist; `Exists` if the other one does; `Full` at
     /// 2^24 names, since both are in memory for a moment; `Memory` if memory runs out, if the
@@ -125,6 +151,10 @@ impl<S: Alter> FileBook<S> {
     pub fn rename(&mut self, name: &Name, other: &Name) -> Result<(), BookError>
         ensures done { Renames register_capacity self.old.book self.new.book name.now other.now
             result }
+        ensures marks { OnOk result (mark_at self.new.marks
+            ≡ marked (marked (mark_at self.old.marks) other.now (mark_at self.old.marks name.now))
+            name.now unmarked) }
+        ensures unmarked { OnErr result (mark_at self.new.marks ≡ mark_at self.old.marks) }
         ensures remembers { Remembers (Attempt.Rename name.now other.now)
             (FailsToRename S.Store self.old.conn self.new.conn name.now other.now)
             self.old self.new result }
@@ -141,12 +171,19 @@ impl<S: Alter> FileBook<S> {
         if self.lost.is_some() {
             return Err(BookError::Memory);
         }
+        match self.marks.hold(other) {
+            Ok(()) => {}
+            Err(_) => return Err(BookError::Memory),
+        }
         match self.book.enter(*other, stored) {
             Ok(()) => {}
             Err(_) => return Err(BookError::Memory),
         }
         match rename_row(&mut self.conn, name, other) {
             Ok(_) => {
+                let mark = self.marks.at(name);
+                self.marks.set(other, mark);
+                self.marks.forget(name);
                 self.book.remove(name);
                 Ok(())
             }
@@ -162,12 +199,15 @@ impl<S: Alter> FileBook<S> {
         }
     }
 
-    /// Adds a name, with a record or none.
+    /// Adds a name, with a record or none, and no marks.
     pub(super) fn enter(&mut self, name: Name, stored: Option<Record>) -> Result<(), BookError>
         ensures done { EntersWithin register_capacity self.old.book self.new.book name stored
             result }
+        ensures marks { OnOk result (mark_at self.new.marks
+            ≡ marked (mark_at self.old.marks) name unmarked) }
+        ensures unmarked { OnErr result (mark_at self.new.marks ≡ mark_at self.old.marks) }
         ensures remembers { Remembers (Attempt.Put name stored)
-            (FailsToPut S.Store self.old.conn self.new.conn false name stored)
+            (FailsToPut S.Store self.old.conn self.new.conn false name (cell stored unmarked))
             self.old self.new result }
     {
         if self.book.contains(&name) {
@@ -179,15 +219,19 @@ impl<S: Alter> FileBook<S> {
         if self.lost.is_some() {
             return Err(BookError::Memory);
         }
-        let Ok(text) = text_of(self.alloc, &stored) else {
+        let mark = Mark::none();
+        let Ok(text) = text_of(self.alloc, &stored, mark) else {
             return Err(BookError::Memory);
         };
         match self.book.enter(name, stored) {
             Ok(()) => {}
             Err(refusal) => return Err(refusal),
         }
-        match insert_row(&mut self.conn, &name, &text, &stored) {
-            Ok(_) => Ok(()),
+        match insert_row(&mut self.conn, &name, &text, &stored, mark) {
+            Ok(_) => {
+                self.marks.forget(&name);
+                Ok(())
+            }
             Err(error) => {
                 self.book.remove(&name);
                 self.lost = Some(Lost::put(error, name, stored));
@@ -196,29 +240,70 @@ impl<S: Alter> FileBook<S> {
         }
     }
 
-    /// Sets or removes the record of an existing name.
+    /// Sets or removes the record of an existing name, which need not be changed any more.
     pub(super) fn replace(&mut self, name: &Name, stored: Option<Record>) -> Result<(), BookError>
         requires { fin.contains_key self.old.book name.now ≡ true }
         ensures done { OnOk result (self.new.book ≡ fin.insert self.old.book name.now stored) }
+        ensures marks { OnOk result (mark_at self.new.marks ≡ marked (mark_at self.old.marks)
+            name.now (renewed (mark_at self.old.marks name.now))) }
         ensures memory { IfErr result (λ e.
             (e ≡ BookError.Memory) × (self.new.book ≡ self.old.book)) }
+        ensures unmarked { OnErr result (mark_at self.new.marks ≡ mark_at self.old.marks) }
         ensures remembers { Remembers (Attempt.Put name.now stored)
-            (FailsToPut S.Store self.old.conn self.new.conn true name.now stored)
-            self.old self.new result }
+            (FailsToPut S.Store self.old.conn self.new.conn true name.now
+            (renewal (cells self.old) name.now stored)) self.old self.new result }
     {
         if self.lost.is_some() {
             return Err(BookError::Memory);
         }
-        let Ok(text) = text_of(self.alloc, &stored) else {
+        let mark = self.marks.at(name).renewed();
+        let Ok(text) = text_of(self.alloc, &stored, mark) else {
             return Err(BookError::Memory);
         };
-        match update_row(&mut self.conn, name, &text, &stored) {
+        match update_row(&mut self.conn, name, &text, &stored, mark) {
             Ok(_) => {
                 self.book.replace(name, stored);
+                self.marks.renew(name);
                 Ok(())
             }
             Err(error) => {
                 self.lost = Some(Lost::put(error, *name, stored));
+                Err(BookError::Memory)
+            }
+        }
+    }
+
+    /// Sets the marks of an account, in place of those that it has. Its record stays.
+    ///
+    /// Errors: `NoAccount` if the book doesn't have the name; `Memory` as in `admit`.
+    pub fn mark(&mut self, name: &Name, mark: Mark) -> Result<(), BookError>
+        ensures done { SetsMark self.old.book self.new.book (mark_at self.old.marks)
+            (mark_at self.new.marks) name.now mark result }
+        ensures remembers { Remembers (Attempt.Mark name.now mark)
+            (FailsToPut S.Store self.old.conn self.new.conn true name.now
+            (marking (cells self.old) name.now mark)) self.old self.new result }
+    {
+        let Ok(stored) = self.book.show(name) else {
+            return Err(BookError::NoAccount);
+        };
+        if self.lost.is_some() {
+            return Err(BookError::Memory);
+        }
+        let Ok(text) = text_of(self.alloc, &stored, mark) else {
+            return Err(BookError::Memory);
+        };
+        match self.marks.hold(name) {
+            Ok(()) => {}
+            Err(_) => return Err(BookError::Memory),
+        }
+        match update_row(&mut self.conn, name, &text, &stored, mark) {
+            Ok(_) => {
+                self.marks.set(name, mark);
+                Ok(())
+            }
+            Err(error) => {
+                let attempt = Attempt::Mark { name: *name, mark };
+                self.lost = Some(Lost::new(error, attempt));
                 Err(BookError::Memory)
             }
         }

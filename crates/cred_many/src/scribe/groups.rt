@@ -33,8 +33,8 @@ impl<J: ServiceId, K: Host, W: Write> Scribe<J, K, W> {
         others
     }
 
-    /// Adds a line to the group if it changes an account that no other line there does, and
-    /// otherwise returns it.
+    /// Adds a line to the group if it changes an account that has no mark and that no other line
+    /// there changes, and otherwise returns it.
     fn gather(&self, group: &mut Group<J>, hashed: Hashed<J>) -> Result<(), Hashed<J>>
         requires { IsGroup K.capacity J.service (K.book self.now.keeper) group.old.changed
             (entries_of group.old.works.items) group.old.text.items }
@@ -44,12 +44,16 @@ impl<J: ServiceId, K: Host, W: Write> Scribe<J, K, W> {
         if hashed.line.ask().is_reset() {
             return Err(hashed);
         }
+        let name = hashed.worked.request().name();
+        if self.keeper.mark_of(&name).is_marked() {
+            return Err(hashed);
+        }
         let (reply, stored, changes) = self.keeper.accounts().judge(&hashed.worked);
         if !changes || group.works.len() >= MOST_TOGETHER {
             return Err(hashed);
         }
         let change = Change {
-            name: hashed.worked.request().name(),
+            name,
             after: stored,
             reply: told_reply(hashed.line.ask(), reply),
         };

@@ -4,7 +4,7 @@ use super::{hold_bytes, name};
 use cred_admin::{BadLine, Fault, ImportFault, LineFault};
 use cred_book::{BookError, Register};
 use cred_cli::ScriptFault;
-use cred_file::{Attempt, Lost, OpenFault};
+use cred_file::{Attempt, Lost, Mark, Marks, OpenFault};
 use cred_keep::{Failure, explain, refuse};
 use cred_phc::PhcError;
 use sqlite::{Error, ErrorCode};
@@ -55,6 +55,9 @@ fn texts_of_commands(rt: HostRuntime) {
     ] {
         hold_failure(&rt, rt.alloc(), &Failure::Script(fault), None, text);
     }
+    let marked = "an account is locked, or its password must be changed, which lines without tags \
+        don't heed: serve --tagged does";
+    hold_failure(&rt, rt.alloc(), &Failure::Marked, None, marked);
     for (fault, text) in [
         (ImportFault::Read, "reading failed"),
         (ImportFault::Memory, "out of memory"),
@@ -88,8 +91,8 @@ fn texts_of_lines(rt: HostRuntime) {
         credkeep: line 22: its first field is no name: a name has 1 to 32 of a-z, 0-9, '.', '_', \
         '-' (3 name)\n\
         credkeep: line 300: the name is there already (1 exists)\n\
-        credkeep: line 4000: its record is locked, by !, * or a field as nologin: --disable-locked \
-        drops it (17 locked)\n\
+        credkeep: line 4000: its record is locked, by !, ~, * or a field as nologin: \
+        --disable-locked drops it, and --keep-locked keeps one behind ! or ~ (17 locked)\n\
         credkeep: line 50000: its record asks for more than --most-memory or --most-work (18 costly)";
     hold_failure(&rt, rt.alloc(), &failure, None, text);
 }
@@ -137,6 +140,15 @@ fn texts_of_openings(rt: HostRuntime) {
     }
 }
 
+fn batch(alloc: Global, added: Register, changed: Register) -> Attempt {
+    let marks = Marks::new(alloc);
+    Attempt::TakeIn {
+        added,
+        changed,
+        marks,
+    }
+}
+
 /// Holds what is said of a change that may be lost, on a full disk.
 fn hold_lost<R: Abort>(rt: &R, alloc: Global, attempt: Attempt, what: &str) {
     let error = Error::SqliteFailure(ErrorCode::DiskFull);
@@ -154,6 +166,8 @@ fn texts_of_lost_changes(rt: HostRuntime) {
     let stored = None;
     let what = "the change of ann may be kept or not";
     hold_lost(&rt, alloc, Attempt::Put { name, stored }, what);
+    let mark = Mark::none();
+    hold_lost(&rt, alloc, Attempt::Mark { name, mark }, what);
     hold_lost(&rt, alloc, Attempt::Delete(name), what);
     hold_lost(&rt, alloc, Attempt::Rename { name, other }, what);
     let mut both = Register::new(alloc);
@@ -162,8 +176,8 @@ fn texts_of_lost_changes(rt: HostRuntime) {
     let added = both.copy().expect(&rt, "memory");
     let changed = Register::new(alloc);
     let what = "the 2 new accounts may be kept or not, all or none of them";
-    hold_lost(&rt, alloc, Attempt::TakeIn { added, changed }, what);
+    hold_lost(&rt, alloc, batch(alloc, added, changed), what);
     let (added, changed) = (Register::new(alloc), both);
     let what = "the changes of ann bob may be kept or not, all or none of them";
-    hold_lost(&rt, alloc, Attempt::TakeIn { added, changed }, what);
+    hold_lost(&rt, alloc, batch(alloc, added, changed), what);
 }

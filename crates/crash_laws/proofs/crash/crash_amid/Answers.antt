@@ -2,7 +2,7 @@ use Rattle.std.proofs.Common.{arith, subst, refl, sym}
 use Rattle.std.proofs.lemmas.{Option.IfSome_then, Result.IfErr-weaker, Result.IfOk-weaker}
 use Rattle.sqlite.specs.Tree.{Trees}
 use Rattle.sqlite_trees.specs.View.{IsClean}
-use Rattle.cred_file.specs.Keeps.{HoldsBook}
+use Rattle.cred_file.specs.{Keeps.HoldsBook, Kept.cells}
 use Rattle.crash_laws.specs.Crashes.{IsLeft}
 use Rattle.crash_laws.proofs.Answered.{open_if_sound}
 use Rattle.crash_laws.proofs.crash.crash_amid.Goals as goal
@@ -11,9 +11,9 @@ pub returns-in-Ok-clause-kept : goal.returns-in-Ok-clause-kept
 returns-in-Ok-clause-kept g c =
     let book = c.in-Ok.book in
     IfSome_then c.crash_in_change.result c.crash_in_change.ensures.kept (λ r kept. IfOk-weaker r.opened _ _ (λ b left honest. (
-      book.book,
+      cells book,
       c.in-Ok.ensures.found (honest book.conn.store.store),
-      subst (λ l. IsLeft book.book l c.args.change r.answer b.book) c.in-Ok.ensures.whole (left (honest b.conn.store)),
+      subst (λ l. IsLeft (cells book) l c.args.change r.answer (cells b)) c.in-Ok.ensures.whole (left (honest b.conn.store)),
     )) kept)
 
 pub returns-in-Ok-clause-refused : goal.returns-in-Ok-clause-refused
@@ -28,7 +28,7 @@ returns-in_ok-opened-in-Err-clause-kept g c =
     let found = may (honest b.conn.store) in
     let is_open = open_if_sound (g.S.Store.view c.args.store) (law.broken_if_shut c.args.store) (c.requires.fresh (honest c.args.store)).sound in
     let same = law.settled c.args.store found.db is_open (c.in-Err.ensures.left found.clean found.db found.left) in
-    (b.book, subst (λ (t : Trees). HoldsBook t b.book) same found.holds, refl))
+    (cells b, subst (λ (t : Trees). HoldsBook t (cells b)) same found.holds, refl))
     c.in_ok-opened-in-Err.ensures.found
 
 pub returns-in_ok-opened-in-Err-clause-refused : goal.returns-in_ok-opened-in-Err-clause-refused

@@ -13,7 +13,7 @@ pub loop-number-preserved : goal.loop-number-preserved
 loop-number-preserved c =
     let was = c.loop-number.invariant in
     let done = c.in_ok-take_line-in-Some.ensures in
-    let more = grows c.args.rules c.args.book.now (tally_of c.loop-number.found) c.loop-number.number (said_of c.in-Some.line.now) in
+    let more = grows c.args.rules c.args.book.now (tally_of c.loop-number.found) c.loop-number.number (said_of c.args.rules.locked c.in-Some.line.now) in
     record {
       goes = tally_more _ _ _ _ _ _ _ _ _ was.goes c.in-Some.ensures done;
       kept = omega (arith, was.kept, ap (λ (t : Tally). t.kept) done, more.kept);

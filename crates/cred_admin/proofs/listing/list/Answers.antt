@@ -7,7 +7,7 @@ loop-name-init g c = λ basis. begun _ _ _ _ _ (search rules) c.new-text.ensures
 
 pub loop-name-preserved : goal.loop-name-preserved
 loop-name-preserved g c = λ basis.
-    piece _ _ _ _ _ _ _ _ (pushed _ _ _ _ _ _ _ _ _ (c.loop-name.invariant basis) c.in-Some.ensures.steps (rw c.stored.ensures at c.in_ok-push_line.ensures)) (c.in_ok-write_piece.ensures.done basis)
+    piece _ _ _ _ _ _ _ _ (pushed _ _ _ _ _ _ _ _ _ (c.loop-name.invariant basis) c.in-Some.ensures.steps (rw (c.stored.ensures, c.mark_of.ensures) at c.in_ok-push_line.ensures)) (c.in_ok-write_piece.ensures.done basis)
 
 pub returns-in_err-push_line : goal.returns-in_err-push_line
 returns-in_err-push_line g c = λ basis.
@@ -19,7 +19,7 @@ returns-in_err-write_piece g c = λ basis.
     let told = err_from_is_err_and c.from_residual-in_err-write_piece.result c.from_residual-in_err-write_piece.ensures.1 in
     let fault = c.in_err-write_piece.ensures.fault in
     rw (told.1, told.2, fault.0)
-    (fault.1, broken _ _ _ _ _ _ _ (pushed _ _ _ _ _ _ _ _ _ (c.loop-name.invariant basis) c.in-Some.ensures.steps (rw c.stored.ensures at c.in_ok-push_line.ensures)) (c.in_err-write_piece.ensures.cut basis))
+    (fault.1, broken _ _ _ _ _ _ _ (pushed _ _ _ _ _ _ _ _ _ (c.loop-name.invariant basis) c.in-Some.ensures.steps (rw (c.stored.ensures, c.mark_of.ensures) at c.in_ok-push_line.ensures)) (c.in_err-write_piece.ensures.cut basis))
 
 pub returns-in_err-write_whole : goal.returns-in_err-write_whole
 returns-in_err-write_whole g c = λ basis.

@@ -8,5 +8,5 @@ returns-in-Err g c = λ basis. search (rules, not_shown _ _ _ c.in-Err.ensures, 
 pub returns-in-Ok-None : goal.returns-in-Ok-None
 returns-in-Ok-None g c = λ basis. search (rules, c.tell-in-Ok-None.ensures.told basis)
 
-pub returns-in_ok-extend_from_slice-in-Ok-Some : goal.returns-in_ok-extend_from_slice-in-Ok-Some
-returns-in_ok-extend_from_slice-in-Ok-Some g c = λ basis. search (rules, c.tell-in-Ok-Some.ensures.told basis)
+pub returns-in_ok-extend_from_slice-in-Ok-Some-3 : goal.returns-in_ok-extend_from_slice-in-Ok-Some-3
+returns-in_ok-extend_from_slice-in-Ok-Some-3 g c = λ basis. search (rules, c.tell-in-Ok-Some.ensures.told basis)

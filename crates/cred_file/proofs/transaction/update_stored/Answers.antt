@@ -1,9 +1,11 @@
 use Rattle.sqlite.specs.Held.{state}
+use Rattle.cred_file.specs.Cells.{cell}
 use Rattle.cred_file.proofs.{Keeping.bound_told, Keeping.update_step, Within.within}
 use Rattle.cred_file.proofs.transaction.update_stored.Goals as goal
 
 pub returns-clause-updated : goal.returns-clause-updated
 returns-clause-updated g c clean first book there was =
     let tells = c.value_of.ensures in
-    within (update_step book c.args.name.now _ c.args.stored.now tells there) (state g.S.Store c.args.tx.now.conn.now) (state g.S.Store c.execute.new.self.conn.now) first
-    c.in_ok-execute.field-0 clean c.execute.ensures.survives was (rw (c.bytes.ensures.value, bound_told _ c.args.stored.now tells) at (c.in_ok-execute.ensures.runs clean was.inside).0)
+    let it = cell c.args.stored.now c.args.mark in
+    within (update_step book c.args.name.now _ it tells there) (state g.S.Store c.args.tx.now.conn.now) (state g.S.Store c.execute.new.self.conn.now) first
+    c.in_ok-execute.field-0 clean c.execute.ensures.survives was (rw (c.bytes.ensures.value, bound_told _ it tells) at (c.in_ok-execute.ensures.runs clean was.inside).0)

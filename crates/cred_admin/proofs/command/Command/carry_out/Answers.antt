@@ -7,16 +7,16 @@ returns-in_err-typed-clause-done g c = λ basis fits.
     let told = err_from_is_err_and c.from_residual.result c.from_residual.ensures.1 in
     inr (c.in_err-typed.field-0.0, rw (told.1, told.2) refl, inl (rw c.passwords.ensures at (c.in_err-typed.ensures.misread basis fits), refl), Keeps-refl _)
 
-pub returns-in_err-reply-clause-done : goal.returns-in_err-reply-clause-done
-returns-in_err-reply-clause-done g c = λ basis fits.
-    let told = err_from_is_err_and c.from_residual-in_err-reply.result c.from_residual-in_err-reply.ensures.1 in
+pub returns-in_err-verdict-clause-done : goal.returns-in_err-verdict-clause-done
+returns-in_err-verdict-clause-done g c = λ basis fits.
+    let told = err_from_is_err_and c.from_residual-in_err-verdict.result c.from_residual-in_err-verdict.ensures.1 in
     let read = rw c.passwords.ensures at (c.in_ok-typed.ensures.read basis fits) in
-    let works = subst (λ o. Works g.K.Host.capacity (g.K.Host.book c.args.keeper.now) (g.K.Host.book c.work.new.keeper) o (Err c.in_err-reply.field-0.0)) c.operation.ensures.asked c.in_err-reply.ensures in
-    inr (c.in_err-reply.field-0.0, rw (told.1, told.2) refl, inr (c.in_ok-typed.typed, read, works), Keeps-refl _)
+    let works = subst (λ o. Works g.K.Host.capacity (g.K.Host.book c.args.keeper.now) (g.K.Host.book c.work.new.keeper) o (Err c.in_err-verdict.field-0.0)) c.operation.ensures.asked c.in_err-verdict.ensures in
+    inr (c.in_err-verdict.field-0.0, rw (told.1, told.2) refl, inr (c.in_ok-typed.typed, read, works), Keeps-refl _)
 
 pub returns-clause-done : goal.returns-clause-done
 returns-clause-done g c = λ basis fits.
     let read = rw c.passwords.ensures at (c.in_ok-typed.ensures.read basis fits) in
-    let works = subst (λ o. Works g.K.Host.capacity (g.K.Host.book c.args.keeper.now) (g.K.Host.book c.work.new.keeper) o (Ok c.in_ok-reply.reply)) c.operation.ensures.asked c.in_ok-reply.ensures in
-    let told = rw (c.reply_line.ensures, c.status_of.ensures, c.hint_of-hint.ensures) at (c.tell.ensures.told basis) in
-    inl (c.in_ok-typed.typed, read, c.in_ok-reply.reply, works, told, c.tell.ensures.fault)
+    let works = subst (λ o. Works g.K.Host.capacity (g.K.Host.book c.args.keeper.now) (g.K.Host.book c.work.new.keeper) o (Ok c.in_ok-verdict.verdict)) c.operation.ensures.asked c.in_ok-verdict.ensures in
+    let told = rw (c.verdict_line.ensures, c.verdict_status.ensures, c.hint_of-hint.ensures) at (c.tell.ensures.told basis) in
+    inl (c.in_ok-typed.typed, read, c.in_ok-verdict.verdict, works, told, c.tell.ensures.fault)

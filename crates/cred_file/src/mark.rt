@@ -1,0 +1,53 @@
+//! The marks of one account.
+
+ghost use Rattle.std.specs.Prelude.{◌≡◌};
+ghost use Rattle.cred_file.specs.Cells.{is_marked, renewed, renewed_with, unmarked};
+
+/// What an administrator has said of an account, beside its record. In a book's table the mark
+/// stands before the record's text, as `!` and `~`.
+#[derive(Clone, Copy, Debug, PartialEq, Eq)]
+pub struct Mark {
+    /// No password opens the account.
+    pub locked: bool,
+    /// The password opens it, and is to be changed.
+    pub must_change: bool,
+}
+
+impl Mark {
+    /// Neither of them.
+    pub fn none() -> Mark
+        ensures { result ≡ unmarked }
+    {
+        Mark {
+            locked: false,
+            must_change: false,
+        }
+    }
+
+    /// Whether it is any of them.
+    pub fn is_marked(self) -> bool
+        ensures { result ≡ is_marked self }
+    {
+        self.locked || self.must_change
+    }
+
+    /// The mark after the record is replaced: a lock stays.
+    pub fn renewed(self) -> Mark
+        ensures { result ≡ renewed self }
+    {
+        Mark {
+            locked: self.locked,
+            must_change: false,
+        }
+    }
+
+    /// The mark after the record is replaced by one that comes with a mark: a lock stays.
+    pub fn renewed_with(self, given: Mark) -> Mark
+        ensures { result ≡ renewed_with given self }
+    {
+        Mark {
+            locked: given.locked || self.locked,
+            must_change: given.must_change,
+        }
+    }
+}

@@ -1,0 +1,149 @@
+//! The marks of accounts, in memory beside the register.
+
+ghost use Rattle.std.specs.Prelude.{◌≡◌, true, OnOk};
+ghost use Rattle.std.specs.FinMap as map;
+ghost use Rattle.cred_file.specs.{Cells.is_marked, Cells.mark_at, Cells.marked, Cells.renewed, Cells.unmarked, Transactions.HasRoom, Transactions.KeepsRoom};
+
+use crate::mark::Mark;
+use cred_book::Name;
+use std::alloc::{AllocError, Global};
+use std::collections::{BTreeMap, btree_map};
+use std::marker::Model;
+
+/// A map from names to their marks. A name that isn't there has none.
+#[derive(Drop)]
+pub struct Marks {
+    marks: BTreeMap<Name, Mark>,
+}
+
+impl Model for Marks {
+    ghost use Rattle.std.specs.Prelude.{T};
+    ghost use Rattle.std.specs.Coded.{coded_ℕ, coded_list};
+    ghost use Rattle.std.specs.FinMap as map;
+    ghost use Rattle.cred_book.specs.Names.{name_cmp};
+    ghost use Rattle.cred_file.specs.contracts.mark.Mark as kept;
+    ghost use Rattle.cred_file.specs.Cells.{Marks};
+
+    ghost Value = { Marks };
+
+    ghost coded = { map.code (coded_list coded_ℕ) kept.the_row.coded };
+
+    ghost view = { λ m. map.from_sorted m.marks.entries };
+
+    ghost invariant = { λ m. T (map.is_sorted name_cmp m.marks.entries) };
+}
+
+impl Marks {
+    /// A map in which no name is marked.
+    pub fn new(alloc: Global) -> Marks
+        ensures { result ≡ map.empty }
+    {
+        Marks {
+            marks: BTreeMap::new(alloc),
+        }
+    }
+
+    /// The mark of a name.
+    pub fn at(&self, name: &Name) -> Mark
+        ensures { result ≡ mark_at self.now name.now }
+    {
+        match self.marks.get(name) {
+            Some(mark) => *mark,
+            None => Mark::none(),
+        }
+    }
+
+    /// The names with their marks, in the order of the names. A name that is there may have none.
+    pub fn iter(&self) -> btree_map::Iter<'_, Name, Mark>
+        ensures { result ≡ map.entries self.now }
+    {
+        self.marks.iter()
+    }
+
+    fn holds(&self, name: &Name) -> bool
+        ensures { result ≡ map.contains_key self.now name.now }
+    {
+        self.marks.contains_key(name)
+    }
+
+    /// Makes room for the mark of a name, so that `set` needs no memory.
+    pub(crate) fn hold(&mut self, name: &Name) -> Result<(), AllocError>
+        ensures held { OnOk result (map.contains_key self.new name.now ≡ true) }
+        ensures room { KeepsRoom self.old self.new }
+        ensures same { mark_at self.new ≡ mark_at self.old }
+    {
+        if self.holds(name) {
+            return Ok(());
+        }
+        let Ok(_) = self.marks.insert(*name, Mark::none()) else {
+            return Err(AllocError);
+        };
+        Ok(())
+    }
+
+    /// Makes room for all of these marks.
+    pub(crate) fn hold_all(&mut self, given: &Marks) -> Result<(), AllocError>
+        ensures held { OnOk result (HasRoom self.new given.now) }
+        ensures same { mark_at self.new ≡ mark_at self.old }
+    {
+        for (name, _) in given.iter() {
+            self.hold(name)?;
+        }
+        Ok(())
+    }
+
+    /// Sets the mark of a name for which there is room, if it needs any.
+    pub(crate) fn set(&mut self, name: &Name, mark: Mark)
+        requires { is_marked mark ≡ true → map.contains_key self.old name.now ≡ true }
+        ensures marks { mark_at self.new ≡ marked (mark_at self.old) name.now mark }
+        ensures room { KeepsRoom self.old self.new }
+    {
+        if !self.holds(name) {
+            return;
+        }
+        self.replace(name, mark);
+    }
+
+    fn replace(&mut self, name: &Name, mark: Mark)
+        requires { map.contains_key self.old name.now ≡ true }
+        ensures marks { mark_at self.new ≡ marked (mark_at self.old) name.now mark }
+        ensures room { KeepsRoom self.old self.new }
+    {
+        match self.marks.get_mut(name) {
+            Some(place) => *place = mark,
+            None => unreachable!(),
+        }
+    }
+
+    /// Ends that a record must change, which needs no memory.
+    pub(crate) fn renew(&mut self, name: &Name)
+        ensures { mark_at self.new
+            ≡ marked (mark_at self.old) name.now (renewed (mark_at self.old name.now)) }
+    {
+        if !self.holds(name) {
+            return;
+        }
+        let mark = self.at(name).renewed();
+        self.set(name, mark);
+    }
+
+    /// Puts the mark of a name, which needs memory only if the name has one.
+    pub fn put(&mut self, name: &Name, mark: Mark) -> Result<(), AllocError>
+        ensures { OnOk result (mark_at self.new ≡ marked (mark_at self.old) name.now mark) }
+    {
+        if !mark.is_marked() {
+            self.forget(name);
+            return Ok(());
+        }
+        self.hold(name)?;
+        self.set(name, mark);
+        Ok(())
+    }
+
+    /// Takes away the mark of a name.
+    pub(crate) fn forget(&mut self, name: &Name)
+        ensures { mark_at self.new ≡ marked (mark_at self.old) name.now unmarked }
+    {
+        let _taken = self.marks.remove(name);
+    }
+}

@@ -1,0 +1,50 @@
+-- What a lock of an account bars, and whom a mark concerns.
+use Rattle.std.specs.Prelude.{◌≡◌, ◌≢◌, ◌⊎◌, ℕ, All, List, true, codes}
+use Rattle.std.specs.FinMap as fin
+use Rattle.cred_book.specs.Works.{name_of}
+use Rattle.cred_admin.specs.Marked.{MarkedBook}
+use Rattle.cred_admin.specs.declared.edits.Edit.TheVariants.{Disable, Delete, Rename, Unlock}
+use Rattle.cred_many.specs.{Telling.names_in, declared.ask.Ask.Ask}
+use Rattle.cred_many.specs.declared.ask.Ask.TheVariants.{Quick, Whole, Login, Reset}
+use Rattle.cred_many.specs.declared.ask.QuickAsk.TheVariants.{Load, DisableShown, Edit as Change, ListMarks}
+
+-- the account is there, and locked
+abbrev pub IsLocked : MarkedBook → List ℕ → Type 0
+IsLocked book name = (fin.contains_key book.accounts name ≡ true)
+    × ((book.marks name).locked ≡ true)
+
+-- the line unlocks or deletes the account, or gives it another name, with which its lock goes
+abbrev pub EndsLock : List ℕ → Ask → Type 0
+EndsLock name (Quick (Change (Unlock other))) = name ≡ other
+EndsLock name (Quick (Change (Delete other))) = name ≡ other
+EndsLock name (Quick (Change (Rename other new))) = name ≡ other
+EndsLock name _ = ⊥
+
+-- it tries a password of the account, or makes its first record
+abbrev pub IsTryAt : List ℕ → Ask → Type 0
+IsTryAt name (Whole r) = name ≡ name_of r
+IsTryAt name (Login other pw setting) = name ≡ other
+IsTryAt name _ = ⊥
+
+-- it puts a record, or takes it away, and asks for no password
+abbrev pub PutsRecord : List ℕ → Ask → Type 0
+PutsRecord name (Quick (Load other stored)) = name ≡ other
+PutsRecord name (Quick (Change (Disable other))) = name ≡ other
+PutsRecord name (Quick (DisableShown other)) = name ≡ other
+PutsRecord name (Reset other pw setting) = name ≡ other
+PutsRecord name _ = ⊥
+
+-- the answer says that the password is wrong, or that there is no record or one already
+abbrev pub IsNo : List ℕ → Type 0
+IsNo line = (line ≡ codes "no\n") ⊎ (line ≡ codes "wrong\n") ⊎ (line ≡ codes "absent\n")
+    ⊎ (line ≡ codes "exists\n")
+
+-- ---- whom a mark concerns
+
+abbrev pub ListsMarks : Ask → Type 0
+ListsMarks (Quick (ListMarks from most)) = Unit {0}
+ListsMarks _ = ⊥
+
+-- the line doesn't name the account, and asks for no list of marks
+abbrev pub IsApart : List ℕ → Ask → Type 0
+IsApart name ask = All (λ named. name ≢ named) (names_in ask) × (ListsMarks ask → ⊥)
