@@ -1,12 +1,12 @@
 -- A commit that doesn't find the record changed is the whole operation.
-use Rattle.std.proofs.Common.{◌≡◌, ℕ, Option, Some, None, IfSome, Bool, true, false, if◌then◌else◌, inl, inr, refl, ap, ◌∙◌}
+use Rattle.std.proofs.Common.{◌≡◌, ℕ, Option, Some, None, IfSome, Bool, true, false, if◌then◌else◌, unwrap_or, inl, inr, refl, ap, ◌∙◌}
 use Rattle.cred_phc.specs.Values.{RecordValue}
-use Rattle.cred_book.specs.{Works.Task, Works.name_of, Works.new_record, Works.whole, declared.reply.Reply.Reply, declared.request.Request.Request}
+use Rattle.cred_book.specs.{Works.Task, Works.name_of, Works.new_record, Works.same, Works.whole, declared.reply.Reply.Reply, declared.request.Request.Request}
 use Rattle.cred_book.specs.declared.request.Request.TheVariants.{Enrol, Verify, Change, Upgrade, Remove}
 use Rattle.cred_book.specs.declared.reply.Reply.TheVariants as reply
 use Rattle.cred_cli.specs.{History.Answer, History.Changed, Steps.reply_answer, Texts.reply_line}
 use Rattle.cred_cli.proofs.Simulation.{whole_replies}
-use Rattle.cred_many.specs.{Asks.IsJobOf, Asks.hashed_for, Asks.is_reset, declared.ask.Ask.TheVariants.Whole, declared.ask.Ask.TheVariants.Login, declared.ask.Ask.TheVariants.Reset, Served.done, Served.login_verdict, Served.told_verdict, declared.ask.Ask.Ask}
+use Rattle.cred_many.specs.{Asks.IsJobOf, Asks.hashed_for, Asks.is_reset, declared.ask.Ask.TheVariants.Whole, declared.ask.Ask.TheVariants.Login, declared.ask.Ask.TheVariants.Reset, Served.done, Served.login_verdict, Served.record_at, Served.told_verdict, declared.ask.Ask.Ask}
 use Rattle.cred_admin.specs.{Commands.reset_step, Marked.HeedsMarks, Marked.MarkedBook, Marked.barred, Marked.due, Marked.is_outdated, Marked.keeps_password, Marked.shut, Marked.tried, Marked.tried_at, Marked.tried_if, Statuses.verdict_line}
 use Rattle.cred_admin.specs.declared.verdict.Verdict.{Verdict}
 use Rattle.cred_admin.specs.declared.verdict.Verdict.TheVariants.{Told, Expired, Same}
@@ -84,6 +84,13 @@ module _ (book new : MarkedBook) (work : Task) (v : Verdict) (is : HeedsMarks bo
   commits_still outdated = elim is [
     | inl done ↦ let said : is_outdated v ≡ false = ap (λ o. is_outdated o.0) done ∙ tried_current book work.0 in absurd cc
     | inr out ↦ out.same_book
+  ]
+
+  -- the record isn't the one that was copied
+  pub commits_moved : is_outdated v ≡ true → same (record_at book (name_of work.0)) work.1 ≡ false
+  commits_moved outdated = elim is [
+    | inl done ↦ let said : is_outdated v ≡ false = ap (λ o. is_outdated o.0) done ∙ tried_current book work.0 in absurd cc
+    | inr out ↦ ap (λ entry. same (unwrap_or entry None) work.1) out.there ∙ out.other
   ]
 
 -- ---- what is hashed for a line

@@ -12,3 +12,4 @@ pub mod Groups
 pub mod Shares
 pub mod Transcripts
 pub mod Turns
+pub mod Uses

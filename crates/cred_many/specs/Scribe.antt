@@ -1,23 +1,23 @@
--- What stands behind it in a scribe: what each open line has seen, lines that are answered, and those
--- whose changes are made together. Of it public clauses cite `moment`, `numbers`, `HasTurn` and
--- `IsAnswered` alone.
+-- What stands behind it in a scribe: what each open line has seen, lines that are answered, and
+-- those whose changes are made together. Of it public clauses cite `moment`, `numbers`, `unseen`,
+-- `IsPending`, `HasTurn` and `IsAnswered` alone.
 use Rattle.std.specs.{List.range_with_len, List.remove, List.Sorted.IsPermutation, Option.option_or, Str.bytes_eq}
-use Rattle.std.specs.Prelude.{◌≡◌, ◌⊎◌, ℕ, ◌<◌, ◌≤◌, ◌+◌, List, [], ◌∷◌, ◌++◌, Bool, true, All, if◌then◌else◌, IfSome, Option, Some, None, length, map, set, slice_get}
+use Rattle.std.specs.Prelude.{◌≡◌, ◌⊎◌, ℕ, ◌<◌, ◌≤◌, ◌+◌, List, [], ◌∷◌, ◌++◌, Bool, ◌&&◌, true, false, All, if◌then◌else◌, IfSome, Option, Some, None, length, map, set, slice_get}
 use Rattle.cred_phc.specs.Values.{RecordValue}
-use Rattle.cred_book.specs.{Accounts.Accounts, Works.Task}
+use Rattle.cred_book.specs.{Accounts.Accounts, Works.Task, Works.same}
 use Rattle.cred_file.specs.Cells.{unmarked}
 use Rattle.cred_admin.specs.Marked.{MarkedBook}
 use Rattle.cred_cli.specs.Watched.{failed_of}
 use Rattle.cred_many.specs.{Asks.Entry, Service.IsLine, Service.Service, declared.ask.Ask.Ask, declared.fault.ServiceFault.ServiceFault}
 use Rattle.cred_many.specs.Served.{AreFor, IsWritten, Moment, answers, book_after, change_from, changes, entry_numbers, most_together, name_asked, record_at, tries}
 use Rattle.cred_many.specs.Transcript.{TakesFront, TakesMore, Written, written_of}
-use Rattle.cred_many.specs.{declared.fault.ServiceFault.TheVariants.Write, declared.job.Message.Message, declared.job.Message.TheVariants.Hashed, declared.job.Message.TheVariants.NoMemory, declared.open.Open.Open, declared.open.Sight.Sight, declared.output.Output.Output}
+use Rattle.cred_many.specs.{declared.fault.ServiceFault.TheVariants.Write, declared.scribe.job.Message.Message, declared.scribe.job.Message.TheVariants.Hashed, declared.scribe.job.Message.TheVariants.NoMemory, declared.open.Open.Open, declared.open.Sight.Sight, declared.output.Output.Output}
 use Rattle.std.specs.FinMap as fin
 
 -- ---- what an open line has seen
 
--- The account's record was seen to change no oftener than it did, and nor is it if it stands otherwise
--- behind these lines.
+-- The account's record was seen to change no oftener than it did, and nor is it if it stands
+-- otherwise behind these lines.
 abbrev pub SightHolds : ℕ → MarkedBook → List Entry → Open → Type 0
 SightHolds capacity opening list line = IfSome line.sight (λ s.
     s.changes + change_from s.stored (record_at (book_after capacity opening list) s.name)
@@ -33,16 +33,33 @@ counted None name now = 0
 counted (Some s) name now =
     if bytes_eq s.name name then s.changes + change_from s.stored now else 0
 
--- the open line at this place has seen that this record stands now
+-- the open line at this place has seen that this record stands now; until it is given up, each
+-- change counts
 pub record Notes (old : List Open) (place : ℕ) (name : List ℕ) (now : Option RecordValue)
     (new : List Open) (count : ℕ) : Type 0 where
   pub line : Open
   pub there : slice_get old place ≡ Some line
   pub few : count ≤ counted line.sight name now
+  pub all : count < tries → counted line.sight name now ≤ count
   pub new_is : new ≡ set old place (record {
     number = line.number;
     sight = Some (record { name = name; stored = now; changes = count });
   })
+
+-- the line may be hashed once more
+abbrev pub IsLooked : List Open → ℕ → List ℕ → Option RecordValue → List Open → Type 0
+IsLooked old place name now new = (count : ℕ) × (count < tries) × Notes old place name now new count
+
+abbrev pub is_sight : Option Sight → List ℕ → Option RecordValue → Bool
+is_sight None name stored = false
+is_sight (Some s) name stored = bytes_eq s.name name && same s.stored stored
+
+-- whether this record was last copied for the open line at this place
+pub record HasSeen (left : List Open) (place : ℕ) (name : List ℕ) (stored : Option RecordValue)
+    (is : Bool) : Type 0 where
+  pub line : Open
+  pub there : slice_get left place ≡ Some line
+  pub is_seen : is ≡ is_sight line.sight name stored
 
 -- the open line at this place has seen often enough that the record of what it asks about changed
 pub record IsBusy (left : List Open) (place : ℕ) (ask : Ask) : Type 0 where

@@ -1,16 +1,11 @@
 //! The end of the reading, and the remains of a service.
 
-ghost use Rattle.std.specs.Prelude.{◌≡◌};
-ghost use Rattle.cred_many.specs.Reading.{IsEnd};
-
 use crate::fault::ServiceFault;
 use crate::sender::Gone;
-use crate::service_id::ServiceId;
 use crate::source::Source;
 use cred_admin::Host;
 use cred_cli::Watched;
 use std::io::Write;
-use std::marker::{Model, PhantomData};
 
 /// The maximum number of lines; they take centuries to come.
 pub(crate) const MOST_LINES: u64 = 1 << 63;
@@ -28,13 +23,6 @@ pub struct Served<K: Host, W: Write, S: Source> {
     pub fault: Option<ServiceFault>,
 }
 
-/// The end of the reading.
-#[derive(Drop)]
-pub struct Ending<J: ServiceId, S: Source> {
-    end: End<S>,
-    of: PhantomData<J>,
-}
-
 /// The reason why no more lines come.
 #[derive(Drop)]
 pub(crate) enum End<S> {
@@ -50,33 +38,4 @@ pub(crate) enum End<S> {
     Threads,
     /// Memory ran out before the first line.
     Memory,
-}
-
-impl<J: ServiceId, S: Source> Model for Ending<J, S> {
-    ghost use Rattle.cred_many.specs.{Reading.IsEnd, declared.ending.End.End};
-
-    ghost Value = { End S };
-
-    ghost view = { λ e. e.end };
-
-    ghost invariant = { λ e. IsEnd J.service.input S.failed e.end };
-}
-
-impl<J: ServiceId, S: Source> Ending<J, S> {
-    pub(crate) fn new(end: End<S>) -> Ending<J, S>
-        requires { IsEnd J.service.input S.failed end }
-        ensures { result ≡ end }
-    {
-        Ending {
-            end,
-            of: PhantomData,
-        }
-    }
-
-    pub(crate) fn end(self) -> End<S>
-        ensures { IsEnd J.service.input S.failed result }
-    {
-        let Ending { end, of: _ } = self;
-        end
-    }
 }

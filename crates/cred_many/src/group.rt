@@ -4,7 +4,7 @@ ghost use Rattle.std.specs.Prelude.{◌≡◌, ◌∷◌, ◌++◌, [], IfErr, N
 ghost use Rattle.std.specs.FinMap as map;
 ghost use Rattle.cred_cli.specs.Texts.{reply_line};
 
-use crate::job::Hashed;
+use crate::scribe::Hashed;
 use crate::service_id::ServiceId;
 use cred_book::{Change, Register};
 use cred_cli::reply_line;
@@ -54,7 +54,7 @@ impl<J: ServiceId> Group<J> {
             return Err(work);
         }
         let length = self.text.len();
-        if add_line(&mut self.text, work.line.tag(), reply_line(&change.reply)).is_err()
+        if add_line(&mut self.text, work.line().tag(), reply_line(&change.reply)).is_err()
             || self.changed.enter(change.name, change.after).is_err()
         {
             self.text.truncate(length);

@@ -1,23 +1,18 @@
 //! The threads that hash.
 
-ghost use Rattle.std.specs.Prelude.{◌≡◌, ◌≤◌};
-ghost use Rattle.cred_cli.specs.Costs.{memory_alone};
+ghost use Rattle.std.specs.Prelude.{◌≡◌};
 ghost use Rattle.cred_many.specs.{Costs.compared_memory, Costs.job_memory, Costs.made_memory, Scribe.IsOf};
 
-use crate::budget::{Budget, Idle, Limit, Taken};
-use crate::costs::{Costs, NO_SALT};
-use crate::job::{Job, Message};
+use crate::budget::{Budget, Idle, Limit};
+use crate::costs::Costs;
+use crate::scribe::{Job, Message};
 use crate::service_id::ServiceId;
 use cred_book::{Request, Ticket};
 use cred_cli::memory_alone;
-use cred_phc::{Password, Record, Scratch, TagError, tag_in};
-use cred_pool::NoGate;
+use cred_phc::{Record, Scratch};
 use crossbeam_channel::{Receiver, Sender};
 use std::alloc::Global;
 use std::sync::Wait;
-
-/// The length of the tag of a new record in bytes.
-const NEW_TAG: u8 = 32;
 
 /// The tools of the threads that hash.
 #[derive(Drop)]
@@ -62,45 +57,16 @@ impl<L: Limit> Hashing<L> {
     ) -> (Message<J>, Idle<L>)
         ensures { IsOf job.0 result.0 }
     {
-        match self.budget.take(rt, idle, self.memory_of(&job.ticket)) {
+        match self.budget.take(rt, idle, self.memory_of(job.ticket())) {
             Ok(taken) => {
-                let message = self.hash(scratch, job, &taken);
+                let message = job.work(scratch, self.alloc, &self.costs, &taken);
                 (message, self.budget.give_back(rt, taken))
             }
-            Err(idle) => (Message::NoMemory(job), idle),
+            Err(idle) => {
+                let starved = job.too_large(&self.budget, &self.costs);
+                (Message::NoMemory(starved), idle)
+            }
         }
-    }
-
-    /// Hashes a job in reserved memory. A name that doesn't exist, and an account
-    /// without a record, get a hash too.
-    #[tactic(auto, using(crate::proofs::Shares::covered, crate::proofs::Shares::covered_in_vain))]
-    fn hash<J: ServiceId>(&self, scratch: &mut Scratch, job: Job<J>, taken: &Taken<L>) -> Message<J>
-        requires { job_memory self.now.costs job.1 ≤ taken.now.kib }
-        ensures { IsOf job.0 result }
-    {
-        let request = job.ticket.request();
-        if job.ticket.copy().is_none() && self.hash_for_nothing(scratch, &request, taken).is_err() {
-            return Message::NoMemory(job);
-        }
-        job.work(scratch, self.alloc, taken)
-    }
-
-    /// Hashes the password that would be compared with a record, with the costs of new
-    /// ones.
-    fn hash_for_nothing(
-        &self,
-        scratch: &mut Scratch,
-        request: &Request,
-        taken: &Taken<L>,
-    ) -> Result<(), TagError>
-        requires { memory_alone self.now.costs ≤ taken.now.kib }
-    {
-        let Some(pw) = compared(request) else {
-            return Ok(());
-        };
-        let setting = self.costs.setting(&NO_SALT);
-        tag_in(scratch, self.alloc, &NoGate, &setting, NEW_TAG, pw.bytes())?;
-        Ok(())
     }
 
     /// The memory of a ticket's hashes, one after another, in KiB.
@@ -119,17 +85,6 @@ impl<L: Limit> Hashing<L> {
             Some(stored) => memory_alone(&stored.setting()),
             None => self.costs.memory(),
         }
-    }
-}
-
-/// The password that is compared with a record, if any.
-fn compared(request: &Request) -> Option<Password> {
-    match *request {
-        Request::Enrol { .. } => None,
-        Request::Verify { pw, .. }
-        | Request::Change { pw, .. }
-        | Request::Upgrade { pw, .. }
-        | Request::Remove { pw, .. } => Some(pw),
     }
 }
 

@@ -1,13 +1,14 @@
 //! Laws of tagged lines. A law is a function that does nothing; its contract is what
 //! holds.
 
-ghost use Rattle.std.specs.Prelude.{◌≡◌, ◌≢◌, All, List, ℕ, true};
+ghost use Rattle.std.specs.Prelude.{◌≡◌, ◌≢◌, ◌∷◌, ◌≤◌, All, List, Some, ℕ, true};
 ghost use Rattle.std.specs.FinMap as map;
 ghost use Rattle.cred_file.specs.declared.mark.Mark.{Mark};
 ghost use Rattle.cred_admin.specs.Marked.{MarkedBook, with_mark};
 ghost use Rattle.cred_admin.specs.declared.edits.Edit.TheVariants.{Lock};
 ghost use Rattle.cred_many.specs.{Asks.Entry, Locks.EndsLock, Locks.IsApart, Locks.IsLocked, Locks.IsNo, Locks.IsTryAt, Locks.PutsRecord, Served.answers, Served.book_after, Served.record_at, declared.ask.Ask.TheVariants.Quick, declared.ask.QuickAsk.TheVariants.Edit as Change};
-ghost use Rattle.cred_many.specs.{Served.done, Telling.AreAlikeAt, Telling.AreAlikeFor, Telling.KeepsTagsFor, Telling.names_in, Telling.with_passwords, declared.ask.Ask.Ask};
+ghost use Rattle.cred_many.specs.{Served.done, Telling.AreAlikeAt, Telling.AreAlikeFor, Telling.KeepsTagsFor, Telling.names_in, Telling.with_passwords, declared.ask.Ask.Ask, declared.open.Open.Open};
+ghost use Rattle.cred_many.specs.{Scribe.IsPending, Scribe.numbers, Turns.Call, Turns.Follow, Turns.OpenOthers, Turns.open_after, Turns.works_of};
 
 /// An answer tells of the accounts alone that its line names, and the line leaves every other as it
 /// is, with its mark. Of a new name it also tells whether there is room; a list tells the names and
@@ -59,4 +60,13 @@ pub fn a_mark_concerns_its_account_alone()
         (lines : List Entry) → All (λ e. IsApart name e.ask) lines
         → book_after capacity (with_mark book name mark) lines
         ≡ with_mark (book_after capacity book lines) name mark }
+{}
+
+/// A line is hashed at most nine times. Once it is opened, by whatever calls on the scribe, the
+/// scribe has answered it when nine of them took what came of its hash, unless a fault is told.
+pub fn a_line_is_answered_after_nine_hashes()
+    ensures { (old : List Open) (came : Call) (calls : List Call) (number : ℕ)
+        → (IsPending number (numbers old) → ⊥) → came.opens ≡ Some number
+        → Follow old (came ∷ calls) → OpenOthers number calls → 9 ≤ works_of number calls
+        → IsPending number (numbers (open_after came.after calls)) → ⊥ }
 {}

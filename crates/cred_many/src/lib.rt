@@ -14,14 +14,12 @@ mod fault;
 mod grammar;
 mod group;
 mod hashing;
-mod job;
 mod laws;
 mod line;
 mod listing;
 mod message_loop;
 mod open;
 mod output;
-mod reading;
 mod scribe;
 mod sender;
 mod service;
@@ -29,15 +27,14 @@ mod service_id;
 mod source;
 
 pub use costs::Costs;
-pub use ending::{Ending, Served};
+pub use ending::Served;
 pub use fault::ServiceFault;
-pub use job::{Hashed, Job};
 pub use laws::{
-    a_lock_holds, a_mark_concerns_its_account_alone, a_password_counts_by_its_tags,
-    an_answer_tells_of_its_accounts,
+    a_line_is_answered_after_nine_hashes, a_lock_holds, a_mark_concerns_its_account_alone,
+    a_password_counts_by_its_tags, an_answer_tells_of_its_accounts,
 };
 pub use line::Line;
-pub use scribe::Scribe;
+pub use scribe::{Ending, Hashed, Job, Scribe, Starved};
 pub use sender::LineCount;
 pub use service::{ServiceConfig, serve_file, serve_tagged};
 pub use service_id::ServiceId;

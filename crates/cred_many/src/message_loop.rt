@@ -1,9 +1,11 @@
 //! The work of the thread with the book on the messages of the others.
 
+ghost use Rattle.std.specs.Prelude.{◌≡◌, None};
+ghost use Rattle.cred_many.specs.{Scribe.entries_of, Turns.IsTakenIn, Turns.UseTurns};
+
 use crate::group::MOST_TOGETHER;
-use crate::job::{Hashed, Job, Message};
 use crate::open::MOST_OPEN;
-use crate::scribe::Scribe;
+use crate::scribe::{Hashed, Job, Message, Scribe};
 use crate::service_id::ServiceId;
 use cred_admin::Host;
 use crossbeam_channel::{Receiver, Sender};
@@ -85,19 +87,23 @@ impl<J: ServiceId> MessageLoop<J> {
         rt: &T,
         scribe: &mut Scribe<J, K, W>,
         message: Message<J>,
-    ) {
+    )
+        ensures { scribe.new.output.fault ≡ None
+            → IsTakenIn message self.old.changes.items self.new.changes.items
+            scribe.old.output.pending scribe.new.output.pending }
+    {
         match message {
             Message::Ended => self.ended = true,
             Message::Came(line) => self.pass_on(rt, scribe.take(self.alloc, line)),
             Message::Hashed(hashed) => {
-                if !hashed.worked.reply().makes_change() {
+                if !hashed.worked().reply().makes_change() {
                     self.pass_on(rt, scribe.commit(hashed));
                 } else if let Err(refused) = self.changes.push(hashed) {
                     self.pass_on(rt, scribe.commit(refused.value));
                 }
             }
-            Message::NoMemory(job) => {
-                scribe.no_memory(job);
+            Message::NoMemory(starved) => {
+                scribe.no_memory(starved);
                 self.pass_on(rt, None);
             }
         }
@@ -105,7 +111,10 @@ impl<J: ServiceId> MessageLoop<J> {
 
     /// Makes changes together, if there are several, and then the remaining ones one by
     /// one.
-    fn commit<T: Wait, K: Host, W: Write + Drop>(&mut self, rt: &T, scribe: &mut Scribe<J, K, W>) {
+    fn commit<T: Wait, K: Host, W: Write + Drop>(&mut self, rt: &T, scribe: &mut Scribe<J, K, W>)
+        ensures { scribe.new.output.fault ≡ None → UseTurns (entries_of self.old.changes.items)
+            scribe.old.output.pending scribe.new.output.pending }
+    {
         let none = Vec::new(self.alloc);
         let changes = mem::replace(&mut self.changes, none);
         let lines = changes.len();

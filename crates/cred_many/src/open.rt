@@ -2,9 +2,10 @@
 
 ghost use Rattle.std.specs.Prelude.{◌≡◌, ◌≤◌, ◌<◌, ◌++◌, ◌∷◌, [], IfNone, IfSome, MatchBool, OnErr, OnOk, Some, length, slice_get};
 ghost use Rattle.std.specs.List.{remove};
-ghost use Rattle.cred_many.specs.Scribe.{AreClosed, IsPending, Notes, counted, entries_of, numbers, unseen};
+ghost use Rattle.cred_many.specs.Served.{tries};
+ghost use Rattle.cred_many.specs.Scribe.{AreClosed, HasSeen, IsPending, Notes, counted, entries_of, is_sight, numbers, unseen};
 
-use crate::job::Hashed;
+use crate::scribe::Hashed;
 use crate::service_id::ServiceId;
 use cred_book::Name;
 use cred_phc::Record;
@@ -60,6 +61,12 @@ impl OpenLines {
         self.lines.is_empty()
     }
 
+    pub(crate) fn len(&self) -> usize
+        ensures { result ≡ length self.now }
+    {
+        self.lines.len()
+    }
+
     /// The place of the line of this number, if it is open.
     pub(crate) fn place_of(&self, number: u64) -> Option<usize>
         ensures within { IfSome result (λ i. i < length self.now) }
@@ -106,7 +113,7 @@ impl OpenLines {
         };
         let mut left = OpenLines { lines };
         for work in works {
-            let place = left.place_of(work.line.number())?;
+            let place = left.place_of(work.line().number())?;
             left.close(place);
         }
         Some(left)
@@ -130,11 +137,30 @@ impl OpenLines {
         };
         changes
     }
+
+    /// Whether this record was last copied for the line at this place.
+    pub(crate) fn has_seen(&self, place: usize, name: &Name, stored: &Option<Record>) -> bool
+        requires { place < length self.now }
+        ensures { HasSeen self.now place name.now stored.now result }
+    {
+        is_sight(&self.lines[place].sight, name, stored)
+    }
+}
+
+/// Whether this record of this name was seen.
+fn is_sight(sight: &Option<Sight>, name: &Name, stored: &Option<Record>) -> bool
+    ensures { result ≡ is_sight sight.now name.now stored.now }
+{
+    match sight {
+        Some(seen) => seen.name == *name && seen.stored == *stored,
+        None => false,
+    }
 }
 
 /// The number of changes that were seen of the name's record, which is `now`.
 fn count(sight: &Option<Sight>, name: &Name, now: &Option<Record>) -> u32
-    ensures { result ≤ counted sight.now name.now now.now }
+    ensures few { result ≤ counted sight.now name.now now.now }
+    ensures all { result < tries → counted sight.now name.now now.now ≤ result }
 {
     match sight {
         None => 0,

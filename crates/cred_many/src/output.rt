@@ -2,7 +2,7 @@
 
 ghost use Rattle.std.specs.{List.remove, Prelude.◌≡◌, Prelude.◌∷◌, Prelude.◌++◌, Prelude.IfSome, Prelude.OnErr, Prelude.OnOk, Prelude.None, Prelude.true};
 ghost use Rattle.cred_cli.specs.Watched.{failed_of};
-ghost use Rattle.cred_many.specs.{Scribe.HasTurn, Scribe.IsConcluded, Scribe.IsReady, Service.IsLine};
+ghost use Rattle.cred_many.specs.{Scribe.IsConcluded, Scribe.IsReady, Service.IsLine};
 ghost use Rattle.cred_many.specs.Transcript.{TakesFront, TakesMore, written_of};
 
 use crate::fault::ServiceFault;
@@ -27,7 +27,6 @@ impl<W: Write> Output<W> {
         requires { IsReady self.old.fault self.old.pending place line.now.number }
         ensures came { IfSome J.service.input (λ bytes. IsLine J.service bytes line.now) }
         ensures closed { self.new.pending ≡ remove self.old.pending place }
-        ensures turn { HasTurn line.now.number self.old self.new }
         ensures told { IsConcluded (line.now.tag ++ 32 ∷ answer.now)
             (written_of W.contents self.old.writer) (written_of W.contents self.new.writer)
             (failed_of self.new.writer) self.new.fault }

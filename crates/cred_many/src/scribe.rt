@@ -1,26 +1,33 @@
 //! The book that is served, the lines that are open, and the writer of their answers.
 
+ghost use Rattle.std.specs.List.{remove};
 ghost use Rattle.std.specs.Prelude.{◌≡◌, ◌↔◌, ◌+◌, ◌++◌, [], ◌∷◌, Bool, false, IfSome, IsTrue, is_some, length, None, option_map, Some, true, unwrap_or};
 ghost use Rattle.cred_cli.specs.Script.{lines_of};
 ghost use Rattle.cred_book.specs.Works.{is_for_current, name_of};
-ghost use Rattle.cred_many.specs.{Asks.IsJobOf, Asks.hashed_for, Asks.is_reset, Scribe.HasTurn, Scribe.History, Scribe.IsAnswered, Scribe.IsBusy, Scribe.IsReady, Scribe.moment, Scribe.numbers, Scribe.unseen, declared.ask.Ask.TheVariants.Quick};
-ghost use Rattle.cred_many.specs.{Served.HasCause, Served.NeedsMemory, Served.Stands, Served.StandsAtEnd, Served.left_of, Served.record_at, Served.told_reply, Served.told_verdict, Transcript.written_of};
+ghost use Rattle.cred_many.specs.{Asks.hashed_for, Asks.is_reset, Scribe.HasTurn, Scribe.History, Scribe.IsAnswered, Scribe.IsBusy, Scribe.IsLooked, Scribe.IsReady, Scribe.moment, Scribe.numbers, Scribe.unseen, declared.ask.Ask.TheVariants.Quick};
+ghost use Rattle.cred_many.specs.{Served.HasCause, Served.NeedsMemory, Served.Stands, Served.StandsAtEnd, Served.left_of, Served.record_at, Transcript.written_of, Turns.KeepsTurns, Turns.UsesTurn};
 
+mod commits;
 mod groups;
+mod job;
+mod reading;
 
 use crate::answer::do_ask;
 use crate::ask::{Ask, QuickAsk};
-use crate::ending::{End, Ending, MOST_LINES, Served};
+use crate::ending::{End, MOST_LINES, Served};
 use crate::fault::ServiceFault;
-use crate::job::{Hashed, Job};
 use crate::line::Line;
 use crate::open::OpenLines;
 use crate::output::Output;
 use crate::service_id::ServiceId;
 use crate::source::Source;
-use cred_admin::{Host, Verdict, commit_try, put_in_place, verdict_line};
-use cred_book::{BookError, Reply, Request, Ticket, Worked};
-use cred_cli::{Refusal, Watched, reply_line};
+use cred_admin::Host;
+use cred_book::{BookError, Request, Ticket};
+use cred_cli::{Refusal, Watched};
+pub(crate) use job::Message;
+pub use job::{Hashed, Job, Starved};
+pub use reading::Ending;
+pub(crate) use reading::{OfReading, await_end, read_lines};
 use std::alloc::Global;
 use std::io::Write;
 use std::marker::PhantomData;
@@ -168,6 +175,11 @@ impl<J: ServiceId, K: Host, W: Write> Scribe<J, K, W> {
         ensures turn { line.number ≡ self.old.came → self.new.output.fault ≡ None → result ≡ None
             → IsAnswered line.number (numbers self.old.output.pending ++ line.number ∷ [])
             (numbers self.new.output.pending) }
+        ensures turns { line.number ≡ self.old.came → self.new.output.fault ≡ None
+            → KeepsTurns (self.old.output.pending ++ unseen line.number ∷ [])
+            self.new.output.pending }
+        ensures line { IfSome result (λ job. job.0 ≡ line) }
+        ensures going { self.new.output.fault ≡ None → self.old.output.fault ≡ None }
     {
         if self.output.fault.is_some() {
             return None;
@@ -194,13 +206,15 @@ impl<J: ServiceId, K: Host, W: Write> Scribe<J, K, W> {
         requires { self.old.output.fault ≡ None }
         ensures ready { IfSome result (λ place.
             IsReady self.new.output.fault self.new.output.pending place line.now.number) }
-        ensures opened { IfSome result
-            (λ _. self.new.output.pending ≡ self.old.output.pending ++ unseen line.now.number ∷ []) }
+        ensures opened { IfSome result (λ _. self.new.output.pending
+            ≡ self.old.output.pending ++ unseen line.now.number ∷ []) }
         ensures came { IfSome result (λ _. self.new.came ≡ self.old.came + 1) }
+        ensures last { IfSome result (λ place. place ≡ length self.old.output.pending) }
         ensures next { line.now.number ≡ self.old.came → result ≡ None
             → is_some self.new.output.fault ≡ true }
     {
         let number = line.number();
+        let place = self.output.pending.len();
         if number < self.came {
             return None;
         }
@@ -213,7 +227,7 @@ impl<J: ServiceId, K: Host, W: Write> Scribe<J, K, W> {
             return None;
         }
         self.came += 1;
-        self.output.pending.place_of(number)
+        Some(place)
     }
 
     /// The line with a copy of its account's record, unless it has had too many copies of other
@@ -223,7 +237,12 @@ impl<J: ServiceId, K: Host, W: Write> Scribe<J, K, W> {
         requires current { is_for_current request ≡ true }
         requires asked { hashed_for line.ask ≡ Some request }
         requires kept { is_reset line.ask ≡ false }
-        ensures turn { result ≡ None → HasTurn line.number self.old.output self.new.output }
+        ensures closed { result ≡ None
+            → self.new.output.pending ≡ remove self.old.output.pending place }
+        ensures looked { IfSome result (λ _. IsLooked self.old.output.pending place
+            (name_of request) (record_at (K.book self.old.keeper) (name_of request))
+            self.new.output.pending) }
+        ensures line { IfSome result (λ job. job.0 ≡ line) }
         ensures same_came { self.new.came ≡ self.old.came }
     {
         let ticket = ticket_of(&self.keeper, request);
@@ -242,7 +261,8 @@ impl<J: ServiceId, K: Host, W: Write> Scribe<J, K, W> {
     fn answer_at_once(&mut self, alloc: Global, place: usize, line: Line<J>, ask: QuickAsk)
         requires ready { IsReady self.old.output.fault self.old.output.pending place line.number }
         requires asked { Quick ask ≡ line.ask }
-        ensures turn { HasTurn line.number self.old.output self.new.output }
+        ensures closed { self.new.output.fault ≡ None
+            → self.new.output.pending ≡ remove self.old.output.pending place }
         ensures same_came { self.new.came ≡ self.old.came }
     {
         match do_ask(alloc, &mut self.keeper, ask) {
@@ -251,68 +271,14 @@ impl<J: ServiceId, K: Host, W: Write> Scribe<J, K, W> {
         }
     }
 
-    /// Commits a whole operation, and answers it, if the record still equals the
-    /// copy. Otherwise the record is copied again. The account's marks count that stand now.
-    pub fn commit(&mut self, hashed: Hashed<J>) -> Option<Job<J>>
-        ensures { result ≡ None → HasTurn hashed.0.number self.old.output self.new.output }
-    {
-        if self.output.fault.is_some() {
-            return None;
-        }
-        let Hashed { line, worked } = hashed;
-        let place = self.output.pending.place_of(line.number())?;
-        if line.ask().is_reset() {
-            self.reset(place, line, &worked);
-            return None;
-        }
-        self.commit_whole(place, line, worked)
-    }
-
-    fn commit_whole(&mut self, place: usize, line: Line<J>, worked: Worked) -> Option<Job<J>>
-        requires ready { IsReady self.old.output.fault self.old.output.pending place line.number }
-        requires asked { hashed_for line.ask ≡ Some worked.0 }
-        requires kept { is_reset line.ask ≡ false }
-        ensures turn { result ≡ None → HasTurn line.number self.old.output self.new.output }
-    {
-        let ask = line.ask();
-        let request = worked.request();
-        let verdict = match commit_try(&mut self.keeper, worked) {
-            Ok(verdict) => verdict,
-            Err(_) => {
-                self.refuse(place, line);
-                return None;
-            }
-        };
-        if verdict.is_outdated() {
-            return self.job(place, line, request);
-        }
-        let answer = verdict_line(&told_verdict(ask, verdict));
-        self.output.answer(place, &line, answer);
-        None
-    }
-
-    /// Sets the new record in place of any other.
-    fn reset(&mut self, place: usize, line: Line<J>, worked: &Worked)
-        requires ready { IsReady self.old.output.fault self.old.output.pending place line.number }
-        requires asked { IsJobOf line.ask worked.now }
-        requires reset { is_reset line.ask ≡ true }
-        ensures turn { HasTurn line.number self.old.output self.new.output }
-    {
-        let Some(stored) = worked.after() else {
-            unreachable!()
-        };
-        match put_in_place(&mut self.keeper, &worked.request().name(), stored) {
-            Ok(reply) => self.output.answer(place, &line, reply_line(&reply)),
-            Err(_) => self.refuse(place, line),
-        }
-    }
-
     /// Answers a line without memory for its hash.
-    pub fn no_memory(&mut self, job: Job<J>)
-        ensures { HasTurn job.0.number self.old.output self.new.output }
+    pub fn no_memory(&mut self, starved: Starved<J>)
+        ensures turn { HasTurn starved.0.number self.old.output self.new.output }
+        ensures turns { self.new.output.fault ≡ None → UsesTurn starved.0.number
+            self.old.output.pending self.new.output.pending }
+        ensures going { self.new.output.fault ≡ None → self.old.output.fault ≡ None }
     {
-        let Job { line, .. } = job;
-        self.starve(line);
+        self.starve(starved.into_line());
     }
 
     /// Refuses a line for want of memory, unless no more lines are answered.
@@ -320,6 +286,9 @@ impl<J: ServiceId, K: Host, W: Write> Scribe<J, K, W> {
         requires { NeedsMemory K.capacity (K.book self.old.keeper) line.ask }
         ensures book { K.book self.new.keeper ≡ K.book self.old.keeper }
         ensures turn { HasTurn line.number self.old.output self.new.output }
+        ensures turns { self.new.output.fault ≡ None → UsesTurn line.number
+            self.old.output.pending self.new.output.pending }
+        ensures going { self.new.output.fault ≡ None → self.old.output.fault ≡ None }
     {
         if self.output.fault.is_some() {
             return;
@@ -334,7 +303,8 @@ impl<J: ServiceId, K: Host, W: Write> Scribe<J, K, W> {
         requires ready { IsReady self.old.output.fault self.old.output.pending place line.number }
         requires needs { NeedsMemory K.capacity (K.book self.old.keeper) line.ask }
         ensures book { K.book self.new.keeper ≡ K.book self.old.keeper }
-        ensures turn { HasTurn line.number self.old.output self.new.output }
+        ensures closed { self.new.output.fault ≡ None
+            → self.new.output.pending ≡ remove self.old.output.pending place }
         ensures same_came { self.new.came ≡ self.old.came }
     {
         if self.keeper.has_failed() {
@@ -349,7 +319,7 @@ impl<J: ServiceId, K: Host, W: Write> Scribe<J, K, W> {
     fn give_up_as_busy(&mut self, place: usize, line: Line<J>)
         requires ready { IsReady self.old.output.fault self.old.output.pending place line.number }
         requires busy { IsBusy self.old.output.pending place line.ask }
-        ensures turn { HasTurn line.number self.old.output self.new.output }
+        ensures closed { self.new.output.pending ≡ remove self.old.output.pending place }
         ensures same_came { self.new.came ≡ self.old.came }
     {
         self.output.answer(place, &line, Refusal::Busy.line());
@@ -366,27 +336,5 @@ fn ticket_of<K: Host>(keeper: &K, request: Request) -> Ticket
     match keeper.accounts().begin(request) {
         Ok(ticket) => ticket,
         Err((request, _)) => Ticket::new(request, None),
-    }
-}
-
-/// The verdict under which an operation is answered.
-fn told_verdict(ask: Ask, verdict: Verdict) -> Verdict
-    ensures { result ≡ told_verdict ask verdict }
-{
-    match verdict {
-        Verdict::Told(reply) => Verdict::Told(told_reply(ask, reply)),
-        Verdict::Expired => Verdict::Expired,
-        Verdict::Same => Verdict::Same,
-    }
-}
-
-/// The reply to an operation: that of a login is the reply of a verify.
-fn told_reply(ask: Ask, reply: Reply) -> Reply
-    ensures { result ≡ told_reply ask reply }
-{
-    match (ask, reply) {
-        (Ask::Login(..), Reply::Wrong) => Reply::No,
-        (Ask::Login(..), Reply::Kept | Reply::Upgraded) => Reply::Yes,
-        (_, reply) => reply,
     }
 }

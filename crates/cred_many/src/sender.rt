@@ -2,8 +2,8 @@
 
 ghost use Rattle.std.specs.Prelude.{◌≡◌, ◌+◌, ◌^◌, ◌<◌, OnOk};
 
-use crate::job::Message;
 use crate::line::Line;
+use crate::scribe::Message;
 use crate::service_id::ServiceId;
 use crossbeam_channel::{Receiver, Sender};
 use std::marker::Model;

@@ -1,18 +1,15 @@
 //! The service: one thread reads, others hash, and this one has the book.
 
 ghost use Rattle.std.specs.Prelude.{◌≡◌, [], false, IfOk};
-ghost use Rattle.cred_many.specs.Service.{service};
+ghost use Rattle.cred_many.specs.{Reading.IsOfReading, Service.service};
 
 use crate::budget::{Budget, Idle, Limit, parts};
 use crate::costs::Costs;
 use crate::decoder::LineDecoder;
-use crate::ending::{End, Ending};
 use crate::hashing::Hashing;
-use crate::job::{Job, Message};
 use crate::message_loop::MessageLoop;
 use crate::open::MOST_OPEN;
-use crate::reading::read_lines;
-use crate::scribe::Scribe;
+use crate::scribe::{Ending, Job, Message, OfReading, Scribe, await_end, read_lines};
 use crate::sender::LineSender;
 use crate::service_id::ServiceId;
 use crate::source::{LineReader, Source};
@@ -74,13 +71,14 @@ where
 {
     let decoder: LineDecoder<J, G> = LineDecoder::new(config, salts);
     let Ok((channels, sender)) = make_channels(tools.rt, tools.alloc) else {
-        return Ending::new(End::Memory);
+        return Ending::without_memory();
     };
     let there = *tools.rt;
     let reading = move || -> Ending<J, S>
         requires { (S.remaining source ≡ J.service.input) × (S.given source ≡ 0)
             × (S.ended source ≡ false) × (S.failed source ≡ false)
             × (decoder.start ≡ []) × (decoder.number ≡ 0) × (sender.handed ≡ 0) }
+        ensures { IsOfReading result }
     {
         let mut decoder = decoder;
         let mut sender = sender;
@@ -88,15 +86,16 @@ where
         sender.end(&there);
         ending
     };
-    let Ok(reader) = thread::spawn(tools.rt, reading) else {
-        return Ending::new(End::Threads);
+    let reader = match thread::spawn_with(tools.rt, OfReading, reading) {
+        Ok(reader) => reader,
+        Err(refused) => return Ending::not_begun(refused),
     };
     let blank = Blank::new(u64::from(tools.workers));
     if hash_in_threads::<Brand, J, T, K, W>(tools, config, scribe, channels, blank) {
-        reader.join(tools.rt)
+        await_end(tools.rt, reader)
     } else {
         // The reader isn't waited for: after a fault it may never end.
-        Ending::new(End::Threads)
+        Ending::not_awaited(reader)
     }
 }
 

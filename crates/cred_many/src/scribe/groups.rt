@@ -1,11 +1,11 @@
 //! Changes of different accounts that are made together, and answered at once.
 
-ghost use Rattle.std.specs.Prelude.{◌≡◌, None};
-ghost use Rattle.cred_many.specs.{Scribe.IsGroup, Scribe.entries_of};
+ghost use Rattle.std.specs.Prelude.{◌≡◌, ◌++◌, ◌∷◌, [], IfErr, None, OnErr, OnOk};
+ghost use Rattle.cred_many.specs.{Scribe.IsGroup, Scribe.entries_of, Turns.HaveTurns, Turns.UseTurns};
 
-use super::{Scribe, told_reply};
+use super::commits::told_reply;
+use super::{Hashed, Scribe};
 use crate::group::{Group, MOST_TOGETHER};
-use crate::job::Hashed;
 use crate::service_id::ServiceId;
 use cred_admin::Host;
 use cred_book::Change;
@@ -15,7 +15,11 @@ use std::io::Write;
 impl<J: ServiceId, K: Host, W: Write> Scribe<J, K, W> {
     /// Makes the changes of different accounts among these works together, and answers their lines.
     /// The other works come back, in their order.
-    pub fn commit_together(&mut self, alloc: Global, works: Vec<Hashed<J>>) -> Vec<Hashed<J>> {
+    pub fn commit_together(&mut self, alloc: Global, works: Vec<Hashed<J>>) -> Vec<Hashed<J>>
+        ensures turns { self.new.output.fault ≡ None → HaveTurns works.items result.items
+            self.old.output.pending self.new.output.pending }
+        ensures going { self.new.output.fault ≡ None → self.old.output.fault ≡ None }
+    {
         let mut group = Group::new(alloc);
         let mut others = Vec::new(alloc);
         for hashed in works {
@@ -23,7 +27,7 @@ impl<J: ServiceId, K: Host, W: Write> Scribe<J, K, W> {
                 continue;
             };
             if let Err(refused) = others.push(hashed) {
-                let Hashed { line, .. } = refused.value;
+                let (line, _) = refused.value.into_parts();
                 self.starve(line);
             }
         }
@@ -38,24 +42,28 @@ impl<J: ServiceId, K: Host, W: Write> Scribe<J, K, W> {
     fn gather(&self, group: &mut Group<J>, hashed: Hashed<J>) -> Result<(), Hashed<J>>
         requires { IsGroup K.capacity J.service (K.book self.now.keeper) group.old.changed
             (entries_of group.old.works.items) group.old.text.items }
-        ensures { IsGroup K.capacity J.service (K.book self.now.keeper) group.new.changed
+        ensures group { IsGroup K.capacity J.service (K.book self.now.keeper) group.new.changed
             (entries_of group.new.works.items) group.new.text.items }
+        ensures added { OnOk result
+            (group.new.works.items ≡ group.old.works.items ++ hashed ∷ []) }
+        ensures same { OnErr result (group.new.works.items ≡ group.old.works.items) }
+        ensures back { IfErr result (λ back. back ≡ hashed) }
     {
-        if hashed.line.ask().is_reset() {
+        if hashed.line().ask().is_reset() {
             return Err(hashed);
         }
-        let name = hashed.worked.request().name();
+        let name = hashed.worked().request().name();
         if self.keeper.mark_of(&name).is_marked() {
             return Err(hashed);
         }
-        let (reply, stored, changes) = self.keeper.accounts().judge(&hashed.worked);
+        let (reply, stored, changes) = self.keeper.accounts().judge(hashed.worked());
         if !changes || group.works.len() >= MOST_TOGETHER {
             return Err(hashed);
         }
         let change = Change {
             name,
             after: stored,
-            reply: told_reply(hashed.line.ask(), reply),
+            reply: told_reply(hashed.line().ask(), reply),
         };
         group.push(hashed, &change)
     }
@@ -65,6 +73,8 @@ impl<J: ServiceId, K: Host, W: Write> Scribe<J, K, W> {
         requires going { self.old.output.fault ≡ None }
         requires group { IsGroup K.capacity J.service (K.book self.old.keeper) group.changed
             (entries_of group.works.items) group.text.items }
+        ensures { self.new.output.fault ≡ None → UseTurns (entries_of group.works.items)
+            self.old.output.pending self.new.output.pending }
     {
         let Group {
             works,
@@ -85,9 +95,13 @@ impl<J: ServiceId, K: Host, W: Write> Scribe<J, K, W> {
     }
 
     /// Refuses the lines of a group for want of memory, or ends all if the keeper has failed.
-    fn refuse_all(&mut self, works: Vec<Hashed<J>>) {
+    fn refuse_all(&mut self, works: Vec<Hashed<J>>)
+        requires going { self.old.output.fault ≡ None }
+        ensures { self.new.output.fault ≡ None → UseTurns (entries_of works.items)
+            self.old.output.pending self.new.output.pending }
+    {
         for hashed in works {
-            let Hashed { line, .. } = hashed;
+            let (line, _) = hashed.into_parts();
             self.starve(line);
         }
     }

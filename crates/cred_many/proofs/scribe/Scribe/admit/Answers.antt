@@ -1,6 +1,6 @@
 use Rattle.std.proofs.Common.{◌≡◌, ◌++◌, ◌∷◌, [], rules, inr, arith}
 use Rattle.cred_many.specs.Scribe.{unseen}
-use Rattle.cred_many.proofs.{Serving.line_missing, Serving.opened, Serving.still, Turns.just_opened}
+use Rattle.cred_many.proofs.{Serving.line_missing, Serving.opened, Serving.still, Turns.opened_ready}
 use Rattle.cred_many.proofs.scribe.Scribe.admit.Goals as goal
 
 pub invariant_of-self : goal.invariant_of-self
@@ -17,7 +17,7 @@ invariant_of-self-then-is_err g c =
 pub invariant_of-self-2-clause-history : goal.invariant_of-self-2-clause-history
 invariant_of-self-2-clause-history g c = opened _ _ _ _ _ _ _ _ c.number-number.result _ (search rules) (search rules) (search rules) c.args.self.now.history
 
-pub returns-clause-next : goal.returns-clause-next
-returns-clause-next g c =
-    let more : c.push.new.self ≡ c.args.self.now.output.pending ++ unseen c.number-number.result ∷ [] = search rules in
-    λ next none. absurd ((rw none at c.place_of.ensures.absent) (just_opened _ _ _ more))
+pub returns-clause-ready : goal.returns-clause-ready
+returns-clause-ready g c =
+    let more : c.push.new.self ≡ c.args.self.now.output.pending ++ unseen c.args.line.now.number ∷ [] = search rules in
+    opened_ready _ _ _ _ _ c.requires more (search rules)

@@ -1,8 +1,35 @@
-use Rattle.std.proofs.Common.{◌≡◌, rules}
+use Rattle.std.proofs.Common.{◌≡◌, Some, slice_get, refl, rules, inl}
+use Rattle.cred_many.specs.Scribe.{IsPending, numbers}
+use Rattle.cred_many.proofs.{Serving.still, Turns.absent_turn, Turns.answered_turn, Turns.either_turn, Turns.ready_turn, Turns.some_pending}
 use Rattle.cred_many.proofs.scribe.Scribe.commit.Goals as goal
 
-pub returns-then-is_reset : goal.returns-then-is_reset
-returns-then-is_reset g c = let line : c.hashed.inside.line ≡ c.args.hashed.0 = search rules in λ none. rw line at c.reset.ensures.turn
+pub returns-in_err-place-clause-turns : goal.returns-in_err-place-clause-turns
+returns-in_err-place-clause-turns g c =
+    let absent : IsPending c.args.hashed.0.number (numbers c.args.self.now.output.pending) → ⊥ = rw (c.number.ensures.number, c.into_parts-line.ensures.line) at c.in_err-place.ensures.absent in
+    λ going. absent_turn _ _ _ absent refl
 
-pub returns : goal.returns
-returns g c = let line : c.hashed.inside.line ≡ c.args.hashed.0 = search rules in rw line at c.commit_whole.ensures.turn
+pub returns-then-is_reset-clause-turn : goal.returns-then-is_reset-clause-turn
+returns-then-is_reset-clause-turn g c =
+    let there : slice_get (numbers c.args.self.now.output.pending) c.in_ok-place.place ≡ Some c.args.hashed.0.number = search rules in
+    λ none. answered_turn _ _ c.in_ok-place.place _ _ there c.reset.ensures.closed
+
+pub returns-then-is_reset-clause-turns : goal.returns-then-is_reset-clause-turns
+returns-then-is_reset-clause-turns g c =
+    let there : slice_get (numbers c.args.self.now.output.pending) c.in_ok-place.place ≡ Some c.args.hashed.0.number = search rules in
+    ready_turn _ _ c.in_ok-place.place _ _ there c.reset.ensures.closed
+
+pub invariant_of-self : goal.invariant_of-self
+invariant_of-self g c = record {
+  history = still _ _ _ _ _ _ _ _ (search rules) c.args.self.now.history;
+  cause = λ source. ∣ inl (some_pending _ _ _ c.in_ok-place.ensures.there) ∣₁;
+}
+
+pub returns-clause-turn : goal.returns-clause-turn
+returns-clause-turn g c =
+    let there : slice_get (numbers c.args.self.now.output.pending) c.in_ok-place.place ≡ Some c.args.hashed.0.number = search rules in
+    λ none. answered_turn _ _ c.in_ok-place.place _ _ there (c.commit_whole.ensures.closed none)
+
+pub returns-clause-turns : goal.returns-clause-turns
+returns-clause-turns g c =
+    let there : slice_get (numbers c.args.self.now.output.pending) c.in_ok-place.place ≡ Some c.args.hashed.0.number = search rules in
+    either_turn _ _ c.in_ok-place.place _ _ there c.commit_whole.result c.commit_whole.ensures.closed (rw c.into_parts-line.ensures.line at c.commit_whole.ensures.turns)

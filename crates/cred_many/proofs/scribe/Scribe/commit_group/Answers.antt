@@ -1,7 +1,13 @@
 use Rattle.std.proofs.Common.{rules}
-use Rattle.cred_many.proofs.Groups.{answered_together}
+use Rattle.cred_many.specs.Scribe.{AreClosed, entries_of}
+use Rattle.cred_many.proofs.{Groups.answered_together, Uses.closed_all}
 use Rattle.cred_many.proofs.scribe.Scribe.commit_group.Goals as goal
 
 pub invariant_of-self-clause-history : goal.invariant_of-self-clause-history
 invariant_of-self-clause-history g c = rw c.conclude_all.ensures.same (answered_together _ g.J.ServiceId.service _ _ (g.K.Host.book c.args.self.now.keeper) _ c.args.group.changed _ _ _ _ _ _ _ _ _ _ c.requires.going c.requires.group c.in-Ok.ensures.whole.0 c.in-Some.ensures (search rules)
     c.conclude_all.ensures.told (search rules) c.args.self.now.history)
+
+pub returns-in-Ok : goal.returns-in-Ok
+returns-in-Ok g c =
+    let closed : AreClosed (entries_of c.args.group.works.items) c.args.self.now.output.pending c.in-Some.left = search rules in
+    λ going. rw c.conclude_all.ensures.same (closed_all _ _ _ closed)

@@ -1,5 +1,47 @@
-use Rattle.cred_many.proofs.Groups.{none_together}
+use Rattle.std.proofs.Common.{◌≡◌, None, arith, length, map-id, refl, rules, sym, ◌∙◌}
+use Rattle.std.proofs.lemmas.Iterator.Adapters.{YieldsList-from_vec}
+use Rattle.std.proofs.lemmas.Iterator.Consumers.{YieldsList-end}
+use Rattle.cred_many.proofs.{Groups.none_together, Uses.all_back, Uses.all_done, Uses.gathered_back, Uses.gathered_in, Uses.gathered_starved, Uses.none_gathered}
+use Rattle.cred_many.proofs.scribe.Scribe.commit_together.Goals.{then-is_none+then-not-is_empty, else-is_none, else-is_none-via-then-is_none+else-not-is_empty, else-is_none-via-else-is_none}
 use Rattle.cred_many.proofs.scribe.Scribe.commit_together.Goals as goal
 
 pub loop-hashed-init : goal.loop-hashed-init
-loop-hashed-init g c = rw (c.new-group.ensures.changed, c.new-group.ensures.works, c.new-group.ensures.text) (none_together _ _ _)
+loop-hashed-init g c = rw (c.new-group.ensures.changed, c.new-group.ensures.works, c.new-group.ensures.text) (none_together _ _ _, λ going. (going, none_gathered _ _ _ _ refl))
+
+pub loop-hashed-preserved-in_default : goal.loop-hashed-preserved-in_default
+loop-hashed-preserved-in_default g c =
+    (c.in_default.ensures.group, λ going. let was = c.loop-hashed.invariant.1 going in (was.0, rw c.in_default.ensures.added (gathered_in c.loop-hashed.yielded _ _ c.in-Some.hashed _ _ was.1)))
+
+pub loop-hashed-preserved-in-Err-push : goal.loop-hashed-preserved-in-Err-push
+loop-hashed-preserved-in-Err-push g c = (
+  rw c.starve.ensures.book c.in-Err.ensures.group,
+  λ going.
+      let was = c.loop-hashed.invariant.1 (c.starve.ensures.going going) in
+      let used = rw (c.into_parts-line.ensures.line, c.in-Err-push.ensures.value_returned, c.in-Err.ensures.back) at (c.starve.ensures.turns going) in
+      (was.0, rw (c.in-Err-push.ensures.items, c.in-Err.ensures.same) (gathered_starved c.loop-hashed.yielded _ _ c.in-Some.hashed _ _ _ was.1 used)),
+)
+
+pub loop-hashed-preserved : goal.loop-hashed-preserved
+loop-hashed-preserved g c = (
+  c.in-Err.ensures.group,
+  λ going.
+      let was = c.loop-hashed.invariant.1 going in
+      (was.0, rw (c.in_default-push.ensures.items, c.in-Err.ensures.back, c.in-Err.ensures.same) (gathered_back c.loop-hashed.yielded _ _ c.in-Some.hashed _ _ was.1)),
+)
+
+pub returns-clause-turns : goal.returns-clause-turns
+returns-clause-turns g c =
+    let end = YieldsList-end (YieldsList-from_vec {s = c.into_iter-hashed-iterator.result} c.args.works.items (search rules) (search rules)) c.loop-hashed.yielded c.loop-hashed.hashed-iterator c.loop-hashed.yielded_by c.next.result c.next.new.self c.in-None.is c.next.ensures.steps in
+    let all : c.loop-hashed.yielded ≡ c.args.works.items = sym (map-id c.loop-hashed.yielded) ∙ end.0 in
+    rw (← all) (elim c.if-is_none.branch [
+      | then-is_none+then-not-is_empty w ↦ rw w.self-is (λ going.
+          let was : c.loop-hashed.self.output.fault ≡ None = search rules in
+          all_done c.loop-hashed.yielded _ _ _ _ _ (w.commit_group.ensures going) (c.loop-hashed.invariant.1 was).1)
+      | else-is_none w ↦ rw w.self-is (λ going.
+          elim w.else-is_none.branch [
+            | else-is_none-via-then-is_none+else-not-is_empty w' ↦
+                let none : length c.loop-hashed.group.works.items ≡ 0 = search (rules, arith) in
+                all_back c.loop-hashed.yielded _ _ _ _ none (c.loop-hashed.invariant.1 going).1
+            | else-is_none-via-else-is_none w' ↦ absurd (search rules)
+          ])
+    ])

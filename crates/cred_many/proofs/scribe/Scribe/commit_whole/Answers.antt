@@ -1,7 +1,8 @@
 use Rattle.std.proofs.Common.{sym, ap, ◌∙◌}
+use Rattle.std.proofs.{lemmas.Option.IfSome_then}
 use Rattle.cred_admin.specs.Statuses.{verdict_line}
 use Rattle.cred_many.specs.Served.{told_verdict}
-use Rattle.cred_many.proofs.{Commits.commits_still, Commits.done_whole, Serving.answered}
+use Rattle.cred_many.proofs.{Commits.commits_moved, Commits.commits_still, Commits.done_whole, Serving.answered, Turns.looked_turn}
 use Rattle.cred_many.proofs.scribe.Scribe.commit_whole.Goals as goal
 
 pub invariant_of-self-then-is_outdated-clause-history : goal.invariant_of-self-then-is_outdated-clause-history
@@ -14,3 +15,11 @@ invariant_of-self-2-clause-history g c =
 
 pub job-requires-clause-current : goal.job-requires-clause-current
 job-requires-clause-current g c = rw c.request-request.ensures (rw (c.ask-ask.ensures.ask, c.requires.asked) at c.ask-ask.ensures.sound)
+
+pub returns-then-is_outdated-clause-again : goal.returns-then-is_outdated-clause-again
+returns-then-is_outdated-clause-again g c = IfSome_then c.job.result c.job.ensures.line (λ job same. (same, commits_moved _ _ _ _ c.in-Ok.ensures.done (sym c.if-is_outdated.ensures)))
+
+pub returns-then-is_outdated-clause-turns : goal.returns-then-is_outdated-clause-turns
+returns-then-is_outdated-clause-turns g c =
+    let still = commits_still _ _ _ _ c.in-Ok.ensures.done (sym c.if-is_outdated.ensures) in
+    IfSome_then c.job.result c.job.ensures.looked (λ job looked. looked_turn _ c.args.place _ _ _ _ _ c.requires.ready.there c.requires.seen (commits_moved _ _ _ _ c.in-Ok.ensures.done (sym c.if-is_outdated.ensures)) (rw (c.request-request.ensures, still) at looked))

@@ -1,7 +1,7 @@
 use Rattle.std.proofs.Common.{arith, sym, ap, option_map, unwrap_or, [], ◌∙◌}
 use Rattle.cred_book.specs.Works.{name_of}
 use Rattle.cred_many.specs.Served.{record_at}
-use Rattle.cred_many.proofs.{Seen.looked_numbers, Seen.looked_ready, Seen.looked_worn, Serving.looked, Turns.turned}
+use Rattle.cred_many.proofs.{Seen.looked_ready, Seen.looked_worn, Serving.looked, Turns.closed_looked}
 use Rattle.cred_many.proofs.scribe.Scribe.job.Goals as goal
 
 pub invariant_of-self-clause-history : goal.invariant_of-self-clause-history
@@ -14,5 +14,9 @@ pub give_up_as_busy-requires-clause-busy : goal.give_up_as_busy-requires-clause-
 give_up_as_busy-requires-clause-busy g c =
     looked_worn _ _ _ _ _ _ c.args.line.ask c.look-changes.ensures (c.name.ensures ∙ sym (ap (λ r. unwrap_or (option_map name_of r) []) c.requires.asked)) (omega (arith, c.if-changes-ge-TRIES.true))
 
-pub returns-then-changes-ge-TRIES-clause-turn : goal.returns-then-changes-ge-TRIES-clause-turn
-returns-then-changes-ge-TRIES-clause-turn g c = λ none. turned _ _ _ _ _ (looked_numbers _ _ _ _ _ _ c.look-changes.ensures) c.give_up_as_busy.ensures.turn
+pub returns-then-changes-ge-TRIES-clause-closed : goal.returns-then-changes-ge-TRIES-clause-closed
+returns-then-changes-ge-TRIES-clause-closed g c = λ none. closed_looked _ _ _ _ _ _ _ c.look-changes.ensures c.give_up_as_busy.ensures.closed
+
+pub returns-clause-looked : goal.returns-clause-looked
+returns-clause-looked g c =
+    (c.look-changes.result, omega (arith, c.if-changes-ge-TRIES.false), rw (c.copy.ensures, c.ticket_of-ticket.ensures.copy, c.name.ensures) at c.look-changes.ensures)

@@ -2,18 +2,98 @@
 
 ghost use Rattle.std.specs.Prelude.{◌≡◌, ◌+◌, ◌^◌, ◌<◌, [], ◌∷◌, OnOk, false, length};
 ghost use Rattle.cred_cli.specs.Script.{line_ends};
-ghost use Rattle.cred_many.specs.Reading.{IsOfReading, MovesOver, NothingIsLeft, ComesNext, place};
+ghost use Rattle.cred_many.specs.Reading.{IsEnd, IsOfReading, MovesOver, NothingIsLeft, ComesNext, place};
 
 use crate::decoder::LineDecoder;
-use crate::ending::{End, Ending, MOST_LINES};
+use crate::ending::{End, MOST_LINES};
 use crate::sender::{Gone, LineSender};
 use crate::service_id::ServiceId;
 use crate::source::Source;
 use rand_core::Rng;
+use std::marker::{Model, PhantomData};
 use std::sync::Wait;
+use std::thread::{Promise, PromisedHandle, SpawnError, Threads};
 
 /// How many bytes are asked for at once.
 const CHUNK: usize = 4096;
+
+/// The end of the reading. Only the reading makes one, and only the scribe opens it. There is also
+/// one for each reason why nobody waits for a reading.
+#[derive(Drop)]
+pub struct Ending<J: ServiceId, S: Source> {
+    end: End<S>,
+    of: PhantomData<J>,
+}
+
+impl<J: ServiceId, S: Source> Model for Ending<J, S> {
+    ghost use Rattle.cred_many.specs.{Reading.IsEnd, declared.ending.End.End};
+
+    ghost Value = { End S };
+
+    ghost view = { λ e. e.end };
+
+    ghost invariant = { λ e. IsEnd J.service.input S.failed e.end };
+}
+
+impl<J: ServiceId, S: Source> Ending<J, S> {
+    /// No thread could be started for this reading.
+    pub(crate) fn not_begun<F: Drop>(_refused: SpawnError<F>) -> Ending<J, S> {
+        Ending::new(End::Threads)
+    }
+
+    /// This reading isn't waited for.
+    pub(crate) fn not_awaited(_reader: Reader<J, S>) -> Ending<J, S>
+    where
+        S: Drop,
+    {
+        Ending::new(End::Threads)
+    }
+
+    /// Memory ran out before the first line.
+    pub(crate) fn without_memory() -> Ending<J, S> {
+        Ending::new(End::Memory)
+    }
+
+    fn new(end: End<S>) -> Ending<J, S>
+        requires { IsEnd J.service.input S.failed end }
+        ensures { result ≡ end }
+    {
+        Ending {
+            end,
+            of: PhantomData,
+        }
+    }
+
+    pub(super) fn end(self) -> End<S>
+        ensures { IsEnd J.service.input S.failed result }
+    {
+        let Ending { end, of: _ } = self;
+        end
+    }
+}
+
+/// The thread that reads.
+pub(crate) type Reader<J, S> = PromisedHandle<Ending<J, S>, OfReading>;
+
+/// The promise of the thread that reads: it tells how a reading ended.
+#[derive(Drop)]
+pub(crate) struct OfReading;
+
+impl<J: ServiceId, S: Source> Promise<Ending<J, S>> for OfReading {
+    ghost use Rattle.cred_many.specs.Reading.{IsOfReading};
+
+    ghost kept_by = { λ _ ending. IsOfReading ending };
+}
+
+/// Waits for the end of the reading.
+pub(crate) fn await_end<J: ServiceId, S: Source, T: Threads>(
+    rt: &T,
+    reader: Reader<J, S>,
+) -> Ending<J, S>
+    ensures { IsOfReading result }
+{
+    reader.join(rt)
+}
 
 /// Hands out each line that comes, to the end of the input or until nobody takes them, and says how
 /// the reading ended.

@@ -2,7 +2,7 @@ use Rattle.std.proofs.{Common.◌+◌, Common.◌++◌, Common.[], Common.◌∷
 use Rattle.cred_cli.specs.Script.{line_ends}
 use Rattle.cred_cli.proofs.Lines.{line_ends-append}
 use Rattle.cred_many.proofs.Lines.{line_ends-short}
-use Rattle.cred_many.proofs.reading.take_bytes.Goals as goal
+use Rattle.cred_many.proofs.scribe.reading.take_bytes.Goals as goal
 
 pub loop-byte-init : goal.loop-byte-init
 loop-byte-init g c = record {

@@ -1,7 +1,7 @@
 use Rattle.std.proofs.Common.{◌≡◌, ◌+◌, ◌≤◌, drop, length}
 use Rattle.cred_cli.specs.Script.{line_ends}
 use Rattle.cred_many.specs.Reading.{ComesNext, MovesOver, Place, place}
-use Rattle.cred_many.proofs.reading.take_bytes.Given as goal
+use Rattle.cred_many.proofs.scribe.reading.take_bytes.Given as goal
 
 -- the other bytes come next, and once they are taken all are
 abbrev pub invariant-loop-byte : goal.invariant-loop-byte

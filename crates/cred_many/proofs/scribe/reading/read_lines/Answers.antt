@@ -2,7 +2,7 @@ use Rattle.std.proofs.Common.{rules, [], arith, refl, sym, ◌∙◌}
 use Rattle.cred_cli.proofs.Readings.{came, came_to_end}
 use Rattle.cred_many.specs.Reading.{place}
 use Rattle.cred_many.proofs.Lines.{counted, many_lines}
-use Rattle.cred_many.proofs.reading.read_lines.Goals as goal
+use Rattle.cred_many.proofs.scribe.reading.read_lines.Goals as goal
 
 pub loop-call-init : goal.loop-call-init
 loop-call-init g c = record {

@@ -1,6 +1,6 @@
 use Rattle.std.proofs.Common.{◌≡◌, List, ℕ, Some, false, length}
 use Rattle.cred_many.specs.Reading.{Splits, place}
-use Rattle.cred_many.proofs.reading.read_lines.Given as goal
+use Rattle.cred_many.proofs.scribe.reading.read_lines.Given as goal
 
 -- a front of the input came, and each whole line of it was handed out
 abbrev pub invariant-loop-call : goal.invariant-loop-call

@@ -1,0 +1,20 @@
+use Rattle.cred_many.proofs.Turns.{opened_closed, opened_keeps, taken}
+use Rattle.cred_many.proofs.scribe.Scribe.take.Goals as goal
+
+pub returns-in-Whole-clause-turn : goal.returns-in-Whole-clause-turn
+returns-in-Whole-clause-turn g c = λ next going none. taken _ c.in_ok-place.place _ _ _ _ c.in_ok-place.ensures.opened c.in_ok-place.ensures.ready (c.job.ensures.closed none)
+
+pub returns-in-Whole-clause-turns : goal.returns-in-Whole-clause-turns
+returns-in-Whole-clause-turns g c = λ next going. opened_keeps c.job.result _ _ _ c.in_ok-place.place _ _ _ _ c.in_ok-place.ensures.opened c.in_ok-place.ensures.ready c.in_ok-place.ensures.last c.job.ensures.closed c.job.ensures.looked
+
+pub returns-in-Login-clause-turn : goal.returns-in-Login-clause-turn
+returns-in-Login-clause-turn g c = λ next going none. taken _ c.in_ok-place.place _ _ _ _ c.in_ok-place.ensures.opened c.in_ok-place.ensures.ready (c.job-in-Login.ensures.closed none)
+
+pub returns-in-Login-clause-turns : goal.returns-in-Login-clause-turns
+returns-in-Login-clause-turns g c = λ next going. opened_keeps c.job-in-Login.result _ _ _ c.in_ok-place.place _ _ _ _ c.in_ok-place.ensures.opened c.in_ok-place.ensures.ready c.in_ok-place.ensures.last c.job-in-Login.ensures.closed c.job-in-Login.ensures.looked
+
+pub returns-in-Quick-clause-turn : goal.returns-in-Quick-clause-turn
+returns-in-Quick-clause-turn g c = λ next going none. taken _ c.in_ok-place.place _ _ _ _ c.in_ok-place.ensures.opened c.in_ok-place.ensures.ready (c.answer_at_once.ensures.closed going)
+
+pub returns-in-Quick-clause-turns : goal.returns-in-Quick-clause-turns
+returns-in-Quick-clause-turns g c = λ next going. opened_closed _ _ _ c.in_ok-place.place _ _ c.in_ok-place.ensures.opened c.in_ok-place.ensures.ready (c.answer_at_once.ensures.closed going)

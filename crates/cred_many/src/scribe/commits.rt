@@ -1,0 +1,113 @@
+//! The commit of what was hashed for a line, and the line's answer.
+
+ghost use Rattle.std.specs.List.{remove};
+ghost use Rattle.std.specs.Prelude.{◌≡◌, IfSome, None, true, false};
+ghost use Rattle.cred_book.specs.Works.{name_of};
+ghost use Rattle.cred_many.specs.{Asks.IsJobOf, Asks.hashed_for, Asks.is_reset, Scribe.HasSeen, Scribe.HasTurn, Scribe.IsReady, Served.told_reply, Served.told_verdict, Turns.HasMoved, Turns.UsesTurn};
+
+use super::{Hashed, Job, Scribe};
+use crate::ask::Ask;
+use crate::fault::ServiceFault;
+use crate::line::Line;
+use crate::service_id::ServiceId;
+use cred_admin::{Host, Verdict, commit_try, put_in_place, verdict_line};
+use cred_book::{Reply, Worked};
+use cred_cli::reply_line;
+use std::io::Write;
+
+impl<J: ServiceId, K: Host, W: Write> Scribe<J, K, W> {
+    /// Commits a whole operation, and answers it, if the record still equals the copy. Otherwise the
+    /// record is copied again. The account's marks count that stand now.
+    pub fn commit(&mut self, hashed: Hashed<J>) -> Option<Job<J>>
+        ensures turn { result ≡ None → HasTurn hashed.0.number self.old.output self.new.output }
+        ensures again { IfSome result (λ job. (job.0 ≡ hashed.0)
+            × HasMoved (K.book self.old.keeper) hashed.1) }
+        ensures turns { self.new.output.fault ≡ None → UsesTurn hashed.0.number
+            self.old.output.pending self.new.output.pending }
+        ensures going { self.new.output.fault ≡ None → self.old.output.fault ≡ None }
+    {
+        if self.output.fault.is_some() {
+            return None;
+        }
+        let (line, worked) = hashed.into_parts();
+        let place = self.output.pending.place_of(line.number())?;
+        if line.ask().is_reset() {
+            self.reset(place, line, &worked);
+            return None;
+        }
+        let name = worked.request().name();
+        if !self.output.pending.has_seen(place, &name, &worked.copy()) {
+            self.output.fault = Some(ServiceFault::Lost);
+            return None;
+        }
+        self.commit_whole(place, line, worked)
+    }
+
+    fn commit_whole(&mut self, place: usize, line: Line<J>, worked: Worked) -> Option<Job<J>>
+        requires ready { IsReady self.old.output.fault self.old.output.pending place line.number }
+        requires asked { hashed_for line.ask ≡ Some worked.0 }
+        requires kept { is_reset line.ask ≡ false }
+        requires seen { HasSeen self.old.output.pending place (name_of worked.0) worked.1 true }
+        ensures closed { result ≡ None → self.new.output.fault ≡ None
+            → self.new.output.pending ≡ remove self.old.output.pending place }
+        ensures again { IfSome result (λ job. (job.0 ≡ line)
+            × HasMoved (K.book self.old.keeper) worked) }
+        ensures turns { IfSome result (λ _. UsesTurn line.number self.old.output.pending
+            self.new.output.pending) }
+    {
+        let ask = line.ask();
+        let request = worked.request();
+        let verdict = match commit_try(&mut self.keeper, worked) {
+            Ok(verdict) => verdict,
+            Err(_) => {
+                self.refuse(place, line);
+                return None;
+            }
+        };
+        if verdict.is_outdated() {
+            return self.job(place, line, request);
+        }
+        let answer = verdict_line(&told_verdict(ask, verdict));
+        self.output.answer(place, &line, answer);
+        None
+    }
+
+    /// Sets the new record in place of any other.
+    fn reset(&mut self, place: usize, line: Line<J>, worked: &Worked)
+        requires ready { IsReady self.old.output.fault self.old.output.pending place line.number }
+        requires asked { IsJobOf line.ask worked.now }
+        requires reset { is_reset line.ask ≡ true }
+        ensures closed { self.new.output.fault ≡ None
+            → self.new.output.pending ≡ remove self.old.output.pending place }
+    {
+        let Some(stored) = worked.after() else {
+            unreachable!()
+        };
+        match put_in_place(&mut self.keeper, &worked.request().name(), stored) {
+            Ok(reply) => self.output.answer(place, &line, reply_line(&reply)),
+            Err(_) => self.refuse(place, line),
+        }
+    }
+}
+
+/// The verdict under which an operation is answered.
+fn told_verdict(ask: Ask, verdict: Verdict) -> Verdict
+    ensures { result ≡ told_verdict ask verdict }
+{
+    match verdict {
+        Verdict::Told(reply) => Verdict::Told(told_reply(ask, reply)),
+        Verdict::Expired => Verdict::Expired,
+        Verdict::Same => Verdict::Same,
+    }
+}
+
+/// The reply to an operation: that of a login is the reply of a verify.
+pub(super) fn told_reply(ask: Ask, reply: Reply) -> Reply
+    ensures { result ≡ told_reply ask reply }
+{
+    match (ask, reply) {
+        (Ask::Login(..), Reply::Wrong) => Reply::No,
+        (Ask::Login(..), Reply::Kept | Reply::Upgraded) => Reply::Yes,
+        (_, reply) => reply,
+    }
+}

@@ -1,0 +1,223 @@
+//! The messages between the thread with the book and those that hash and read.
+
+ghost use Rattle.std.specs.Prelude.{◌≡◌, ◌<◌, ◌≤◌};
+ghost use Rattle.cred_cli.specs.Costs.{memory_alone};
+ghost use Rattle.cred_many.specs.{Asks.IsJobOf, Costs.Covers, Costs.job_memory, Scribe.IsOf};
+
+use crate::budget::{Budget, Limit, Taken};
+use crate::costs::{Costs, NO_SALT};
+use crate::line::Line;
+use crate::service_id::ServiceId;
+use cred_book::{Request, Ticket, Worked};
+use cred_phc::{Password, Scratch, TagError, tag_in};
+use cred_pool::NoGate;
+use std::alloc::Global;
+use std::marker::Model;
+
+/// The length of the tag of a new record in bytes.
+const NEW_TAG: u8 = 32;
+
+/// A line with its ticket, which is to be hashed. Only the scribe makes one.
+#[derive(Drop)]
+pub struct Job<J: ServiceId> {
+    line: Line<J>,
+    ticket: Ticket,
+}
+
+impl<J: ServiceId> Model for Job<J> {
+    ghost use Rattle.cred_book.specs.Works.{Task};
+    ghost use Rattle.cred_many.specs.Asks.{Entry, IsJobOf};
+
+    ghost Value = { Entry × Task };
+
+    ghost view = { λ j. (j.line, j.ticket) };
+
+    ghost invariant = { λ j. IsJobOf j.line.ask j.ticket };
+}
+
+/// A line whose hashing is done. Only [`Job::work`] makes one, so each of its hashes had a share.
+#[derive(Drop)]
+pub struct Hashed<J: ServiceId> {
+    line: Line<J>,
+    worked: Worked,
+}
+
+impl<J: ServiceId> Model for Hashed<J> {
+    ghost use Rattle.cred_book.specs.Works.{Task};
+    ghost use Rattle.cred_many.specs.Asks.{Entry, IsJobOf};
+
+    ghost Value = { Entry × Task };
+
+    ghost view = { λ h. (h.line, h.worked) };
+
+    ghost invariant = { λ h. IsJobOf h.line.ask h.worked };
+}
+
+/// A line without memory for its hash. It is made where a hash was refused memory, or needs more
+/// than all hashes together may take.
+#[derive(Drop)]
+pub struct Starved<J: ServiceId> {
+    job: Job<J>,
+}
+
+impl<J: ServiceId> Model for Starved<J> {
+    ghost use Rattle.cred_book.specs.Works.{Task};
+    ghost use Rattle.cred_many.specs.Asks.{Entry};
+
+    ghost Value = { Entry × Task };
+
+    ghost view = { λ s. s.job };
+}
+
+/// A message to the thread that has the book.
+#[derive(Drop)]
+pub(crate) enum Message<J: ServiceId> {
+    /// A line came.
+    Came(Line<J>),
+    /// A line is hashed.
+    Hashed(Hashed<J>),
+    /// Memory to hash a line ran out.
+    NoMemory(Starved<J>),
+    /// No more lines come.
+    Ended,
+}
+
+impl<J: ServiceId> Job<J> {
+    /// The line with what is to be hashed for it.
+    pub(super) fn new(line: Line<J>, ticket: Ticket) -> Job<J>
+        requires { IsJobOf line.ask ticket }
+        ensures line { result.0 ≡ line }
+        ensures ticket { result.1 ≡ ticket }
+    {
+        Job { line, ticket }
+    }
+
+    /// What is to be hashed.
+    pub(crate) fn ticket(&self) -> &Ticket
+        ensures { result.now ≡ self.now.1 }
+    {
+        &self.ticket
+    }
+
+    /// The job without memory, since its hashes need more than the whole budget.
+    pub(crate) fn too_large<L: Limit>(self, _budget: &Budget<L>, _costs: &Costs) -> Starved<J>
+        requires { _budget.now.total < job_memory _costs.now self.1 }
+        ensures { result.0 ≡ self.0 }
+    {
+        Starved { job: self }
+    }
+
+    /// Hashes a job on this thread alone, in the thread's memory, within the reserved share. A name
+    /// that doesn't exist, and an account without a record, get a hash too.
+    #[tactic(auto, using(crate::proofs::Shares::covered, crate::proofs::Shares::covered_in_vain))]
+    pub(crate) fn work<L: Limit>(
+        self,
+        scratch: &mut Scratch,
+        alloc: Global,
+        costs: &Costs,
+        taken: &Taken<L>,
+    ) -> Message<J>
+        requires { job_memory costs.now self.1 ≤ taken.now.kib }
+        ensures { IsOf self.0 result }
+    {
+        if self.ticket.copy().is_none() {
+            let request = self.ticket.request();
+            if hash_in_vain(scratch, alloc, costs, &request, taken).is_err() {
+                return Message::NoMemory(Starved { job: self });
+            }
+        }
+        self.work_ticket(scratch, alloc, taken)
+    }
+
+    fn work_ticket<L: Limit>(
+        self,
+        scratch: &mut Scratch,
+        alloc: Global,
+        taken: &Taken<L>,
+    ) -> Message<J>
+        requires { Covers taken.now.kib self.1 }
+        ensures { IsOf self.0 result }
+    {
+        let Job { line, ticket } = self;
+        match ticket.work_in(scratch, alloc, &NoGate) {
+            Ok(worked) => Message::Hashed(Hashed::new(line, worked)),
+            Err(ticket) => Message::NoMemory(Starved {
+                job: Job::new(line, ticket),
+            }),
+        }
+    }
+}
+
+/// Hashes the password that would be compared with a record, with the costs of new ones.
+fn hash_in_vain<L: Limit>(
+    scratch: &mut Scratch,
+    alloc: Global,
+    costs: &Costs,
+    request: &Request,
+    taken: &Taken<L>,
+) -> Result<(), TagError>
+    requires { memory_alone costs.now ≤ taken.now.kib }
+{
+    let Some(pw) = compared(request) else {
+        return Ok(());
+    };
+    let setting = costs.setting(&NO_SALT);
+    tag_in(scratch, alloc, &NoGate, &setting, NEW_TAG, pw.bytes())?;
+    Ok(())
+}
+
+/// The password that is compared with a record, if any.
+fn compared(request: &Request) -> Option<Password> {
+    match *request {
+        Request::Enrol { .. } => None,
+        Request::Verify { pw, .. }
+        | Request::Change { pw, .. }
+        | Request::Upgrade { pw, .. }
+        | Request::Remove { pw, .. } => Some(pw),
+    }
+}
+
+impl<J: ServiceId> Hashed<J> {
+    fn new(line: Line<J>, worked: Worked) -> Hashed<J>
+        requires { IsJobOf line.ask worked }
+        ensures { result.0 ≡ line }
+    {
+        Hashed { line, worked }
+    }
+
+    /// The line.
+    pub(crate) fn line(&self) -> &Line<J>
+        ensures line { result.now ≡ self.now.0 }
+        ensures asked { IsJobOf self.now.0.ask self.now.1 }
+    {
+        &self.line
+    }
+
+    /// What came of its hashes.
+    pub(crate) fn worked(&self) -> &Worked
+        ensures { result.now ≡ self.now.1 }
+    {
+        &self.worked
+    }
+
+    /// The line with what came of its hashes.
+    pub(super) fn into_parts(self) -> (Line<J>, Worked)
+        ensures line { result.0 ≡ self.0 }
+        ensures worked { result.1 ≡ self.1 }
+        ensures asked { IsJobOf result.0.ask result.1 }
+    {
+        let Hashed { line, worked } = self;
+        (line, worked)
+    }
+}
+
+impl<J: ServiceId> Starved<J> {
+    /// The line.
+    pub(super) fn into_line(self) -> Line<J>
+        ensures { result ≡ self.0 }
+    {
+        let Starved { job } = self;
+        let Job { line, .. } = job;
+        line
+    }
+}
