@@ -117,10 +117,9 @@ class OthersTest(ImportTest):
         path = f"{pathlib.Path(program('credkeep')).parent}:{os.environ['PATH']}"
         return run("sh", "-c", command, at=self.room, env={"PATH": f"{self.room}:{path}"})
 
-    def test_exports_of_locked_names(self) -> None:
-        """A book beside which locks lie isn't exported, and by the page's commands a locked name,
-        or one whose password must be changed, has no record for Dovecot and Django."""
-        accounts = {"ann": RECORD, "ann.x": SCRYPT, "bob": OTHER, "cat": RECORD, "dan": ""}
+    def test_exports_beside_an_earlier_servers_locks(self) -> None:
+        """They are refused while that file has a line."""
+        accounts = {"ann": RECORD, "dan": ""}
         self.begun(accounts)
         locks = self.room / "users.db-locks"
         for text, done in (
@@ -134,7 +133,26 @@ class OthersTest(ImportTest):
                 self.assertTrue(found.faults.startswith(done.faults.strip()), found.faults)
         self.assertEqual(self.book("list").status, 0)
         self.assertEqual(self.book("show", "ann").status, 0)
-        command = of_the_page("credkeep-ask --server locks > locks", lines=3)
+
+    def check_lines(self, left: dict[str, str]) -> None:
+        """What the page's commands wrote, and what Dovecot gets of it."""
+        self.assertEqual((self.room / "passwd").read_text(), lines_of(left))
+        dovecot = self.run_in_room(of_the_page("sed -n 's/:\\$argon2"))
+        lines = {it: f"{{ARGON2ID}}{of}" for it, of in left.items() if "argon2" in of}
+        self.assertEqual(dovecot, lines_of(lines))
+
+    def test_exports_of_locked_names(self) -> None:
+        """By the page's commands a name that is locked, or whose password must be changed, in the
+        book or by an old file of its server, has no record for Dovecot and Django."""
+        accounts = {"ann": RECORD, "ann.x": SCRYPT, "bob": OTHER, "cat": RECORD, "dan": ""}
+        accounts |= {"eve": RECORD, "fay": RECORD}
+        self.begun(accounts)
+        for order, name in (("lock", "eve"), ("expire", "fay"), ("lock", "dan")):
+            self.assertEqual(self.book(order, name).status, 0)
+        without = {**accounts, "eve": "", "fay": ""}
+        self.run_in_room(of_the_page("credkeep users.db backup copy.db && credkeep copy.db export"))
+        self.check_lines(without)
+        command = of_the_page("credkeep-ask --server marks > marks", lines=3)
         renamed = "ann:locked\nbob:expired\n", "ann:locked\nbob.new:expired\n"
         for before, behind, shut in (
             ("", "", ()),
@@ -151,16 +169,12 @@ class OthersTest(ImportTest):
                 ask.chmod(0o755)
                 (self.room / "copy.db").unlink(missing_ok=True)
                 self.run_in_room(command)
-                left = {**accounts, **dict.fromkeys(shut, "")}
-                self.assertEqual((self.room / "passwd").read_text(), lines_of(left))
-                dovecot = self.run_in_room(of_the_page("sed -n 's/:\\$argon2"))
-                lines = {it: f"{{ARGON2ID}}{of}" for it, of in left.items() if "argon2" in of}
-                self.assertEqual(dovecot, lines_of(lines))
+                self.check_lines({**without, **dict.fromkeys(shut, "")})
         (self.room / "credkeep-ask").write_text("#!/bin/sh\nexit 2\n")
         (self.room / "passwd").unlink()
         with self.assertRaises(Exception):
             self.run_in_room(command)
-        self.assertFalse((self.room / "passwd").exists(), "without the locks there are no lines")
+        self.assertFalse((self.room / "passwd").exists(), "without the marks there are no lines")
 
 
 def of_the_page(begin: str, lines: int = 1) -> str:

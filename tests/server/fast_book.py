@@ -11,6 +11,7 @@ it only appends to, a line for each change. In the environment BOOK_FAULTS has w
     garbage         between answers it writes lines that are none
     dies=N          it ends with status 5 once it has N answers, amid another without its line end
     killed=N        the same, by a signal
+    kills=N         it has its server killed in place of answer N, which is done
     mute=WORD       lines with this operation are never answered
     endless         before each answer to a verify it writes a line of 4 MiB
     answers=TEXT    each verify is answered by TEXT
@@ -37,11 +38,14 @@ from typing import Optional
 
 NAME = re.compile(r"[a-z0-9._-]{1,32}")
 COSTS = "$fast$c=1"
+LOCKED, MUST_CHANGE = "!", "~"  # before the record of an account
 # How many fields operations have, how many of them are passwords, and whether a setting may follow.
-SHAPES = {"account show disable delete": (1, 0, False), "load rename list": (2, 0, False)}
+SHAPES = {"account show disable delete lock unlock expire": (1, 0, False)}
+SHAPES |= {"load rename list marks": (2, 0, False)}
 SHAPES |= {"verify login remove": (2, 1, False), "enrol reset upgrade": (2, 1, True)}
 SHAPES |= {"change": (3, 2, True)}
 SHAPE_OF = {word: it for words, it in SHAPES.items() for word in words.split()}
+QUICK = ("show", "account", "list", "marks", "lock", "unlock", "expire")
 NOISE = [b"\n", b"yes\n", b"* yes\n", b"0 yes\n", b"-1 yes\n", b"99999999 yes\n", b"\xff\x00 yes\n"]
 
 
@@ -63,38 +67,25 @@ def tag_of(password: bytes, salt: str) -> str:
     return hashlib.blake2b(password, key=salt.encode()[:64], digest_size=12).hexdigest()
 
 
-class Book:
-    """Names, and a record or an empty text at each; a change is in the file before it is
-    answered."""
+def marks_of(row: str) -> str:
+    return row[: len(row) - len(row.lstrip(LOCKED + MUST_CHANGE))]
 
-    def __init__(self, path: str, costs: str) -> None:
-        self.costs, self.records = costs, dict[str, str]()
-        self.loses, self.puts = int(FAULTS.get("loses", "0")), itertools.count(1)
-        self.file = open(path, "a+b", buffering=0)
-        fcntl.flock(self.file, fcntl.LOCK_EX)
-        self.file.seek(0)
-        for line in self.file.read().decode().splitlines():
-            self.set(*line.split(" "))
 
-    def set(self, name: str, record: str) -> None:
-        self.records[name] = record
-        if record == "gone":
-            del self.records[name]
+class Accounts:
+    """Names, and a row at each: marks, and a record if it has one."""
 
-    def put(self, name: str, record: str, said: str) -> str:
-        """Keeps a record, none or "gone", and returns what is said."""
-        if not (self.loses and record[:1] == "$" and next(self.puts) % self.loses == 0):
-            self.set(name, record)
-            self.write(f"{name} {record}\n".encode())
+    def __init__(self, costs: str) -> None:
+        self.costs, self.rows = costs, dict[str, str]()
+
+    def set(self, name: str, row: str) -> None:
+        self.rows[name] = row
+        if row == "gone":
+            del self.rows[name]
+
+    def put(self, name: str, row: str, said: str) -> str:
+        """Keeps a row, or "gone", and returns what is said."""
+        self.set(name, row)
         return said
-
-    def write(self, line: bytes) -> None:
-        """Appends a line. If the disk has no room it ends, and may have a part of it."""
-        try:
-            while line:
-                line = line[self.file.write(line) :]
-        except OSError:
-            os._exit(5)
 
     def made(self, password: bytes, setting: str) -> str:
         """A record of a password; the setting may end before its salt."""
@@ -106,16 +97,15 @@ class Book:
     def answer(self, words: list[str]) -> str:
         operation, *fields = words
         if operation == "disable" and fields[1:] == ["show"]:
-            record = self.records.get(fields.pop(0))
+            row = self.rows.get(fields.pop(0))
             said = self.answer(words[:2])
-            return f"{words[1]}:{record}" if said == "disabled" else said
+            return f"{words[1]}:{row}" if said == "disabled" else said
         due, secret, may_set = SHAPE_OF.get(operation, (-1, 0, False))
         count = len(fields) - due
         if count not in ((0, 1) if may_set else (0,)):
             return "bad 11 line"
-        if operation == "list":
-            names = sorted(it for it in self.records if it >= fields[0])[: int(fields[1])]
-            return " ".join(["names", *names])
+        if operation in ("list", "marks"):
+            return self.page(operation, *fields)
         names = fields if operation == "rename" else fields[:1]
         if not all(map(NAME.fullmatch, names)):
             return "bad 3 name"
@@ -127,45 +117,68 @@ class Book:
         plain = [it or b"" for it in passwords]
         return self.done(operation, fields, plain, fields[-1] if count else "")
 
+    def page(self, operation: str, first: str, count: str) -> str:
+        """Names from one on, or those that have marks, with these."""
+        if not re.fullmatch("[0-9]{1,4}", count) or not 1 <= int(count) <= 1000:
+            return "bad 11 line"
+        rows = sorted(it for it in self.rows.items() if it[0] >= first)
+        if operation == "list":
+            return " ".join(["names", *(name for name, _ in rows[: int(count)])])
+        marked = [f"{name}:{marks}" for name, row in rows if (marks := marks_of(row))]
+        return " ".join(["marks", *marked[: int(count)]])
+
     def done(self, operation: str, fields: list[str], plain: list[bytes], setting: str) -> str:
-        name, record = fields[0], self.records.get(fields[0])
+        name, row = fields[0], self.rows.get(fields[0])
+        if operation == "account":
+            return self.put(name, "", "ok") if row is None else "bad 1 exists"
+        if row is None:
+            return "bad 5 noaccount" if operation in ("show", "load") else "noaccount"
         match operation:
-            case "account":
-                return self.put(name, "", "ok") if record is None else "bad 1 exists"
-            case "show" | "load" if record is None:
-                return "bad 5 noaccount"
-            case _ if record is None:
-                return "noaccount"
             case "show":
-                return record or "none"
-            case "load":
-                return self.put(name, fields[1], "ok")
+                return row[len(marks_of(row)) :] or "none"
             case "delete":
                 return self.put(name, "gone", "deleted")
-            case "rename" if fields[1] in self.records:
+            case "rename" if fields[1] in self.rows:
                 return "exists"
             case "rename":
-                self.put(fields[1], record, "")
+                self.put(fields[1], row, "")
                 return self.put(name, "gone", "renamed")
-            case "reset" | "enrol" if not record:
-                return self.put(name, self.made(plain[0], setting), "enrolled")
+        lock = LOCKED if row.startswith(LOCKED) else ""
+        record = row[len(marks_of(row)) :]
+        match operation:
+            case "load":
+                return self.put(name, lock + fields[1], "ok")
+            case "lock":
+                return self.put(name, LOCKED + row[len(lock) :], "locked")
+            case "unlock":
+                return self.put(name, row[1:], "unlocked") if lock else "none"
             case "reset":
-                return self.put(name, self.made(plain[0], setting), "replaced")
-            case "enrol":
+                made = lock + self.made(plain[0], setting)
+                return self.put(name, made, "replaced" if record else "enrolled")
+            case "enrol" if record or lock:
                 return "exists"
+            case "enrol":
+                return self.put(name, self.made(plain[0], setting), "enrolled")
             case _ if not record:
                 return "absent"
             case "disable":
-                return self.put(name, "", "disabled")
-        return self.judged(operation, name, record, plain, setting)
+                return self.put(name, lock, "disabled")
+            case "expire":
+                return self.put(name, lock + MUST_CHANGE + record, "expired")
+        return self.judged(operation, name, row, plain, setting)
 
-    def judged(
-        self, operation: str, name: str, record: str, plain: list[bytes], setting: str
-    ) -> str:
+    def judged(self, operation: str, name: str, row: str, plain: list[bytes], setting: str) -> str:
+        """The answer to a try at a row with a record."""
+        marks = marks_of(row)
+        record = row[len(marks) :]
         salt, tag = record.split("$")[-2:]
+        if marks.startswith(LOCKED) or tag_of(plain[0], salt) != tag:
+            return "no" if operation in ("verify", "login") else "wrong"
+        if marks and operation != "change":
+            return "expired"
         match operation:
-            case _ if tag_of(plain[0], salt) != tag:
-                return "no" if operation in ("verify", "login") else "wrong"
+            case "change" if marks and plain[0] == plain[1]:
+                return "same"
             case "login" if not record.startswith(f"{self.costs}$"):
                 return self.put(name, self.made(plain[0], ""), "yes")
             case "verify" | "login":
@@ -178,6 +191,33 @@ class Book:
         return self.put(name, self.made(plain[-1], setting), said)
 
 
+class Book(Accounts):
+    """The same in a file, which has a change before it is answered."""
+
+    def __init__(self, path: str, costs: str) -> None:
+        super().__init__(costs)
+        self.loses, self.puts = int(FAULTS.get("loses", "0")), itertools.count(1)
+        self.file = open(path, "a+b", buffering=0)
+        fcntl.flock(self.file, fcntl.LOCK_EX)
+        self.file.seek(0)
+        for line in self.file.read().decode().splitlines():
+            self.set(*line.split(" "))
+
+    def put(self, name: str, row: str, said: str) -> str:
+        if not (self.loses and "$" in row and next(self.puts) % self.loses == 0):
+            self.set(name, row)
+            self.write(f"{name} {row}\n".encode())
+        return said
+
+    def write(self, line: bytes) -> None:
+        """Appends a line. If the disk has no room it ends, and may have a part of it."""
+        try:
+            while line:
+                line = line[self.file.write(line) :]
+        except OSError:
+            os._exit(5)
+
+
 WRITTEN = itertools.count()
 
 
@@ -188,6 +228,9 @@ def write(operation: str, tag: str, said: str) -> None:
         if written >= int(FAULTS[word]):
             os.write(1, f"{tag} {said}".encode())
             os.kill(os.getpid(), signal.SIGKILL) if word == "killed" else os._exit(5)
+    if written == int(FAULTS.get("kills", "-1")):
+        os.kill(os.getppid(), signal.SIGKILL)
+        os._exit(5)
     if "endless" in FAULTS and operation == "verify":
         os.write(1, b"x" * (4 << 20) + b"\n")
     if "garbage" in FAULTS:
@@ -203,7 +246,7 @@ def work(book: Book, output: threading.Lock, line: str) -> None:
     words = rest.split(" ")
     if "late" in FAULTS:
         time.sleep(random.random() * 0.05)
-    if "slow" in FAULTS and words[0] not in ("show", "account", "list"):
+    if "slow" in FAULTS and words[0] not in QUICK:
         time.sleep(float(FAULTS["slow"]))
     if FAULTS.get("mute") == words[0]:
         return

@@ -39,6 +39,8 @@ SHOW = "--wait|0|users.db|show|ada|"
 ONE, TWO = [b"old\n"], [b"new\n", b"new\n"]
 Typed = Sequence["bytes | int"]  # a line at each prompt, or a signal
 
+MARKS = ("a.db|lock|ada", "a.db|unlock|ada", "a.db|expire|ada")
+
 # What gives credkeep no password: what is typed, the status, and what is said.
 END = b"\x04"
 FIRST = [*ONE, b"new\n"]
@@ -149,7 +151,16 @@ class CredkeepAsk(Case):
         self.assertEqual(self.asked(given, ONE).status, 7)
         self.assertEqual(self.noted("words"), f"--wait|{shown}|\n{given}|\n")
 
-    @each("a.db|list", "a.db|check|--help", "a.db|-h|add|ada", "a.db|check", "a.db|add", "a.db", "")
+    @each(
+        "a.db|list",
+        "a.db|check|--help",
+        "a.db|-h|add|ada",
+        "a.db|check",
+        "a.db|add",
+        "a.db",
+        "",
+        *MARKS,
+    )
     def test_other_words(self, words: str) -> None:
         """What reads no password is credkeep's alone, and so is a call for help or without a
         name."""
@@ -165,8 +176,8 @@ class CredkeepAsk(Case):
         self.assertEqual((self.noted("words"), self.noted("given")), ("a.db|show|ada|\n", ""))
 
     def test_a_backup(self) -> None:
-        """It says what it leaves out: the locks of names, which lie beside the book."""
-        said = "credkeep-ask: users.db-locks, which has the locks of names, isn't in the copy"
+        """It says what it leaves out: locks that an earlier server kept beside the book."""
+        said = "credkeep-ask: users.db-locks has locks of an earlier credkeep-server"
         for has_locks in (False, True):
             if has_locks:
                 (self.folder / "users.db-locks").touch()

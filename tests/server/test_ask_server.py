@@ -38,14 +38,27 @@ reset bob | secret secret | enrolled 0
 lock bob | | locked 0
 lock zoe | | noaccount 4
 check bob | | locked 4
-locks | | bob:locked 0
-locks bob | | bob:locked 0
-locks cid | | 0
+add bob | secret secret | exists 4
+show bob | | !$fast$c=1 0
+marks | | bob:locked 0
+marks bob | | bob:locked 0
+marks cid | | 0
+marks zoe | | noaccount 4
 unlock bob | | unlocked 0
 unlock bob | | none 4
 expire bob | | expired 0
+check bob | guess | no 4
 check bob | secret | expired 4
-locks | | bob:expired 0
+add bob | | exists 4
+show bob | | ~$fast$c=1 0
+lock bob | | locked 0
+marks | | bob:expired bob:locked 0
+show bob | | !~$fast$c=1 0
+disable bob | | disabled 0
+show bob | | absent 4
+check bob | | locked 4
+marks | | bob:locked 0
+unlock bob | | unlocked 0
 forgive bob | | none 4
 last cid | | none 4
 waits | | 0
@@ -61,7 +74,8 @@ MISTAKES = {
     "add ada bob": "add takes 1 name",
     "rename ada": "rename takes 2 names",
     "list ada": "list takes no names",
-    "locks ada bob": "locks takes a name or none",
+    "marks ada bob": "marks takes a name or none",
+    "locks": "no such command",
     "frob ada": "no such command",
     "add 'a b'": "a name has no spaces",
     "add ''": "a name has no spaces",
@@ -95,7 +109,7 @@ class AskServer(Case):
                 f"{said} {status}".strip(), answer.replace("the", "credkeep-ask: the", 1), row
             )
         said, status = self.asked([str(service.path("admin")), "stats"])
-        self.assertRegex(said, r"^yes=3 no=2 .*changes=\d+ .*book=\S+$")
+        self.assertRegex(said, r"^yes=3 no=3 .*changes=\d+ .*book=\S+$")
         said, status = self.asked([str(service.path("login")), "list"])
         self.assertEqual((status, "doesn't allow list" in said), (1, True))
 

@@ -26,7 +26,7 @@ class Foreign(ForeignCase):
     def test_schemes(self) -> None:
         """Right and wrong passwords under each scheme's records, as other programs make them."""
         need("openssl", "mkpasswd")
-        is_right = importlib.import_module("daemon.foreign").is_right
+        is_right = importlib.import_module("daemon.schemes").is_right
         for password in ("", "secret", "y" * 16, "pä", "k" * 72, "m" * 127):
             records = {it: made_by(command, password) for it, command in MAKERS.items()}
             records["salted sha1"] = salted_sha1(password.encode())

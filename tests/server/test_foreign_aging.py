@@ -4,6 +4,8 @@ from foreign_case import MAKERS, ForeignCase, made_by
 from served import TOP
 from tests.helpers import ended
 
+ASK = str(TOP / "bin/credkeep-ask")
+
 # Fields behind a record of whom nobody lets in, and the reason in the log.
 SHUT_OUT = {
     "ended": (":19000:0:99999:7::1:", "the account has expired"),
@@ -20,6 +22,8 @@ SHUT_OUT = {
     "nets": (":1000:1000::/home/mail::allow_nets=127.0.0.1", "allow_nets"),
     "none": (":1000:1000::/home/mail::noauthenticate", "noauthenticate"),
 }
+# The reasons that count for who has moved too.
+OF_BARS = {"the account has expired", "nologin", "allow_nets", "noauthenticate"}
 
 
 class ForeignAging(ForeignCase):
@@ -43,8 +47,9 @@ class ForeignAging(ForeignCase):
                     login known {name} -> absent
                     login verify {name} {{secret}} -> no
                     login change {name} {{secret}} {{fresh}} -> wrong
-                    admin show {name} -> bad 5 noaccount
+                    admin show {name} -> {"!" if why in OF_BARS else "bad 5 noaccount"}
                     admin lock {name} -> locked
+                    admin show {name} -> !
                     """
                 )
         self.assertEqual(self.gone(), [])
@@ -63,13 +68,13 @@ class ForeignAging(ForeignCase):
             service.talk(f"login verify {name} {{secret}} -> yes")
 
     def test_barred_names_of_no_book(self) -> None:
-        """`locks` lists none, since the words of its answer are names of a book."""
+        """`marks` lists none, since the words of its answer have names of a book."""
         names = ("more=5", "a b", "caf\u00e9", "ada", "b" * 33)
         self.file.write_text("".join(f"{it}:x:::::x=y nologin=1\n" for it in names))
         service = self.over()
-        service.talk("admin locks -> locks ada:locked")
-        ask = [str(TOP / "bin/credkeep-ask"), "--server", str(service.path("admin"))]
-        self.assertEqual(ended([*ask, "locks"]), (0, "ada:locked\n", ""))
+        service.talk("admin marks - 10 -> marks ada:!")
+        ask = [ASK, "--server", str(service.path("admin"))]
+        self.assertEqual(ended([*ask, "marks"]), (0, "ada:locked\n", ""))
 
     def test_who_must_change(self) -> None:
         """A right password is `expired` until it is changed: on the day 0, or if it is too old."""
@@ -94,7 +99,7 @@ class ForeignAging(ForeignCase):
         service.stop()
         self.over("--tries", "0", folder=folder).talk(
             """
-            admin locks -> locks ada:expired bob:expired cid:expired
+            admin marks - 10 -> marks ada:~ bob:~ cid:~
             login verify ada {secret} -> expired
             login change ada {secret} {fresh} -> replaced
             login verify ada {fresh} -> yes
@@ -115,7 +120,7 @@ class ForeignAging(ForeignCase):
             login verify ada {fresh} -> yes
             admin reset bob {fresh} -> enrolled
             login verify bob {fresh} -> yes
-            admin locks -> locks
+            admin marks - 10 -> marks
             """
         )
 
@@ -137,6 +142,9 @@ class ForeignAging(ForeignCase):
         self.file.rename(self.folder / "away")  # it bars them while it is put back, too
         service.talk("login verify ada {secret} -> no")
         (self.folder / "away").rename(self.file)
-        service.talk("admin locks -> locks ada:locked bob:locked")  # whom an export leaves out
+        service.talk("admin marks - 10 -> marks ada:! bob:!")  # so that an export leaves them out
+        for name in ("ada", "bob"):
+            done = ended([ASK, "--server", str(service.path("admin")), "check", name])
+            self.assertEqual(done, (4, "locked\n", ""))
         self.file.write_text(f"ada:{record}:1:0:99999:7:::\n")
         service.talk("login known ada -> yes\nlogin verify ada {secret} -> yes")

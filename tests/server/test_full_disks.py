@@ -23,6 +23,9 @@ CHANGES = """
     admin disable ada show -> bad 19 disk
     admin delete ada -> bad 19 disk
     admin rename ada eve -> bad 19 disk
+    admin lock ada -> bad 19 disk
+    admin unlock ada -> bad 19 disk
+    admin expire ada -> bad 19 disk
     login change zoe {secret} {fresh} -> bad 19 disk
 """
 LOGINS = """
@@ -62,7 +65,7 @@ class FullDisks(Case):
                 fill(folder, left)
                 service.talk(CHANGES)
                 service.talk(LOGINS)
-        self.assertEqual(service.stats()["disk"], 2 * 12)
+        self.assertEqual(service.stats()["disk"], 2 * len(CHANGES.split("\n")[1:-1]))
         self.assertEqual(service.log().count("its disk has under 8192 KiB left"), 1)
         ask = [str(TOP / "bin/credkeep-ask"), "--server", str(service.path("admin"))]
         refused = "credkeep-ask: disable is refused: disk (19; see docs/ERRORS.md)\n"
@@ -96,18 +99,22 @@ class FullDisks(Case):
         service.talk("admin account bob -> bad 19 disk")
         service.talk(LOGINS)
 
-    def test_locks(self) -> None:
-        """A lock is a line beside the book: it finds room where a change of the book may not."""
+    def test_marks_stay(self) -> None:
+        """Without a free block too, each door heeds the marks that there are."""
         folder = self.disk()
-        service = self.over(folder).enrol(ada="secret")
-        fill(folder, 1 << 20)
+        service = self.over(folder).enrol(ada="secret", bob="secret")
+        service.talk("admin lock ada -> locked\nadmin expire bob -> expired")
+        fill(folder, 0)
         service.talk(
             """
-            admin lock ada -> locked
+            login known ada -> absent
             login verify ada {secret} -> no
-            admin unlock ada -> unlocked
-            admin expire ada -> expired
-            login verify ada {secret} -> expired
+            admin login ada {secret} -> no
+            login known bob -> expired
+            login verify bob {secret} -> expired
+            login change bob {secret} {fresh} -> bad 19 disk
+            admin login bob {secret} -> expired
+            admin marks - 10 -> marks ada:! bob:~
             """
         )
 
@@ -142,6 +149,8 @@ class FullDisks(Case):
             login verify ann {secret} -> expired
             login change ann {secret} {fresh} -> bad 19 disk
             admin disable ada -> bad 19 disk
+            admin lock ada -> bad 19 disk
+            admin expire ada -> bad 19 disk
             login verify ada {secret} -> yes
             admin show ada -> bad 5 noaccount
             """

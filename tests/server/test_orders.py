@@ -1,49 +1,122 @@
-"""Two lines that are open together, in every order in which the book and the disk may answer them.
+"""Two lines about a user of an htpasswd file that are open together, in every order in which the
+book and the disks may answer them, and with a kill at every moment.
 
-However that is, their answers and what is left are those of one of the two lines behind the other.
+However that is, what is answered and what is left are those of one of the two lines behind the
+other. Behind a kill they are those of the lines that were answered, with one of the others or not.
 """
 
 import asyncio
+import contextlib
+import itertools
 from collections.abc import Iterator
-from dataclasses import dataclass, field, replace
-from itertools import combinations, product
+from dataclasses import dataclass, field
 from types import SimpleNamespace
-from typing import Any
+from typing import Any, Optional
+from unittest import mock
 
-from served import SECRET, Case, field_of
+from fast_book import Accounts, tag_of
+from foreign_case import MAKERS, ForeignCase, made_by
+from served import SECRET, field_of
 
+from daemon.appending import GrowingFile
 from daemon.options import Options
 from daemon.service import Request, Service
 
-FRESH = field_of(b"fresh")
-# What an account may be marked with at the beginning.
-BEGINNINGS = ("", "lock", "expire")
+PASSWORDS = ("secret", "fresh", "zoe")
+FRESH, ZOE = field_of(b"fresh"), field_of(b"zoe")
 LINES = (
+    "account ada",
+    "rename zoe ada",
     "lock ada",
     "unlock ada",
     "expire ada",
+    "disable ada",
     "delete ada",
     "rename ada eve",
-    "lock eve",
-    "account eve",
+    "known ada",
     f"verify ada {SECRET}",
-    f"verify eve {SECRET}",
     f"change ada {SECRET} {FRESH}",
     f"change ada {SECRET} {SECRET}",
     f"reset ada {FRESH}",
 )
+# Of which two at once are killed at each moment.
+KILLED = ("lock ada", "rename ada eve", f"verify ada {SECRET}", f"change ada {SECRET} {SECRET}")
+# What tells what is left: who gets in by which password.
+PROBES = tuple(
+    line.format(name)
+    for name in ("ada", "eve", "zoe")
+    for line in ("known {}", *(f"verify {{}} {typed}" for typed in (SECRET, FRESH, ZOE)))
+)
+# Behind a kill amid these nobody may get in any more, or the password must be changed once more.
+STRICTER = ("disable", "delete", "rename", "change", "reset")
+PASSES = 5  # of the event loop, in which a task goes as far as it can
+RANKS = {b"yes": 2, b"expired": 1}
+PLAIN, DUE = "", ":0:0:99999:7:::"  # behind a record in the file; the second must be changed
+
+
+@dataclass(frozen=True)
+class Beginning:
+    """What the file has behind ada's record, the book's row of ada, and what HTPASSWD.moved has."""
+
+    fields: str = PLAIN
+    row: Optional[str] = None  # with `RECORD` for that of ada's password
+    is_noted: bool = False
+
+    def left(self) -> "Left":
+        accounts = Accounts("$fast$c=1")
+        accounts.rows["zoe"] = accounts.made(b"zoe", "")
+        if self.row is not None:
+            made = accounts.made(b"secret", "")
+            accounts.rows["ada"] = self.row.replace("RECORD", made)
+        return Left(accounts, {(b"ada", b"expire")} if self.is_noted else set())
+
+
+BEGINNINGS = (
+    Beginning(),
+    Beginning(DUE),
+    Beginning(is_noted=True),
+    Beginning(row=""),
+    Beginning(row="!"),
+    Beginning(DUE, "!"),
+    Beginning(row="RECORD"),  # of a move that was cut, or of the book's own
+    Beginning(DUE, "RECORD", is_noted=True),
+    Beginning(DUE, "~RECORD", is_noted=True),
+    Beginning(row="!RECORD"),
+)
+
+
+State = tuple[frozenset[tuple[str, str]], frozenset[tuple[bytes, bytes]]]
+
+
+def stated(row: str) -> str:
+    """A row's marks, and the password of its record."""
+    marks, dollar, rest = row.partition("$")
+    salt, _, tag = rest.rpartition("$")
+    salt = salt.rpartition("$")[2]
+    return marks + next((it for it in PASSWORDS if dollar and tag == tag_of(it.encode(), salt)), "")
 
 
 @dataclass
-class Outcome:
-    """What two lines are answered, and leave: passwords by names, and marks."""
+class Left:
+    """What is on the disks: the book, and the marks in HTPASSWD.moved."""
 
-    answers: dict[str, bytes]
-    passwords: dict[bytes, bytes]
-    marks: set[tuple[bytes, bytes]]
+    accounts: Accounts
+    moved: set[tuple[bytes, bytes]]
 
+    def copy(self) -> "Left":
+        accounts = Accounts(self.accounts.costs)
+        accounts.rows = {**self.accounts.rows}
+        return Left(accounts, {*self.moved})
 
-Played = tuple[Outcome, list[int]]
+    def state(self) -> State:
+        """The same, with a password in the place of its record."""
+        rows = {name: stated(row) for name, row in self.accounts.rows.items()}
+        return frozenset(rows.items()), frozenset(self.moved)
+
+    def write(self, line: bytes) -> bool:
+        name, *mark, _time = line.split(b" ")
+        self.moved.add((name, b" ".join(mark)))
+        return True
 
 
 @dataclass
@@ -58,11 +131,11 @@ class Steps:
         self.waiting.append((act, done))
         return done
 
-    async def finish(self, choices: list[int]) -> list[int]:
-        """Takes the first that waits, or another as the choices say; returns how many there
-        were."""
+    async def finish(self, choices: list[int], most: float = float("inf")) -> list[int]:
+        """Takes the first that waits, or another as the choices say, until a kill behind so many;
+        returns how many there were each time."""
         counts = list[int]()
-        while await self.settled():
+        while len(counts) < most and await self.settled():
             choice = choices[len(counts)] if len(counts) < len(choices) else 0
             counts.append(len(self.waiting))
             act, done = self.waiting.pop(choice)
@@ -71,100 +144,212 @@ class Steps:
 
     async def settled(self) -> bool:
         """Whether anything waits, once every task has gone as far as it can."""
-        for _ in range(8):
+        for _ in range(PASSES):
             await asyncio.sleep(0)
         return bool(self.waiting)
 
 
+class NoSteps(Steps):
+    """Nothing waits: each is done at once."""
+
+    def later(self, act: Any) -> asyncio.Future[Any]:
+        done = asyncio.get_running_loop().create_future()
+        done.set_result(act())
+        return done
+
+
+class Server:
+    """A server over what is on the disks, which take its steps."""
+
+    def __init__(self, path: str, left: Left, steps: Steps) -> None:
+        self.steps = steps
+        later = self.steps.later
+        self.service = Service(Options(file="/nonexistent/users.db", foreign=path))
+        assert self.service.foreign
+        moved: Any = self.service.foreign.file.moved
+        moved.pairs = {*left.moved}
+        moved.add = lambda line: later(lambda: left.write(line))
+        book: Any = self.service.book
+
+        def asked(*words: bytes) -> Any:
+            texts = [it.decode() for it in words]
+            return later(lambda: left.accounts.answer(texts).encode())
+
+        book.ask = asked
+
+    def begin(self, line: str) -> "asyncio.Task[bytes]":
+        """Has a line answered once it has come, which is a step too."""
+        client: Any = SimpleNamespace()
+        places: Any = SimpleNamespace()
+        request = Request(client, b"a", line.encode().split(b" "), places)
+        has_come = self.steps.later(lambda: None)
+
+        async def answered() -> bytes:
+            await has_come
+            return await self.service.answer(request)
+
+        return asyncio.ensure_future(answered())
+
+    async def ask(self, line: str) -> bytes:
+        """The answer to a line that is alone."""
+        return await asyncio.wait_for(self.begin(line), 10)
+
+
+@dataclass(frozen=True)
+class Outcome:
+    """What lines were answered, or nothing; and the answers to the probes behind them."""
+
+    answers: tuple[tuple[str, Optional[bytes]], ...]
+    probes: tuple[bytes, ...]
+
+    def has_answers_of(self, cut: "Outcome") -> bool:
+        """Whether each answer that was given before a kill is one of these."""
+        return all(it in self.answers for it in cut.answers if it[1] is not None)
+
+    def is_stricter(self, legal: "Outcome") -> bool:
+        """Whether nobody gets in who doesn't in the legal one."""
+        pairs = zip(self.probes, legal.probes)
+        return all(RANKS.get(is_, 0) <= RANKS.get(ought, 0) for is_, ought in pairs)
+
+
+ENDS_LOCK = {"unlock", "delete", "rename"}
+ENDS_DUE = {"change", "reset", "disable", "delete", "rename"}
+
+
+def broken_law(beginning: Beginning, lines: tuple[str, ...], outcome: Outcome) -> str:
+    """What must hold whatever the server makes of the lines: who is locked isn't let in, and the
+    password that must be changed neither, but by a line that ends that."""
+    operations = {it.split(" ")[0] for it in lines if not it.endswith(f"{SECRET} {SECRET}")}
+    known, right = outcome.probes[:2]
+    has_lock = (beginning.row or "").startswith("!")
+    is_locked = has_lock or ("lock ada", b"locked") in outcome.answers
+    if is_locked and not operations & ENDS_LOCK and {known, right} & {*RANKS}:
+        return "a lock"
+    is_due = beginning.is_noted or beginning.fields == DUE
+    if (is_due or ("expire ada", b"expired") in outcome.answers) and not operations & ENDS_DUE:
+        return "a password that must be changed" if b"yes" in (known, right) else ""
+    return ""
+
+
 @dataclass
-class Accounts:
-    """In the book's place: names, and their passwords."""
+class Play:
+    """Lines about ada, over what there was at a beginning."""
 
-    passwords: dict[bytes, bytes]
+    path: str
+    beginning: Beginning
+    known: dict[State, tuple[bytes, ...]] = field(default_factory=dict)
 
-    def answer(self, operation: bytes, name: bytes, *fields: bytes) -> bytes:
-        if operation == b"show":
-            return b"$x" if name in self.passwords else b"bad 5 noaccount"
-        if operation == b"account":
-            is_new = self.passwords.setdefault(name, b"") == b""
-            return b"ok" if is_new else b"bad 1 exists"
-        if name not in self.passwords:
-            return b"noaccount"
-        if operation == b"delete":
-            del self.passwords[name]
-            return b"deleted"
-        if operation == b"rename":
-            if fields[0] in self.passwords:
-                return b"exists"
-            self.passwords[fields[0]] = self.passwords.pop(name)
-            return b"renamed"
-        if operation == b"reset":
-            self.passwords[name] = fields[0]
-            return b"replaced"
-        if self.passwords[name] != fields[0]:
-            return b"no" if operation == b"verify" else b"wrong"
-        if operation == b"change":
-            self.passwords[name] = fields[1]
-        return b"yes" if operation == b"verify" else b"replaced"
+    async def probes(self, left: Left) -> tuple[bytes, ...]:
+        """What the probes are answered, which take what is left."""
+        state = left.state()
+        if state not in self.known:
+            server = Server(self.path, left, NoSteps())
+            self.known[state] = tuple([await server.ask(it) for it in PROBES])
+        return self.known[state]
 
+    async def in_turn(self, lines: tuple[str, ...]) -> Outcome:
+        """What comes of lines that go one behind the other."""
+        left = self.beginning.left()
+        server = Server(self.path, left, NoSteps())
+        answers = tuple([(it, await server.ask(it)) for it in lines])
+        return Outcome(tuple(sorted(answers)), await self.probes(left))
 
-async def ask(service: Service, request: Request) -> bytes:
-    """The answer to a request, which may be a new password that isn't taken."""
-    refusal = service.why_refused(request.kind, request.words) if request.kind.new else b""
-    return refusal or await service.locks.answer(request)
+    async def at_once(
+        self, lines: tuple[str, ...], choices: list[int], most: float
+    ) -> tuple[Outcome, list[int]]:
+        """What comes of lines that are open together, with a kill behind so many steps."""
+        left = self.beginning.left()
+        server = Server(self.path, left, Steps())
+        tasks = [server.begin(it) for it in lines]
+        counts = await server.steps.finish(choices, most)
+        await server.steps.settled()
+        answers = zip(lines, [it.result() if it.done() else None for it in tasks])
+        kept = left.copy()
+        for task in tasks:
+            task.cancel()
+        return Outcome(tuple(sorted(answers)), await self.probes(kept)), counts
 
+    def orders(self, lines: tuple[str, ...], most: float = float("inf")) -> Iterator[Outcome]:
+        """The outcomes of all orders in which the book and the disk may do what they are asked
+        for."""
+        choices = list[int]()
+        while True:
+            outcome, counts = asyncio.run(self.at_once(lines, choices, most))
+            yield outcome
+            choices = choices[: len(counts)] + [0] * (len(counts) - len(choices))
+            while choices and choices[-1] + 1 == counts[len(choices) - 1]:
+                choices.pop()
+            if not choices:
+                return
+            choices[-1] += 1
 
-async def play(mark: str, lines: tuple[str, ...], choices: list[int], in_turn: bool) -> Played:
-    """What lines are answered and leave, and how many choices each step had."""
-    service, steps = Service(Options(file="/nonexistent/users.db")), Steps()
-    accounts = Accounts({b"ada": SECRET.encode()})
-    service.locks.pairs = {(b"ada", mark.encode())} if mark else set()
-    service.book.ask = lambda *words: steps.later(lambda: accounts.answer(*words))  # type: ignore
-    service.locks.add = lambda line: steps.later(lambda: True)  # type: ignore
-    places: Any = SimpleNamespace()
-    client: Any = SimpleNamespace()
-    requests = [Request(client, b"a", it.encode().split(b" "), places) for it in lines]
-    tasks, counts = list[asyncio.Task[bytes]](), list[int]()
-    for request in requests:
-        tasks.append(asyncio.ensure_future(ask(service, request)))
-        if in_turn:
-            counts += await steps.finish([])
-    counts += await steps.finish(choices)
-    answers = dict(zip(lines, [await asyncio.wait_for(it, 10) for it in tasks]))
-    return Outcome(answers, accounts.passwords, service.locks.pairs), counts
-
-
-def outcomes(mark: str, lines: tuple[str, ...]) -> Iterator[Outcome]:
-    """Those of all orders in which the book and the disk may do what they are asked for."""
-    choices = list[int]()
-    while True:
-        outcome, counts = asyncio.run(play(mark, lines, choices, in_turn=False))
-        yield outcome
-        choices += [0] * (len(counts) - len(choices))
-        while choices and choices[-1] + 1 == counts[len(choices) - 1]:
-            choices.pop()
-        if not choices:
-            return
-        choices[-1] += 1
+    def legal(self, lines: tuple[str, ...]) -> list[Outcome]:
+        """The outcomes of the lines in each order."""
+        return [asyncio.run(self.in_turn(it)) for it in itertools.permutations(lines)]
 
 
-def is_stricter(outcome: Outcome, legal: Outcome) -> bool:
-    """Whether a password that was changed beside a rename has to be changed once more."""
-    is_renamed = outcome.answers.get("rename ada eve") == b"renamed"
-    marks = {*legal.marks, (b"eve", b"expire")}
-    return is_renamed and outcome == replace(legal, marks=marks)
+class Orders(ForeignCase):
+    def setUp(self) -> None:
+        super().setUp()
+        self.enterContext(mock.patch("daemon.old_file.time.sleep"))
+        self.enterContext(mock.patch("daemon.old_file.version_of", lambda path: ()))
+        self.enterContext(mock.patch.object(GrowingFile, "append"))
+        self.enterContext(mock.patch("daemon.foreign.asyncio.to_thread", done))
+        self.record = made_by(MAKERS["sha1"], "secret")
 
+        self.known = {
+            PLAIN: dict[State, tuple[bytes, ...]](),
+            DUE: dict[State, tuple[bytes, ...]](),
+        }
 
-class Orders(Case):
+    def play(self, beginning: Beginning) -> Play:
+        path = self.folder / f"old{len(beginning.fields)}"
+        path.write_text(f"ada:{self.record}{beginning.fields}\n")
+        return Play(str(path), beginning, self.known[beginning.fields])
+
     def test_two_lines(self) -> None:
         """Whatever their orders, they end as one behind the other does."""
         tried = 0
-        for mark, lines in product(BEGINNINGS, combinations(LINES, 2)):
-            turns = (lines, lines[::-1])
-            legal = [asyncio.run(play(mark, it, [], in_turn=True))[0] for it in turns]
-            with self.subTest(lines, marked=mark):
-                for outcome in outcomes(mark, lines):
+        pairs = itertools.combinations_with_replacement(LINES, 2)
+        for beginning, lines in itertools.product(BEGINNINGS, pairs):
+            play = self.play(beginning)
+            legal = play.legal(lines)
+            with self.subTest(lines, beginning=beginning):
+                for outcome in play.orders(lines):
                     tried += 1
-                    if outcome not in legal:
-                        self.assertTrue(any(is_stricter(outcome, it) for it in legal), outcome)
-        self.assertGreater(tried, 300)
+                    self.assertEqual(broken_law(beginning, lines, outcome), "", outcome)
+                    self.assertIn(outcome, legal)
+        self.assertGreater(tried, 5000)
+
+    def check_kills(self, beginning: Beginning, lines: tuple[str, ...]) -> int:
+        """Behind a kill at each step of each order there is what lines have left: those that were
+        answered, and of the others some. Returns how many kills that were."""
+        play, tried = self.play(beginning), 0
+        subsets = [it for n in range(len(lines) + 1) for it in itertools.combinations(lines, n)]
+        legal = [outcome for it in subsets for outcome in play.legal(it)]
+        may_be_stricter = any(it.split(" ")[0] in STRICTER for it in lines)
+        for most in itertools.count():
+            outcomes = list(play.orders(lines, most))
+            for outcome in outcomes:
+                tried += 1
+                self.assertEqual(broken_law(beginning, lines, outcome), "", outcome)
+                possible = [it for it in legal if it.has_answers_of(outcome)]
+                is_legal = any(it.probes == outcome.probes for it in possible)
+                is_stricter = may_be_stricter and any(map(outcome.is_stricter, possible))
+                self.assertTrue(is_legal or is_stricter, f"behind {most} steps: {outcome}")
+            if all(None not in dict(it.answers).values() for it in outcomes):
+                return tried
+
+    def test_kills(self) -> None:
+        """A lock isn't lost, nor that a password must be changed, nor a user."""
+        pairs = [*((it,) for it in LINES), *itertools.combinations(KILLED, 2)]
+        tried = 0
+        for beginning, lines in itertools.product(BEGINNINGS, pairs):
+            with self.subTest(lines, beginning=beginning):
+                tried += self.check_kills(beginning, lines)
+        self.assertGreater(tried, 4000)
+
+
+async def done(act: Any, *fields: Any) -> Any:
+    """In place of a thread that hashes."""
+    return act(*fields)

@@ -79,7 +79,7 @@ class Waiting(IsolatedAsyncioTestCase):
             return answer
 
         door, replies = SimpleNamespace(operations=OPERATIONS, name="login"), mock.AsyncMock()
-        with mock.patch.object(service.locks, "answer", judge):
+        with mock.patch.object(service, "answer", judge):
             for name, uid, count in asked:
                 client: Any = SimpleNamespace(door=door, uid=uid, owner=uid, user=uid)
                 client.reply = replies

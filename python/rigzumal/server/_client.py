@@ -225,11 +225,11 @@ class Calls(Generic[Replied, Listed]):
         return self._reply(Question("account", (name,)))
 
     def enrol(self, name: str, password: Secret) -> Replied:
-        """ENROLLED, or EXISTS if the account has a record; NO_ACCOUNT."""
+        """ENROLLED, or EXISTS if the account has a record or is locked; NO_ACCOUNT."""
         return self._reply(Question("enrol", (name,), (password,)))
 
     def reset(self, name: str, new_password: Secret) -> Replied:
-        """REPLACED, or ENROLLED if the account had no record; NO_ACCOUNT."""
+        """REPLACED, or ENROLLED if the account had no record; NO_ACCOUNT. A lock stays."""
         return self._reply(Question("reset", (name,), (new_password,)))
 
     def disable(self, name: str) -> Replied:
@@ -249,11 +249,11 @@ class Calls(Generic[Replied, Listed]):
         return self._reply(Question("lock", (name,)))
 
     def unlock(self, name: str) -> Replied:
-        """UNLOCKED: the record counts again; NONE if the name wasn't locked."""
+        """UNLOCKED: the record counts again; NONE if the name wasn't locked; NO_ACCOUNT."""
         return self._reply(Question("unlock", (name,)))
 
     def expire(self, name: str) -> Replied:
-        """EXPIRED: the password must be changed before the next login; NO_ACCOUNT."""
+        """EXPIRED: the password must be changed before the next login; ABSENT; NO_ACCOUNT."""
         return self._reply(Question("expire", (name,)))
 
     def names(self, first: str = "-", count: int = 100) -> Listed:

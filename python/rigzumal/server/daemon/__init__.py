@@ -13,6 +13,7 @@ import sys
 import time
 from contextlib import suppress
 
+from .earlier import take_in
 from .journal import Problem, log, notify
 from .options import Options, parse
 from .service import Service
@@ -76,6 +77,7 @@ async def serve(options: Options) -> int:
 async def open_doors(service: Service) -> None:
     """Lets clients in once the book answers, and tells systemd so while the book answers."""
     await asyncio.shield(service.book.ask(b"show", b"-"))  # an answer that nobody cancels
+    await take_in(service)
     doors = [(door, door.listening()) for door in service.options.doors]
     service.accepting = [asyncio.create_task(door.accept(service, it)) for door, it in doors]
     log.info("start: %s", service.options.file)

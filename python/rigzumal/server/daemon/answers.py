@@ -15,7 +15,7 @@ class Answer:
     """One that has no other words, such as names, behind it."""
 
     tried: str = ""  # as what a try is counted that gets it
-    changed: bool = False  # whether the book, or a mark of a name, has changed
+    changed: bool = False  # whether the book has changed; a try that is `expired` changes nothing
     http: int = 503  # the status of a request whose password gets it
     pam: str = "AUTHINFO_UNAVAIL"  # what pam_rigzumal says of such a password, without PAM_
     ask: int = 0  # the status of credkeep-ask
@@ -45,7 +45,7 @@ ANSWERS = {
     "exists": Answer(ask=4),
     "none": Answer(ask=4),
     "short": Answer(pam="AUTHTOK_ERR", ask=6),
-    "same": Answer(pam="AUTHTOK_ERR", ask=6),
+    "same": Answer(tried=RIGHT, pam="AUTHTOK_ERR", ask=6),
     "later": Answer(http=429, pam="MAXTRIES", ask=4),
     "denied": Answer(http=403, ask=1),
     "unavailable": Answer(ask=5),

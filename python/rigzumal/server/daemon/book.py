@@ -16,6 +16,11 @@ from .journal import log_seldom
 
 LONGEST_ANSWER = 65536  # bytes
 UNAVAILABLE = b"unavailable"
+NAME = re.compile(rb"[a-z0-9._-]{1,32}")  # of a book
+LOCKED, MUST_CHANGE = b"!", b"~"  # the marks of an account, in this order before its record
+LACKS = (b"absent", b"noaccount")  # its answers if it has no record, or no account
+NO_RECORD = b"none"  # the same of `show`
+NO_ACCOUNT = b"bad 5 noaccount"
 REST, LONGEST_REST = 1.5, 0.1  # of the time that a round took, and seconds
 
 
@@ -26,6 +31,11 @@ def decoded(field: bytes) -> Optional[bytes]:
         return b"" if field == b"-" else base64.b64decode(padded, validate=True)
     except ValueError:
         return None
+
+
+def has_record(row: bytes) -> bool:
+    """Whether there is a record in a row, which marks may come before."""
+    return row.lstrip(LOCKED + MUST_CHANGE).startswith(b"$")
 
 
 class Book(asyncio.SubprocessProtocol):
@@ -48,6 +58,24 @@ class Book(asyncio.SubprocessProtocol):
         else:
             self.stdin.write(b"%b %b\n" % (tag, b" ".join(words)))
         return answer
+
+    async def row(self, name: bytes) -> bytes:
+        """An account's marks with its record behind them, or NO_RECORD; or a refusal of `show`.
+
+        The book's own `show` tells the record alone, so the first account from NAME on that has
+        marks is asked for too.
+        """
+        record = await self.ask(b"show", name)
+        if record != NO_RECORD and not has_record(record):
+            return record
+        page = await self.ask(b"marks", name, b"1")
+        operation, _, item = page.partition(b" ")
+        if operation != b"marks":
+            return page
+        marked, _, marks = item.partition(b":")
+        if marked != name:
+            return record
+        return marks if record == NO_RECORD else marks + record
 
     def pipe_data_received(self, _: int, data: bytes) -> None:
         """Hands over its answers, and kills it at one that has no end."""

@@ -1,208 +1,205 @@
-"""An htpasswd file, never written, whose users move into the book by right passwords."""
+"""Users of an htpasswd file, who move into the book by right passwords."""
 
 import asyncio
-import ctypes.util
-import hashlib
-import hmac
-import re
-import time
-from contextlib import suppress
+from contextlib import AsyncExitStack
+from dataclasses import replace
 from weakref import WeakValueDictionary
 
-from passlib.hash import apr_md5_crypt
-
 from .aging import Line, today
-from .book import UNAVAILABLE, decoded
-from .appending import status_of
-from .journal import Marks, log, log_seldom
-from .locks import keeps_password
-from .service import LACKS, Request, Service
+from .book import LACKS, LOCKED, NO_ACCOUNT, NO_RECORD, UNAVAILABLE, decoded, has_record
+from .old_file import OldFile
+from .schemes import is_right
+from .service import Request, Service
 
-NAME = re.compile(rb"[a-z0-9._-]{1,32}")  # of a book
 # Answered to a password if the book has a record.
-HAS = (b"yes", b"replaced", b"upgraded", b"kept", b"enrolled", b"exists")
+HAS = (b"yes", b"expired", b"same", b"replaced", b"upgraded", b"kept", b"enrolled")
 # What an operation that makes a name is answered if the file has the name.
 TAKES = {b"account": b"bad 1 exists", b"rename": b"exists"}
 ENDS = (b"disable", b"delete", b"rename", b"remove")  # leave no record in the book
-STILL, LOOKS = 0.1, 20  # seconds, and how often the file is looked at
-MOST_TOLD = 20  # names in a line of the log
-CRYPT_DATA = 131232  # bytes of crypt_r's own in the oldest libraries, which need most
-BCRYPT, LONGEST_BCRYPT = (b"$2a$", b"$2b$", b"$2y$"), 72  # bytes: it ignores all behind
-# Without DES, to which the first eight letters of a password are all of it.
-CRYPT = (*BCRYPT, b"$1$", b"$5$", b"$6$", b"$7$", b"$gy$", b"$y$")
-APACHE = b"$apr1$"
-crypt_r = ctypes.CDLL(ctypes.util.find_library("crypt")).crypt_r  # or musl's libc has it
-crypt_r.argtypes = [ctypes.c_char_p, ctypes.c_char_p, ctypes.c_void_p]
-crypt_r.restype = ctypes.c_char_p
+MARKS = (b"lock", b"unlock", b"expire")
+EXPIRED = b"expired"  # what `expire` is answered
 
 
 class Foreign:
-    """The file, read again once it has changed. HTPASSWD.moved has who has left it."""
+    """Who of them is judged by the file, and who by the book."""
 
     def __init__(self, service: Service, path: str) -> None:
-        self.service, self.path = service, path
-        self.version: tuple[int, ...] = ()
-        self.lines = dict[bytes, Line]()
-        self.last = self.lines  # as it was when it could be read, for those whom it bars
+        self.service = service
+        self.file = OldFile(path, service.in_book)
         self.locks = WeakValueDictionary[bytes, asyncio.Lock]()
-        self.reading = asyncio.Lock()
-        self.moved = Marks(f"{path}.moved")
-        self.moved.append(b"")
-        self.read()
-
-    def read(self) -> None:
-        """Reads the file once it no longer changes: htpasswd empties it, and writes it again."""
-        for _ in range(LOOKS):
-            version = version_of(self.path)
-            time.sleep(STILL)
-            if version == version_of(self.path):
-                break
-        lines, stuck = dict[bytes, Line](), list[str]()
-        with open(self.path, "rb") as file:
-            users = [it.rstrip().split(b":") for it in file if b":" in it and it[:1] != b"#"]
-        for typed, record, *others in users:  # of two lines of a name the first decides
-            name, line = self.service.in_book(typed), Line(record, tuple(others))
-            is_new = name not in lines and not self.moved.has(name)
-            if is_new and record and (why := why_stuck(name, line)):
-                stuck.append(f"{re.sub(b'[^!-~]', b'?', typed).decode()} ({why})")
-            lines.setdefault(name, line)
-        self.version, self.lines, self.last = version, lines, lines
-        if stuck:
-            shown = ", ".join(stuck[:MOST_TOLD])
-            if len(stuck) > MOST_TOLD:
-                shown += ", ..."
-            text = "%s: %d of %d users can't move: %s"
-            log.warning(text, self.path, len(stuck), len(lines), shown)
-
-    async def refresh(self) -> None:
-        """Reads the file again if it has changed; without it the book decides, but on its bars."""
-        async with self.reading:
-            try:
-                if version_of(self.path) != self.version:
-                    await asyncio.to_thread(self.read)
-            except OSError as fault:
-                log_seldom(self.path, "%s: %s", self.path, fault.strerror)
-                self.lines, self.version = {}, ()
-
-    async def line(self, name: bytes) -> Line:
-        """The file's line of a name that hasn't moved, or one without a record."""
-        await self.refresh()
-        return Line() if self.moved.has(name) else self.lines.get(name, Line())
-
-    async def bars(self, name: bytes) -> bool:
-        """Whether the file's line of a name bars its user, also once they have moved."""
-        await self.refresh()
-        return bool(self.last.get(name, Line()).bar(today()))
-
-    def barred(self, name: bytes) -> set[bytes]:
-        """Of a name, or of all if it is empty, those of a book whose users the file's lines bar, as
-        it was last read."""
-        lines = {name: self.last.get(name, Line())} if name else self.last
-        return {it for it, line in lines.items() if NAME.fullmatch(it) and line.bar(today())}
 
     async def answer(self, request: Request) -> bytes:
-        """The answer: the book's, or the file's where the book lacks the name."""
+        """The answer: a wrong password's for whom the file bars, else the book's or the file's."""
         operation, name = request.words[:2]
-        if operation in TAKES and (await self.line(request.words[-1])).record:
-            return TAKES[operation]
-        may_end = operation in ENDS and not self.moved.has(name)
-        if not may_end and not (await self.line(name)).record:
+        if not request.kind.names:
+            page = await self.service.ask(request)
+            return page if operation == b"list" else await self.with_bars(request.words, page)
+        if not request.kind.tries and operation not in (b"known", b"show"):
+            return await self.answer_unbarred(request)
+        is_barred, asked = await self.file.bars(name), request
+        if is_barred and request.kind.tries:
+            # As long as a wrong password takes, and nothing is changed.
+            asked = replace(request, words=[b"verify", *request.words[1:3]])
+        answer = await self.answer_unbarred(asked)
+        is_barred = is_barred or await self.file.bars(name)  # since the file may have changed
+        return barred(request, answer) if is_barred else answer
+
+    async def with_bars(self, words: list[bytes], page: bytes) -> bytes:
+        """A page of `marks`, with a lock at those whom the file bars."""
+        operation, *items = page.split(b" ")
+        if operation != b"marks":
+            return page
+        first, count = words[1], int(words[2])
+        marks = {name: of for name, _, of in (it.partition(b":") for it in items)}
+        is_last = len(items) < count
+        for name in await self.file.barred():
+            if first <= name and (is_last or name <= max(marks)):
+                marks[name] = locked(marks.get(name, b""))
+        return b" ".join([operation, *(b"%b:%b" % it for it in sorted(marks.items())[:count])])
+
+    async def answer_unbarred(self, request: Request) -> bytes:
+        """The answer: the book's, or the file's where the book lacks the name. A name that the file
+        may decide about has one request after another."""
+        operation, name = request.words[:2]
+        names = {name, request.words[-1]} if operation in TAKES else {name}
+        may_end = operation in ENDS and not self.file.has_moved(name)
+        is_of_file = (await self.file.line(name)).record or self.file.is_expired(name)
+        is_asked_about = any(it in self.locks for it in names)
+        if not (operation in TAKES or may_end or is_of_file or is_asked_about):
             return await self.service.ask(request)
-        async with self.locks.setdefault(name, asyncio.Lock()):  # one request after another
-            line = await self.line(name)
-            if may_end and not self.moved.has(name) and not await self.end(operation, name):
-                return UNAVAILABLE
-            answer = await self.service.ask(request)
-            if not line.record:
-                return answer
-            if answer in LACKS:
-                return await self.answer_alone(request, line, answer)
-            return await self.moving(request, answer)
+        async with AsyncExitStack() as stack:
+            for it in sorted(names):
+                await stack.enter_async_context(self.locks.setdefault(it, asyncio.Lock()))
+            answer = await self.answer_in_turn(request)
+        return answer
+
+    async def answer_in_turn(self, request: Request) -> bytes:
+        """The answer to a request, while no other one is asked about its names."""
+        operation, name = request.words[:2]
+        if operation in TAKES and (await self.file.line(request.words[-1])).record:
+            return TAKES[operation]
+        line, book = await self.file.line(name), self.service.book
+        # Only a rename needs the marks here, for which the book may look at many accounts.
+        row = await (book.row(name) if operation == b"rename" else book.ask(b"show", name))
+        if refusal := await self.prepared(request, line, row):
+            return refusal
+        answer = await self.service.ask(request)
+        if line.record and answer in LACKS:
+            return await self.answer_alone(request, line, answer)
+        return await self.moving(request, answer) if line.record else answer
+
+    async def prepared(self, request: Request, line: Line, row: bytes) -> bytes:
+        """Does what has to be done before the book is asked; returns the answer if it isn't."""
+        operation, name = request.words[:2]
+        if row == UNAVAILABLE or row.startswith(b"bad ") and row != NO_ACCOUNT:
+            return row
+        if operation == b"rename" and line.record and not has_record(row):
+            return b"noaccount"  # it would leave the name to the file, without a lock
+        if has_record(row) and self.file.is_expired(name) and operation not in (b"show", *MARKS):
+            if refusal := await self.finish(request):
+                return refusal
+        if ends_record(operation, row) and not await self.file.have_moved(name):
+            return UNAVAILABLE  # else the file decides, also once it is back
+        return b""
+
+    async def finish(self, request: Request) -> bytes:
+        """Finishes a move behind `enrol`, where a kill may have cut it; returns a refusal."""
+        name = request.words[1]
+        answer = await self.service.ask_besides(request, b"expire", name)
+        if answer != EXPIRED:
+            return answer
+        return b"" if await self.file.have_moved(name) else UNAVAILABLE
 
     async def moving(self, request: Request, answer: bytes) -> bytes:
         """The book's answer, after which a name has moved if the book has its record."""
-        name = request.words[1]
-        if request.kind.hashes and answer in HAS and not self.moved.has(name):
-            await self.moved.put(name)
+        if request.kind.hashes and answer in HAS:
+            await self.file.have_moved(request.words[1])
         return answer
-
-    async def end(self, operation: bytes, name: bytes) -> bool:
-        """Has a name moved before its record goes: else the file decides, also once it is back."""
-        has_record = (await self.service.book.ask(b"show", name))[:1] == b"$"
-        is_over = operation in (b"disable", b"delete") or has_record
-        return not is_over or await self.moved.put(name)
 
     async def answer_alone(self, request: Request, line: Line, lacks: bytes) -> bytes:
         """The answer to a request for a user whom the file has, and the book lacks."""
-        operation, name, *fields = request.words
+        operation, name = request.words[:2]
+        if request.kind.tries:
+            return await self.judge(request, line)
         if operation == b"known":
-            return known(line)
+            is_shut = line.why_shut(today()) or await self.is_locked(name)
+            return b"absent" if is_shut else self.known(name, line)
+        if operation == b"expire":
+            return EXPIRED if await self.file.expire(name) else UNAVAILABLE
+        if operation == b"unlock":
+            return b"none"
         if operation == b"delete":
             return b"deleted"
-        if request.kind.tries:
-            is_known = await asyncio.to_thread(is_right, line.record, decoded(fields[0]) or b"")
-            is_same = await self.line(name) == line  # as before that hash
-            if not is_known or not is_same or line.why_shut(today()):
-                return request.kind.wrong
-            is_login = not request.kind.changes
-            if is_login and not self.service.has_room():  # the user moves another day
-                return known(line)
-            if line.must_change(today()) and not await self.service.locks.put(name, b"expire"):
-                return UNAVAILABLE
-        elif operation not in (b"disable", b"reset"):
+        if operation not in (b"lock", b"disable", b"reset"):
             return lacks
-        await self.service.ask_besides(request, b"account", name)
+        said = await self.service.ask_besides(request, b"account", name)
         if operation == b"disable":
             return b"disabled"
-        if request.kind.tries:
-            answer = await self.service.ask_besides(request, b"enrol", name, fields[0])
-            if answer not in HAS:
-                return answer
-            await self.moved.put(name)
-            if line.must_change(today()) and keeps_password(request.words):
-                return b"same"
+        if said not in (b"ok", b"bad 1 exists"):
+            return said
         return await self.moving(request, await self.service.ask(request))
 
+    def known(self, name: bytes, line: Line) -> bytes:
+        """The answer to the right password of whom nothing shuts out."""
+        return b"expired" if self.file.must_change(name, line) else b"yes"
 
-def version_of(path: str) -> tuple[int, ...]:
-    """The marks of a file, which differ once it has been written or replaced."""
-    it = status_of(path)
-    return it.st_ino, it.st_size, it.st_mtime_ns, it.st_ctime_ns
+    async def is_locked(self, name: bytes) -> bool:
+        return (await self.service.book.row(name)).startswith(LOCKED)
+
+    async def judge(self, request: Request, line: Line) -> bytes:
+        """The answer to a try, by the file's record; a right password moves its user."""
+        name, typed = request.words[1], decoded(request.words[2]) or b""
+        is_known = await asyncio.to_thread(is_right, line.record, typed)
+        is_same = await self.file.line(name) == line  # as before that hash
+        is_open = is_same and not line.why_shut(today()) and not await self.is_locked(name)
+        if not is_known or not is_open:
+            return request.kind.wrong
+        is_login = not request.kind.changes
+        if is_login and not self.service.has_room():  # the user moves another day
+            return self.known(name, line)
+        if refusal := await self.move(request, line):
+            return refusal
+        return await self.moving(request, await self.service.ask(request))
+
+    async def move(self, request: Request, line: Line) -> bytes:
+        """Puts a user's record into the book, and has the file decide no more; returns a refusal.
+
+        A password that must be changed is noted before, since a kill behind `enrol` would leave a
+        record without the mark: `finish` sees the note.
+        """
+        name, field = request.words[1:3]
+        if line.must_change(today()) and not await self.file.expire(name):
+            return UNAVAILABLE
+        await self.service.ask_besides(request, b"account", name)
+        answer = await self.service.ask_besides(request, b"enrol", name, field)
+        if answer == b"exists":  # a lock came, or a record: the book decides
+            return b""
+        if answer == b"enrolled" and self.file.is_expired(name):
+            answer = await self.service.ask_besides(request, b"expire", name)
+        if answer not in HAS:
+            return answer
+        await self.file.have_moved(name)
+        return b""
 
 
-def known(line: Line) -> bytes:
-    """The answer to `known` of a user whom the file alone has."""
-    if line.why_shut(today()):
-        return b"absent"
-    return b"expired" if line.must_change(today()) else b"yes"
+def ends_record(operation: bytes, row: bytes) -> bool:
+    """Whether an operation takes a row's record, or the lock of a row without one, from a name."""
+    if operation == b"rename":
+        return has_record(row) or row.startswith(LOCKED)
+    return operation in (b"disable", b"delete") or operation == b"remove" and has_record(row)
 
 
-def why_stuck(name: bytes, line: Line) -> str:
-    """The reason why a user can't move; empty if they can."""
-    record = line.record
-    if not NAME.fullmatch(name):
-        return "no name of a book"
-    if record.startswith((APACHE, b"{SHA}", b"{SSHA}", *CRYPT)):
-        return line.why_shut(today())
-    if record[:1] in b"!*":
-        return "locked"
-    is_des = re.fullmatch(rb"[./0-9A-Za-z]{13}", record)
-    return "DES" if is_des else "plain text, or another scheme"
+def locked(row: bytes) -> bytes:
+    """A row with a lock, also where there was no record, or no account."""
+    if row in (NO_ACCOUNT, NO_RECORD):
+        return LOCKED
+    return row if row.startswith((b"bad ", LOCKED)) or row == UNAVAILABLE else LOCKED + row
 
 
-def is_right(record: bytes, password: bytes) -> bool:
-    """Whether a record is of a password, as nginx judges it."""
-    is_cut = record.startswith(BCRYPT) and len(password) > LONGEST_BCRYPT
-    if is_cut or b"\0" in password:
-        return False
-    if record.startswith(APACHE):
-        with suppress(ValueError):  # a record that has no such form
-            return bool(apr_md5_crypt.verify(password, record))
-    if record.startswith(CRYPT):
-        data = ctypes.create_string_buffer(CRYPT_DATA)
-        return hmac.compare_digest(crypt_r(password, record, data) or b"", record)
-    scheme, _, field = record.partition(b"}")
-    digest = decoded(field) or b""
-    salt = digest[20:] if scheme == b"{SSHA" else b""
-    made = hashlib.sha1(password + salt).digest() + salt
-    return scheme in (b"{SHA", b"{SSHA") and hmac.compare_digest(made, digest)
+def barred(request: Request, answer: bytes) -> bytes:
+    """What is answered in place of this answer for a user whom the file bars."""
+    if request.words[0] == b"show":
+        return locked(answer)
+    if answer not in (b"yes", b"no", b"expired"):
+        return answer
+    return b"absent" if request.words[0] == b"known" else request.kind.wrong

@@ -30,14 +30,13 @@ class Kind:
     new: int = 0  # which field is a new password, if any
     setting: int = 0  # which field gives costs and a salt, if a line may have one
     is_own: bool = False  # it is answered by the server, and not by the book
-    is_mark: bool = False  # its change is beside the book, and not in it
 
 
 LOOK = Kind()
 LOGIN = Kind(hashes=True, tries=True, wrong=b"no")
 NEW_PASSWORD = Kind(hashes=True, changes=True, new=2, setting=3)
 CHANGE = Kind(changes=True)
-MARK = Kind(changes=True, is_mark=True)
+LIST = Kind(names=0)  # its field is where in the book's order a page begins
 OWN = Kind(is_own=True)
 OPERATIONS = {
     b"verify": LOGIN,
@@ -52,13 +51,13 @@ OPERATIONS = {
     b"disable": CHANGE,
     b"delete": CHANGE,
     b"rename": Kind(changes=True, names=2),
-    b"lock": MARK,
-    b"unlock": MARK,
-    b"expire": MARK,
+    b"lock": CHANGE,
+    b"unlock": CHANGE,
+    b"expire": CHANGE,
     b"known": LOOK,
     b"show": LOOK,
-    b"list": Kind(names=0),
-    b"locks": OWN,
+    b"list": LIST,
+    b"marks": LIST,
     b"forgive": OWN,
     b"last": OWN,
     b"stats": Kind(names=0, is_own=True),

@@ -14,11 +14,11 @@ from functools import partial
 from typing import TYPE_CHECKING, Any, Optional
 
 from .answers import ANSWERS, NO_ANSWER, RIGHT
-from .book import UNAVAILABLE, Book, Places, Rounds, decoded
+from .book import LACKS, LOCKED, MUST_CHANGE, NO_ACCOUNT, NO_RECORD, UNAVAILABLE
+from .book import Book, Places, Rounds, decoded
 from .clients import LONGEST, Client, Door
 from .disk import FULL, NEEDED, has_room
 from .journal import AuditLog, log_seldom, utc
-from .locks import Locks, keeps_password
 from .options import OPERATIONS, Kind, Options
 from .tries import LATER, Tally
 
@@ -26,8 +26,9 @@ if TYPE_CHECKING:
     from .foreign import Foreign
 
 LONG = b"bad 16 long"
-KNOWN = {b"none": b"absent", b"bad 5 noaccount": b"noaccount"}  # its answers, by those of `show`
-LACKS = (b"absent", b"noaccount")  # behind a hash of the costs of new records
+# Its answers, by what a row begins with.
+KNOWN = {b"$": b"yes", LOCKED: b"absent", MUST_CHANGE: b"expired"}
+KNOWN |= {NO_RECORD: b"absent", NO_ACCOUNT: b"noaccount"}
 TURNS = 8  # places for lines that are taken in a pass of the loop
 LOOKS, CHANGES = 16, 128  # places for lines that change nothing, and for quick changes
 SYNC = 0.01  # seconds that a change waits for the disk, more or less
@@ -93,7 +94,6 @@ class Service:
 
             self.foreign = Foreign(self, options.foreign)
             self.answer = self.foreign.answer
-        self.locks = Locks(self)
 
     def submit(self, client: Client, line: bytes) -> tuple[bytes, bytes]:
         """Begins to process a line, or returns its tag and an answer."""
@@ -141,8 +141,6 @@ class Service:
         kind = OPERATIONS[words[0]]
         if len(b" ".join(words)) + 1 > LONGEST:  # with names that became longer
             return LONG
-        if words[0] == b"locks":
-            return self.locks.shown(*words[1:3])
         if kind.is_own:
             return self.tally.answer(words[0], words[1].decode(errors="replace")).encode()
         return self.why_refused(kind, words) if 0 < kind.new < len(words) else b""
@@ -152,10 +150,8 @@ class Service:
         password = decoded(words[kind.new])
         if password is None:  # which the book refuses
             return b""
-        if len(password.decode(errors="surrogateescape")) < self.options.least_length:
-            return b"short"
-        must_change = self.locks.has(words[1], b"expire") and not self.locks.has(words[1], b"lock")
-        return b"same" if must_change and keeps_password(words) else b""
+        length = len(password.decode(errors="surrogateescape"))
+        return b"short" if length < self.options.least_length else b""
 
     def in_book(self, name: bytes) -> bytes:
         """The book's form of a name; "@", which is no name, for a refused one."""
@@ -182,7 +178,8 @@ class Service:
         and that of a login behind it, since a slow disk holds up no login."""
         client, kind = request.client, request.kind
         answer = await self.answer_in_turn(request)
-        noted = b"disabled" if b":" in answer else answer  # not the record that a `disable` shows
+        # Not the record that a `disable` shows.
+        noted = b"disabled" if kind.changes and b":" in answer else answer
         self.tally.count(kind, request.name, request.person, noted.decode())
         if answer == LATER:
             # After the time of a hash: names that the book lacks take that too.
@@ -234,16 +231,15 @@ class Service:
         wait for the audit log that it can't be noted."""
         if request.kind.changes and self.audit.is_full():
             return UNAVAILABLE
-        is_of_book = request.kind.changes and not request.kind.is_mark
-        if is_of_book and not self.has_room():
+        if request.kind.changes and not self.has_room():
             return FULL
-        return await self.locks.answer(request)
+        return await self.answer(request)
 
     async def ask(self, request: Request) -> bytes:
         operation, *fields = request.words
-        if operation == b"known":
-            answer = await self.book.ask(b"show", *fields)
-            return b"yes" if answer[:1] == b"$" else KNOWN.get(answer, answer)
+        if operation in (b"known", b"show") and len(fields) == 1:
+            row = await self.book.row(*fields)
+            return row if operation == b"show" else known_by(row)
         if request.kind.tries and not request.kind.changes:
             is_upgrading = operation == b"login" and self.has_room()
             return await self.log_in(b"login" if is_upgrading else b"verify", *fields)
@@ -260,7 +256,7 @@ class Service:
         seconds = time.monotonic() - began
         if answer in (b"yes", b"no", *LACKS):
             self.login_seconds.append(seconds)
-        if answer in LACKS:
+        if answer in LACKS:  # behind a hash of the costs of new records
             self.hash_seconds = min(seconds, 1.01 * self.hash_seconds)
         return answer
 
@@ -296,6 +292,11 @@ class Service:
             if record[:1] == b"$" and not record.startswith(f"{self.options.upgrade}$".encode()):
                 answer = await self.ask_besides(request, b"upgrade", name, password)
                 self.tally.counts["upgraded"] += answer == b"upgraded"
+
+
+def known_by(row: bytes) -> bytes:
+    """The answer to `known`, by an account's row."""
+    return next((answer for begin, answer in KNOWN.items() if row.startswith(begin)), row)
 
 
 def denied(door: Door, words: list[bytes]) -> str:

@@ -14,6 +14,7 @@ from .journal import Problem, log, log_seldom, utc
 from .options import Kind, Options, folder_of
 
 LATER = b"later"  # for this try it is too early
+EXPIRED = "expired"  # what `expire` is answered, and a right password that must be changed
 REMEMBERED = 65536  # names and users
 LONGEST_WAIT, FORGOTTEN = 900.0, 3600.0  # seconds
 MOST_SHOWN, LONGEST_STATS = 1000, 4096  # items in an answer, letters of one
@@ -146,7 +147,8 @@ class Tally:
         """Counts an answer, and the failed try that it may be, at its name and its user."""
         self.counts["later"] += answer == "later"
         meaning = ANSWERS.get(answer, NO_ANSWER)
-        has_changed = kind.changes and meaning.changed
+        is_refused = kind.tries and answer == EXPIRED
+        has_changed = kind.changes and meaning.changed and not is_refused
         self.counts["changes"] += has_changed
         self.counts["disk"] += answer == "bad 19 disk"
         if answer == "bad 4 memory":
@@ -180,21 +182,16 @@ class Tally:
         """The server's own answers; `last` is the time of a right password."""
         if operation == b"waits":
             waits = [*self.names.waits(), *self.users.waits()]
-            return listed(b"waits", [it.encode() for it in waits]).decode()
+            words = ["waits", *waits[:MOST_SHOWN]]
+            if len(waits) > MOST_SHOWN:
+                words.append(f"more={len(waits) - MOST_SHOWN}")
+            return " ".join(words)
         if operation == b"forgive":
             limiter = self.users if "=" in name else self.names
             return "forgiven" if limiter.forgive(name, "an administrator forgave it") else "none"
         if operation == b"last":
             return f"last {utc(self.logins[name])}" if name in self.logins else "none"
         return self.stats()
-
-
-def listed(operation: bytes, items: list[bytes]) -> bytes:
-    """An answer with up to MOST_SHOWN items, which says how many more there are."""
-    words = [operation, *items[:MOST_SHOWN]]
-    if len(items) > MOST_SHOWN:
-        words.append(b"more=%d" % (len(items) - MOST_SHOWN))
-    return b" ".join(words)
 
 
 def metrics(path: str) -> str:
