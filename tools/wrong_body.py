@@ -80,6 +80,8 @@ class Edit:
             return goal[1] or LIMIT
         if error := self.error_of_answer(output):
             return f"{error}, at its written answer"
+        if lemma := self.false_lemma(output):
+            return f"{lemma}, a lemma of its proof"
         return None if "it calls" in said else LOST_NAME
 
     def error_of_answer(self, output):
@@ -92,6 +94,16 @@ class Edit:
             return ""
         goal = re.match(r"`[^`]*`", errors[0])
         return goal[0] if goal else errors[0][:80]
+
+    def false_lemma(self, output):
+        """The lemma that the edit makes false, if the function's written answers rest on one."""
+        folder = self.function.replace("::", "/")
+        form = rf"^\./proofs/{folder}/\w+\.antt:\d+:\d+: error: .* which was not admitted"
+        if not re.search(form, output, re.M):
+            return ""
+        form = r"^\./proofs/[A-Z]\w*\.antt:\d+:\d+: error: (`[^`]*`): (.*)"
+        lemmas = re.findall(form, output, re.M)
+        return next((name for name, said in lemmas if not OF_NAMES.search(said)), "")
 
 
 def groups(edits, texts):

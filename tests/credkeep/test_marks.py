@@ -78,7 +78,7 @@ ORDERS = [
     *((f"{order} zoe", "", no("noaccount")) for order in ("lock", "unlock", "expire")),
 ]
 
-FIRST, OTHER = (base64.b64encode(it).decode() for it in (b"first", b"other"))
+FIRST, OTHER = (base64.b64encode(it).decode().rstrip("=") for it in (b"first", b"other"))
 
 # Tagged lines one after another, and their answers.
 LINES = [

@@ -119,8 +119,10 @@ class Accounts:
 
     def page(self, operation: str, first: str, count: str) -> str:
         """Names from one on, or those that have marks, with these."""
-        if not re.fullmatch("[0-9]{1,4}", count) or not 1 <= int(count) <= 1000:
-            return "bad 11 line"
+        if not NAME.fullmatch(first):
+            return "bad 3 name"
+        if not re.fullmatch("[1-9][0-9]{0,2}|1000", count):
+            return "bad 5 range"
         rows = sorted(it for it in self.rows.items() if it[0] >= first)
         if operation == "list":
             return " ".join(["names", *(name for name, _ in rows[: int(count)])])

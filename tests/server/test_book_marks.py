@@ -16,7 +16,12 @@ admin account bob -> ok
 admin reset bob {wrong} -> enrolled
 admin marks - 10 -> marks
 admin marks - 1 1 -> bad 11 line
-admin marks -  -> bad 11 line
+admin marks - -> bad 11 line
+admin marks -  -> bad 5 range
+admin marks - 0 -> bad 5 range
+admin marks - 01 -> bad 5 range
+admin marks - 1001 -> bad 5 range
+admin marks Bob 1 -> bad 3 name
 admin lock bob -> locked
 admin lock bob -> locked
 login known bob -> absent

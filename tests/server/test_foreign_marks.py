@@ -143,7 +143,7 @@ class ForeignMarks(ForeignCase):
                 with self.subTest(first=first, count=count):
                     page = " ".join(["marks", *every[last:][:count]])
                     self.assertEqual(admin.ask(f"marks {first} {count}"), page)
-        admin.talk("marks h 3 -> marks\nmarks - 0 -> bad 11 line\nmarks -  -> bad 11 line")
+        admin.talk("marks h 3 -> marks\nmarks - 0 -> bad 5 range\nmarks - -> bad 11 line")
         asked = ended([ASK, "--server", str(service.path("admin")), "marks"])
         lines = "ada:locked bo:locked cy:expired cy:locked eve:locked fay:locked gus:locked"
         self.assertEqual(asked, (0, lines.replace(" ", "\n") + "\n", ""))

@@ -6,7 +6,6 @@ other. Behind a kill they are those of the lines that were answered, with one of
 """
 
 import asyncio
-import contextlib
 import itertools
 from collections.abc import Iterator
 from dataclasses import dataclass, field

@@ -16,7 +16,8 @@ rm -rf out && mkdir -p "out/rlib/$name.rlib/lang" && cp -r src "out/rlib/$name.r
 echo "rt: $name proved"
 """
 # A function is refused if its body says wrong, or LIMIT and the limit isn't 8; it waits if it calls
-# one that is refused. What a check keeps is how many went before it.
+# one that is refused, and a lemma of its proof may be refused. What a check keeps is how many went
+# before it.
 RATTLE = """#!/usr/bin/env python3
 import os, pathlib, re, sys
 kept = pathlib.Path(sys.argv[sys.argv.index("--incremental") + 1]) / "checks"
@@ -31,6 +32,11 @@ waits = [it for it in bodies if any(f"{other}()" in bodies[it] and bad(other) fo
 for it in bodies:
     said = "no proof: `search` did not prove `returns`" if bad(it) else "proved"
     said = "no proof: it calls another, which is not proved" if it in waits else said
+    if error := re.match("lemma: (.*)", bodies[it]):
+        print(f"./proofs/Sums.antt:2:1: error: `sum`: {error[1]}")
+        rests = "1 declaration that depends on `sum`, which was not admitted, was not checked"
+        print(f"./proofs/{it}/Answers.antt:3:1: error: {rests}: returns")
+        said = "not proved"
     print(f"fn high::{it}: {said}")
 sys.exit(any(map(bad, bodies)))
 """
@@ -130,6 +136,17 @@ class WrongBodies(Case):
         name = text[4:].split()[0]
         why = f"high/two: refused, in {name}: not there, but fn high::three, which says less"
         self.assertEqual((status, lines[-1]), (0, why))
+
+    @each(
+        ("expected type `T`", "`sum`, a lemma of its proof"),
+        ("`it` is not in scope", "a name that the edit took away, which says less"),
+    )
+    def test_lemmas(self, error, why):
+        """A definition that makes a lemma of a proof false is refused there."""
+        edit = f"fn: two\nfile: src/lib.rt\nold: {{ 2 }}\nnew: {{ lemma: {error} }}\n"
+        self.write({"crates/high/wrong-bodies/two.edit": edit})
+        status, lines, _ = self.tried()
+        self.assertEqual((status, lines[-1]), (0, f"high/two: refused, in two: {why}"))
 
     def test_what_is_kept(self):
         """The first check of a crate begins with what an earlier run kept, if its functions were

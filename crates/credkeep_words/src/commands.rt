@@ -186,8 +186,8 @@ pub(crate) static COMMANDS: [CommandText; 22] = [
     CommandText {
         verb: Verb::Lock,
         about: "Locks an account: each password is wrong",
-        long: "Locks an account: each password is wrong from now on. The record stays, and reset\n\
-            doesn't end the lock.\n\
+        long: "Locks an account: each password is wrong from now on. The record stays, and\n\
+            reset doesn't end the lock.\n\
             Answers locked; or noaccount with status 4.",
         usage: "credkeep <FILE> lock <NAME>",
         words: &[Word::Name],
