@@ -156,10 +156,12 @@ class Limits(Case):
             admin account dan -> ok
             admin load dan $fast$c=1$x$y -> ok
             admin show dan -> $fast$c=1$x$y
+            admin lock dan -> locked
+            admin marks - 5 -> marks dan:!
             """
         )
         asked = {line.partition(" ")[0] for line in service.asked()[7:]}
-        without = "show list disable rename delete account load"
+        without = "show list marks disable rename delete account load lock"
         self.assertEqual(asked, set(without.split()), "what was asked beside full places")
         service.process.kill()
 
