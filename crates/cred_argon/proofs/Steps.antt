@@ -3,6 +3,7 @@ use Rattle.std.proofs.Common.{◌≡◌, ◌≢◌, ℕ, ◌<◌, ◌≤◌, ◌
 use Rattle.std.proofs.{lemmas.Nat.div-mul-add, lemmas.Nat.mod-mul-add, lemmas.Bool.cases_eq, lemmas.Bool.Decides.nat_tests}
 use Rattle.std.proofs.lemmas.List.{get_or_append_left, get_or-append_right, set-append_right, get_or-set_same, get_or-set_other, length-append}
 use Rattle.cred_argon.specs.{declared.block.Block.Block, declared.place.Place.Place, declared.turn.Turn.Turn, declared.position.Position.Position, declared.position.Reference.Reference}
+use Rattle.cred_argon.specs.{declared.kind.Version.Version, declared.kind.Version.TheVariants.V10, declared.kind.Version.TheVariants.V13}
 use Rattle.cred_argon.specs.{Times.IsBefore, Parameters.Parameters, Parameters.segment_len, Compress.compress, Compress.xor_words}
 use Rattle.cred_argon.specs.Places.{IsComputed, place_of, reference_place}
 use Rattle.cred_argon.specs.Cells.{is_dependent, address_block, previous, older, word_by, compression_at, is_first, is_fresh, cell_by, cell}
@@ -59,6 +60,10 @@ mixed_is c h before other addresses at k w there some computed inside here befor
     (sym (lane ∙ ap (λ q. (reference_place s a.lanes q (w % 2 ^ 32) (w / 2 ^ 32)).lane) place))
     (sym (column ∙ ap (λ q. (reference_place s a.lanes q (w % 2 ^ 32) (w / 2 ^ 32)).column) place))
     ∙ ap (λ (v : ℕ). cell a h (reference_place s a.lanes p (v % 2 ^ 32) (v / 2 ^ 32))) word)
+
+pub first_is_fresh : (version : Version) → is_fresh version 0 ≡ true
+first_is_fresh V10 = refl
+first_is_fresh V13 = refl
 
 -- what replaces a block, or is added to it, makes the cell
 pub replaced_is : (a : Parameters) (h mixed out : List ℕ) (p : Place) → 2 ≤ segment_len a → IsComputed (segment_len a) a.lanes p

@@ -1,35 +1,22 @@
 -- A segment while it is worked.
-use Rattle.std.proofs.Common.{◌≡◌, ℕ, ◌<◌, ◌≤◌, List, Option, Vec, length, slice_index_or, vec_len, inl, inr, arith}
-use Rattle.std.proofs.lemmas.Bool.{cases_lt}
-use Rattle.cred_argon.specs.{declared.block.Block.Block, declared.segment.Segment.Segment, declared.segment.Shared.Shared}
-use Rattle.cred_argon.specs.{declared.address.AddressBlock.AddressBlock, Parameters.Parameters, Parameters.segment_len, Addresses.KeepsAddresses}
-use Rattle.cred_argon.specs.{SegmentWork.IsWorking, Segments.SharedHolds, Turns.OwnHolds, Turns.first_offset}
+use Rattle.std.proofs.Common.{◌≡◌, ℕ, ◌<◌, ◌+◌, ◌-◌, List, [], ◌∷◌, ◌++◌, length, inl, inr, arith}
+use Rattle.std.proofs.{lemmas.Bool.cases_eq, lemmas.List.get_or_append_left, lemmas.List.get_or-append_right}
+use Rattle.cred_argon.specs.{declared.block.Block.Block, declared.turn.Turn.Turn}
+use Rattle.cred_argon.specs.{Turns.OwnHolds, Turns.DoneHolds, Turns.place_in, Cells.cell}
 
--- as many blocks are there as were worked before
-at_least : {A : Type 0} (c : Shared (Vec Segment A)) (start now : Segment) (addresses : Option AddressBlock) (s k : ℕ) → IsWorking c start now addresses s k → k ≤ vec_len now.blocks
-at_least c start now addresses s k working = elim (cases_lt 0 c.turn.pass) [
-  | inl later ↦ omega (arith, working.later later, working.inside)
-  | inr first ↦ omega (arith, working.first (omega (arith, first)))
-]
-
--- the same cells, where a block more may have come behind them
-pub own_extended : {A : Type 0} (c : Shared (Vec Segment A)) (start now : Segment) (addresses : Option AddressBlock) (s k : ℕ) (h : List ℕ) (items : List Block)
-    → IsWorking c start now addresses s k
-    → ((i : ℕ) (d : Block) → i < vec_len now.blocks → slice_index_or items i d ≡ slice_index_or now.blocks.items i d)
-    → OwnHolds h c.turn now.lane k now.blocks.items → OwnHolds h c.turn now.lane k items
-own_extended c start now addresses s k h items working same own = record {
-  new = λ i d below. rw (same i d (omega (arith, below, at_least c start now addresses s k working))) (own.new i d below);
-  old = λ i d above below later.
-      rw (same i d (omega (arith, below, working.later later, working.length_is))) (own.old i d above below later);
+-- on the first pass, once the block behind those that are done is pushed
+pub own_pushed : (h : List ℕ) (c : Turn) (l k : ℕ) (items : List Block) (block : Block) → length items ≡ k → c.pass ≡ 0
+    → OwnHolds h c l k items → (DoneHolds h c l items → block.0 ≡ cell c.params h (place_in c l (length items)))
+    → OwnHolds h c l (k + 1) (items ++ block ∷ [])
+own_pushed h c l k items block len first own made = record {
+  new = λ i d below. elim (cases_eq i k) [
+    | inl same ↦
+        let start : k - k ≡ 0 = omega arith in
+        rw (same, rw start at (get_or-append_right items (block ∷ []) k k d len (omega arith)))
+        (rw len at (made (λ j e inside. own.new j e (omega (arith, inside, len)))))
+    | inr other ↦
+        let inside : i < k = omega (arith, below, other) in
+        rw (get_or_append_left items (block ∷ []) d i (omega (arith, inside, len))) (own.new i d inside)
+  ];
+  old = λ i d above below later. absurd (omega (arith, first, later));
 }
-
--- the same of blocks that are all there
-pub record IsWorkingAll {S : Type 0} (holds : Parameters → List ℕ → ℕ → S → Type 0) (c : Shared S) (l : ℕ) (start now : List Block)
-    (addresses : Option AddressBlock) (s k : ℕ) : Type 0 where
-  pub length_is : s ≡ segment_len c.turn.params
-  pub some : 2 ≤ s
-  pub begun : first_offset c.turn ≤ k
-  pub inside : k ≤ s
-  pub there : length now ≡ s
-  pub kept : KeepsAddresses c.turn l addresses
-  pub own : (h : List ℕ) → SharedHolds holds h c → OwnHolds h c.turn l (first_offset c.turn) start → OwnHolds h c.turn l k now

@@ -41,8 +41,17 @@ impl Prefetch for NoPrefetch {
 pub fn compress(x: &Block, y: &Block) -> Block
     ensures { result.0 ≡ compress x.now.0 y.now.0 }
 {
+    compressed(x, y, &NoPrefetch)
+}
+
+/// G of two blocks as a block of its own.
+#[inline(always)]
+pub(crate) fn compressed<F: Prefetch>(x: &Block, y: &Block, next: &F) -> Block
+    requires { F.can_prefetch next.now }
+    ensures { result.0 ≡ compress x.now.0 y.now.0 }
+{
     let mut out = Block::ZERO;
-    compress_over(x, y, &mut out, &NoPrefetch);
+    compress_over(x, y, &mut out, next);
     out
 }
 

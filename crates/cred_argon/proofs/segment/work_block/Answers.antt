@@ -1,24 +1,7 @@
-use Rattle.std.proofs.Common.{◌≡◌, ◌∙◌, length, ap, sym}
-use Rattle.cred_argon.specs.{Parameters.segment_len, Places.place_of, Places.reference_place, Turns.place_in}
-use Rattle.cred_argon.proofs.{Picks.reference_before, Distances.place_computed, Steps.mixed_is, Steps.replaced_is, Steps.added_is}
+use Rattle.std.proofs.Common.{◌∙◌, length, sym}
+use Rattle.cred_argon.specs.Turns.{place_in}
+use Rattle.cred_argon.proofs.{Distances.place_computed, Steps.replaced_is, Steps.added_is}
 use Rattle.cred_argon.proofs.segment.work_block.Goals as goal
-
-pub block_at-other-requires-clause-readable : goal.block_at-other-requires-clause-readable
-block_at-other-requires-clause-readable g c =
-    let shared = c.args.shared.now.turn in
-    let a = shared.params in
-    let s = segment_len a in
-    let at = c.args.position.now in
-    let p = place_in shared at.lane (length c.args.done.now) in
-    let j1 = c.halves-j1.result.0 in
-    let j2 = c.halves-j1.result.1 in
-    let here : place_of s at ≡ p = ap (place_of s) c.requires.here in
-    let computed = place_computed shared at.lane (length c.args.done.now) c.requires.shaped.slice c.requires.lane c.requires.offset c.requires.some c.requires.computed in (
-      reference_place s a.lanes p j1 j2,
-      reference_before s a.lanes p j1 j2 c.requires.some computed,
-      sym (c.reference_from-reference.ensures.lane ∙ ap (λ q. (reference_place s a.lanes q j1 j2).lane) here),
-      sym (c.reference_from-reference.ensures.column ∙ ap (λ q. (reference_place s a.lanes q j1 j2).column) here),
-    )
 
 pub returns-then-is_fresh : goal.returns-then-is_fresh
 returns-then-is_fresh g c h held done addresses due =
@@ -26,12 +9,8 @@ returns-then-is_fresh g c h held done addresses due =
     let at = c.args.position.now in
     let k = length c.args.done.now in
     let computed = place_computed shared at.lane k c.requires.shaped.slice c.requires.lane c.requires.offset c.requires.some c.requires.computed in
-    let mixed = mixed_is shared h _ _ c.args.addresses.now at k _ c.reference_from-reference.result
-    c.requires.some computed c.requires.offset c.requires.here (c.block_before-before.ensures h held done) addresses c.word_at-word.ensures
-    (rw (c.halves-j1.ensures.low, c.halves-j1.ensures.high) at c.reference_from-reference.ensures.lane)
-    (rw (c.halves-j1.ensures.low, c.halves-j1.ensures.high) at c.reference_from-reference.ensures.column)
-    (λ q before lane column. c.block_at-other.ensures q before lane column h held done) in
-    replaced_is shared.params h _ _ (place_in shared at.lane k) c.requires.some computed (sym c.is_fresh.ensures ∙ c.if-is_fresh.true) mixed c.compress_over.ensures
+    replaced_is shared.params h _ _ (place_in shared at.lane k) c.requires.some computed (sym c.is_fresh.ensures ∙ c.if-is_fresh.true)
+    (c.previous_and_reference.ensures h held done addresses) c.compress_over.ensures
 
 pub returns-else-is_fresh : goal.returns-else-is_fresh
 returns-else-is_fresh g c h held done addresses due =
@@ -39,9 +18,5 @@ returns-else-is_fresh g c h held done addresses due =
     let at = c.args.position.now in
     let k = length c.args.done.now in
     let computed = place_computed shared at.lane k c.requires.shaped.slice c.requires.lane c.requires.offset c.requires.some c.requires.computed in
-    let mixed = mixed_is shared h _ _ c.args.addresses.now at k _ c.reference_from-reference.result
-    c.requires.some computed c.requires.offset c.requires.here (c.block_before-before.ensures h held done) addresses c.word_at-word.ensures
-    (rw (c.halves-j1.ensures.low, c.halves-j1.ensures.high) at c.reference_from-reference.ensures.lane)
-    (rw (c.halves-j1.ensures.low, c.halves-j1.ensures.high) at c.reference_from-reference.ensures.column)
-    (λ q before lane column. c.block_at-other.ensures q before lane column h held done) in
-    added_is shared.params h _ _ _ (place_in shared at.lane k) c.requires.some computed (sym c.is_fresh.ensures ∙ c.if-is_fresh.false) due mixed c.compress_onto.ensures
+    added_is shared.params h _ _ _ (place_in shared at.lane k) c.requires.some computed (sym c.is_fresh.ensures ∙ c.if-is_fresh.false) due
+    (c.previous_and_reference.ensures h held done addresses) c.compress_onto.ensures
