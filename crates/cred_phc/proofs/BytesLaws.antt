@@ -1,6 +1,7 @@
--- Bytes with zeros behind them, and bytes compared one by one.
-use Rattle.std.proofs.Common.{◌≡◌, ℕ, suc, zero, ◌<◌, ◌≤◌, ◌&&◌, nat_eq, List, ◌∷◌, ◌++◌, length, take, drop, replicate, get_or, arith, ap}
-use Rattle.std.proofs.{Math.Bool.and_assoc, Math.Bool.and-true, lemmas.Grind.common_steps, lemmas.List.drop-replicate, lemmas.List.drop_at}
+-- Bytes with zeros behind them, and bytes that don't differ.
+use Rattle.std.proofs.Common.{◌≡◌, ◌↔◌, ℕ, ◌≤◌, nat_eq, List, ◌++◌, length, map, drop, replicate, arith}
+use Rattle.std.proofs.lemmas.Bool.Decides.{Decides-eqb, Decides-like, same_from_decides}
+use Rattle.std.proofs.lemmas.{Grind.common_steps, List.drop-replicate, List.drop_at, List.map-id, Slice.Eq.bytes_eq-Decides}
 use Rattle.std.specs.Str.{bytes_eq}
 use Rattle.base64.specs.GeneralPurpose.{IsBytes}
 use Rattle.cred_base64.proofs.DecodedLaws.{append_bytes}
@@ -17,9 +18,9 @@ padded cap n bytes size fits is_bytes = rw drop-replicate (record {
   bytes = append_bytes bytes _ is_bytes (zeros_bytes _);
 })
 
--- one more byte of each is compared
-pub bytes_eq-take : (i : ℕ) (xs ys : List ℕ) → i < length xs → i < length ys
-    → bytes_eq (take (suc i) xs) (take (suc i) ys) ≡ (bytes_eq (take i xs) (take i ys) && nat_eq (get_or xs i 0) (get_or ys i 0))
-bytes_eq-take zero (x ∷ xs) (y ∷ ys) h k = and-true (nat_eq x y)
-bytes_eq-take (suc i) (x ∷ xs) (y ∷ ys) h k = rw and_assoc (ap (λ b. nat_eq x y && b) (bytes_eq-take i xs ys (omega arith) (omega arith)))
-bytes_eq-take _ _ _ h k = absurd (omega arith)
+-- bytes whose differences sum up to none are the same
+pub none_differs : (sum : ℕ) (xs ys these those : List ℕ) → these ≡ xs → those ≡ ys → ((sum ≡ 0) ↔ (map (λ byte. byte) these ≡ map (λ byte. byte) those))
+    → nat_eq sum 0 ≡ bytes_eq xs ys
+none_differs sum xs ys these those first second told =
+    let same = rw (map-id these, map-id those, first, second) at told in
+    same_from_decides (nat_eq sum 0) (bytes_eq xs ys) (Decides-like (nat_eq sum 0) same.0 same.1 (Decides-eqb sum 0)) (bytes_eq-Decides xs ys)

@@ -13,6 +13,7 @@ mod record;
 mod salt;
 mod scheme;
 mod scratch;
+mod secret;
 mod setting;
 mod short_bytes;
 mod tag;

@@ -4,6 +4,7 @@ ghost use Rattle.std.specs.Prelude.{◌≡◌, ◌≤◌, length, if◌then◌el
 ghost use Rattle.base64.specs.GeneralPurpose.{IsBytes};
 ghost use Rattle.cred_phc.specs.{Base64.bytes_of, Ranges.between};
 
+use crate::secret::difference;
 use cred_base64::{decode, decoded_len};
 use std::marker::Model;
 
@@ -94,18 +95,14 @@ impl<const CAP: usize> PartialEq for ShortBytes<CAP> {
 
     ghost laws = { partial_equiv_from_equiv nat_list_eq_equiv };
 
-    /// Every byte is read even if an early one differs, so that the time doesn't tell how far two
-    /// tags agree.
+    /// No branch depends on a byte but for the verdict: the bytes are combined by
+    /// [`difference`](crate::secret::difference), which can't look at one.
     fn eq(&self, other: &Self) -> bool {
         let (these, those) = (self.as_slice(), other.as_slice());
         if these.len() != those.len() {
             return false;
         }
-        let mut same = true;
-        for i in 0..these.len() {
-            same &= these[i] == those[i];
-        }
-        same
+        difference(0, these, those) == 0
     }
 }
 

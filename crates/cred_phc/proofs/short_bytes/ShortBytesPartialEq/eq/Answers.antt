@@ -1,6 +1,5 @@
-use Rattle.std.proofs.Common.{arith, add-one}
-use Rattle.cred_phc.proofs.BytesLaws.{bytes_eq-take}
+use Rattle.cred_phc.proofs.BytesLaws.{none_differs}
 use Rattle.cred_phc.proofs.short_bytes.ShortBytesPartialEq.eq.Goals as goal
 
-pub loop-i-preserved : goal.loop-i-preserved
-loop-i-preserved g c = rw (add-one, bytes_eq-take c.loop-i.i c.as_slice-these.result.now c.as_slice-those.result.now (omega arith) (omega arith), c.loop-i.invariant)
+pub returns : goal.returns
+returns g c = none_differs _ _ _ _ _ c.as_slice-these.ensures.value c.as_slice-those.ensures.value c.difference.ensures
