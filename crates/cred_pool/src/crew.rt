@@ -1,8 +1,7 @@
-//! What works the parts: threads, or the caller's thread.
+//! What works the parts.
 ghost use Rattle.std.specs.Prelude.{ℕ, ◌<◌, length, slice_index_or};
 
-use crate::gate::Gate;
-use crate::part::{Part, work_run};
+use crate::part::Part;
 
 /// What works all the parts, each once: threads, or the caller's thread alone. Code that is made
 /// of parts can be written once, for any crew.
@@ -16,30 +15,6 @@ pub trait Crew<C, P: Part<C>> {
             → P.can_work shared.now (slice_index_or parts.old i d) }
         ensures { (i : ℕ) (d : P) → i < length parts.old
             → P.works shared.now (slice_index_or parts.old i d) (slice_index_or parts.new i d) };
-}
-
-/// The caller's thread alone. It works the parts in turn, each between the gate's `enter` and
-/// `leave` with the part's index. It needs no runtime, so a library for C can use it.
-#[derive(Drop)]
-pub struct Alone<'a, G> {
-    gate: &'a G,
-}
-
-impl<'a, G> Alone<'a, G> {
-    /// The caller's thread, with this gate around each part.
-    pub fn new(gate: &'a G) -> Alone<'a, G> {
-        Alone { gate }
-    }
-}
-
-impl<'a, G: Gate, C, P: Part<C>> Crew<C, P> for Alone<'a, G> {
-    ghost use Rattle.std.specs.Prelude.{⊤};
-
-    ghost ready = { λ _. ⊤ };
-
-    fn work_each(&self, shared: &C, parts: &mut [P]) {
-        work_run(self.gate, shared, 0, parts);
-    }
 }
 
 /// A closure as a crew, such as one that calls [`run_parts`](crate::run_parts). It is ready if the

@@ -3,14 +3,14 @@
 //!
 //! [`run_parts`] works each part once, in a limited number of threads. Its contract relates each
 //! part after the run to the part before it and to the value that all parts share. [`NoGate`] is
-//! the gate that lets every part through. A [`Crew`] is what works the parts: threads, by a
-//! [`CrewFn`], or the caller's thread, [`Alone`].
+//! the gate that lets every part through. A [`Crew`] is what works the parts: a closure, by a
+//! [`CrewFn`], or a type of the caller's own.
 #![tactic(auto)]
 
 mod crew;
 mod gate;
 mod part;
 
-pub use crew::{Alone, Crew, CrewFn};
+pub use crew::{Crew, CrewFn};
 pub use gate::{Gate, NoGate};
 pub use part::{Part, run_parts};

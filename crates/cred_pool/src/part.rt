@@ -126,7 +126,7 @@ fn run_both<R: Threads + Sync, G: Gate + Sync, C: Sync, P: Part<C> + Send>(
 }
 
 /// Works the parts of a run in turn, on the caller's thread.
-pub(crate) fn work_run<G: Gate, C, P: Part<C>>(gate: &G, shared: &C, base: usize, run: &mut [P])
+fn work_run<G: Gate, C, P: Part<C>>(gate: &G, shared: &C, base: usize, run: &mut [P])
     requires room { base + length run.old < 2 ^ 64 }
     requires can { (i : ℕ) (d : P) → i < length run.old
         → P.can_work shared.now (slice_index_or run.old i d) }
