@@ -61,6 +61,12 @@ uint8_t cred_argon2_segment(const struct tag_numbers *numbers, const struct segm
                             const struct argon2_block *middle, size_t middle_count,
                             const struct argon2_block *newest, size_t newest_count,
                             struct argon2_block *own, size_t own_count);
+uint8_t cred_argon2_two_segments(const struct tag_numbers *numbers,
+                                 const struct segment_index *index,
+                                 const struct argon2_block *oldest, size_t oldest_count,
+                                 const struct argon2_block *middle, size_t middle_count,
+                                 const struct argon2_block *newest, size_t newest_count,
+                                 struct argon2_block *own, size_t own_count);
 uint8_t cred_argon2_end(const struct tag_numbers *numbers, const struct argon2_block *last,
                         size_t last_count, uint8_t *tag, size_t tag_size);
 uint8_t cred_check_read(bytes record, size_t record_size, struct record_reading *reading);
@@ -77,7 +83,8 @@ uint8_t cred_hash_end(const struct setting_reading *reading, const struct argon2
 #define EXPORTS(of)                                                                                \
     of(cred_argon2) of(cred_scrypt) of(cred_check) of(cred_hash) of(cred_step) of(cred_write)      \
     of(cred_setting_fault) of(cred_record_fault) of(cred_record_parts)                             \
-    of(cred_argon2_segment_len) of(cred_argon2_begin) of(cred_argon2_segment) of(cred_argon2_end)  \
+    of(cred_argon2_segment_len) of(cred_argon2_begin) of(cred_argon2_segment)                      \
+    of(cred_argon2_two_segments) of(cred_argon2_end)                                               \
     of(cred_check_read) of(cred_hash_read) of(cred_read_begin) of(cred_check_end) of(cred_hash_end)
 /* clang-format on */
 

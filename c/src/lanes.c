@@ -1,9 +1,11 @@
 /* The order in which tag_parts.h has the parts called, and the threads that call them.
  *
- * Segments have numbers, slice by slice and pass by pass. A thread draws the next number, waits
- * until all segments of the slices before are worked, works its own, and draws again. So each is
- * worked once, by whoever is there. The tag is made by the caller's thread, and then all clear the
- * memory in the same way. */
+ * The segments of a slice are worked in groups: each alone, or by twos of neighbouring lanes if
+ * there are fewer threads than lanes, since two at once take less time than one after the other.
+ * Groups have numbers, slice by slice and pass by pass. A thread draws the next number, waits until
+ * all groups of the slices before are worked, works its own, and draws again. So each is worked
+ * once, by whoever is there. The tag is made by the caller's thread, and then all clear the memory
+ * in the same way, segment by segment. */
 #define _GNU_SOURCE
 #include "lanes.h"
 
@@ -38,9 +40,11 @@ struct run {
     uint64_t process; /* that began it */
     struct argon2_block *slices[SLICES];
     size_t segment_size, slice_size; /* in blocks */
-    uint64_t segments;               /* how many there are to be worked */
-    _Atomic(uint64_t) next_segment, next_cleared;
-    _Atomic(uint64_t) done; /* segments, and at last the tag */
+    uint32_t lanes_of_group;         /* one or two, but one for the last of an odd number */
+    uint32_t groups_of_slice;
+    uint64_t groups; /* how many there are to be worked */
+    _Atomic(uint64_t) next_group, next_cleared;
+    _Atomic(uint64_t) done; /* groups, and at last the tag */
     _Atomic(uint8_t) fault;
     pthread_mutex_t lock;
     pthread_cond_t more_done;
@@ -71,7 +75,7 @@ static void await(struct run *run, uint64_t done) {
 /* Counts one more, and wakes those who may wait for it: for the end of a slice, or for the tag. */
 static void count_done(struct run *run) {
     uint64_t done = atomic_fetch_add(&run->done, 1) + 1;
-    if (done <= run->segments && done % run->task->numbers.argon2.lanes != 0)
+    if (done <= run->groups && done % run->groups_of_slice != 0)
         return;
     sigset_t before = block_signals(run);
     pthread_mutex_lock(&run->lock);
@@ -85,34 +89,36 @@ static void note_fault(struct run *run, uint8_t fault) {
         atomic_store(&run->fault, fault);
 }
 
-static uint8_t work_segment(const struct run *run, uint64_t number) {
-    uint32_t lanes = run->task->numbers.argon2.lanes;
-    uint64_t turn = number / lanes;
-    struct segment_index index = {(uint32_t)(turn / SLICES), (uint32_t)(turn % SLICES),
-                                  (uint32_t)(number % lanes)};
+static uint8_t work_group(const struct run *run, uint64_t number) {
+    uint64_t turn = number / run->groups_of_slice;
+    uint32_t lane = (uint32_t)(number % run->groups_of_slice) * run->lanes_of_group;
+    struct segment_index index = {(uint32_t)(turn / SLICES), (uint32_t)(turn % SLICES), lane};
     const struct argon2_block *oldest = run->slices[(index.slice + 1) % SLICES];
     const struct argon2_block *middle = run->slices[(index.slice + 2) % SLICES];
     const struct argon2_block *newest = run->slices[(index.slice + 3) % SLICES];
-    struct argon2_block *own = run->slices[index.slice] + index.lane * run->segment_size;
+    struct argon2_block *own = run->slices[index.slice] + lane * run->segment_size;
+    if (run->lanes_of_group == 2 && lane + 1 < run->task->numbers.argon2.lanes)
+        return CALL(cred_argon2_two_segments, &run->task->numbers, &index, oldest, run->slice_size,
+                    middle, run->slice_size, newest, run->slice_size, own, 2 * run->segment_size);
     return CALL(cred_argon2_segment, &run->task->numbers, &index, oldest, run->slice_size, middle,
                 run->slice_size, newest, run->slice_size, own, run->segment_size);
 }
 
-/* Works segments until all are drawn. After a fault none is worked, and all are counted. */
-static void work_segments(struct run *run) {
+/* Works groups until all are drawn. After a fault none is worked, and all are counted. */
+static void work_groups(struct run *run) {
     for (;;) {
-        uint64_t number = atomic_fetch_add(&run->next_segment, 1);
-        if (number >= run->segments)
+        uint64_t number = atomic_fetch_add(&run->next_group, 1);
+        if (number >= run->groups)
             return;
-        await(run, number - number % run->task->numbers.argon2.lanes);
+        await(run, number - number % run->groups_of_slice);
         if (atomic_load(&run->fault) == RIGZUMAL_OK)
-            note_fault(run, work_segment(run, number));
+            note_fault(run, work_group(run, number));
         count_done(run);
     }
 }
 
 static void make_tag(struct run *run) {
-    await(run, run->segments);
+    await(run, run->groups);
     if (atomic_load(&run->fault) == RIGZUMAL_OK)
         note_fault(run,
                    run->task->end(run->task->inputs, run->slices[SLICES - 1], run->slice_size));
@@ -122,7 +128,7 @@ static void make_tag(struct run *run) {
 /* Clears the memory, a segment at a time, when the tag is made. */
 static void clear_segments(struct run *run) {
     uint32_t lanes = run->task->numbers.argon2.lanes;
-    await(run, run->segments + 1);
+    await(run, run->groups + 1);
     for (;;) {
         uint64_t number = atomic_fetch_add(&run->next_cleared, 1);
         if (number >= (uint64_t)SLICES * lanes)
@@ -138,7 +144,7 @@ static void *help(void *run) {
     unsigned char gap[PAGE];
     unsigned char *end = gap + PAGE - (uintptr_t)(gap + PAGE) % PAGE;
     madvise(end - HIDDEN_STACK, HIDDEN_STACK, MADV_WIPEONFORK);
-    work_segments(run);
+    work_groups(run);
     clear_segments(run);
     secrets_clear_traces();
     return NULL;
@@ -197,7 +203,7 @@ static void work_with_helpers(struct run *run, uint32_t wanted) {
     pthread_t helpers[MOST_HELPERS];
     struct stacks stacks = {.count = wanted};
     uint32_t started = start_helpers(run, helpers, &stacks);
-    work_segments(run);
+    work_groups(run);
     make_tag(run);
     clear_segments(run);
     sigset_t before = block_signals(run);
@@ -257,12 +263,15 @@ uint8_t lanes_work(const struct task *task, uint32_t threads) {
     if (fault != RIGZUMAL_OK)
         return fault;
     size_t slice_size = size / SLICES / sizeof(struct argon2_block);
+    uint32_t lanes = task->numbers.argon2.lanes, lanes_of_group = threads < lanes ? 2 : 1;
+    uint32_t groups_of_slice = (lanes + lanes_of_group - 1) / lanes_of_group;
     struct run run = {.task = task,
                       .process = process_number(),
-                      .segment_size = slice_size / task->numbers.argon2.lanes,
+                      .segment_size = slice_size / lanes,
                       .slice_size = slice_size,
-                      .segments = (uint64_t)SLICES * task->numbers.argon2.passes *
-                                  task->numbers.argon2.lanes,
+                      .lanes_of_group = lanes_of_group,
+                      .groups_of_slice = groups_of_slice,
+                      .groups = (uint64_t)SLICES * task->numbers.argon2.passes * groups_of_slice,
                       .lock = PTHREAD_MUTEX_INITIALIZER,
                       .more_done = PTHREAD_COND_INITIALIZER};
     int cancel_state;

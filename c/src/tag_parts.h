@@ -9,6 +9,8 @@
  * - Then for g = 0, 1, .. 4 * passes - 1, segment is called once for each lane, with pass g / 4 and
  *   slice g % 4. Its own blocks are the lane's in slice g % 4; oldest, middle and newest are the
  *   slices (g + 1) % 4, (g + 2) % 4 and (g + 3) % 4.
+ *   Or two_segments is called for a lane and the next one, in place of their two calls. Its own
+ *   blocks are those of both.
  * - A segment's call begins when all calls for a smaller g are over, and what they wrote is seen.
  * - end is called once, with the last slice, when all segments are worked.
  * - Only then are the slices cleared; all four are, whatever was answered.

@@ -52,10 +52,13 @@ static void try_threads(uint32_t threads, int wanted) {
 static void test_order(int turns) {
     for (int turn = 0; turn < turns; turn++) {
         begin_turn(random_below(4) == 0);
-        try_threads(1 + random_below(9), RIGZUMAL_OK);
+        uint32_t threads = 1 + random_below(9), lanes = now.numbers.argon2.lanes,
+                 slices = SLICES * now.numbers.argon2.passes;
+        pairs = 0;
+        try_threads(threads, RIGZUMAL_OK);
         CHECK(now.begins == 1 && now.ends == 1);
-        CHECK((uint64_t)now.segments_over ==
-              (uint64_t)SLICES * now.numbers.argon2.passes * now.numbers.argon2.lanes);
+        CHECK((uint32_t)now.segments_over == slices * lanes);
+        CHECK((uint32_t)pairs == (threads < lanes ? slices * (lanes / 2) : 0));
     }
 }
 

@@ -33,7 +33,27 @@ static uint8_t take_segment(const struct tag_numbers *numbers, const struct segm
     return work_segment(&given);
 }
 
+static _Atomic(int) pairs; /* how often two segments were worked by one call */
+
+static uint8_t take_two_segments(const struct tag_numbers *numbers,
+                                 const struct segment_index *index,
+                                 const struct argon2_block *oldest, size_t oldest_count,
+                                 const struct argon2_block *middle, size_t middle_count,
+                                 const struct argon2_block *newest, size_t newest_count,
+                                 struct argon2_block *own, size_t own_count) {
+    struct segment_index next = {index->pass, index->slice, index->lane + 1};
+    size_t half = own_count / 2;
+    CHECK(own_count % 2 == 0);
+    pairs++;
+    uint8_t fault = take_segment(numbers, index, oldest, oldest_count, middle, middle_count, newest,
+                                 newest_count, own, half);
+    return fault != 0 ? fault
+                      : take_segment(numbers, &next, oldest, oldest_count, middle, middle_count,
+                                     newest, newest_count, own + half, half);
+}
+
 static const struct build stand_ins = {.cred_argon2_segment = take_segment,
+                                       .cred_argon2_two_segments = take_two_segments,
                                        .cred_argon2_segment_len = segment_len};
 
 WRAP(const struct build *, processor_build, void) {

@@ -22,14 +22,3 @@ own_extended c start now addresses s k h items working same own = record {
   old = λ i d above below later.
       rw (same i d (omega (arith, below, working.later later, working.length_is))) (own.old i d above below later);
 }
-
--- the same of blocks that are all there
-pub record IsWorkingAll {S : Type 0} (holds : Parameters → List ℕ → ℕ → S → Type 0) (c : Shared S) (l : ℕ) (start now : List Block)
-    (addresses : Option AddressBlock) (s k : ℕ) : Type 0 where
-  pub length_is : s ≡ segment_len c.turn.params
-  pub some : 2 ≤ s
-  pub begun : first_offset c.turn ≤ k
-  pub inside : k ≤ s
-  pub there : length now ≡ s
-  pub kept : KeepsAddresses c.turn l addresses
-  pub own : (h : List ℕ) → SharedHolds holds h c → OwnHolds h c.turn l (first_offset c.turn) start → OwnHolds h c.turn l k now

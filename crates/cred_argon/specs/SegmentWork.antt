@@ -1,7 +1,7 @@
 -- What the work on a lane's segment needs, and what it does.
-use Rattle.std.specs.Prelude.{◌≡◌, ℕ, ◌<◌, ◌≤◌, List, Option, Vec, vec_len, vec_capacity}
+use Rattle.std.specs.Prelude.{◌≡◌, ℕ, ◌<◌, ◌≤◌, List, Option, Vec, length, vec_len, vec_capacity}
 use Rattle.cred_argon.specs.{declared.address.AddressBlock.AddressBlock, Addresses.KeepsAddresses}
-use Rattle.cred_argon.specs.{declared.segment.Segment.Segment, declared.segment.Shared.Shared, Parameters.Parameters, Parameters.segment_len}
+use Rattle.cred_argon.specs.{declared.block.Block.Block, declared.segment.Segment.Segment, declared.segment.Shared.Shared, Parameters.Parameters, Parameters.segment_len}
 use Rattle.cred_argon.specs.{Turns.OwnHolds, Turns.first_offset, Turns.begun_len, Segments.IsFull, Segments.HoldsSlice, Segments.IsShaped, Segments.SharedHolds}
 
 -- of a slice as the vector of its segments
@@ -42,3 +42,15 @@ pub record IsWorking {A : Type 0} (c : Shared (Vec Segment A)) (start now : Segm
   pub own : (h : List ℕ) → SharedHolds VecHolds h c
       → OwnHolds h c.turn start.lane (first_offset c.turn) start.blocks.items
       → OwnHolds h c.turn now.lane k now.blocks.items
+
+-- the same of lane l's segment, whose blocks are all there
+pub record IsWorkingAll {S : Type 0} (holds : Parameters → List ℕ → ℕ → S → Type 0) (c : Shared S)
+    (l : ℕ) (start now : List Block) (addresses : Option AddressBlock) (s k : ℕ) : Type 0 where
+  pub length_is : s ≡ segment_len c.turn.params
+  pub some : 2 ≤ s
+  pub begun : first_offset c.turn ≤ k
+  pub inside : k ≤ s
+  pub there : length now ≡ s
+  pub kept : KeepsAddresses c.turn l addresses
+  pub own : (h : List ℕ) → SharedHolds holds h c → OwnHolds h c.turn l (first_offset c.turn) start
+      → OwnHolds h c.turn l k now

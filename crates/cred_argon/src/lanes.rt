@@ -1,6 +1,6 @@
 //! Argon2 in parts, for a caller who works the lanes in threads of its own (RFC 9106, section 3.4).
 //! The memory is four slices of blocks, each with the segments of its lanes one after another.
-ghost use Rattle.std.specs.Prelude.{◌≡◌, ℕ, ◌+◌, ◌-◌, ◌*◌, ◌<◌, ◌≤◌, ◌↔◌, List, IfOk, IfErr, length, slice_index_or};
+ghost use Rattle.std.specs.Prelude.{◌≡◌, ℕ, ◌+◌, ◌-◌, ◌*◌, ◌<◌, ◌≤◌, ◌↔◌, List, IfOk, IfErr, length, slice_index_or, take, drop};
 ghost use Rattle.cred_argon.specs.{declared.block.Block.Block, Parameters.Parameters, Parameters.segment_len, Argon.argon, Argon.first_hash, Tags.IsAnyTooLong};
 ghost use Rattle.cred_argon.specs.Lanes.{HoldsBlocks, HoldsFirstBlocks, WorksSegment};
 
@@ -9,7 +9,7 @@ use crate::error::ArgonError;
 use crate::flat_slice::{FlatSlice, segment_start};
 use crate::inputs::{Inputs, first_block, first_hash, is_any_too_long};
 use crate::params::Params;
-use crate::segment::{Shared, work_segment};
+use crate::segment::{Shared, work_segment, work_segments};
 use crate::tag::tag_of;
 use crate::turn::Turn;
 use std::alloc::Global;
@@ -92,7 +92,53 @@ pub fn work_lane(
         → WorksSegment params.now h (4 * index.pass + index.slice) index.lane
         earlier.now.oldest.now earlier.now.middle.now earlier.now.newest.now own.old own.new }
 {
-    let shared = Shared {
+    let shared = shared_by_lanes(params, index, earlier);
+    work_segment(&shared, index.lane, own);
+}
+
+/// Works the segment of an index, and that of the next lane, a block of each in turn: while one
+/// lane's block is computed, the memory brings what the other lane's next one refers to. `own` are
+/// the blocks of both, one segment behind the other, and each is worked as `work_lane` works it.
+pub fn work_two_lanes(
+    params: &Params,
+    index: SegmentIndex,
+    earlier: &EarlierSlices<'_>,
+    own: &mut [Block],
+)
+    requires slice { index.slice < 4 }
+    requires lane { index.lane + 1 < params.now.lanes }
+    requires oldest { length earlier.now.oldest.now ≡ params.now.lanes * segment_len params.now }
+    requires middle { length earlier.now.middle.now ≡ params.now.lanes * segment_len params.now }
+    requires newest { length earlier.now.newest.now ≡ params.now.lanes * segment_len params.now }
+    requires own { length own.old ≡ 2 * segment_len params.now }
+    ensures first { (h : List ℕ)
+        → WorksSegment params.now h (4 * index.pass + index.slice) index.lane
+        earlier.now.oldest.now earlier.now.middle.now earlier.now.newest.now
+        (take (segment_len params.now) own.old) (take (segment_len params.now) own.new) }
+    ensures second { (h : List ℕ)
+        → WorksSegment params.now h (4 * index.pass + index.slice) (index.lane + 1)
+        earlier.now.oldest.now earlier.now.middle.now earlier.now.newest.now
+        (drop (segment_len params.now) own.old) (drop (segment_len params.now) own.new) }
+{
+    let shared = shared_by_lanes(params, index, earlier);
+    let (first, second) = own.split_at_mut(params.segment_len() as usize);
+    work_segments(&shared, index.lane, first, second);
+}
+
+/// What the lanes of a slice share while it is worked.
+fn shared_by_lanes<'a>(
+    params: &Params,
+    index: SegmentIndex,
+    earlier: &EarlierSlices<'a>,
+) -> Shared<FlatSlice<'a>>
+    ensures params { result.turn.params ≡ params.now }
+    ensures pass { result.turn.pass ≡ index.pass }
+    ensures slice { result.turn.slice ≡ index.slice }
+    ensures oldest { result.oldest.blocks.now ≡ earlier.now.oldest.now }
+    ensures middle { result.middle.blocks.now ≡ earlier.now.middle.now }
+    ensures newest { result.newest.blocks.now ≡ earlier.now.newest.now }
+{
+    Shared {
         turn: Turn {
             params: *params,
             pass: index.pass,
@@ -107,8 +153,7 @@ pub fn work_lane(
         newest: FlatSlice {
             blocks: earlier.newest,
         },
-    };
-    work_segment(&shared, index.lane, own);
+    }
 }
 
 /// The tag, if `last` is the last slice and has been worked on the last pass (RFC 9106, section

@@ -15,8 +15,9 @@ pub fn cells_meet_their_equation()
 {}
 
 /// If [`work_lane`](crate::work_lane) works each segment once, after the three slices before it,
-/// the last slice comes to hold its cells, and [`tag_of_lanes`](crate::tag_of_lanes) makes the tag
-/// of it. The call does nothing: its contract is the law.
+/// or [`work_two_lanes`](crate::work_two_lanes) works two of them, the last slice comes to hold its
+/// cells, and [`tag_of_lanes`](crate::tag_of_lanes) makes the tag of it. The call does nothing: its
+/// contract is the law.
 pub fn lanes_in_turn_fill_the_memory()
     ensures { (a : Parameters) (h : List ℕ) (fresh worked : ℕ → List Block)
         → IsRaw a → IsRun a h fresh worked

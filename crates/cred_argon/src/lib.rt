@@ -3,15 +3,16 @@
 //!
 //! [`argon2`] makes a tag from a password, a salt and [`Params`], its lanes worked by threads;
 //! [`argon2_in`] makes it on the caller's thread, in memory that is kept from hash to hash.
-//! [`begin_lanes`], [`work_lane`] and [`tag_of_lanes`] are its parts, for a caller who has threads
-//! and memory of its own. [`compress`] and [`reference`] are the two parts that its memory is
-//! filled with; look at them alone if you like.
+//! [`begin_lanes`], [`work_lane`], [`work_two_lanes`] and [`tag_of_lanes`] are its parts, for a
+//! caller who has threads and memory of its own. [`compress`] and [`reference`] are the two parts
+//! that its memory is filled with; look at them alone if you like.
 #![tactic(auto)]
 
 mod address;
 mod argon;
 mod block;
 mod bytes;
+mod earlier;
 mod error;
 mod flat_slice;
 mod inputs;
@@ -39,7 +40,9 @@ pub use block::{Block, compress};
 pub use error::ArgonError;
 pub use inputs::Inputs;
 pub use kind::{Kind, Version};
-pub use lanes::{EarlierSlices, SegmentIndex, begin_lanes, tag_of_lanes, work_lane};
+pub use lanes::{
+    EarlierSlices, SegmentIndex, begin_lanes, tag_of_lanes, work_lane, work_two_lanes,
+};
 pub use laws::{cells_meet_their_equation, lanes_in_turn_fill_the_memory};
 pub use params::{
     MAX_LANES, MAX_MEMORY, MAX_PASSES, MAX_RAW_TAG, MAX_TAG, MIN_TAG, Params,

@@ -5,9 +5,10 @@ ghost use Rattle.cred_argon.specs.{Parameters.segment_len, Turns.first_offset, T
 
 use crate::address::AddressBlock;
 use crate::block::{Block, Prefetch, prefetch_block};
+use crate::earlier::{earlier_block, slice_and_offset};
 use crate::position::Reference;
 use crate::reference_block::reference_from;
-use crate::segment::{Shared, earlier_block, halves, slice_and_offset};
+use crate::segment::{Shared, halves};
 use crate::slice::Slice;
 
 /// What the block that follows the one at an offset refers to.

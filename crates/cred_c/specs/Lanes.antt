@@ -1,6 +1,6 @@
 -- Argon2 worked in parts over memory of the caller's: what numbers stand for, what is wrong with
 -- what a part is given, and what the parts make.
-use Rattle.std.specs.Prelude.{◌≡◌, ℕ, ◌-◌, ◌*◌, ◌^◌, ◌<◌, ◌⊎◌, List, [], length, Option, Some, None}
+use Rattle.std.specs.Prelude.{◌≡◌, ℕ, ◌+◌, ◌-◌, ◌*◌, ◌^◌, ◌<◌, ◌⊎◌, List, [], length, Option, Some, None}
 use Rattle.cred_argon.specs.{Argon.first_hash, Faults.IsFirstRawFault, Lanes.HoldsBlocks, Lanes.HoldsFirstBlocks, Numbers.kind_number, Numbers.version_number}
 use Rattle.cred_argon.specs.declared.inputs.Inputs.{Inputs}
 use Rattle.cred_argon.specs.{Parameters.Parameters, Parameters.parameters, Parameters.segment_len, Parameters.IsRaw, Tags.IsAnyTooLong}
@@ -102,6 +102,14 @@ pub record IsSegment (a : Parameters) (i : SegmentIndex) (s : SlicesBefore) (own
   pub inside : (i.slice < 4) × (i.lane < a.lanes)
   pub earlier : IsSlice a s.oldest × IsSlice a s.middle × IsSlice a s.newest
   pub blocks : length own ≡ segment_len a
+
+-- there is such a segment and one of the next lane, and the blocks are those of three slices and
+-- of both segments, one behind the other
+pub record AreTwoSegments (a : Parameters) (i : SegmentIndex) (s : SlicesBefore) (own : List Block)
+    : Type 0 where
+  pub inside : (i.slice < 4) × (i.lane + 1 < a.lanes)
+  pub earlier : IsSlice a s.oldest × IsSlice a s.middle × IsSlice a s.newest
+  pub blocks : length own ≡ 2 * segment_len a
 
 -- the blocks hold every cell of the memory's last slice, for these inputs
 abbrev pub IsFilled : Parameters → TagInputs → List Block → Type 0

@@ -2,15 +2,16 @@
 //! four slices of blocks, each with the segments of its lanes one after another. Segment g of a
 //! lane, counted over all passes, is that of pass g / 4 and slice g % 4; it is worked once, after
 //! all segments of slice g - 1.
-ghost use Rattle.std.specs.Prelude.{◌≡◌, ℕ, ◌+◌, ◌*◌, ◌<◌, ◌≤◌, ◌↔◌, ◌⊎◌, List, length, IsTrue};
+ghost use Rattle.std.specs.Prelude.{◌≡◌, ℕ, ◌+◌, ◌*◌, ◌<◌, ◌≤◌, ◌↔◌, ◌⊎◌, List, length, take, drop, IsTrue};
 ghost use Rattle.cred_argon.specs.{Argon.argon, Lanes.WorksSegment, Parameters.Parameters, Parameters.segment_len};
-ghost use Rattle.cred_c.specs.Lanes.{IsBegun, IsFilled, IsNumbersFault, IsSegment, IsSlice, StandFor, TagInputs, part_fault_number, slices_before, tag_inputs};
+ghost use Rattle.cred_c.specs.Lanes.{AreTwoSegments, IsBegun, IsFilled, IsNumbersFault, IsSegment, IsSlice, StandFor, TagInputs, part_fault_number, slices_before, tag_inputs};
 ghost use Rattle.cred_c.specs.declared.part_fault.PartFault.{PartFault};
 
 use crate::numbers::{DONE, NO_PLACE, argon_number};
 use crate::tag_numbers::{TagNumbers, params_of};
 use cred_argon::{
     Block, EarlierSlices, Inputs, Params, SegmentIndex, begin_lanes, tag_of_lanes, work_lane,
+    work_two_lanes,
 };
 use std::alloc::Global;
 
@@ -116,6 +117,53 @@ pub extern "C" fn cred_argon2_segment(
     }
 }
 
+/// Works the segment of the index and that of the next lane, a block of each in turn. `own` are the
+/// blocks of both, one segment behind the other. All else is as for one segment.
+///
+/// Answers 0; or 12 to 17 as above; otherwise 27 if there is no such slice or no lane behind the
+/// index's, or the blocks aren't those of three slices and two segments.
+#[unsafe(no_mangle)]
+pub extern "C" fn cred_argon2_two_segments(
+    numbers: &TagNumbers,
+    index: &SegmentIndex,
+    oldest: &[Block],
+    middle: &[Block],
+    newest: &[Block],
+    own: &mut [Block],
+) -> u8
+    ensures worked { (a : Parameters) → StandFor numbers.now a
+        → AreTwoSegments a index.now (slices_before oldest.now middle.now newest.now) own.old
+        → (result ≡ 0) × ((h : List ℕ)
+        → WorksSegment a h (4 * index.now.pass + index.now.slice) index.now.lane
+        oldest.now middle.now newest.now
+        (take (segment_len a) own.old) (take (segment_len a) own.new)
+        × WorksSegment a h (4 * index.now.pass + index.now.slice) (index.now.lane + 1)
+        oldest.now middle.now newest.now
+        (drop (segment_len a) own.old) (drop (segment_len a) own.new)) }
+    ensures place { (a : Parameters) → StandFor numbers.now a
+        → (AreTwoSegments a index.now (slices_before oldest.now middle.now newest.now) own.old → ⊥)
+        → result ≡ 27 }
+    ensures fault { (f : PartFault) → IsNumbersFault numbers.now f
+        → result ≡ part_fault_number f }
+    ensures kept { (result ≡ 0 → ⊥) → own.new ≡ own.old }
+{
+    match params_of(numbers) {
+        Ok(params) => {
+            let earlier = EarlierSlices {
+                oldest,
+                middle,
+                newest,
+            };
+            if !are_two_segments(&params, index, &earlier, own) {
+                return NO_PLACE;
+            }
+            work_two_lanes(&params, *index, &earlier, own);
+            DONE
+        }
+        Err(fault) => fault.number(),
+    }
+}
+
 /// Writes the tag over `out`, if `last` is the last slice and has been worked on the last pass.
 ///
 /// Answers 0; or 12 to 17 as above; otherwise 27 if `last` isn't a slice or `out` hasn't the tag's
@@ -180,4 +228,25 @@ fn is_segment(
         && is_slice(params, earlier.middle)
         && is_slice(params, earlier.newest)
         && own.len() == params.segment_len() as usize
+}
+
+/// Whether there is such a segment and one of the next lane, and the blocks are those of three
+/// slices and of both.
+fn are_two_segments(
+    params: &Params,
+    index: &SegmentIndex,
+    earlier: &EarlierSlices<'_>,
+    own: &[Block],
+) -> bool
+    ensures { IsTrue result ↔ AreTwoSegments params.now index.now
+        (slices_before earlier.now.oldest.now earlier.now.middle.now earlier.now.newest.now)
+        own.now }
+{
+    index.slice < 4
+        && 2 <= params.lanes()
+        && index.lane <= params.lanes() - 2
+        && is_slice(params, earlier.oldest)
+        && is_slice(params, earlier.middle)
+        && is_slice(params, earlier.newest)
+        && own.len() == 2 * params.segment_len() as usize
 }

@@ -1,4 +1,4 @@
-use Rattle.cred_argon.proofs.Working.{IsWorkingAll}
+use Rattle.cred_argon.specs.SegmentWork.{IsWorkingAll}
 use Rattle.cred_argon.proofs.segment.work_segment.Given as goal
 
 abbrev pub invariant-columns : goal.invariant-columns

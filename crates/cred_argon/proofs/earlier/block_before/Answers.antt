@@ -2,7 +2,7 @@ use Rattle.std.proofs.Common.{◌≡◌, ◌<◌, ◌≤◌, ◌-◌, ◌∙◌,
 use Rattle.std.proofs.lemmas.Bool.Decides.{nat_tests}
 use Rattle.cred_argon.specs.{Parameters.segment_len, Turns.number, Cells.cell}
 use Rattle.cred_argon.proofs.Distances.{before_first, begun_later}
-use Rattle.cred_argon.proofs.segment.block_before.Goals as goal
+use Rattle.cred_argon.proofs.earlier.block_before.Goals as goal
 
 pub returns-then-is_empty : goal.returns-then-is_empty
 returns-then-is_empty g c h held done =

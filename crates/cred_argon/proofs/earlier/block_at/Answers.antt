@@ -1,7 +1,7 @@
 use Rattle.std.proofs.Common.{◌%◌, ◌∙◌, [], ap}
 use Rattle.cred_argon.specs.{Parameters.segment_len, Cells.cell}
 use Rattle.cred_argon.proofs.Distances.{distance_of, distance_own, distance_place}
-use Rattle.cred_argon.proofs.segment.block_at.Goals as goal
+use Rattle.cred_argon.proofs.earlier.block_at.Goals as goal
 
 pub bounds-done-offset : goal.bounds-done-offset
 bounds-done-offset g c =

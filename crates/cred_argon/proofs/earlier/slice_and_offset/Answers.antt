@@ -1,6 +1,6 @@
 use Rattle.std.proofs.Common.{◌≡◌, ◌+◌, ◌*◌, sym, arith}
 use Rattle.std.proofs.{lemmas.Nat.div-mul-add, lemmas.Nat.mod-mul-add}
-use Rattle.cred_argon.proofs.segment.slice_and_offset.Goals as goal
+use Rattle.cred_argon.proofs.earlier.slice_and_offset.Goals as goal
 
 pub returns-clause-slice : goal.returns-clause-slice
 returns-clause-slice c =
