@@ -15,6 +15,7 @@ pub mod Pasts
 pub mod Prompt
 pub mod Refusals
 pub mod Script
+pub mod Scripts
 pub mod Service
 pub mod Steps
 pub mod Texts

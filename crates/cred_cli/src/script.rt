@@ -1,9 +1,6 @@
 //! A whole script: read to its end, each line done and answered in turn.
 
-ghost use Rattle.std.specs.Prelude.{◌≡◌, ◌+◌, ◌≤◌, ◌++◌, ℕ, List, true, length, IfErr, IfOk, IfSome, OnOk};
-ghost use Rattle.cred_cli.specs.{Outcome.HasCause, Outcome.IsAnswered, Outcome.ScriptFails, Outcome.longest_script, Outcome.most_calls, Prompt.IsPrompt};
-ghost use Rattle.cred_cli.specs.{Script.out, Script.script_start, Service.EndsAs};
-ghost use Rattle.cred_cli.specs.Watched.{GivesAsContracted, IsLogged, IsNew, MayFollow, TakesAsContracted, calls_of, ended_of, failed_of, given_of, inner_of, log_of, name_of, taken_of, transcript_reading, transcript_writing};
+ghost use Rattle.cred_cli.specs.{Scripts.RunsScript, Scripts.run_state, Watched.IsNew};
 
 use crate::costs::CostBounds;
 use crate::fault::ScriptFault;
@@ -34,11 +31,12 @@ pub struct End {
 /// threads hash. No call was made on the reader or the writer before. The writer is one that holds
 /// nothing back, as it is never flushed.
 ///
-/// Whatever the reader and the writer are, a pipe or a terminal: where the script ends well, the
-/// bytes that the writer took are the answers to the lines of the bytes that the reader gave
-/// (`answers`), and the reader was at its end (`end`). After a fault, and at each call of the reader,
-/// `transcript` says which lines are answered. Of a reader or a writer whose own contract names its
-/// bytes, they are the same bytes (`gives`, `takes`).
+/// The contract's one word, `RunsScript`, has a name for each of its parts. Whatever the reader and
+/// the writer are, a pipe or a terminal: where the script ends well, the bytes that the writer took
+/// are the answers to the lines of the bytes that the reader gave (`answers`), and the reader was at
+/// its end (`end`). After a fault, and at each call of the reader, `transcript` says which lines are
+/// answered. Of a reader or a writer whose own contract names its bytes, they are the same bytes
+/// (`gives`, `takes`).
 ///
 /// Errors: `Read` or `Write` if such a call failed; `Memory` if memory ran out; `TooLong` if the
 /// script has more bytes.
@@ -52,34 +50,9 @@ pub fn run_script<T: Threads + Wait + Sync, K: Keeper, R: Read, W: Write>(
 ) -> Result<End, ScriptFault>
     requires new_reader { IsNew reader.old }
     requires new_writer { IsNew writer.old }
-    ensures done { IfOk result (λ end. IfSome (R.remaining (inner_of reader.old)) (λ bytes.
-        IsAnswered K.capacity (K.book keeper.old) bytes (W.contents (inner_of writer.old))
-        (W.contents (inner_of writer.new)) (K.book keeper.new) end.lines)) }
-    ensures short { OnOk result
-        (IfSome (R.remaining (inner_of reader.old)) (λ bytes. length bytes ≤ longest_script)) }
-    ensures fault { IfErr result (λ fault. IfSome (R.remaining (inner_of reader.old)) (λ bytes.
-        ScriptFails K.capacity (K.book keeper.old) bytes (R.remaining (inner_of reader.new))
-        (W.contents (inner_of writer.old)) (W.contents (inner_of writer.new))
-        (K.book keeper.new) fault)) }
-    ensures cause { IfErr result (HasCause (failed_of reader.new) (failed_of writer.new)) }
-    ensures prompt { IfSome (R.remaining (inner_of reader.old)) (λ bytes. IsPrompt K.capacity
-        (script_start (K.book keeper.old) bytes (W.contents (inner_of writer.old)))
-        (name_of writer.old) (log_of reader.new)) }
-    ensures calls { calls_of reader.new ≤ most_calls }
-    ensures few { IfSome (R.remaining (inner_of reader.old))
-        (λ bytes. calls_of reader.new ≤ length bytes + 1) }
-    ensures answers { OnOk result (taken_of writer.new
-        ≡ out K.capacity (K.book keeper.old) (given_of reader.new)) }
-    ensures end { OnOk result (ended_of reader.new ≡ true) }
-    ensures transcript { (rest : List ℕ) → MayFollow rest reader.new
-        → EndsAs longest_script K.capacity (script_start (K.book keeper.old)
-        (given_of reader.new ++ rest) (Some (taken_of writer.old)))
-        (transcript_reading rest reader.new) (transcript_writing writer.old writer.new)
-        (K.book keeper.new) result }
-    ensures logged { IsLogged reader.old reader.new }
-    ensures reads { calls_of reader.new ≤ length (given_of reader.new) + 1 }
-    ensures gives { GivesAsContracted R.remaining reader.old reader.new }
-    ensures takes { TakesAsContracted W.contents writer.old writer.new }
+    ensures { RunsScript K.capacity R.remaining W.contents
+        (run_state (K.book keeper.old) reader.old writer.old)
+        (run_state (K.book keeper.new) reader.new writer.new) result }
 {
     let tools = Tools { rt, alloc, workers };
     run_script_by::<Waiting, T, K, R, W>(&tools, keeper, reader, writer)
@@ -97,34 +70,9 @@ pub fn run_script_by<Way, T: Threads + Sync, K: KeeperBy<Way, T>, R: Read, W: Wr
 ) -> Result<End, ScriptFault>
     requires new_reader { IsNew reader.old }
     requires new_writer { IsNew writer.old }
-    ensures done { IfOk result (λ end. IfSome (R.remaining (inner_of reader.old)) (λ bytes.
-        IsAnswered K.capacity (K.book keeper.old) bytes (W.contents (inner_of writer.old))
-        (W.contents (inner_of writer.new)) (K.book keeper.new) end.lines)) }
-    ensures short { OnOk result
-        (IfSome (R.remaining (inner_of reader.old)) (λ bytes. length bytes ≤ longest_script)) }
-    ensures fault { IfErr result (λ fault. IfSome (R.remaining (inner_of reader.old)) (λ bytes.
-        ScriptFails K.capacity (K.book keeper.old) bytes (R.remaining (inner_of reader.new))
-        (W.contents (inner_of writer.old)) (W.contents (inner_of writer.new))
-        (K.book keeper.new) fault)) }
-    ensures cause { IfErr result (HasCause (failed_of reader.new) (failed_of writer.new)) }
-    ensures prompt { IfSome (R.remaining (inner_of reader.old)) (λ bytes. IsPrompt K.capacity
-        (script_start (K.book keeper.old) bytes (W.contents (inner_of writer.old)))
-        (name_of writer.old) (log_of reader.new)) }
-    ensures calls { calls_of reader.new ≤ most_calls }
-    ensures few { IfSome (R.remaining (inner_of reader.old))
-        (λ bytes. calls_of reader.new ≤ length bytes + 1) }
-    ensures answers { OnOk result (taken_of writer.new
-        ≡ out K.capacity (K.book keeper.old) (given_of reader.new)) }
-    ensures end { OnOk result (ended_of reader.new ≡ true) }
-    ensures transcript { (rest : List ℕ) → MayFollow rest reader.new
-        → EndsAs longest_script K.capacity (script_start (K.book keeper.old)
-        (given_of reader.new ++ rest) (Some (taken_of writer.old)))
-        (transcript_reading rest reader.new) (transcript_writing writer.old writer.new)
-        (K.book keeper.new) result }
-    ensures logged { IsLogged reader.old reader.new }
-    ensures reads { calls_of reader.new ≤ length (given_of reader.new) + 1 }
-    ensures gives { GivesAsContracted R.remaining reader.old reader.new }
-    ensures takes { TakesAsContracted W.contents writer.old writer.new }
+    ensures { RunsScript K.capacity R.remaining W.contents
+        (run_state (K.book keeper.old) reader.old writer.old)
+        (run_state (K.book keeper.new) reader.new writer.new) result }
 {
     let engine = Engine {
         tools,
