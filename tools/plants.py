@@ -13,6 +13,7 @@ refused, M not`, and the status is 1 if one wasn't.
 
 from __future__ import annotations
 
+import argparse
 import pathlib
 import re
 import shutil
@@ -194,7 +195,10 @@ def refusal(top: pathlib.Path, plant: Plant, failing: Collection[str]) -> str:
 
 
 def main() -> int:
-    chosen = [it for it in PLANTS if any(word in it.file for word in sys.argv[1:] or [""])]
+    reader = argparse.ArgumentParser(usage="python3 tools/plants.py [WORD..]")
+    reader.add_argument("words", nargs="*", metavar="WORD", help="a part of a file's name")
+    words = reader.parse_args().words or [""]
+    chosen = [it for it in PLANTS if any(word in it.file for word in words)]
     refused = 0
     with tempfile.TemporaryDirectory(prefix="rigzumal-plants-") as folder:
         room = pathlib.Path(folder)
