@@ -249,22 +249,6 @@ class MarksTest(BookTest):
                         self.book("check", "ann", given="password\n").written, ("no\n", "absent\n")
                     )
 
-    def test_a_script_is_turned_away(self) -> None:
-        """Lines without tags heed no mark, so none is answered while an account has one."""
-        line = "show ann\n"
-        for order in ("run", "serve"):
-            for mark, after in (("lock", "unlock"), ("expire", "reset")):
-                with self.subTest(order=order, mark=mark):
-                    self.assertEqual(self.book(order, given=line).status, 0)
-                    self.assertEqual(self.book(mark, "ann").status, 0)
-                    before = self.book.accounts()
-                    done = self.book(order, given=f"{line}account bob\n")
-                    self.assertEqual((done.status, done.written), (6, ""))
-                    self.assertIn("serve --tagged does", done.faults)
-                    self.assertEqual(self.book.accounts(), before)
-                    words = ["--setting", CHEAP] if after in MAKING else []
-                    self.book(after, "ann", *words, given="first\n" if words else "")
-
     def test_backup_and_restore(self) -> None:
         self.assertEqual(self.book("lock", "ann"), yes("locked"))
         copy = self.file("copy.db")
