@@ -204,6 +204,31 @@ class MarksTest(BookTest):
                 wanted = {"name": "ann", "costs": CHEAP, "locked": True, "expired": True}
                 self.assertEqual(shown, wanted)
 
+    def test_shown_by_a_service(self) -> None:
+        """`show` answers an account's field of the file, as SQLite reads it: the marks, and the
+        record behind them."""
+        self.book.answers("a account dan")
+        for change, marks in (
+            ("lock ann", "!"),
+            ("expire ann", "!~"),
+            ("unlock ann", "~"),
+            (f"reset ann {OTHER}", ""),
+            ("lock dan", "!"),
+            ("unlock dan", ""),
+        ):
+            with self.subTest(change=change):
+                name = change.split()[1]
+                found = self.book.answers(f"a {change}", f"t show {name}")[1]
+                field = f"SELECT coalesce(record, 'none') FROM account WHERE name = '{name}'"
+                [(kept,)] = rows(self.book.path, field)
+                self.assertEqual(found, f"t {kept}")
+                record = kept.lstrip("!~")
+                self.assertEqual(kept.removesuffix(record), marks)
+                if name == "ann":
+                    self.assertTrue(record.startswith(f"{CHEAP}$"))
+                else:
+                    self.assertEqual(record, "none" if not marks else "")
+
     def test_lists_in_pages(self) -> None:
         """A list of marks has the marked accounts alone, in the order of the names."""
         lines = [f"a account {name}" for name in ("cy", "bob", "dan")]
