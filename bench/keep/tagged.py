@@ -19,7 +19,6 @@ TOP = pathlib.Path(__file__).resolve().parent.parent.parent
 sys.path.insert(1, str(TOP / "bench"))
 
 from service import Service
-from turns import rate
 
 WORD = base64.b64encode(b"secret").decode()
 CHEAPEST = "$argon2id$v=19$m=8,t=1,p=1"
@@ -27,25 +26,11 @@ CLIENTS = (1, 4, 16, 64)
 
 
 class Book:
-    """A book of ann with these costs, and what is timed on it."""
+    """A new book, and what is timed on it."""
 
-    def __init__(
-        self, program: pathlib.Path, path: pathlib.Path, setting: str, seconds: float
-    ) -> None:
+    def __init__(self, program: pathlib.Path, path: pathlib.Path, seconds: float) -> None:
         self.words, self.seconds = (program, path), seconds
         subprocess.run([*self.words, "init"], check=True)
-        command = [*self.words, "add", "ann", "--setting", setting]
-        subprocess.run(command, input=b"secret\n", check=True, stdout=subprocess.DEVNULL)
-
-    def one_at_a_time(self) -> float:
-        """Verifies a second of `serve`."""
-        with Service(*self.words, "serve") as run:
-
-            def verify() -> None:
-                assert run.ask(f"begin 1 verify ann {WORD}") == "begun"
-                assert run.ask("commit 1") == "yes"
-
-            return rate(verify, self.seconds, 1)
 
     def changes_a_second(self, clients: int, pause: float) -> float:
         """Of so many clients, each with an account of its own, who send a line once the one before
@@ -74,7 +59,7 @@ class Book:
 def changes_together(program: pathlib.Path, seconds: float, pause: float) -> None:
     """Prints the changes a second of each number of clients."""
     with tempfile.TemporaryDirectory() as folder:
-        book = Book(program, pathlib.Path(folder) / "users.db", CHEAPEST, seconds)
+        book = Book(program, pathlib.Path(folder) / "users.db", seconds)
         print(f"changes a second, {CHEAPEST}, a sync takes {pause:g} ms more:")
         alone = 0.0
         for clients in CLIENTS:

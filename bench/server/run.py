@@ -3,10 +3,9 @@
 
     /usr/bin/python3 bench/server/run.py [--seconds S] [--clients N [N ..]] [--fast]
 
-For 64 MiB and 4 MiB (Argon2id, t=1, p=1) and 1, 4 and 16 clients: verifies a second of `credkeep
-FILE serve` alone, which answers one at a time; at the socket, each client with a connection that it
-keeps; through pam_rigzumal, each login with a connection of its own; and through pam_unix with
-yescrypt at its default costs. It needs root, the built credkeep, libpam0g-dev and pamtester, and
+For 64 MiB and 4 MiB (Argon2id, t=1, p=1) and 1, 4 and 16 clients: verifies a second at the socket,
+each client with a connection that it keeps; through pam_rigzumal, each login with a connection of
+its own; and through pam_unix with yescrypt at its default costs. It needs root, the built credkeep, libpam0g-dev and pamtester, and
 runs in namespaces of its own. `--fast` takes the tests' book, whose hashes cost nothing: what is
 left is the path. Run it on a machine that does nothing else.
 """
@@ -20,21 +19,13 @@ import tempfile
 import time
 
 TOP = pathlib.Path(__file__).resolve().parent.parent.parent
-sys.path[:0] = [str(TOP / it) for it in ("tests/server", "bench", "bench/keep")]
+sys.path[:0] = [str(TOP / it) for it in ("tests/server", "bench")]
 from machine import RUN, begun, install, prepared, shell  # noqa: E402
 from served import PYTHON, field_of  # noqa: E402
-from tagged import Book  # noqa: E402
 from turns import print_head, print_row, rate  # noqa: E402
 
 WORD = "secret word"
 FIELD = field_of(WORD.encode())
-
-
-def by_serve(room: pathlib.Path, setting: str, seconds: float) -> float:
-    """Verifies a second of a `serve` that answers one line after another."""
-    path = room / "alone.db"
-    path.unlink(missing_ok=True)
-    return Book(TOP / "crates/credkeep/out/credkeep", path, setting, seconds).one_at_a_time()
 
 
 async def at_socket(clients: int, seconds: float) -> float:
@@ -68,16 +59,15 @@ def inside(room: pathlib.Path, given: argparse.Namespace) -> None:
     pathlib.Path("/etc/pam.d/unix").write_text(lines)
     shell("sed -i '/^ada:/d' /etc/shadow && echo 'ada::19000:0:99999:7:::' >> /etc/shadow")
     shell(f"echo 'ada:{WORD}' | chpasswd -c YESCRYPT")
-    print_head(["Costs", "Clients", "serve", "At the socket", "By PAM", "pam_unix, yescrypt"])
+    print_head(["Costs", "Clients", "At the socket", "By PAM", "pam_unix, yescrypt"])
     settings = {f"{it} MiB": f"$argon2id$v=19$m={it * 1024},t=1,p=1" for it in (64, 4)}
     for costs, setting in ({"none": "$fast$c=1"} if given.fast else settings).items():
         server = begun("--setting", setting)
         server.enrol(ada=WORD)
-        serve = "" if given.fast else f"{by_serve(room, setting, given.seconds):.1f}"
         for clients in given.clients:
             rates = [asyncio.run(at_socket(clients, given.seconds))]
             rates += [by_pam(it, clients, given.seconds) for it in ("book", "unix")]
-            print_row([costs, clients, serve, *(f"{it:.1f}" for it in rates)])
+            print_row([costs, clients, *(f"{it:.1f}" for it in rates)])
         server.talk("admin delete ada -> deleted")
         server.stop()
 

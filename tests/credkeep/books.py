@@ -48,6 +48,9 @@ class Change(NamedTuple):
     given: str = ""
 
 
+# The words of a service whose own costs are cheap.
+SERVE = ("serve", "--tagged", "--setting", CHEAP)
+
 EDITS = [
     Change({"ann": RECORD, "cat": ""}, ["rename", "ann", "bob"], {"bob": RECORD, "cat": ""}),
     Change({"ann": RECORD, "cat": ""}, ["disable", "ann"], {"ann": "", "cat": ""}),
@@ -104,18 +107,12 @@ class Book:
         return Service(self.command(*words), **options)
 
     def tagged(self, *words: str, **options: Any) -> "Service":
-        """Starts a service of tagged lines, whose own costs are cheap if the words name none."""
+        """Starts a service, whose own costs are cheap if the words name none."""
         costs = [] if "--setting" in words else ["--setting", CHEAP]
         return self.start("serve", "--tagged", *costs, *words, **options)
 
-    def script(self, words: Iterable[str], lines: Iterable[str], **options: Any) -> list[str]:
-        """The answers of a run to lines that are given at once."""
-        done = self(*words, given=lined(lines), **options)
-        assert done._replace(written="") == DONE, done
-        return done.written.splitlines()
-
     def answers(self, *lines: str, words: Iterable[str] = ()) -> list[str]:
-        """A service's answers to tagged lines, each of which waits for the one before."""
+        """A service's answers to lines, each of which waits for the one before."""
         with self.tagged(*words) as service:
             found = [service.ask(line) for line in lines]
             rest = service.end()
@@ -272,9 +269,9 @@ class BookTest(unittest.TestCase):
 
     def killed_after(self, book: Book, *lines: str) -> None:
         """A service makes these changes and is killed, so they are in the log alone."""
-        with book.start("serve") as service:
+        with book.tagged() as service:
             for line in lines:
-                self.assertEqual(service.ask(line), "ok")
+                self.assertEqual(service.ask(f"t {line}"), "t ok")
         self.assertGreater(book.log.stat().st_size, EMPTY_LOG)
 
     def once(self, folder: pathlib.Path, look: Callable[[Book], Found]) -> Found:

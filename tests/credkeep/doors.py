@@ -1,4 +1,4 @@
-"""The doors to a book: orders as words, the script's lines (`run`, `serve`) and tagged lines.
+"""The doors to a book: orders as words, and the lines of a service.
 
 Each door puts an operation, a line of tests/operations.py, in its own form.
 """
@@ -9,7 +9,7 @@ import unittest
 from collections.abc import Iterable
 from typing import NamedTuple
 
-from tests.credkeep.books import CHEAP, SALT, Book, says
+from tests.credkeep.books import CHEAP, Book, says
 
 # How many passwords an operation has, and whether the last of them makes a record.
 PASSWORDS = dict.fromkeys(("verify", "login", "enrol", "upgrade", "remove", "reset"), 1)
@@ -61,37 +61,8 @@ class Orders:
                 test.assertEqual(done, says(answer))
 
 
-class Script:
-    """One process that answers the lines of a script, `run` or `serve`."""
-
-    begun = {"verify", "enrol", "change", "upgrade", "remove"}
-    verbs = begun | {"account", "load", "show"}
-
-    def __init__(self, *words: str) -> None:
-        self.words = words
-
-    def dialogue(self, row: Row) -> list[Row]:
-        """The lines with their answers: those of a number's begin and its commit for a hash. A name
-        that isn't there has no number."""
-        operation, answer = Operation.of(row[0]), row[1]
-        line = operation.line()
-        if operation.verb not in self.begun:
-            return [(line, answer)]
-        if operation.verb in MAKING and not operation.rest:
-            line += f" {CHEAP}${SALT}"
-        if answer == "noaccount":
-            answer = "bad 5 noaccount"
-        answers = (answer, "bad 15 idle") if answer.startswith("bad") else ("begun", answer)
-        return list(zip((f"begin 1 {line}", "commit 1"), answers))
-
-    def perform(self, test: unittest.TestCase, book: Book, rows: list[Row]) -> None:
-        dialogue = [it for row in rows for it in self.dialogue(row)]
-        lines = [line for line, _ in dialogue]
-        test.assertEqual([*zip(lines, book.script(self.words, lines))], dialogue)
-
-
 class Tagged:
-    """A service of tagged lines, each of which waits for the answer to the one before."""
+    """A service, each line of which waits for the answer to the one before."""
 
     verbs = {*PASSWORDS, "account", "load", "show", "disable", "delete", "rename", "list"}
 
@@ -103,16 +74,14 @@ class Tagged:
         test.assertEqual([*zip(rows, found)], [(row, f"t1 {row[1]}") for row in rows])
 
 
-Door = Orders | Script | Tagged
+Door = Orders | Tagged
 DOORS: dict[str, Door] = {
     "orders": Orders(),
-    "run": Script("run"),
-    "serve": Script("serve"),
     "serve --tagged": Tagged(),
 }
 
 
 def perform(test: unittest.TestCase, book: Book, door: Door, rows: Iterable[Row]) -> None:
-    """Performs each operation at a door, or at that of tagged lines if the door hasn't it."""
+    """Performs each operation at a door, or at the service if the door hasn't it."""
     for is_there, group in itertools.groupby(rows, lambda it: it[0].split()[0] in door.verbs):
         (door if is_there else DOORS["serve --tagged"]).perform(test, book, [*group])

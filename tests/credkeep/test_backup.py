@@ -7,8 +7,8 @@ import stat
 import threading
 import time
 
-from tests.credkeep.books import DONE, OTHER, RECORD, Accounts, Book, BookTest, Service
-from tests.credkeep.books import contents, rows
+from tests.credkeep.books import DONE, OTHER, RECORD, SERVE, Accounts, Book, BookTest, Service
+from tests.credkeep.books import contents, lined, rows
 from tests.helpers import Ended, need_root
 
 NOBODY = 65534
@@ -43,11 +43,11 @@ class BackupTest(CopyTest):
         copies: list[tuple[int, int, Ended, Book]] = []
 
         def add() -> None:
-            while answered[0] < 1500 and service.ask(f"account n{answered[0]:05}") == "ok":
+            while answered[0] < 1500 and service.ask(f"t account n{answered[0]:05}") == "t ok":
                 answered[0] += 1
                 time.sleep(0.0005)
 
-        with self.book.start("serve") as service:
+        with self.book.tagged() as service:
             adding = threading.Thread(target=add)
             adding.start()
             while adding.is_alive():
@@ -80,8 +80,8 @@ class BackupTest(CopyTest):
         for path in (text, self.room, self.room / "none/copy.db"):
             with self.subTest(path=path):
                 self.assertFails(book("backup", str(path)), 5)
-        with other.start("serve") as service:
-            self.assertEqual(service.ask("account late"), "ok")
+        with other.tagged() as service:
+            self.assertEqual(service.ask("t account late"), "t ok")
             self.assertFails(book("backup", str(other.path)), 5, "busy")
         why = "a log with changes lies beside it"
         self.assertFails(book("backup", str(other.path)), 5, why)
@@ -137,7 +137,8 @@ class RestoreTest(CopyTest):
         for how in ("ended", "killed", "gone", "gone with its log", "empty", "damaged"):
             with self.subTest(how=how):
                 changes = [f"load {it} {OTHER}" for it in random.sample(sorted(old), 205)]
-                self.assertEqual(book.script(["serve"], changes[5:]), ["ok"] * 200)
+                given = lined(f"t {it}" for it in changes[5:])
+                self.assertEqual(book(*SERVE, given=given), Ended(0, "t ok\n" * 200))
                 if how != "ended":
                     self.killed_after(book, *changes[:5])
                 if how.startswith("gone"):
@@ -168,8 +169,8 @@ class RestoreTest(CopyTest):
         book.move_to(pair)
         self.assertEqual(book("restore", str(pair.path)), counted(3, 3))
         self.assertWhole(book, after)
-        with pair.start("serve") as service:
-            self.assertEqual(service.ask("account k3"), "ok")
+        with pair.tagged() as service:
+            self.assertEqual(service.ask("t account k3"), "t ok")
             self.assertEqual(book("restore", str(pair.path)).status, 0)
             self.assertEqual(service.end(), DONE)
         self.assertEqual(book.names(), ["ann", "k1", "k2", "k3"])
@@ -183,12 +184,12 @@ class RestoreTest(CopyTest):
         rows(other.path, "CREATE TABLE places (id INTEGER, url TEXT)")
         copy.move_to(bad)
         rows(bad.path, "INSERT INTO account VALUES ('Ann', NULL)")
-        with book.start("serve") as service:
-            self.assertEqual(service.ask("account late"), "ok")
+        with book.tagged() as service:
+            self.assertEqual(service.ask("t account late"), "t ok")
             for source in (copy, bad):
                 with self.subTest(source=source):
                     self.assertFails(book("restore", str(source.path)), 5, "busy")
-            self.assertEqual(service.ask("show late"), "none")
+            self.assertEqual(service.ask("t show late"), "t none")
             self.assertEqual(service.end(), DONE)
         for source in (text, other, self.file(".")):
             with self.subTest(source=source):
@@ -208,8 +209,8 @@ class RestoreTest(CopyTest):
         the restored book."""
         copy = self.begun({"bob": ""}, "copy.db")
         restore = self.book.command("restore", str(copy.path), wait=30)
-        with self.book.start("serve") as service:
-            self.assertEqual(service.ask("account late"), "ok")
+        with self.book.tagged() as service:
+            self.assertEqual(service.ask("t account late"), "t ok")
             with Service(restore) as waits:
                 time.sleep(0.3)
                 self.assertIsNone(waits.process.poll())

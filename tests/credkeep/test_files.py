@@ -11,8 +11,8 @@ import stat
 import time
 from collections.abc import Callable
 
-from tests.credkeep.books import DONE, RECORD, BookTest, Service, contents, fails, rows, says
-from tests.helpers import each, ended, need_root, program
+from tests.credkeep.books import DONE, RECORD, SERVE, BookTest, Service, contents, fails, rows, says
+from tests.helpers import ended, need_root, program
 
 TABLE = "CREATE TABLE account (name TEXT NOT NULL PRIMARY KEY, record TEXT) STRICT;"
 NOBODY = 65534
@@ -57,7 +57,7 @@ NO_BOOKS = [
         "the scheme is none of argon2d, argon2i, argon2id and scrypt (2 scheme)",
     ),
 ]
-ORDERS = ("list", "check ann", "run", "import", "add ann", "reset ann", "init")
+ORDERS = ("list", "check ann", "serve --tagged", "import", "add ann", "reset ann", "init")
 
 
 class FormatTest(BookTest):
@@ -176,14 +176,14 @@ class NamesTest(BookTest):
         warned of."""
         self.addCleanup(os.umask, os.umask(0))
         book = self.begun()
-        with book.start("run") as run:
-            self.assertEqual(run.ask("account ann"), "ok")
+        with book.tagged() as service:
+            self.assertEqual(service.ask("t account ann"), "t ok")
             for file in (book.path, book.log):
                 with self.subTest(file=file):
                     self.assertEqual(stat.S_IMODE(file.stat().st_mode), 0o600)
-            self.assertEqual(run.end(), DONE)
+            self.assertEqual(service.end(), DONE)
         book.path.chmod(0o640)
-        for words, said in (("list", "ann\n"), ("serve", ""), ("serve --tagged", "")):
+        for words, said in (("list", "ann\n"), ("serve --tagged", "")):
             with self.subTest(words=words):
                 done = book(*words.split())
                 self.assertEqual(done[:2], (0, said))
@@ -216,32 +216,31 @@ class NamesTest(BookTest):
 
 
 class LocksTest(BookTest):
-    @each("run", "serve")
-    def test_two_processes(self, order: str) -> None:
+    def test_two_processes(self) -> None:
         """Beside a process that has the file it is busy for every other one, also if the process is
         stopped for a while."""
-        with self.begun().start(order) as run:
-            self.assertEqual(run.ask("account ann"), "ok")
-            run.process.send_signal(signal.SIGSTOP)
-            for words in ("list", "init", "add bob", "run", "serve"):
+        with self.book.tagged() as service:
+            self.assertEqual(service.ask("t account ann"), "t ok")
+            service.process.send_signal(signal.SIGSTOP)
+            for words in ("list", "init", "add bob", "serve --tagged"):
                 done = self.book(*words.split(), given="x\n")
                 self.assertFails(done, 5, "busy: ", "credkeep-ask --server asks the server")
-            run.process.send_signal(signal.SIGCONT)
-            self.assertEqual(run.ask("show ann"), "none")
-            self.assertEqual(run.end(), DONE)
+            service.process.send_signal(signal.SIGCONT)
+            self.assertEqual(service.ask("t show ann"), "t none")
+            self.assertEqual(service.end(), DONE)
         self.assertEqual(self.book.names(), ["ann"])
 
     def test_waits(self) -> None:
         """With --wait it is tried again until the seconds are over, or the other has ended."""
-        with self.book.start("serve") as service:
-            self.assertEqual(service.ask("account ann"), "ok")
+        with self.book.tagged() as service:
+            self.assertEqual(service.ask("t account ann"), "t ok")
             start = time.monotonic()
             self.assertFails(self.book("list", wait=1), 5, "busy")
             self.assertGreaterEqual(time.monotonic() - start, 0.9)
-            with Service(self.book.command("serve", wait=30)) as waiting:
-                waiting.send("show ann\n")
+            with Service(self.book.command(*SERVE, wait=30)) as waiting:
+                waiting.send("t show ann\n")
                 time.sleep(0.3)
                 self.assertIsNone(waiting.process.poll())
                 self.assertEqual(service.end(), DONE)
-                self.assertEqual(waiting.answer(), "none")
+                self.assertEqual(waiting.answer(), "t none")
                 self.assertEqual(waiting.end(), DONE)

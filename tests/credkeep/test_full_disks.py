@@ -1,29 +1,29 @@
 """Disks that are full and files that can't grow: what was answered is kept, and what failed is
 named."""
 
-from tests.credkeep.books import RECORD, Accounts, Book, BookTest, lined
-from tests.helpers import Ended, each, need_root, small_disk, small_files
+from tests.credkeep.books import RECORD, SERVE, Accounts, Book, BookTest, lined
+from tests.helpers import Ended, need_root, small_disk, small_files
 
-# How many accounts a script adds, far more than there is room for.
+# How many accounts a service is to add, far more than there is room for.
 COUNT = 4000
-LINES = lined(f"account new{at}" for at in range(COUNT))
+LINES = lined(f"t account new{at}" for at in range(COUNT))
 
 
 class LostTest(BookTest):
-    def on_full_disk(self, order: str, size: int) -> tuple[Ended, Book]:
-        """How a script ended on a copy of the book whose disk has so many bytes, and the copy."""
+    def on_full_disk(self, size: int) -> tuple[Ended, Book]:
+        """How a service ended on a copy of the book whose disk has so many bytes, and the copy."""
         need_root()
         with small_disk(self.room / "small", f"size={size}") as folder:
             book, left = Book(folder / "users.db"), self.file("left.db")
             self.book.move_to(book)
-            done = book(order, given=LINES)
+            done = book(*SERVE, given=LINES)
             book.move_to(left)
         return done, left
 
     def assertLost(self, done: Ended, book: Book, before: Accounts) -> None:
         """The change that failed is named, and every one before it is there."""
         answered = done.written.count("ok\n")
-        self.assertEqual((done.status, done.written), (5, "ok\n" * answered), done.faults)
+        self.assertEqual((done.status, done.written), (5, "t ok\n" * answered), done.faults)
         self.assertTrue(0 < answered < COUNT, f"{answered} answered")
         lost = f"; the change of new{answered} may be kept or not"
         self.assertRegex(done.faults, rf"\Acredkeep: the database failed: .*{lost}\n")
@@ -33,14 +33,12 @@ class LostTest(BookTest):
         self.assertSound(book)
 
 
-class ScriptsTest(LostTest):
-    @each("run", "serve")
-    def test_lost_change(self, order: str) -> None:
-        book = self.begun()
-        self.assertLost(book(order, given=LINES, **small_files(100_000)), book, {})
+class DisksTest(LostTest):
+    def test_lost_change(self) -> None:
+        self.assertLost(self.book(*SERVE, given=LINES, **small_files(100_000)), self.book, {})
 
     def test_full_disk(self) -> None:
-        self.assertLost(*self.on_full_disk("run", 256 * 1024), {})
+        self.assertLost(*self.on_full_disk(256 * 1024), {})
 
     def test_imports(self) -> None:
         """The import is named, and all or none of it is kept. The system's refusal is told as what

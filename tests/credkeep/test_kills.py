@@ -1,26 +1,26 @@
-"""Scripts killed at random moments: what was answered stands. test_refused_calls.py has orders."""
+"""Services killed at random moments: what was answered stands. test_refused_calls.py has orders,
+and test_clients.py many clients."""
 
 import signal
 import time
 
-from tests.credkeep.books import BookTest, killed, lined
+from tests.credkeep.books import SERVE, BookTest, killed, lined
 from tests.helpers import TIMES
 
 
-class ScriptsTest(BookTest):
-    def test_scripts(self) -> None:
+class ServicesTest(BookTest):
+    def test_kills(self) -> None:
         """Every change that was answered is there after a kill, and at most one that wasn't."""
-        kills = [("run", signal.SIGKILL)] * 50
-        kills += [("serve", it) for it in (signal.SIGKILL, signal.SIGTERM)] * 10
+        kills = [signal.SIGKILL] * 60 + [signal.SIGTERM] * 10
         start = time.monotonic()
         standing, count = self.book.accounts(), 0
         within = 0.05 + 2 * (time.monotonic() - start)
-        for turn, (order, how) in enumerate(kills * TIMES):
+        for turn, how in enumerate(kills * TIMES):
             names = [f"t{at}" for at in range(count + 100)]
-            given = lined(f"account {it}" for it in names[count:])
-            done = killed(self.book, order, given=given, within=within, how=how)
+            given = lined(f"t account {it}" for it in names[count:])
+            done = killed(self.book, *SERVE, given=given, within=within, how=how)
             answers = done.written.split("\n")[:-1]
-            self.assertLessEqual({*answers}, {"ok"})
+            self.assertLessEqual({*answers}, {"t ok"})
             found = self.book.accounts()
             self.assertTrue(found.items() >= standing.items(), "another book")
             self.assertKept(count + len(answers), names, found.keys() - standing.keys())

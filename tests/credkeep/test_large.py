@@ -9,7 +9,7 @@ import sqlite3
 import unittest
 
 from tests.credkeep import test_kills
-from tests.credkeep.books import RECORD, rows
+from tests.credkeep.books import RECORD, SERVE, rows
 from tests.credkeep.test_full_disks import LostTest
 from tests.helpers import Ended
 
@@ -17,7 +17,7 @@ COUNT = int(os.environ.get("RIGZUMAL_ACCOUNTS", "0"))
 
 
 @unittest.skipUnless(COUNT, "needs the variable RIGZUMAL_ACCOUNTS")
-class LargeTest(LostTest, test_kills.ScriptsTest):
+class LargeTest(LostTest, test_kills.ServicesTest):
     def setUp(self) -> None:
         """Names come in random order; every third has no record."""
         super().setUp()
@@ -29,7 +29,7 @@ class LargeTest(LostTest, test_kills.ScriptsTest):
 
     def test_full_disk(self) -> None:
         size = self.book.path.stat().st_size + 400 * 1024
-        self.assertLost(*self.on_full_disk("serve", size), self.accounts)
+        self.assertLost(*self.on_full_disk(size), self.accounts)
 
     def test_bad_rows(self) -> None:
         """A row that is no account is named by its number, wherever it is."""
@@ -44,5 +44,5 @@ class LargeTest(LostTest, test_kills.ScriptsTest):
                 with self.subTest(row=row, change=change):
                     shutil.copy(self.book.path, hurt.path)
                     rows(hurt.path, f"UPDATE account SET {change} WHERE rowid = {row}")
-                    done = hurt("serve", given="show ann\n")
+                    done = hurt(*SERVE, given="t show ann\n")
                     self.assertEqual(done, Ended(5, "", f"credkeep: row {row}: {why}\n"))

@@ -5,7 +5,7 @@ import random
 import subprocess
 import sys
 
-from tests.credkeep.books import DONE, RECORD, commits_in, contents, frame_of
+from tests.credkeep.books import DONE, RECORD, SERVE, commits_in, contents, frame_of
 from tests.credkeep.test_backup import CopyTest, counted
 
 # Leaves a log of SQLite's own, which begins over older frames.
@@ -31,9 +31,9 @@ class LogsTest(CopyTest):
         self.assertEqual(book("verify", "--quiet"), DONE)
         counts = json.loads(book("verify", "--json").written)
         self.assertEqual(counts, {"accounts": 1, "changes": 0})
-        with book.start("serve") as service:
+        with book.tagged() as service:
             for at in range(1, 21):
-                self.assertEqual(service.ask(f"account k{at}"), "ok")
+                self.assertEqual(service.ask(f"t account k{at}"), "t ok")
                 self.assertEqual(book("verify"), counted(at + 1, at))
         before = contents(self.room)
         self.assertEqual(len(commits_in(book.log.read_bytes())), 20)
@@ -59,7 +59,7 @@ class LogsTest(CopyTest):
             whole = sum(end < begin for end in ends)
             behind = max(sum(end >= begin for end in commits_in(bytes(bad))), 1)
             text = f"its log is damaged: {whole} changes can be read, and {behind} can't"
-            for words in (["list"], ["verify"], ["backup", str(self.room / "copy.db")], ["serve"]):
+            for words in (["list"], ["verify"], ["backup", str(self.room / "copy.db")], SERVE):
                 with self.subTest(at=at, words=words):
                     done = book(*words)
                     self.assertEqual(done.status, 5)

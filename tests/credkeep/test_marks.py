@@ -204,6 +204,31 @@ class MarksTest(BookTest):
                 wanted = {"name": "ann", "costs": CHEAP, "locked": True, "expired": True}
                 self.assertEqual(shown, wanted)
 
+    def test_shown_by_a_service(self) -> None:
+        """`show` answers an account's field of the file, as SQLite reads it: the marks, and the
+        record behind them."""
+        self.book.answers("a account dan")
+        for change, marks in (
+            ("lock ann", "!"),
+            ("expire ann", "!~"),
+            ("unlock ann", "~"),
+            (f"reset ann {OTHER}", ""),
+            ("lock dan", "!"),
+            ("unlock dan", ""),
+        ):
+            with self.subTest(change=change):
+                name = change.split()[1]
+                found = self.book.answers(f"a {change}", f"t show {name}")[1]
+                field = f"SELECT coalesce(record, 'none') FROM account WHERE name = '{name}'"
+                [(kept,)] = rows(self.book.path, field)
+                self.assertEqual(found, f"t {kept}")
+                record = kept.lstrip("!~")
+                self.assertEqual(kept.removesuffix(record), marks)
+                if name == "ann":
+                    self.assertTrue(record.startswith(f"{CHEAP}$"))
+                else:
+                    self.assertEqual(record, "none" if not marks else "")
+
     def test_lists_in_pages(self) -> None:
         """A list of marks has the marked accounts alone, in the order of the names."""
         lines = [f"a account {name}" for name in ("cy", "bob", "dan")]
@@ -248,22 +273,6 @@ class MarksTest(BookTest):
                     self.assertIn(
                         self.book("check", "ann", given="password\n").written, ("no\n", "absent\n")
                     )
-
-    def test_a_script_is_turned_away(self) -> None:
-        """Lines without tags heed no mark, so none is answered while an account has one."""
-        line = "show ann\n"
-        for order in ("run", "serve"):
-            for mark, after in (("lock", "unlock"), ("expire", "reset")):
-                with self.subTest(order=order, mark=mark):
-                    self.assertEqual(self.book(order, given=line).status, 0)
-                    self.assertEqual(self.book(mark, "ann").status, 0)
-                    before = self.book.accounts()
-                    done = self.book(order, given=f"{line}account bob\n")
-                    self.assertEqual((done.status, done.written), (6, ""))
-                    self.assertIn("serve --tagged does", done.faults)
-                    self.assertEqual(self.book.accounts(), before)
-                    words = ["--setting", CHEAP] if after in MAKING else []
-                    self.book(after, "ann", *words, given="first\n" if words else "")
 
     def test_backup_and_restore(self) -> None:
         self.assertEqual(self.book("lock", "ann"), yes("locked"))

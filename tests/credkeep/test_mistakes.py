@@ -15,7 +15,8 @@ TOO_MANY = "a word or an option too many, which isn't shown: it may be a passwor
 ADD = f"{ONE} credkeep u.db add bob --setting"
 ARGON2 = "$argon2id$v=19$m=65536,t=3,p=4"
 FORMS = f"write it as '{ARGON2}' or '$scrypt$ln=17,r=8,p=1', in single quotes (1 shape)"
-COMMANDS = "no word is a command\nThe commands: init run serve add check change reset"
+COMMANDS = "no word is a command\nThe commands: init serve add check change reset upgrade"
+TAGGED_ALONE = "serve: it answers tagged lines alone: write serve --tagged\n"
 MISSING = "the following required arguments were not provided:\n  "
 EMPTY = "it is empty; init begins a book in it"
 NO_FOLDER = "its folder doesn't exist; mkdir -p makes one"
@@ -63,7 +64,9 @@ TYPED = [
     ("credkeep u.db remove ada", 6, "no password on standard input"),
     (f"{ONE} credkeep u.db delete ada bob", 1, f"{TOO_MANY}\nA password is read from standard"),
     ("credkeep u.db reset ada --password=neu", 1, f"{TOO_MANY}\nA password is read from standard"),
-    ("credkeep", 1, "subcommands: init, run, serve, add, check, change, reset, upgrade, remove"),
+    ("credkeep", 1, "subcommands: init, serve, add, check, change, reset, upgrade, remove"),
+    ("credkeep u.db run < script", 1, COMMANDS),
+    ("credkeep u.db serve < script", 1, TAGGED_ALONE),
     ("credkeep-ask add ada", 1, f"{MISSING}<FILE>"),
     ("credkeep-ask u.db passwd ada", 1, COMMANDS),
     ("credkeep-ask --server list", 5, "/run/rigzumal/users/admin.sock: No such file or directory"),
@@ -79,6 +82,7 @@ class MistakesTest(BookTest):
         asks = pathlib.Path(__file__).resolve().parents[2] / "bin"
         self.path = f"{credkeep.parent}:{asks}:{os.environ['PATH']}"
         (self.room / "shadow").write_text(SHADOW)
+        (self.room / "script").write_text("show ada\n")
         self.typed("credkeep u.db init")
         done = self.typed(f"printf 'secret\\n' | credkeep u.db add ada --setting '{SETTING}'")
         self.assertEqual(done, Ended(0, "enrolled\n"))

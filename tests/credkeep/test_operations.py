@@ -1,11 +1,11 @@
 """Each operation on an account, with each answer that it has: at every door the same."""
 
 from tests.credkeep.books import RECORD, SALT, TAG, BookTest, fails
-from tests.credkeep.doors import DOORS, Door, Script, Tagged, perform
+from tests.credkeep.doors import DOORS, Tagged, perform
+from tests.helpers import Ended
 from tests.operations import OPERATIONS
 
-# What a tagged line may not be, and the fault that it is answered by. script_tests has those of
-# a script's lines.
+# What a line may not be, and the fault that it is answered by.
 FAULTS = [
     ("frob ann", "11 line"),
     ("show", "11 line"),
@@ -94,20 +94,19 @@ class OperationsTest(BookTest):
         """What a line brings is refused if it asks for more than --most-memory or --most-work; what
         the book has already, and what the service draws, is not."""
         for words, table, is_high in BOUNDS:
-            doors: list[Door] = [Script("serve", "--workers", "4", *words), Tagged(*words)]
-            for door in doors:
-                with self.subTest(words=words, door=type(door).__name__):
-                    book = self.begun({"ann": "", "bob": ""})
-                    perform(self, book, Tagged(), [(f"enrol ann one {ABOVE}", "enrolled")])
-                    rows = [(line, without if is_high else bound) for line, bound, without in table]
-                    door.perform(self, book, [it for it in rows if it[0].split()[0] in door.verbs])
-                    self.assertSound(book)
+            with self.subTest(words=words):
+                book = self.begun({"ann": "", "bob": ""})
+                Tagged().perform(self, book, [(f"enrol ann one {ABOVE}", "enrolled")])
+                rows = [(line, without if is_high else bound) for line, bound, without in table]
+                Tagged(*words).perform(self, book, rows)
+                self.assertSound(book)
 
     def test_bounds_of_costs(self) -> None:
         """A service's own costs are within its bound, or it doesn't start."""
         book, tagged = self.begun({"bob": ""}), ("serve", "--tagged")
         own = (*tagged, "--setting", WITHIN.rpartition("$")[0])
-        self.assertEqual(book.script([*own, "--most-memory", "64"], ["t show bob"]), ["t none"])
+        done = book(*own, "--most-memory", "64", given="t show bob\n")
+        self.assertEqual(done, Ended(0, "t none\n"))
         why = "--setting: its hash needs more than --most-memory or --most-work allows (18 costly)"
         for words in (
             (*own, "--most-memory", "63"),

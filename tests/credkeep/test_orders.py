@@ -4,7 +4,8 @@ import base64
 import json
 import pathlib
 
-from tests.credkeep.books import CHEAP, DONE, OTHER, RECORD, SCRYPT, BookTest, fails, lines_of, says
+from tests.credkeep.books import CHEAP, DONE, OTHER, RECORD, SCRYPT, SERVE, BookTest
+from tests.credkeep.books import fails, lines_of, says
 from tests.helpers import Ended
 
 # RFC 9106's second recommended choice.
@@ -105,7 +106,7 @@ class PasswordsTest(BookTest):
         self.assertIn(b"users.db", seen)
         self.assertNotIn(secret.encode(), seen)
         for given in (secret * 20, secret, f"{secret}\n{secret * 20}"):
-            for words in (["change", "ann"], ["add", "ann"], ["import"], ["run"]):
+            for words in (["change", "ann"], ["add", "ann"], ["import"], [*SERVE]):
                 with self.subTest(given=given, words=words):
                     self.assertNotIn(secret, self.book(*words, given=given).faults)
         self.assertNotIn(secret.encode(), self.book.path.read_bytes())

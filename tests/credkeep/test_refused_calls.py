@@ -6,8 +6,8 @@ import tempfile
 from collections.abc import Callable
 from typing import Any
 
-from tests.credkeep.books import DONE, EDITS, OTHER, RECORD, SETTING, Accounts, Book, BookTest
-from tests.credkeep.books import Change, fails, lines_of
+from tests.credkeep.books import DONE, EDITS, OTHER, RECORD, SERVE, SETTING, Accounts, Book
+from tests.credkeep.books import BookTest, Change, fails, lines_of
 from tests.helpers import Ended, Found, Stop, each, ended, need, need_native
 
 # The calls that change files or make changes last, and those between them. strace counts each by
@@ -87,7 +87,7 @@ class RefusedCallsTest(BookTest):
         self.assertIn(fails(5, "disk I/O error"), ends)
         self.assertRegex("".join(it.faults for it in ends), f"{called} may be kept or not")
 
-    def test_scripts(self) -> None:
+    def test_services(self) -> None:
         """What was answered is kept, and at most the line after it."""
 
         def judge(done: Ended, names: list[str]) -> None:
@@ -96,8 +96,9 @@ class RefusedCallsTest(BookTest):
             self.assertKept(answered, ["a", "b", "c"], names)
 
         self.begun(name="base/users.db")
-        script = Change({}, ["run"], {}, "account a\naccount b\naccount c\n")
-        self.refuse_each(script, WRITES, "error=EIO", Book.names, judge)
+        given = "t account a\nt account b\nt account c\n"
+        service = Change({}, [*SERVE], {}, given)
+        self.refuse_each(service, WRITES, "error=EIO", Book.names, judge)
 
     def test_init(self) -> None:
         """It leaves an empty book, or no file, and the next one goes on from there; status 0 says

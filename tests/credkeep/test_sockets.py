@@ -36,19 +36,19 @@ class SocketsTest(BookTest):
         """The second client's lines are answered once the first has closed its connection."""
         need(listener)
         book, path = self.begun(), self.room / listener
-        service = book.command("serve", wait=30)
+        service = book.command("serve", "--tagged", wait=30)
         listen = ["--accept", "--inetd", "-l", str(path), *service]
         if listener == "socat":
             socket_ = f"UNIX-LISTEN:{path},mode=600,fork,max-children=1"
             listen = [socket_, f"EXEC:{' '.join(service)}"]
         with listening([listener, *listen], path), Client(path) as first:
-            first.send("account ann\nshow ann\n")
-            self.assertEqual(first.lines(2), [b"ok", b"none"])
+            first.send("t account ann\nt show ann\n")
+            self.assertEqual(first.lines(2), [b"t ok", b"t none"])
             with Client(path) as second:
-                second.send("account bob\nshow ann\n")
+                second.send("t account bob\nt show ann\n")
                 time.sleep(0.2)
-                first.send("show bob\n")
-                self.assertEqual(first.line(), b"bad 5 noaccount")
+                first.send("t show bob\n")
+                self.assertEqual(first.line(), b"t bad 5 noaccount")
                 first.close()
-                self.assertEqual(second.lines(2), [b"ok", b"none"])
+                self.assertEqual(second.lines(2), [b"t ok", b"t none"])
         self.assertEqual(book("list", wait=30), (0, "ann\nbob\n", ""))

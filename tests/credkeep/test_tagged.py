@@ -8,7 +8,7 @@ import resource
 import signal
 from typing import Any
 
-from tests.credkeep.books import CHEAP, DONE, RECORD, SALT, Book, BookTest, commits_in, lined
+from tests.credkeep.books import DONE, RECORD, SALT, SERVE, Book, BookTest, commits_in, lined
 from tests.credkeep.doors import in_base64
 from tests.helpers import LONGEST, each, limited, need_native, small_files
 
@@ -284,10 +284,9 @@ class GroupsTest(BookTest):
         stand."""
         book, out = self.begun({name: "" for name in MEMBERS}), self.room / "answers"
         out.write_bytes(b"." * (100_000 - left))
-        words = ("serve", "--tagged", "--setting", CHEAP)
         with out.open("ab") as answers:
             options: dict[str, Any] = {"stdout": answers, **small_files(100_000)}
-            done = book(*words, given=self.lines(0), **options)
+            done = book(*SERVE, given=self.lines(0), **options)
         written = out.read_text()[100_000 - left :]
         self.assertEqual((done.status, len(written)), (2, left))
         whole = self.assertAnswered(0, written.split("\n")[:-1])

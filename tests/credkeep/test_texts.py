@@ -21,8 +21,12 @@ WORDS = [
     f"disable ann --setting {CHEAP}",
     "list ann",
     f"check ann --setting {CHEAP}",
-    "run --most-memory 64",
-    "run --most-work 64",
+    "list --most-memory 64",
+    "list --most-work 64",
+    "run",
+    "serve",
+    "serve --workers 2",
+    "serve --tagged --workers 2",
     "add ann --setting $argon2id$v=16$m=8,t=1,p=1",
     "backup",
     "serve --tagged --setting $argon2id$v=16$m=8,t=1,p=1",
@@ -96,7 +100,7 @@ SLIPS = [
             f"{it} passwd.txt",
             f"{it}: {UNNAMED}\nThe input is read from standard input: write < INPUT",
         )
-        for it in ("import", "run", "serve")
+        for it in ("import", "serve")
     ),
 ]
 EARLY = [
@@ -106,13 +110,9 @@ EARLY = [
 ]
 
 # An option of numbers, with the least and the most.
-NUMBERS = [
-    ("serve --workers", 1, 64),
-    ("run --workers", 1, 64),
-    ("serve --tagged --at-once", 1, 255),
-]
+NUMBERS = [("serve --tagged --at-once", 1, 255)]
 # Options of sizes, and what isn't one.
-SIZES = [f"{it} --most-" for it in ("serve", "serve --tagged", "import")]
+SIZES = [f"{it} --most-" for it in ("serve --tagged", "import")]
 SIZES = ["serve --tagged --memory", *(f"{it}{end}" for it in SIZES for end in ("memory", "work"))]
 NO_SIZES = ("", "x", "64k", "-1", "1T", "1.5M")
 SIZE = "a size is a number of KiB, or one with K, M or G behind it"

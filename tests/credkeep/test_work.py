@@ -1,9 +1,10 @@
 """What an answer takes: threads, hashes, instructions, and syncs of the disk."""
 
 import resource
+from collections.abc import Iterable
 from typing import Any
 
-from tests.credkeep.books import CHEAP, RECORD, SALT, BookTest, altered, imported, says
+from tests.credkeep.books import CHEAP, RECORD, SALT, SERVE, BookTest, altered, imported, says
 from tests.credkeep.doors import Operation
 from tests.helpers import counts, each, instructions, limited, need
 
@@ -12,20 +13,6 @@ COSTS = "$argon2id$v=19$m=1024,t=4,p=4"
 
 
 class ThreadsTest(BookTest):
-    @each("run", "serve")
-    def test_workers(self, order: str) -> None:
-        """As many threads hash as were asked for: the caller's waits for them, or is one of
-        them."""
-        for count in (1, 3, 4):
-            # An account of its own: one with a record would be answered without a hash.
-            name = f"{order}{count}"
-            enrol = f"begin 1 enrol {name} cGFzc3dvcmQ {COSTS}${SALT}"
-            command = self.book.command(order, "--workers", str(count))
-            done, found = counts(command, f"account {name}\n{enrol}\ncommit 1\n")
-            self.assertEqual(done, (0, "ok\nbegun\nenrolled\n", ""))
-            wanted = (0,) if count == 1 else (count - 1, count)
-            self.assertIn(found["THREADS"], wanted, f"{order}, {count} workers")
-
     @each(
         ("add", COSTS, "old\n", "enrolled"),
         ("check", None, "old\n", "yes"),
@@ -45,29 +32,34 @@ class ThreadsTest(BookTest):
     @each(1, 3)
     def test_workers_of_tagged_lines(self, count: int) -> None:
         """As many threads hash as lines at once were asked for. One more reads."""
-        words = ("--tagged", "--setting", CHEAP, "--at-once", str(count))
-        done, found = counts(self.book.command("serve", *words), "t verify nobody -\n")
+        command = self.book.command(*SERVE, "--at-once", str(count))
+        done, found = counts(command, "t verify nobody -\n")
         self.assertEqual(done, (0, "t noaccount\n", ""))
         self.assertEqual(found["THREADS"], count + 1)
 
 
 class SyncsTest(BookTest):
-    def syncs(self, order: str, count: int) -> int:
-        """How often the disk is synced for so many new accounts."""
-        line = "account n{}\n" if order == "run" else "n{}:\n"
+    def syncs(self, words: Iterable[str], line: str, count: int, answer: str) -> int:
+        """How often the disk is synced for so many new accounts, each with its line."""
         given = "".join(line.format(at) for at in range(count))
-        done, found = counts(self.begun().command(order), given)
-        self.assertEqual(done, (0, "ok\n" * count if order == "run" else imported(count), ""))
+        done, found = counts(self.begun().command(*words), given)
+        self.assertEqual(done, (0, answer, ""))
         return found["SYNCS"]
 
     def test_syncs_of_changes(self) -> None:
         """A change is answered after two syncs at least: of the log, and of what says that it is
         whole."""
-        self.assertGreaterEqual(self.syncs("run", 30) - self.syncs("run", 10), 40)
+        few, many = (
+            self.syncs(SERVE, "t account n{}\n", count, "t ok\n" * count) for count in (10, 30)
+        )
+        self.assertGreaterEqual(many - few, 40)
 
     def test_syncs_of_an_import(self) -> None:
         """An import syncs as often for a thousand lines as for ten."""
-        self.assertEqual(self.syncs("import", 1000), self.syncs("import", 10))
+        few, many = (
+            self.syncs(["import"], "n{}:\n", count, imported(count)) for count in (10, 1000)
+        )
+        self.assertEqual(many, few)
 
     def test_syncs_of_a_reading(self) -> None:
         """What only reads syncs while the file and its log are opened, and not after that."""
@@ -80,7 +72,7 @@ class SyncsTest(BookTest):
             ("check ann", "first\n"),
             ("check ann", "other\n"),
             ("import --dry-run", "bob:\n"),
-            ("run", "show ann\n"),
+            (" ".join(SERVE), "t show ann\nt verify ann b3RoZXI\n"),
         ):
             with self.subTest(words=words):
                 _, found = counts(self.book.command(*words.split()), given)

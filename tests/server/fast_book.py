@@ -137,7 +137,7 @@ class Accounts:
             return "bad 5 noaccount" if operation in ("show", "load") else "noaccount"
         match operation:
             case "show":
-                return row[len(marks_of(row)) :] or "none"
+                return row or "none"
             case "delete":
                 return self.put(name, "gone", "deleted")
             case "rename" if fields[1] in self.rows:

@@ -2,4 +2,3 @@ mod Copied
 mod NoneBad
 mod NotTaken
 mod OnBasis
-mod Ran

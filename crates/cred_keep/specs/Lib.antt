@@ -6,11 +6,7 @@ pub use Rattle.cred_admin.specs.Edits
 pub use Rattle.cred_admin.specs.Import
 pub use Rattle.cred_admin.specs.Marked
 pub use Rattle.cred_admin.specs.Seen
-pub use Rattle.cred_cli.specs.Calls
 pub use Rattle.cred_cli.specs.Outcome
-pub use Rattle.cred_cli.specs.Prompt
-pub use Rattle.cred_cli.specs.Script
-pub use Rattle.cred_cli.specs.Service
 pub use Rattle.cred_cli.specs.Watched
 pub use Rattle.cred_file.specs.Copies
 pub use Rattle.cred_file.specs.Keeps

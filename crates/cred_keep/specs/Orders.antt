@@ -1,25 +1,21 @@
 -- What an order makes of a kept book.
 use Rattle.std.specs.Io.KnownBytes.{Appends, Keeps}
-use Rattle.std.specs.List.{list_any}
-use Rattle.std.specs.Prelude.{◌≡◌, ◌&&◌, ℕ, ◌≤◌, Bool, true, false, length, Option, Some, None, IfErr, IfSome, MatchBool, Result, Ok, Err}
+use Rattle.std.specs.Prelude.{◌≡◌, Bool, true, false, Option, Some, None, Result, Ok, Err}
 use Rattle.cred_book.specs.Accounts.{register_capacity}
 use Rattle.cred_admin.specs.{Commands.Obeys, Edits.DisablesShown, Edits.Edits}
-use Rattle.cred_admin.specs.{Listing.Prints, Listing.Tells, Listing.json_at, Listing.marked_line, Listing.shown_at, Marked.MarkedBook, Marked.kept_book, Seen.Seen, Seen.seen}
+use Rattle.cred_admin.specs.{Listing.Prints, Listing.Tells, Listing.json_at, Listing.marked_line, Listing.shown_at, Marked.kept_book, Seen.Seen, Seen.seen}
 use Rattle.cred_admin.specs.{Statuses.status_of_fault, declared.fault.Fault.Fault, declared.import.ImportFault.ImportFault, declared.status.Status.Status}
 use Rattle.cred_admin.specs.declared.status.Status.TheVariants.{Done, Io, Memory, Database, Data}
-use Rattle.cred_cli.specs.{Outcome.FailsAs, Outcome.FrontWritten, Outcome.HasCause, Outcome.IsAnswered, Outcome.longest_script, Prompt.IsPrompt}
-use Rattle.cred_cli.specs.{Script.script_start, Service.Serves, Watched.Reading, Watched.Writing, declared.costs.CostBounds.CostBounds}
-use Rattle.cred_cli.specs.{declared.fault.ScriptFault.ScriptFault, declared.script.End.End}
-use Rattle.cred_file.specs.{Cells.is_marked, Keeps.Keeps as IsKept, Kept.Kept, Kept.cells, Opening.IsFound, Opening.IsUnopened, declared.fault.Lost.Lost, declared.fault.OpenFault.OpenFault}
+use Rattle.cred_cli.specs.{Outcome.FrontWritten, Watched.Reading, Watched.Writing}
+use Rattle.cred_file.specs.{Keeps.Keeps as IsKept, Kept.Kept, Kept.cells, Opening.IsFound, Opening.IsUnopened, declared.fault.Lost.Lost, declared.fault.OpenFault.OpenFault}
 use Rattle.sqlite.specs.{Held.Held, Held.state, State.HasCleanDisk, State.Survives, Store.Ghosts, declared.error.Error.Error}
 use Rattle.sqlite.specs.declared.error.ErrorCode.{ErrorCode}
 use Rattle.cred_keep.specs.{Imports.Imports, declared.import.Imported.Imported, declared.order.Order.Order}
-use Rattle.cred_keep.specs.declared.order.Order.TheVariants.{Run, Serve, Account, Edit, DisableShown, Show, ShowJson, List as Lines, Import}
+use Rattle.cred_keep.specs.declared.order.Order.TheVariants.{Account, Edit, DisableShown, Show, ShowJson, List as Lines, Import}
 use Rattle.cred_keep.specs.{declared.outcome.Ending.Ending, declared.outcome.Failure.Failure}
 use Rattle.std.specs.FinMap as map
 use Rattle.cred_admin.specs.declared.fault.Fault.TheVariants as fault
 use Rattle.cred_admin.specs.declared.import.ImportFault.TheVariants as import
-use Rattle.cred_cli.specs.declared.fault.ScriptFault.TheVariants as script
 use Rattle.cred_file.specs.declared.fault.OpenFault.TheVariants as open_fault
 use Rattle.sqlite.specs.declared.error.Error.TheVariants as sqlite
 use Rattle.sqlite.specs.declared.error.ErrorCode.TheVariants as code
@@ -40,10 +36,6 @@ EndsImport (Ok made) w (Err e) = (w.failed ≡ true)
     × FrontWritten w.before w.now made.text.items × (e ≡ failure.Command fault.Write)
 EndsImport (Err why) w ended = Keeps w.before w.now × (ended ≡ Err (failure.Import why))
 
-abbrev pub run_end : Result End ScriptFault → Result Ending Failure
-run_end (Ok end) = Ok (ending.Answered Done)
-run_end (Err e) = Err (failure.Script e)
-
 -- once a change is lost, it is the database that failed
 abbrev pub unless_lost : Option Lost → Result Ending Failure → Result Ending Failure
 unless_lost None ended = ended
@@ -59,17 +51,9 @@ status_of_import import.Memory = Memory
 status_of_import import.Full = Data
 status_of_import (import.Lines bad) = Data
 
-abbrev pub status_of_script : ScriptFault → Status
-status_of_script script.Read = Io
-status_of_script script.Write = Io
-status_of_script script.Memory = Memory
-status_of_script script.TooLong = Data
-
 abbrev pub status_of_failure : Failure → Status
 status_of_failure (failure.Command e) = status_of_fault e
 status_of_failure (failure.Import e) = status_of_import e
-status_of_failure (failure.Script e) = status_of_script e
-status_of_failure failure.Marked = Data
 status_of_failure failure.Database = Database
 
 -- the exit status
@@ -93,83 +77,28 @@ status_of_open _ = Database
 
 -- ---- what it does
 
--- whenever more of a script was asked for, what had come was done and answered; and none is asked
--- for after its end
-abbrev pub RunsPrompt : Seen → Type 0
-RunsPrompt s = IfSome s.reading.input (λ bytes. IsPrompt register_capacity
-    (script_start s.old.accounts bytes s.writing.before) s.writing.name s.reading.log)
-
--- all lines were answered, of at most so many bytes, or they met a fault
-abbrev pub RunsWithin : ℕ → Seen → Result End ScriptFault → Type 0
-RunsWithin longest s (Ok end) = IfSome s.reading.input (λ bytes. (length bytes ≤ longest)
-    × IsAnswered register_capacity s.old.accounts bytes s.writing.before s.writing.now
-    s.new.accounts end.lines)
-    × RunsPrompt s
-RunsWithin longest s (Err e) = HasCause s.reading.failed s.writing.failed e
-    × IfSome s.reading.input (λ bytes. FailsAs longest register_capacity
-    (script_start s.old.accounts bytes s.writing.before) s.reading.left s.writing.now
-    s.new.accounts e) × RunsPrompt s
-
--- lines were answered for as long as they came, or they met a fault. What is refused is a setting or
--- a record that asks for more than is allowed, a last line without its end, and a commit that needs
--- a hash and found no memory for it.
-pub record ServesLines (most : CostBounds) (s : Seen) (r : Result End ScriptFault) : Type 0 where
-  pub served : Serves register_capacity most s.reading s.writing s.old.accounts s.new.accounts r
-  pub cause : IfErr r (HasCause s.reading.failed s.writing.failed)
-
 -- a command, of which this holds at its end, ends so
 abbrev pub Commands : (Result Status Fault → Type 0) → Result Ending Failure → Type 0
 Commands Holds ended = (r : Result Status Fault) × Holds r × (ended ≡ command_end r)
 
-abbrev pub CarriesOut : Order → Seen → Result Ending Failure → Type 0
-CarriesOut Run s ended =
-    (r : Result End ScriptFault) × RunsWithin longest_script s r × (ended ≡ run_end r)
-CarriesOut (Serve most) s ended =
-    (r : Result End ScriptFault) × ServesLines most s r × (ended ≡ run_end r)
-CarriesOut (Account name command) s ended =
+abbrev pub Performs : Order → Seen → Result Ending Failure → Type 0
+Performs (Account name command) s ended =
     Commands (Obeys register_capacity name command s) ended
-CarriesOut (Edit edit) s ended =
+Performs (Edit edit) s ended =
     Commands (Edits register_capacity s.old s.new edit s.writing) ended
-CarriesOut (DisableShown name) s ended =
+Performs (DisableShown name) s ended =
     Commands (DisablesShown s.old s.new name (map.get s.old.accounts name) s.writing) ended
-CarriesOut (Show name detail) s ended =
+Performs (Show name detail) s ended =
     Commands (Tells (shown_at detail (s.old.marks name) (map.get s.old.accounts name)) s.writing)
     ended × (s.new ≡ s.old)
-CarriesOut (ShowJson name detail) s ended =
+Performs (ShowJson name detail) s ended =
     Commands (Tells (json_at detail name (s.old.marks name) (map.get s.old.accounts name))
     s.writing) ended × (s.new ≡ s.old)
-CarriesOut (Lines line) s ended =
+Performs (Lines line) s ended =
     Commands (Prints (marked_line line s.old) (map.entries s.old.accounts) s.writing) ended
     × (s.new ≡ s.old)
-CarriesOut (Import how) s ended = (r : Result Imported ImportFault)
+Performs (Import how) s ended = (r : Result Imported ImportFault)
     × Imports how s.reading s.old s.new r × EndsImport r s.writing ended
-
--- the order answers lines as they come
-abbrev pub is_script : Order → Bool
-is_script Run = true
-is_script (Serve most) = true
-is_script (Account name command) = false
-is_script (Edit edit) = false
-is_script (DisableShown name) = false
-is_script (Show name detail) = false
-is_script (ShowJson name detail) = false
-is_script (Lines line) = false
-is_script (Import how) = false
-
--- an account of the book is marked
-abbrev pub has_marks : MarkedBook → Bool
-has_marks book = list_any (λ e. is_marked (book.marks e.0)) (map.entries book.accounts)
-
--- nothing is written, and the book stays
-pub record IsTurnedAway (s : Seen) (ended : Result Ending Failure) : Type 0 where
-  pub told : ended ≡ Err failure.Marked
-  pub silent : Keeps s.writing.before s.writing.now
-  pub book : s.new ≡ s.old
-
--- a script heeds no mark, so a book that has one turns it away
-abbrev pub Performs : Order → Seen → Result Ending Failure → Type 0
-Performs order s ended = MatchBool (is_script order && has_marks s.old)
-    (IsTurnedAway s ended) (CarriesOut order s ended)
 
 -- as it ends for the shell: Ok means that no change is lost
 abbrev pub Ends : Order → Seen → Option Lost → Result Ending Failure → Type 0
@@ -210,7 +139,5 @@ is_unread (Show name detail) = true
 is_unread (ShowJson name detail) = true
 is_unread (Edit edit) = true
 is_unread (DisableShown name) = true
-is_unread Run = false
-is_unread (Serve most) = false
 is_unread (Account name command) = false
 is_unread (Import how) = false

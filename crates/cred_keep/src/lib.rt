@@ -8,11 +8,9 @@ mod import;
 mod order;
 mod outcome;
 mod report;
-mod script;
 
 pub use copy::{CopyFault, copy_book, copy_into, count_accounts};
 pub use import::{BadLines, Counts, Effect, Imported, Importing};
 pub use order::{Order, serve_in};
 pub use outcome::{Ending, Failure};
 pub use report::{NAME_RULE, explain, refuse};
-pub use script::{run_on_file, serve_on_file};

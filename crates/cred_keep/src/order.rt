@@ -1,19 +1,18 @@
 //! Orders on a kept book, and doing them.
 
 ghost use Rattle.std.specs.Prelude.{◌≡◌, ◌⊎◌, ℕ, List, false, true};
-ghost use Rattle.cred_cli.specs.Watched.{Basis, IsLogged, IsNew, MayFollow, reading, reading_on, transcript_reading, transcript_writing, writing, writing_on};
+ghost use Rattle.cred_cli.specs.Watched.{Basis, IsNew, MayFollow, reading, reading_on, transcript_reading, transcript_writing, writing, writing_on};
 ghost use Rattle.cred_admin.specs.{Marked.kept_book, Seen.FitsSince, Seen.seen};
-ghost use Rattle.cred_keep.specs.Orders.{CarriesOut, IsRefused, IsServed, Performs, has_marks, is_script, is_unread};
+ghost use Rattle.cred_keep.specs.Orders.{IsRefused, IsServed, Performs, is_unread};
 
 use crate::import::{Importing, import};
-use crate::outcome::{Ending, Failure, command_end, import_end, run_end};
+use crate::outcome::{Ending, Failure, command_end, import_end};
 use crate::report::{refuse, tell_end};
-use crate::script::{run_on_file, serve_on_file};
 use cred_admin::{
     Command, Detail, Edit, Line, Status, disable_shown, edit_account, list, show, show_json,
 };
 use cred_book::Name;
-use cred_cli::{CostBounds, Tools, Watched};
+use cred_cli::{Tools, Watched};
 use cred_file::FileBook;
 use sqlite::{Alter, Connection};
 use std::io::{Read, Write};
@@ -22,11 +21,6 @@ use std::thread::Threads;
 /// An order on a kept book.
 #[derive(Clone, Copy)]
 pub enum Order {
-    /// Runs a script, unless an account is marked.
-    Run,
-    /// Answers the lines of a script for as long as they come, unless an account is marked, but
-    /// refuses a line whose setting or record needs more than this.
-    Serve { most: CostBounds },
     /// Does a command on one account, with its passwords.
     Account { name: Name, command: Command },
     /// Disables, deletes, renames, locks, unlocks or expires an account without its password.
@@ -41,15 +35,6 @@ pub enum Order {
     List { line: Line },
     /// Imports a passwd-file.
     Import { how: Importing },
-}
-
-impl Order {
-    /// Whether it answers lines as they come.
-    fn is_script(&self) -> bool
-        ensures { result ≡ is_script self.now }
-    {
-        matches!(self, Order::Run | Order::Serve { .. })
-    }
 }
 
 /// Opens the book of a database, and does an order on it; the connection comes back. If the
@@ -80,7 +65,6 @@ pub fn serve_in<T: Threads + Sync, S: Alter, R: Read, W: Write, F: Write>(
         (transcript_writing writer.old writer.new) conn result.0 result.1
         ⊎ (IsRefused S.Store conn result.0 result.1 × (reader.new ≡ reader.old)
         × (writer.new ≡ writer.old)) }
-    ensures logged { is_script order.now ≡ true → IsLogged reader.old reader.new }
     ensures unread { is_unread order.now ≡ true → reader.new ≡ reader.old }
 {
     match FileBook::open(tools.alloc, conn) {
@@ -93,7 +77,7 @@ pub fn serve_in<T: Threads + Sync, S: Alter, R: Read, W: Write, F: Write>(
     }
 }
 
-/// Does an order on a kept book. A script heeds no marks, so it isn't begun if an account has one.
+/// Does an order on a kept book.
 fn perform<T: Threads + Sync, S: Alter, R: Read, W: Write>(
     tools: &Tools<'_, T>,
     book: &mut FileBook<S>,
@@ -107,45 +91,9 @@ fn perform<T: Threads + Sync, S: Alter, R: Read, W: Write>(
         → Performs order.now (seen (reading_on basis R.remaining reader.old reader.new)
         (writing_on basis W.contents writer.old writer.new) (kept_book book.old)
         (kept_book book.new)) result }
-    ensures logged { is_script order.now ≡ true → IsLogged reader.old reader.new }
-    ensures unread { is_unread order.now ≡ true → reader.new ≡ reader.old }
-{
-    if order.is_script() && has_marks(book) {
-        return Err(Failure::Marked);
-    }
-    carry_out(tools, book, order, reader, writer)
-}
-
-/// Whether an account of the book is marked.
-fn has_marks<S: Alter>(book: &FileBook<S>) -> bool
-    ensures { result ≡ has_marks (kept_book book.now) }
-{
-    let marks = book.marks();
-    book.book()
-        .iter()
-        .any(|(name, _)| marks.at(name).is_marked())
-}
-
-/// Does an order on a kept book, whatever marks its accounts have.
-fn carry_out<T: Threads + Sync, S: Alter, R: Read, W: Write>(
-    tools: &Tools<'_, T>,
-    book: &mut FileBook<S>,
-    order: &Order,
-    reader: &mut Watched<R>,
-    writer: &mut Watched<W>,
-) -> Result<Ending, Failure>
-    requires new_reader { IsNew reader.old }
-    requires new_writer { IsNew writer.old }
-    ensures done { (basis : Basis) → FitsSince basis reader.old reader.new
-        → CarriesOut order.now (seen (reading_on basis R.remaining reader.old reader.new)
-        (writing_on basis W.contents writer.old writer.new) (kept_book book.old)
-        (kept_book book.new)) result }
-    ensures logged { is_script order.now ≡ true → IsLogged reader.old reader.new }
     ensures unread { is_unread order.now ≡ true → reader.new ≡ reader.old }
 {
     match order {
-        Order::Run => run_end(run_on_file(tools, book, reader, writer)),
-        Order::Serve { most } => run_end(serve_on_file(tools, *most, book, reader, writer)),
         Order::Account { name, command } => {
             command_end(command.carry_out(tools, book, name, reader, writer))
         }

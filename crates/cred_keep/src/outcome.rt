@@ -2,17 +2,17 @@
 
 ghost use Rattle.std.specs.Prelude.{◌≡◌};
 ghost use Rattle.cred_cli.specs.Watched.{Basis, writing_on};
-ghost use Rattle.cred_keep.specs.Orders.{EndsImport, command_end, run_end, status_of_ending, status_of_failure};
+ghost use Rattle.cred_keep.specs.Orders.{EndsImport, command_end, status_of_ending, status_of_failure};
 
 use crate::import::Imported;
 use cred_admin::{Fault, ImportFault, Status, tell};
-use cred_cli::{End, ScriptFault, Watched};
+use cred_cli::Watched;
 use std::io::Write;
 
 /// The result of an order.
 #[derive(Debug, Drop)]
 pub enum Ending {
-    /// A command, a list or a script ended with this status.
+    /// A command or a list ended with this status.
     Answered(Status),
     /// An import made these changes, or would make them.
     Imported(Imported),
@@ -37,10 +37,6 @@ pub enum Failure {
     Command(Fault),
     /// An import met this fault.
     Import(ImportFault),
-    /// A script met this fault.
-    Script(ScriptFault),
-    /// An account is marked, and a script heeds no mark: nothing was read or written.
-    Marked,
     /// The database failed; the book's `lost` is the change that was under way.
     Database,
 }
@@ -53,11 +49,8 @@ impl Failure {
         match self {
             Failure::Command(fault) => fault.status(),
             Failure::Import(ImportFault::Read) => Status::Io,
-            Failure::Script(ScriptFault::Read | ScriptFault::Write) => Status::Io,
             Failure::Import(ImportFault::Memory) => Status::Memory,
-            Failure::Script(ScriptFault::Memory) => Status::Memory,
             Failure::Import(ImportFault::Full | ImportFault::Lines(_)) => Status::Data,
-            Failure::Script(ScriptFault::TooLong) | Failure::Marked => Status::Data,
             Failure::Database => Status::Database,
         }
     }
@@ -87,15 +80,5 @@ pub(crate) fn import_end<W: Write>(
             Err(fault) => Err(Failure::Command(fault)),
         },
         Err(fault) => Err(Failure::Import(fault)),
-    }
-}
-
-/// Turns the end of a script into that of an order.
-pub(crate) fn run_end(ended: Result<End, ScriptFault>) -> Result<Ending, Failure>
-    ensures { result ≡ run_end ended }
-{
-    match ended {
-        Ok(_) => Ok(Ending::Answered(Status::Done)),
-        Err(fault) => Err(Failure::Script(fault)),
     }
 }

@@ -79,12 +79,6 @@ pub fn explain<F: Write>(faults: &mut F, failure: &Failure, lost: Option<&Lost>)
             "credkeep: the password is empty: --empty-password accepts it"
         ),
         Failure::Command(fault) => writeln!(faults, "credkeep: {fault}"),
-        Failure::Script(fault) => writeln!(faults, "credkeep: {fault}"),
-        Failure::Marked => writeln!(
-            faults,
-            "credkeep: an account is locked, or its password must be changed, which lines \
-             without tags don't heed: serve --tagged does"
-        ),
         Failure::Import(ImportFault::Read) => writeln!(faults, "credkeep: reading failed"),
         Failure::Import(ImportFault::Memory) => writeln!(faults, "credkeep: out of memory"),
         Failure::Import(ImportFault::Full) => writeln!(

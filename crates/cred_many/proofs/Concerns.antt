@@ -11,7 +11,7 @@ use Rattle.cred_admin.specs.Marked.{MarkedBook, barred, expired, locked, marked_
 use Rattle.cred_admin.specs.declared.edits.Edit.TheVariants.{Disable, Delete, Rename, Lock, Unlock, Expire}
 use Rattle.cred_admin.specs.declared.edit_reply.EditReply.{EditReply}
 use Rattle.cred_admin.specs.declared.verdict.Verdict.{Verdict}
-use Rattle.cred_many.specs.{Asks.Entry, Locks.IsApart, Locks.ListsMarks, Served.answers, Served.book_after, Served.disabled_line, Served.done, Served.login_verdict, Telling.names_in, declared.ask.Ask.Ask}
+use Rattle.cred_many.specs.{Asks.Entry, Locks.IsApart, Locks.ListsMarks, Served.answers, Served.book_after, Served.disabled_line, Served.done, Served.login_verdict, Served.shown_line, Telling.names_in, declared.ask.Ask.Ask}
 use Rattle.cred_many.specs.declared.ask.Ask.TheVariants.{Quick, Whole, Login, Reset}
 use Rattle.cred_many.specs.declared.ask.QuickAsk.TheVariants.{Account, Load, Show, DisableShown, Bad, Edit as Change, List as Names, ListMarks}
 use Rattle.cred_many.proofs.Beside.{mark_beside}
@@ -141,7 +141,7 @@ module _ (capacity : ℕ) (book : MarkedBook) (name : List ℕ) (m : Mark) where
   pub done_same : (ask : Ask) → All (λ named. name ≢ named) (names_in ask) → (ListsMarks ask → ⊥) → Same (done capacity other ask) (done capacity book ask)
   done_same (Quick (Account key)) ne plain = account_same key (ne 0 [] (omega arith)) _ _ refl refl
   done_same (Quick (Load key stored)) ne plain = load_same key (ne 0 [] (omega arith)) stored _ refl
-  done_same (Quick (Show key)) ne plain = refl
+  done_same (Quick (Show key)) ne plain = ap (λ k. (shown_line k (map.get book.accounts key), other)) (here key (ne 0 [] (omega arith)))
   done_same (Quick (DisableShown key)) ne plain =
       ap (λ k. (disabled_line key k (map.get book.accounts key), (disabling_at other key (map.get book.accounts key)).1)) (here key (ne 0 [] (omega arith)))
       ∙ ap (λ (e : EditReply × MarkedBook). (disabled_line key (book.marks key) (map.get book.accounts key), e.1)) (disabling_same key (ne 0 [] (omega arith)) (map.get book.accounts key))

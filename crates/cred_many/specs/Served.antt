@@ -1,13 +1,13 @@
 -- What a service stands for at every moment: one list of lines, each done whole, one after another.
 use Rattle.std.specs.{List.range_with_len, List.Sorted.IsPermutation, Option.option_map}
 use Rattle.std.specs.Prelude.{◌≡◌, ◌≢◌, ◌⊎◌, ℕ, ◌<◌, ◌≤◌, ◌+◌, ◌-◌, ◌^◌, List, [], ◌∷◌, ◌++◌, Bool, true, false, if◌then◌else◌, IfSome, is_some, nat_lt, Option, Some, None, length, map, take, slice_get, slice_index_or, unwrap_or}
-use Rattle.cred_phc.specs.Values.{RecordValue}
-use Rattle.cred_file.specs.declared.mark.Mark.{Mark}
+use Rattle.cred_phc.specs.{Text.record_text, Values.RecordValue}
+use Rattle.cred_file.specs.{Cells.cell, Cells.is_blank, Cells.is_marked, Cells.mark_text, declared.mark.Mark.Mark}
 use Rattle.cred_book.specs.{Works.name_of, Works.new_record, Works.same, declared.reply.Reply.Reply}
-use Rattle.cred_cli.specs.{History.Done, History.Refused, History.show_answer, Script.lines_of, Texts.line_of, Texts.reply_line}
+use Rattle.cred_cli.specs.{History.Done, History.Refused, History.Shown, Script.lines_of, Texts.line_of, Texts.reply_line}
 use Rattle.cred_cli.specs.Watched.{failed_of}
 use Rattle.cred_admin.specs.{Commands.reset_step, Edits.disabling, Edits.edit_line, Edits.edit_status, Edits.edited, Edits.lacks_room, Listing.passwd_line}
-use Rattle.cred_admin.specs.{Marked.MarkedBook, Marked.tried, Marked.with_account, Marked.with_record, Statuses.verdict_line, declared.verdict.Verdict.Verdict, declared.verdict.Verdict.TheVariants.Told}
+use Rattle.cred_admin.specs.{Marked.MarkedBook, Marked.mark_in, Marked.tried, Marked.with_account, Marked.with_record, Statuses.verdict_line, declared.verdict.Verdict.Verdict, declared.verdict.Verdict.TheVariants.Told}
 use Rattle.cred_many.specs.{Asks.Entry, Asks.hashed_for, Asks.refused, Names.marked_page, Names.marks_line, Names.names_line, Names.page, Service.Service, Service.asked, declared.ask.Ask.Ask}
 use Rattle.cred_many.specs.Transcript.{TakesMore, Written, written_of}
 use Rattle.cred_many.specs.declared.ask.Ask.TheVariants.{Quick, Whole, Login, Reset}
@@ -51,6 +51,14 @@ disabled_line name m None = edit_line edit.NoAccount
 disabled_line name m (Some None) = edit_line edit.Absent
 disabled_line name m (Some (Some stored)) = passwd_line m (name, Some stored)
 
+-- the marks of an account and its record behind them, as the book's row has them; a row without
+-- either is `none`
+abbrev pub shown_line : Mark → Option (Option RecordValue) → List ℕ
+shown_line m None = line_of (Refused (refusal.Book error.NoAccount))
+shown_line m (Some None) =
+    if is_marked m then (mark_text m ++ 10 ∷ []) else line_of (Shown None)
+shown_line m (Some (Some stored)) = mark_text m ++ record_text stored ++ 10 ∷ []
+
 -- the answer to what is asked, with its line end, done whole on the book, and the book after
 abbrev pub done : ℕ → MarkedBook → Ask → List ℕ × MarkedBook
 done capacity book (Quick (Account name)) =
@@ -64,7 +72,7 @@ done capacity book (Quick (Load name stored)) =
     then (line_of Done, with_record book name (Some stored))
     else (line_of (Refused (refusal.Book error.NoAccount)), book)
 done capacity book (Quick (Show name)) =
-    (line_of (show_answer (fin.get book.accounts name)), book)
+    (shown_line (book.marks name) (fin.get book.accounts name), book)
 done capacity book (Quick (Names from most)) =
     (names_line (page from most (fin.keys book.accounts)), book)
 done capacity book (Quick (ListMarks from most)) = (
@@ -131,7 +139,8 @@ NeedsMemory capacity book (Quick (Account name)) =
     (fin.contains_key book.accounts name ≡ false) × (fin.len book.accounts < capacity)
 NeedsMemory capacity book (Quick (Load name stored)) =
     fin.contains_key book.accounts name ≡ true
-NeedsMemory capacity book (Quick (Show name)) = is_some (record_at book name) ≡ true
+NeedsMemory capacity book (Quick (Show name)) =
+    is_blank (cell (record_at book name) (mark_in book name)) ≡ false
 NeedsMemory capacity book (Quick (Change change)) =
     (edit_status (edited book change).0 ≡ status.Done) × (lacks_room capacity book change ≡ false)
 NeedsMemory capacity book (Quick (DisableShown name)) = is_some (record_at book name) ≡ true

@@ -1,16 +1,19 @@
 //! Operations without hashing, each done in one go.
 
-ghost use Rattle.std.specs.Prelude.{◌≡◌, IfOk, is_some, OnErr, OnOk, true};
-ghost use Rattle.cred_admin.specs.Edits.{disabling};
+ghost use Rattle.std.specs.Prelude.{◌≡◌, ◌++◌, ◌∷◌, IfOk, is_some, OnErr, OnOk, [], false, true};
+ghost use Rattle.cred_admin.specs.{Edits.disabling, Marked.mark_in};
 ghost use Rattle.cred_cli.specs.Answers.{line_bytes};
-ghost use Rattle.cred_many.specs.{Served.NeedsMemory, Served.disabled_line, Served.done, Served.record_at, declared.ask.Ask.TheVariants.Quick};
+ghost use Rattle.cred_many.specs.{Served.NeedsMemory, Served.disabled_line, Served.done, Served.record_at, Served.shown_line, declared.ask.Ask.TheVariants.Quick};
+ghost use Rattle.cred_file.specs.Cells.{cell, is_blank, mark_text};
 ghost use Rattle.std.specs.FinMap as map;
 
 use crate::ask::QuickAsk;
-use crate::listing::{marks_line, names_line};
+use crate::listing::{marks_line, names_line, push_mark_text};
 use cred_admin::{Detail, Edit, EditReply, Host, Line, edit_line, line_of};
 use cred_book::{BookError, Name};
 use cred_cli::{AnswerLine, Refusal};
+use cred_file::Mark;
+use cred_phc::write_record;
 use std::alloc::{AllocError, Global};
 
 /// Does an operation that needs no hash. Without memory the book stays.
@@ -37,11 +40,7 @@ pub(crate) fn do_ask<K: Host>(
             Err(BookError::Memory) => Err(AllocError),
             Err(refusal) => Ok(AnswerLine::bad(Refusal::Book(refusal))),
         },
-        QuickAsk::Show(name) => match keeper.accounts().show(&name) {
-            Ok(None) => Ok(AnswerLine::Fixed(b"none\n")),
-            Ok(Some(stored)) => AnswerLine::shown(alloc, &stored),
-            Err(refusal) => Ok(AnswerLine::bad(Refusal::Book(refusal))),
-        },
+        QuickAsk::Show(name) => show(alloc, keeper, &name),
         QuickAsk::List(from, most) => {
             let line = names_line(alloc, keeper.accounts(), &from, most)?;
             Ok(AnswerLine::Made(line))
@@ -55,14 +54,47 @@ pub(crate) fn do_ask<K: Host>(
             Err(BookError::Memory) => Err(AllocError),
             Err(refusal) => Ok(AnswerLine::bad(Refusal::Book(refusal))),
         },
-        QuickAsk::DisableShown(name) => disable_shown(alloc, keeper, name),
+        QuickAsk::DisableShown(name) => disable_with_line(alloc, keeper, name),
         QuickAsk::Bad(why) => Ok(AnswerLine::bad(why)),
     }
 }
 
+/// Answers with an account's marks and its record behind them, as the book's file has them, or with
+/// `none` if it has neither.
+fn show<K: Host>(alloc: Global, keeper: &K, name: &Name) -> Result<AnswerLine, AllocError>
+    ensures answer { IfOk result (λ line.
+        line_bytes line ≡ shown_line ((K.book keeper.now).marks name.now)
+        (map.get (K.book keeper.now).accounts name.now)) }
+    ensures needs { OnErr result (is_blank (cell (record_at (K.book keeper.now) name.now)
+        (mark_in (K.book keeper.now) name.now)) ≡ false) }
+{
+    let mark = keeper.mark_of(name);
+    match keeper.accounts().show(name) {
+        Ok(Some(stored)) => {
+            let text = write_record(alloc, &stored).map_err(|_| AllocError)?;
+            behind_marks(alloc, mark, &text)
+        }
+        Ok(None) if mark.is_marked() => behind_marks(alloc, mark, b""),
+        Ok(None) => Ok(AnswerLine::Fixed(b"none\n")),
+        Err(refusal) => Ok(AnswerLine::bad(Refusal::Book(refusal))),
+    }
+}
+
+/// A text behind these marks, in a line.
+fn behind_marks(alloc: Global, mark: Mark, text: &[u8]) -> Result<AnswerLine, AllocError>
+    ensures { IfOk result
+        (λ line. line_bytes line ≡ mark_text mark ++ text.now ++ 10 ∷ []) }
+{
+    let mut line = Vec::new(alloc);
+    push_mark_text(&mut line, mark)?;
+    line.extend_from_slice(text)?;
+    line.push(b'\n')?;
+    Ok(AnswerLine::Made(line))
+}
+
 /// Removes an account's record, and answers with its line. Without memory the
 /// book stays.
-fn disable_shown<K: Host>(
+fn disable_with_line<K: Host>(
     alloc: Global,
     keeper: &mut K,
     name: Name,

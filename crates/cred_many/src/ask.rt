@@ -28,7 +28,7 @@ pub(crate) enum QuickAsk {
     Account(Name),
     /// Gives an account this record.
     Load(Name, Record),
-    /// Asks for an account's record.
+    /// Asks for an account's marks and its record.
     Show(Name),
     /// Asks for the names from this one on, in their order, at most so many.
     List(Name, u16),

@@ -115,7 +115,7 @@ fn push_mark(line: &mut Vec<u8>, name: &Name, mark: Mark) -> Result<(), AllocErr
 }
 
 /// Adds `!` of a lock, and `~` of a password that must be changed.
-fn push_mark_text(line: &mut Vec<u8>, mark: Mark) -> Result<(), AllocError>
+pub(crate) fn push_mark_text(line: &mut Vec<u8>, mark: Mark) -> Result<(), AllocError>
     ensures { OnOk result (line.new.items ≡ line.old.items ++ mark_text mark) }
 {
     if mark.locked {

@@ -14,7 +14,7 @@ use cred_cli::{Tools, Watched};
 use cred_file::{FileBook, OpenFault};
 use cred_keep::{Order, refuse, serve_in};
 use credkeep_words::{
-    Act, Counted, Progress, Remarks, Request, advise, read_passwords, request_of, say,
+    Act, CommandLine, Counted, Progress, Remarks, advise, read_passwords, read_words, say,
 };
 use sqlite::{Alter, Connection};
 use std::alloc::Global;
@@ -22,6 +22,9 @@ use std::io::{ErrorKind, Read, Write};
 use std::sync::Wait;
 use std::thread::Threads;
 use std::{env, io};
+
+/// The maximum number of threads for an order on one account: the lanes of the default setting.
+const LANES: u8 = 4;
 
 /// Does the act that the process's words ask for.
 pub(crate) fn run<T: Threads + Wait + Sync + Copy + Send + 'static>(
@@ -42,8 +45,8 @@ fn run_words<T: Threads + Wait + Sync + Copy + Send + 'static>(
     rt: &T,
 ) -> io::Result<Status> {
     let words: Vec<String> = env::args(host)?.collect(host.alloc())?;
-    match request_of(host, &words) {
-        Ok(request) => match answer(host, rt, &request) {
+    match read_words(host, &words) {
+        Ok(command) => match answer(host, rt, &command) {
             Ok(status) | Err(status) => Ok(status),
         },
         Err(status) => Ok(status),
@@ -54,40 +57,36 @@ fn run_words<T: Threads + Wait + Sync + Copy + Send + 'static>(
 fn answer<T: Threads + Wait + Sync + Copy + Send + 'static>(
     host: &HostRuntime,
     rt: &T,
-    request: &Request<'_>,
+    command: &CommandLine<'_>,
 ) -> Result<Status, Status> {
-    match &request.act {
-        Act::Init => init(host, request),
-        Act::Backup(to) => Ok(back_up(host, request, to)?.tell(host, request.counts)),
-        Act::Restore(from) => Ok(restore(host, request, from)?.tell(host, request.counts)),
-        Act::Verify => verify(host, request),
-        Act::Tagged(service) => serve_tagged(host, rt, request, &Tagged::of(service)),
-        Act::Perform {
-            order,
-            workers,
-            echo,
-        } => {
+    match &command.act {
+        Act::Init => init(host, command),
+        Act::Backup(to) => Ok(back_up(host, command, to)?.tell(host, command.counts)),
+        Act::Restore(from) => Ok(restore(host, command, from)?.tell(host, command.counts)),
+        Act::Verify => verify(host, command),
+        Act::Tagged(service) => serve_tagged(host, rt, command, &Tagged::of(service)),
+        Act::Perform { order, echo } => {
             let tools = Tools {
                 rt,
                 alloc: host.alloc(),
-                workers: *workers,
+                workers: LANES,
             };
-            look(host, request.file, request.remarks)?;
-            look_before_export(host, request.file, order)?;
-            let lines = read_passwords(host, request.file, order, *echo)?;
-            on_file(host, &tools, request, order, lines)
+            look(host, command.file, command.remarks)?;
+            look_before_export(host, command.file, order)?;
+            let lines = read_passwords(host, command.file, order, *echo)?;
+            on_file(host, &tools, command, order, lines)
         }
     }
 }
 
 /// Begins a book, in a file that is put at its place once it is whole, or in an existing
 /// database.
-fn init(host: &HostRuntime, request: &Request<'_>) -> Result<Status, Status> {
-    let file = request.file;
+fn init(host: &HostRuntime, command: &CommandLine<'_>) -> Result<Status, Status> {
+    let file = command.file;
     match accept(host, file, look_before_init(host, file))? {
         Beginning::NewFile => begin_beside(host, file),
         Beginning::Database => {
-            let conn = open_database(host, file, file, request.wait, DamagedLog::Refused)?;
+            let conn = open_database(host, file, file, command.wait, DamagedLog::Refused)?;
             let (conn, status) = begin_in(host.alloc(), conn, host.stderr());
             Ok(close(host, conn, status))
         }
@@ -115,19 +114,19 @@ fn begin_beside(host: &HostRuntime, file: &str) -> Result<Status, Status> {
 fn on_file<T: Threads + Sync>(
     host: &HostRuntime,
     tools: &Tools<'_, T>,
-    request: &Request<'_>,
+    command: &CommandLine<'_>,
     order: &Order,
     passwords: Option<Vec<u8>>,
 ) -> Result<Status, Status> {
-    let file = request.file;
-    let conn = open_database(host, file, file, request.wait, DamagedLog::Refused)?;
+    let file = command.file;
+    let conn = open_database(host, file, file, command.wait, DamagedLog::Refused)?;
     let (lines, rest) = match &passwords {
         Some(lines) => (&lines[..], 0),
         None => (&[][..], u64::MAX),
     };
     let input = lines.chain(host.stdin().take(rest));
     let remarks = match order {
-        Order::Import { .. } => request.remarks,
+        Order::Import { .. } => command.remarks,
         _ => Remarks::Hidden,
     };
     let counted = Counted::new(input, Progress::new(host, remarks));

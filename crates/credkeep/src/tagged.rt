@@ -16,7 +16,7 @@ use cred_keep::{Failure, explain, refuse};
 use cred_many::{
     Costs, LineReader, Scribe, Served, ServiceConfig, ServiceFault, ServiceId, Source, serve_file,
 };
-use credkeep_words::{Request, Service, say};
+use credkeep_words::{CommandLine, Service, say};
 use rand::make_rng;
 use rand::rngs::StdRng;
 use rand_core::Rng;
@@ -59,11 +59,11 @@ impl Tagged {
 pub(crate) fn serve_tagged<T: Threads + Wait + Sync + Copy + Send + 'static>(
     host: &HostRuntime,
     rt: &T,
-    request: &Request<'_>,
+    command: &CommandLine<'_>,
     tagged: &Tagged,
 ) -> Result<Status, Status> {
-    let file = request.file;
-    look(host, file, request.remarks)?;
+    let file = command.file;
+    look(host, file, command.remarks)?;
     let Ok(salts) = make_rng::<StdRng, HostRuntime>(host) else {
         return Err(say(host, "the system has no random bytes", Status::Io));
     };
@@ -77,7 +77,7 @@ pub(crate) fn serve_tagged<T: Threads + Wait + Sync + Copy + Send + 'static>(
         writer: Watched::new(host.stdout()),
         salts,
     };
-    let conn = open_database(host, file, file, request.wait, DamagedLog::Refused)?;
+    let conn = open_database(host, file, file, command.wait, DamagedLog::Refused)?;
     let finished = serve_in(&tools, tagged, conn, streams, &mut host.stderr());
     let Finished { conn, status, .. } = finished;
     Ok(close(host, conn, status))

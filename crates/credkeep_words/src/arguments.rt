@@ -25,7 +25,7 @@ Examples:
   credkeep users.db import < passwd
   credkeep users.db backup /backup/users.db
   credkeep users.db restore /backup/users.db
-  printf 'account cat\\nshow cat\\n' | credkeep users.db serve
+  credkeep users.db serve --tagged
   sqlite3 users.db 'SELECT name FROM account'
 
 Exit statuses:
@@ -52,15 +52,14 @@ const SETTING_HELP: &str = "How the new record is made: the scheme, the costs an
     salt, which is drawn otherwise\n\
     [default: $argon2id$v=19$m=65536,t=3,p=4]";
 
-const WORKERS_HELP: &str = "How many threads may hash at once, from 1 to 64";
+const TAGGED_HELP: &str = "Answers tagged lines: verify, login, enrol, change, reset and others;\n\
+    serve answers no others, so it must be given";
 
-const TAGGED_HELP: &str = "Answers tagged lines: verify, login, enrol, change, reset and others";
-
-const AT_ONCE_HELP: &str = "With --tagged: how many lines are hashed at once, from 1 to 255\n\
+const AT_ONCE_HELP: &str = "How many lines are hashed at once, from 1 to 255\n\
     [default: as many as there are processors, and as --memory allows]";
 
-const MEMORY_HELP: &str = "With --tagged: how much memory all hashes may need at once, in KiB\n\
-    or as 512M or 2G [default: 2G]";
+const MEMORY_HELP: &str = "How much memory all hashes may need at once, in KiB or as 512M or 2G\n\
+    [default: 2G]";
 
 const MOST_MEMORY_HELP: &str = "Refuses each line whose setting or record needs more memory than\n\
     this, in KiB or as 256M or 2G";
@@ -116,7 +115,6 @@ pub(crate) enum Word {
     Name,
     NewName,
     Setting,
-    Workers,
     Tagged,
     AtOnce,
     Memory,
@@ -163,7 +161,6 @@ impl Word {
             Word::Name => ("name", Form::Operand("NAME"), NAME_HELP),
             Word::NewName => ("new", Form::Operand("NEW"), NEW_NAME_HELP),
             Word::Setting => ("setting", Form::Valued("TEXT"), SETTING_HELP),
-            Word::Workers => ("workers", Form::Defaulted("N", "1"), WORKERS_HELP),
             Word::Tagged => ("tagged", Form::Flag, TAGGED_HELP),
             Word::AtOnce => ("at-once", Form::Valued("N"), AT_ONCE_HELP),
             Word::Memory => ("memory", Form::Valued("SIZE"), MEMORY_HELP),

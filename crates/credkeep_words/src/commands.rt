@@ -8,7 +8,6 @@ use std::io::Write;
 #[derive(Clone, Copy)]
 pub(crate) enum Verb {
     Init,
-    Run,
     Serve,
     Add,
     Check,
@@ -36,7 +35,6 @@ impl Verb {
     pub(crate) fn word(self) -> &'static str {
         match self {
             Verb::Init => "init",
-            Verb::Run => "run",
             Verb::Serve => "serve",
             Verb::Add => "add",
             Verb::Check => "check",
@@ -70,7 +68,7 @@ pub(crate) struct CommandText {
     pub(crate) words: &'static [Word],
 }
 
-pub(crate) static COMMANDS: [CommandText; 22] = [
+pub(crate) static COMMANDS: [CommandText; 21] = [
     CommandText {
         verb: Verb::Init,
         about: "Begins an empty book in a new file",
@@ -79,22 +77,13 @@ pub(crate) static COMMANDS: [CommandText; 22] = [
         words: &[],
     },
     CommandText {
-        verb: Verb::Run,
-        about: "Answers a script from standard input",
-        long: "Answers a script from standard input. Each change is on the disk before its line\n\
-            is answered. rigzumal-script(5) has the language.",
-        usage: "credkeep <FILE> run [OPTIONS]",
-        words: &[Word::Workers],
-    },
-    CommandText {
         verb: Verb::Serve,
-        about: "Answers lines for as long as they come",
-        long: "Answers lines for as long as they come. Each change is on the disk before its\n\
-            line is answered. The lines are those of a script; with --tagged they come from\n\
-            many clients, each TAG OPERATION .., and are answered in any order.",
-        usage: "credkeep <FILE> serve [OPTIONS]",
+        about: "Answers lines of many clients for as long as they come",
+        long: "Answers lines of many clients for as long as they come, each TAG OPERATION ..,\n\
+            in any order. Each change is on the disk before its line is answered.\n\
+            docs/SERVING.md has the operations and their answers.",
+        usage: "credkeep <FILE> serve --tagged [OPTIONS]",
         words: &[
-            Word::Workers,
             Word::Tagged,
             Word::AtOnce,
             Word::Memory,

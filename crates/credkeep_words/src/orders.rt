@@ -1,11 +1,11 @@
 //! The act of each command.
 
+use crate::command_line::{Act, Echo, Service};
 use crate::commands::Verb;
 use crate::options::{
     either, importing_in, line_in, most_in, name_in, size_in, text_in, threads_in,
 };
 use crate::refusal::Refusal;
-use crate::request::{Act, Echo, Service};
 use clap::ArgMatches;
 use cred_admin::{Command, Detail, Edit, EmptyPassword, Line, NewPassword, NewSetting, setting_of};
 use cred_book::Name;
@@ -23,9 +23,6 @@ pub(crate) const DEFAULT_SETTING: &str = "$argon2id$v=19$m=65536,t=3,p=4";
 /// The default memory of all hashes of tagged lines together, in KiB.
 const DEFAULT_MEMORY: u64 = 2097152;
 
-/// The maximum number of threads for a command on one account: the lanes of the default setting.
-const LANES: u8 = 4;
-
 /// The act of a command with these options.
 pub(crate) fn act_of<'a, R: RandomSource + AllocGlobal>(
     rt: &R,
@@ -38,11 +35,7 @@ pub(crate) fn act_of<'a, R: RandomSource + AllocGlobal>(
         Verb::Restore => Ok(Act::Restore(text_in(values, "from"))),
         Verb::Verify => Ok(Act::Verify),
         Verb::Serve if values.get_flag("tagged") => Ok(Act::Tagged(service_in(rt, values)?)),
-        Verb::Serve => {
-            let most = most_in(values)?;
-            perform(values, Order::Serve { most })
-        }
-        Verb::Run => perform(values, Order::Run),
+        Verb::Serve => Err(Refusal::Untagged),
         Verb::List => list(values, line_in(values)),
         Verb::Export => list(values, Line::Passwd(Detail::Record)),
         Verb::Import => {
@@ -68,7 +61,6 @@ pub(crate) fn act_of<'a, R: RandomSource + AllocGlobal>(
 fn perform<'a>(values: &ArgMatches<'a>, order: Order) -> Result<Act<'a>, Refusal<'a>> {
     Ok(Act::Perform {
         order,
-        workers: threads_in(values, "workers", 64)?.unwrap_or(LANES),
         echo: either(values, "echo", Echo::Taken, Echo::Refused),
     })
 }

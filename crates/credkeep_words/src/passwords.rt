@@ -1,8 +1,8 @@
 //! Reading the passwords of an order: lines of standard input, or typed at a terminal that shows
 //! them.
 
+use crate::command_line::Echo;
 use crate::refusal::say;
-use crate::request::Echo;
 use cred_admin::{Passwords, Status};
 use cred_keep::Order;
 use cred_phc::MAX_PASSWORD;

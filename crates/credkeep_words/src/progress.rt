@@ -2,7 +2,7 @@
 
 ghost use Rattle.std.specs.{Io.ReadsAtMost, Io.KnownBytes.ReadConsumes, Prelude.◌≡◌};
 
-use crate::request::Remarks;
+use crate::command_line::Remarks;
 use std::io;
 use std::io::{IsTerminal, Read, Write};
 use std::time::Instant;

@@ -21,6 +21,8 @@ pub(crate) enum Refusal<'a> {
     Words(Error),
     /// No word is a command.
     NoCommand,
+    /// A service of lines without tags is asked for.
+    Untagged,
     /// A word or an option too many for this command.
     Unknown(&'static CommandText, Slip),
     /// No account can have this name.
@@ -73,6 +75,10 @@ impl<'a> Refusal<'a> {
     fn write<W: Write>(&self, out: &mut W) -> io::Result<()> {
         match self {
             Refusal::NoCommand => write_no_command(out),
+            Refusal::Untagged => writeln!(
+                out,
+                "credkeep: serve: it answers tagged lines alone: write serve --tagged"
+            ),
             Refusal::Unknown(command, slip) => write_unknown(out, command, *slip),
             Refusal::Name { text, why } => write_name(out, text, *why),
             Refusal::Setting { text, why } => write_setting(out, text, *why),
@@ -156,7 +162,7 @@ fn write_unnamed<W: Write>(out: &mut W, verb: Verb) -> io::Result<()> {
         "a word or an option too many, which isn't shown: it may be a password"
     )?;
     match verb {
-        Verb::Run | Verb::Serve | Verb::Import => {
+        Verb::Serve | Verb::Import => {
             writeln!(out, "The input is read from standard input: write < INPUT")
         }
         Verb::Verify => writeln!(

@@ -3,7 +3,6 @@
 use super::{hold_bytes, name};
 use cred_admin::{BadLine, Fault, ImportFault, LineFault};
 use cred_book::{BookError, Register};
-use cred_cli::ScriptFault;
 use cred_file::{Attempt, Lost, Mark, Marks, OpenFault};
 use cred_keep::{Failure, explain, refuse};
 use cred_phc::PhcError;
@@ -29,7 +28,7 @@ fn hold_failure<R: Abort>(
     hold_line(rt, alloc, &said, text);
 }
 
-/// Of commands, scripts and imports.
+/// Of commands and imports.
 #[test]
 fn texts_of_commands(rt: HostRuntime) {
     for (fault, text) in [
@@ -47,17 +46,6 @@ fn texts_of_commands(rt: HostRuntime) {
     ] {
         hold_failure(&rt, rt.alloc(), &Failure::Command(fault), None, text);
     }
-    for (fault, text) in [
-        (ScriptFault::Read, "the reader failed"),
-        (ScriptFault::Write, "the writer failed, or took no byte"),
-        (ScriptFault::Memory, "out of memory"),
-        (ScriptFault::TooLong, "the script has over 1048576 bytes"),
-    ] {
-        hold_failure(&rt, rt.alloc(), &Failure::Script(fault), None, text);
-    }
-    let marked = "an account is locked, or its password must be changed, which lines without tags \
-        don't heed: serve --tagged does";
-    hold_failure(&rt, rt.alloc(), &Failure::Marked, None, marked);
     for (fault, text) in [
         (ImportFault::Read, "reading failed"),
         (ImportFault::Memory, "out of memory"),

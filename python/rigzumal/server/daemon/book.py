@@ -59,23 +59,9 @@ class Book(asyncio.SubprocessProtocol):
             self.stdin.write(b"%b %b\n" % (tag, b" ".join(words)))
         return answer
 
-    async def row(self, name: bytes) -> bytes:
-        """An account's marks with its record behind them, or NO_RECORD; or a refusal of `show`.
-
-        The book's own `show` tells the record alone, so the first account from NAME on that has
-        marks is asked for too.
-        """
-        record = await self.ask(b"show", name)
-        if record != NO_RECORD and not has_record(record):
-            return record
-        page = await self.ask(b"marks", name, b"1")
-        operation, _, item = page.partition(b" ")
-        if operation != b"marks":
-            return page
-        marked, _, marks = item.partition(b":")
-        if marked != name:
-            return record
-        return marks if record == NO_RECORD else marks + record
+    def row(self, name: bytes) -> asyncio.Future[bytes]:
+        """An account's marks with its record behind them, or NO_RECORD; or a refusal of `show`."""
+        return self.ask(b"show", name)
 
     def pipe_data_received(self, _: int, data: bytes) -> None:
         """Hands over its answers, and kills it at one that has no end."""

@@ -79,9 +79,7 @@ class Foreign:
         if operation in TAKES and (await self.file.line(request.words[-1])).record:
             return TAKES[operation]
         line, book = await self.file.line(name), self.service.book
-        # Only a rename needs the marks here, for which the book may look at many accounts.
-        row = await (book.row(name) if operation == b"rename" else book.ask(b"show", name))
-        if refusal := await self.prepared(request, line, row):
+        if refusal := await self.prepared(request, line, await book.row(name)):
             return refusal
         answer = await self.service.ask(request)
         if line.record and answer in LACKS:

@@ -1,11 +1,11 @@
 use Rattle.std.proofs.Common.{◌≡◌, ℕ, List, [], ◌∷◌, ◌++◌, Bool, true, false, nat_lt, codes, Option, Some, None, refl, ap, ◌∙◌, arith}
 use Rattle.cred_phc.specs.Values.{RecordValue}
 use Rattle.cred_book.specs.{Works.name_of, Works.new_record, declared.request.Request.Request}
-use Rattle.cred_cli.specs.{History.show_answer, Texts.line_of, Texts.reply_line}
+use Rattle.cred_cli.specs.Texts.{reply_line}
 use Rattle.cred_file.specs.declared.mark.Mark.{Mark}
 use Rattle.cred_admin.specs.{Commands.reset_step, Marked.MarkedBook, Marked.barred, Marked.tried, Marked.tried_at, Marked.tried_if, Statuses.verdict_line, declared.verdict.Verdict.Verdict}
 use Rattle.cred_admin.specs.declared.edits.Edit.TheVariants.{Disable, Delete, Rename, Lock, Unlock, Expire}
-use Rattle.cred_many.specs.{Names.marked_page, Names.marks_line, Names.names_line, Names.page, Served.disabled_line, Served.done, Served.login_verdict, declared.ask.Ask.Ask}
+use Rattle.cred_many.specs.{Names.marked_page, Names.marks_line, Names.names_line, Names.page, Served.disabled_line, Served.done, Served.login_verdict, Served.shown_line, declared.ask.Ask.Ask}
 use Rattle.cred_many.specs.Telling.{AreAlikeAt, AreAlikeFor}
 use Rattle.cred_many.specs.declared.ask.Ask.TheVariants.{Quick, Whole, Login, Reset}
 use Rattle.cred_many.specs.declared.ask.QuickAsk.TheVariants.{Account, Load, Show, DisableShown, Bad, Edit as Change, List as Names, ListMarks}
@@ -86,7 +86,8 @@ module _ (capacity : ℕ) (one other : MarkedBook) where
   done_told : (ask : Ask) → AreAlikeFor capacity ask one other → (done capacity one ask).0 ≡ (done capacity other ask).0
   done_told (Quick (Account name)) (same, room) = account_told name (map.get other.accounts name) (nat_lt (map.len other.accounts) capacity) (same 0 [] (omega arith)).0 refl room refl
   done_told (Quick (Load name stored)) (same, beside) = load_told name stored (map.get other.accounts name) (same 0 [] (omega arith)).0 refl
-  done_told (Quick (Show name)) (same, beside) = ap (λ a. line_of (show_answer a)) (same 0 [] (omega arith)).0
+  done_told (Quick (Show name)) (same, beside) =
+      ap (λ m. shown_line m (map.get one.accounts name)) (same 0 [] (omega arith)).1 ∙ ap (shown_line (other.marks name)) (same 0 [] (omega arith)).0
   done_told (Quick (DisableShown name)) (same, beside) =
       ap (λ m. disabled_line name m (map.get one.accounts name)) (same 0 [] (omega arith)).1 ∙ ap (disabled_line name (other.marks name)) (same 0 [] (omega arith)).0
   done_told (Quick (Change (Disable name))) (same, beside) = disable_told name (map.get other.accounts name) (same 0 [] (omega arith)).0 refl

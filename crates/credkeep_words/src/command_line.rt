@@ -1,4 +1,4 @@
-//! The request of the command line.
+//! What the command line asks for.
 
 use crate::arguments::credkeep;
 use crate::commands::command_named;
@@ -14,7 +14,7 @@ use std::random::RandomSource;
 
 /// A file, and an act on it.
 #[derive(Drop)]
-pub struct Request<'a> {
+pub struct CommandLine<'a> {
     pub file: &'a str,
     /// The number of seconds for which a busy file is tried.
     pub wait: u16,
@@ -50,12 +50,8 @@ pub enum Act<'a> {
     Verify,
     /// Answers tagged lines of many clients.
     Tagged(Service),
-    /// Does an order on a book, with at most so many threads.
-    Perform {
-        order: Order,
-        workers: u8,
-        echo: Echo,
-    },
+    /// Does an order on a book.
+    Perform { order: Order, echo: Echo },
 }
 
 /// The service of tagged lines.
@@ -71,19 +67,19 @@ pub struct Service {
     pub most: CostBounds,
 }
 
-/// The request of the process's words. Refused words and calls for help are answered here, with the
-/// exit status.
-pub fn request_of<'a>(host: &HostRuntime, words: &'a [String]) -> Result<Request<'a>, Status> {
-    match read_words(host, words) {
-        Ok(request) => Ok(request),
+/// Reads the process's words. Refused words and calls for help are answered here, with the exit
+/// status.
+pub fn read_words<'a>(host: &HostRuntime, words: &'a [String]) -> Result<CommandLine<'a>, Status> {
+    match line_of(host, words) {
+        Ok(line) => Ok(line),
         Err(refusal) => Err(refusal.tell(host)),
     }
 }
 
-fn read_words<'a, R: RandomSource + AllocGlobal>(
+fn line_of<'a, R: RandomSource + AllocGlobal>(
     rt: &R,
     words: &'a [String],
-) -> Result<Request<'a>, Refusal<'a>> {
+) -> Result<CommandLine<'a>, Refusal<'a>> {
     let matches = match parse(rt.alloc(), words) {
         Ok(matches) => matches,
         Err(error) => return Err(Refusal::of_words(rt.alloc(), words, error)),
@@ -94,7 +90,7 @@ fn read_words<'a, R: RandomSource + AllocGlobal>(
     let Some(text) = command_named(word) else {
         return Err(Refusal::NoCommand);
     };
-    Ok(Request {
+    Ok(CommandLine {
         file: text_in(&matches, "file"),
         wait: number_in(&matches, "wait", 0, 3600)?.unwrap_or(0),
         remarks: either(&matches, "quiet", Remarks::Hidden, Remarks::Told),

@@ -1,0 +1,22 @@
+use Rattle.std.proofs.Common.{rules}
+use Rattle.cred_keep.proofs.order.perform.Goals as goal
+
+pub returns-in-Account-clause-done : goal.returns-in-Account-clause-done
+returns-in-Account-clause-done g c = λ basis fits. rw c.in-Account.is (c.carry_out.result, c.carry_out.ensures.done basis fits, c.command_end.ensures)
+
+-- ---- orders that read nothing
+
+pub returns-in-Edit-clause-done : goal.returns-in-Edit-clause-done
+returns-in-Edit-clause-done g c = λ basis fits. search (rules, c.edit_account.ensures basis)
+
+pub returns-in-DisableShown-clause-done : goal.returns-in-DisableShown-clause-done
+returns-in-DisableShown-clause-done g c = λ basis fits. search (rules, c.disable_shown.ensures basis)
+
+pub returns-in-Show-clause-done : goal.returns-in-Show-clause-done
+returns-in-Show-clause-done g c = λ basis fits. search (rules, c.show.ensures basis)
+
+pub returns-in-ShowJson-clause-done : goal.returns-in-ShowJson-clause-done
+returns-in-ShowJson-clause-done g c = λ basis fits. search (rules, c.show_json.ensures basis)
+
+pub returns-in-List-clause-done : goal.returns-in-List-clause-done
+returns-in-List-clause-done g c = λ basis fits. search (rules, c.list.ensures basis)
