@@ -124,7 +124,7 @@ class OthersTest(ImportTest):
         locks = self.room / "users.db-locks"
         for text, done in (
             ("", Ended(0, lines_of(accounts))),
-            (LOCK, fails(5, f"{self.book.path}: its server keeps locks")),
+            (LOCK, fails(5, f"{self.book.path}: an earlier server's locks")),
         ):
             with self.subTest(text=text):
                 locks.write_text(text)

@@ -25,7 +25,7 @@ pub(crate) type Database = Connection<FileStore<FileFrom<Wary>>>;
 /// The file may be read and written by its owner alone. Its log gets the same mode.
 pub(crate) const OWNER_ALONE: u32 = 0o600;
 
-/// The end of the name of the file in which a server keeps the locks of names.
+/// The end of the name of the file in which an earlier server kept the locks of names.
 const LOCKS: &str = "-locks";
 
 /// The permissions of others in a mode.
@@ -126,8 +126,8 @@ pub(crate) fn look(host: &HostRuntime, file: &str, remarks: Remarks) -> Result<(
     Ok(())
 }
 
-/// Refuses to export a book beside which a server keeps locks: the records of locked names would be
-/// good ones wherever the lines go.
+/// Refuses to export a book beside which an earlier server's locks lie: the records of locked names
+/// would be good ones wherever the lines go.
 pub(crate) fn look_before_export(
     host: &HostRuntime,
     file: &str,

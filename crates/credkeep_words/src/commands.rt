@@ -94,9 +94,9 @@ pub(crate) static COMMANDS: [CommandText; 21] = [
     },
     CommandText {
         verb: Verb::Add,
-        about: "Makes the first record of an account",
-        long: "Makes the first record of an account, and the account if it is new. The new\n\
-            password is one line of standard input.\n\
+        about: "Gives an account its first password",
+        long: "Gives an account its first password, one line of standard input. An account\n\
+            that doesn't exist is added first.\n\
             Answers enrolled; or exists with status 4.",
         usage: "credkeep <FILE> add [OPTIONS] <NAME>",
         words: &[Word::Name, Word::Setting, Word::EmptyPassword, Word::Echo],
@@ -191,9 +191,9 @@ pub(crate) static COMMANDS: [CommandText; 21] = [
     },
     CommandText {
         verb: Verb::Expire,
-        about: "Makes a password one that must be changed",
-        long: "Makes the password of an account one that must be changed: until change or reset\n\
-            gives the account another one, a right password is answered expired.\n\
+        about: "Demands another password of an account",
+        long: "Demands another password of an account: a right one is answered expired until\n\
+            change or reset gives the account another.\n\
             Answers expired; or absent (no record) or noaccount with status 4.",
         usage: "credkeep <FILE> expire <NAME>",
         words: &[Word::Name],

@@ -23,7 +23,7 @@ pub enum FileFault {
     Same,
     /// A log with changes lies there: of a book in use, or of a file that is gone.
     OldLog,
-    /// A server's locks lie beside it, which an export doesn't look at.
+    /// An earlier server's locks lie beside it, which an export doesn't look at.
     Locks,
     /// The number of changes before the damage, and of those that are lost.
     DamagedLog { before: u64, lost: u64 },
@@ -71,11 +71,12 @@ impl fmt::Display for FileFault {
             ),
             FileFault::OldLog => f.write_str(
                 "a log with changes lies beside it, at its name with -wal: it is in use, or it was \
-                 removed without its log; restore puts a copy there, and takes the log away",
+                 removed without its log; restore puts a copy there, and removes the log",
             ),
             FileFault::Locks => f.write_str(
-                "its server keeps locks of names, at its name with -locks, and an export would give \
-                 their records away: export a copy without them, as credkeep(1) shows",
+                "an earlier server's locks of names lie beside it, at its name with -locks, and an \
+                 export would give their records away: start credkeep-server once, which puts them \
+                 into the book",
             ),
             FileFault::DamagedLog { before, lost } => write!(
                 f,
