@@ -13,7 +13,8 @@ from unittest import mock
 from machine import is_open, shell
 from served import SECRET, TOP, WRONG, Case, Client, Service, field_of, need, ran, until
 from daemon import tries
-from daemon.options import OPERATIONS, Options
+from daemon.options import Options
+from daemon.protocol import OPERATIONS
 from tests.helpers import Peer, run
 from tests.needs import need_file
 from tests.ports import free_port
@@ -234,14 +235,12 @@ class Logs(Case):
         service.process.kill()
 
     def test_types(self) -> None:
-        """mypy --strict takes its modules, and credkeep-ask, by the oldest Python that they may be
-        run by."""
+        """mypy --strict takes its modules, and those of credkeep-ask, by the oldest Python that they
+        may be run by."""
         need("mypy")
         need_file("/usr/lib/python3/dist-packages/passlib-stubs")
         words = f"mypy --strict --python-version=3.9 --cache-dir={self.room()}".split()
-        at = TOP / "python/rigzumal/server"
-        for checked in ("daemon", str(TOP / "bin/credkeep-ask")):
-            run(*words, checked, at=at)
+        run(*words, "daemon", at=TOP / "python/rigzumal/server")
 
 
 # Lines, and whether the audit log has them, with the names and answers that it has.

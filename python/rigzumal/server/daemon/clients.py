@@ -11,6 +11,7 @@ import socket
 import struct
 import time
 from collections import Counter, defaultdict
+from collections.abc import Iterable
 from contextlib import suppress
 from dataclasses import dataclass, field
 from typing import TYPE_CHECKING, Hashable, Optional
@@ -20,6 +21,7 @@ from .shares import owner_of, share_of
 
 if TYPE_CHECKING:
     from .service import Service
+    from .transfers import Incoming
 
 CLIENTS, FEW = 1024, 64  # a door's, and how many wait to be let in
 KEPT = 64  # places of a door, the last ones, for users that have none
@@ -27,7 +29,7 @@ ACCEPTED = 16  # clients in a pass of the loop: then others have their turn
 AT_ONCE = 32  # requests of a client
 LONGEST = 960  # bytes of a line
 FIRST_HANDED = 3  # the descriptor of systemd's first socket: sd_listen_fds(3)
-READ, WRITTEN = 4096, 16384  # bytes at a time
+READ, READ_OF_TEXT, WRITTEN = 4096, 65536, 16384  # bytes at a time
 PEER = struct.Struct("3i")  # the peer's pid, uid and gid
 PAUSE = 0.001  # seconds behind an answer without the book's work, times a user's clients
 
@@ -49,6 +51,7 @@ class Client:
         self.running = 0  # requests without an answer
         self.active = time.monotonic()  # when it last was answered
         self.queues = defaultdict[object, asyncio.Lock](asyncio.Lock)  # for each kind of places
+        self.incoming: Optional[Incoming] = None  # the text of an import, which comes next
         self.answered = asyncio.Event()
         self.writing = asyncio.Lock()
         self.loop = asyncio.get_running_loop()
@@ -78,6 +81,24 @@ class Client:
                 line, end, text = text.partition(b"\n")
                 await (self.pause() if is_rest else self.submit(line))
                 is_rest = not end
+                if self.incoming is not None:
+                    text = await self.read_text(self.incoming, text)
+
+    async def read_text(self, incoming: Incoming, data: bytes) -> bytes:
+        """Has an import begin once its text has come; returns what comes behind the text."""
+        transfers = self.service.transfers
+        try:
+            rest = incoming.take(data)
+            while incoming.missing and (more := await self.receive()):
+                self.active = time.monotonic()
+                rest = incoming.take(more)
+        finally:
+            self.incoming = None
+            if incoming.missing:
+                transfers.drop(incoming)
+        if not incoming.missing:
+            transfers.begin(incoming.request, incoming.text)
+        return rest
 
     async def receive(self) -> bytes:
         """Some bytes; none at the end. The socket stays watched: that takes sock_recv's time."""
@@ -93,7 +114,8 @@ class Client:
             self.loop.remove_reader(self.socket)
             return
         try:
-            self.received.set_result(self.socket.recv(READ))
+            most = READ if self.incoming is None else READ_OF_TEXT
+            self.received.set_result(self.socket.recv(most))
         except BlockingIOError:
             return
         except OSError:
@@ -123,16 +145,17 @@ class Client:
         await asyncio.sleep(PAUSE * self.door.counts[self.user])
 
     async def reply(self, tag: bytes, answer: bytes) -> None:
-        await self.write(b"%b %b\n" % (tag, answer))
+        await self.write([b"%b %b\n" % (tag, answer)])
 
-    async def write(self, text: bytes) -> None:
-        """Sends an answer in pieces, as fast as the client reads them."""
+    async def write(self, pieces: Iterable[bytes]) -> None:
+        """Sends the pieces of an answer, as fast as the client reads them."""
         async with self.writing:
             try:
-                await self.loop.sock_sendall(self.socket, text)
+                for piece in pieces:
+                    await self.loop.sock_sendall(self.socket, piece)
+                    self.active = time.monotonic()
             except OSError:
                 self.end(socket.SHUT_RDWR)
-        self.active = time.monotonic()
 
     def has_gone(self) -> bool:
         """Whether nobody reads its answers any more, though lines of it may still come."""

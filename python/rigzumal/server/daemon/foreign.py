@@ -1,8 +1,10 @@
 """Users of an htpasswd file, who move into the book by right passwords."""
 
 import asyncio
+from collections.abc import Collection
 from contextlib import AsyncExitStack
 from dataclasses import replace
+from typing import BinaryIO
 from weakref import WeakValueDictionary
 
 from .aging import Line, today
@@ -10,6 +12,7 @@ from .book import LACKS, LOCKED, NO_ACCOUNT, NO_RECORD, UNAVAILABLE, decoded, ha
 from .old_file import OldFile
 from .schemes import is_right
 from .service import Request, Service
+from .transfers import memory_file
 
 # Answered to a password if the book has a record.
 HAS = (b"yes", b"expired", b"same", b"replaced", b"upgraded", b"kept", b"enrolled")
@@ -56,6 +59,10 @@ class Foreign:
             if first <= name and (is_last or name <= max(marks)):
                 marks[name] = locked(marks.get(name, b""))
         return b" ".join([operation, *(b"%b:%b" % it for it in sorted(marks.items())[:count])])
+
+    async def with_locks(self, text: BinaryIO) -> BinaryIO:
+        """An export, with a lock at those whom the file bars."""
+        return await asyncio.to_thread(with_locks, text, await self.file.barred())
 
     async def answer_unbarred(self, request: Request) -> bytes:
         """The answer: the book's, or the file's where the book lacks the name. A name that the file
@@ -194,6 +201,16 @@ def locked(row: bytes) -> bytes:
     if row in (NO_ACCOUNT, NO_RECORD):
         return LOCKED
     return row if row.startswith((b"bad ", LOCKED)) or row == UNAVAILABLE else LOCKED + row
+
+
+def with_locks(text: BinaryIO, names: Collection[bytes]) -> BinaryIO:
+    """The lines of an export, with a lock at these names."""
+    written = memory_file()
+    text.seek(0)
+    for line in text:
+        name, colon, row = line.partition(b":")
+        written.write(name + colon + locked(row) if name in names else line)
+    return written
 
 
 def barred(request: Request, answer: bytes) -> bytes:

@@ -9,18 +9,21 @@ import random
 import re
 import time
 from collections import deque
+from collections.abc import Coroutine
 from dataclasses import dataclass, replace
 from functools import partial
 from typing import TYPE_CHECKING, Any, Optional
 
-from .answers import ANSWERS, NO_ANSWER, RIGHT
 from .book import LACKS, LOCKED, MUST_CHANGE, NO_ACCOUNT, NO_RECORD, UNAVAILABLE
-from .book import Book, Places, Rounds, decoded
+from .book import Book, decoded
 from .clients import LONGEST, Client, Door
 from .disk import FULL, NEEDED, has_room
 from .journal import AuditLog, log_seldom, utc
-from .options import OPERATIONS, Kind, Options
+from .options import Options
+from .protocol import ANSWERS, NO_ANSWER, OPERATIONS, RIGHT, Operation
+from .transfers import Transfers
 from .tries import LATER, Tally
+from .turns import Places, Rounds
 
 if TYPE_CHECKING:
     from .foreign import Foreign
@@ -46,7 +49,7 @@ class Request:
     places: Places
 
     @property
-    def kind(self) -> Kind:
+    def kind(self) -> Operation:
         return OPERATIONS[self.words[0]]
 
     @property
@@ -69,7 +72,7 @@ class Service:
         # The files that a change writes, and their folders: SQLite writes beside the book.
         files = filter(None, (options.file, options.audit))
         self.folders = {path: os.path.dirname(os.path.realpath(path)) for path in files}
-        self.book = Book()
+        self.book = Book(options.book_words())
         self.tally = Tally(options)
         self.turns = Places(TURNS)
         self.hashes = Places(options.workers())
@@ -87,6 +90,7 @@ class Service:
         if options.audit:
             self.audit.append(b"")  # which fails now if it can't be written
         self.upgrading = asyncio.Lock()
+        self.transfers = Transfers(self)
         self.answer = self.ask  # or an old file's, where the book lacks the name
         self.foreign: Optional["Foreign"] = None
         if options.foreign:
@@ -108,22 +112,28 @@ class Service:
         if what := denied(client.door, words):
             self.tell_denied(client, what)
             return tag, b"denied"
+        if OPERATIONS[words[0]].is_transfer:
+            return tag, self.transfers.submit(Request(client, tag, words, self.changes))
         words = self.with_names_of_book(words)
         if answer := self.own_answer(words):
             return tag, answer
         client.running += 1
         request = Request(client, tag, words, self.places_for(OPERATIONS[words[0]]))
-        task = asyncio.ensure_future(self.process(request))
+        self.begin(self.process(request))
+        return tag, b""
+
+    def begin(self, answering: Coroutine[Any, Any, None]) -> None:
+        """Begins a task, for whose end the server's own waits."""
+        task = asyncio.ensure_future(answering)
         self.tasks.add(task)
         task.add_done_callback(self.tasks.discard)
-        return tag, b""
 
     def tell_denied(self, client: Client, what: str) -> None:
         self.tally.counts["denied"] += 1
         values = (client.door.name, client.uid, what)
         log_seldom(values, "denied at %s to uid %d: %s", *values)
 
-    def places_for(self, kind: Kind) -> Places:
+    def places_for(self, kind: Operation) -> Places:
         """Where a line waits: for a hash, for the disk, or for neither."""
         is_quick = kind.changes and self.hash_seconds <= SYNC
         if kind.hashes and not is_quick:
@@ -145,7 +155,7 @@ class Service:
             return self.tally.answer(words[0], words[1].decode(errors="replace")).encode()
         return self.why_refused(kind, words) if 0 < kind.new < len(words) else b""
 
-    def why_refused(self, kind: Kind, words: list[bytes]) -> bytes:
+    def why_refused(self, kind: Operation, words: list[bytes]) -> bytes:
         """The answer to a new password that is refused; empty for others."""
         password = decoded(words[kind.new])
         if password is None:  # which the book refuses
@@ -254,6 +264,8 @@ class Service:
         answer = await self.book.ask(*words)
         self.logins -= 1
         seconds = time.monotonic() - began
+        if began < self.book.opened:  # it waited for an import
+            return answer
         if answer in (b"yes", b"no", *LACKS):
             self.login_seconds.append(seconds)
         if answer in LACKS:  # behind a hash of the costs of new records
@@ -271,7 +283,7 @@ class Service:
         is_refused, kind = answer.startswith(REFUSED), request.kind
         meaning = ANSWERS.get(answer.decode(), NO_ANSWER)
         tried = meaning.tried if kind.tries else ""
-        is_noted = tried == RIGHT or tried and self.options.audit_tries
+        is_noted = kind.is_transfer or tried == RIGHT or tried and self.options.audit_tries
         if not self.audit.path or not (is_noted or kind.changes and not is_refused):
             return True
         client, (operation, *fields) = request.client, request.words

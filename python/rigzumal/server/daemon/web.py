@@ -8,8 +8,8 @@ from typing import Any, Optional
 
 import h11
 
-from .answers import ANSWERS, NO_ANSWER
 from .clients import READ, Client
+from .protocol import ANSWERS, NO_ANSWER
 
 CHALLENGE = ("WWW-Authenticate", 'Basic realm="book", charset="UTF-8"')
 CLOSE = ("Connection", "close")
@@ -86,7 +86,7 @@ class WebClient(Client):
             seconds = max(tally.names.rest(name), tally.users.rest(user))
             headers.append(("Retry-After", str(max(1, math.ceil(seconds)))))
         head = h11.Response(status_code=status, headers=headers)
-        await self.write(self.http.send(head) + self.http.send(h11.EndOfMessage()))
+        await self.write([self.http.send(head) + self.http.send(h11.EndOfMessage())])
         if self.http.our_state is self.http.their_state is h11.DONE:
             self.http.start_next_cycle()
         else:
