@@ -24,8 +24,8 @@ OF_AN_OPERATION = ("absent", "expired")
 ELSE = ("SUCCESS", "AUTHINFO_UNAVAIL")
 COLUMNS = 140  # of a page's line
 
-HEADER = """/* What answers to a password mean for PAM, but for those that differ by operation. Any other one is
- * PAM_AUTHINFO_UNAVAIL. tools/protocol.py writes this file. */
+HEADER = """/* What answers to a password mean for PAM, but for those that differ by operation. Any
+ * other one is PAM_AUTHINFO_UNAVAIL. tools/protocol.py writes this file. */
 #ifndef RIGZUMAL_PAM_ANSWERS_H
 #define RIGZUMAL_PAM_ANSWERS_H
 

@@ -1,5 +1,5 @@
-/* What answers to a password mean for PAM, but for those that differ by operation. Any other one is
- * PAM_AUTHINFO_UNAVAIL. tools/protocol.py writes this file. */
+/* What answers to a password mean for PAM, but for those that differ by operation. Any
+ * other one is PAM_AUTHINFO_UNAVAIL. tools/protocol.py writes this file. */
 #ifndef RIGZUMAL_PAM_ANSWERS_H
 #define RIGZUMAL_PAM_ANSWERS_H
 

@@ -8,7 +8,6 @@ import shutil
 import signal
 import sys
 import time
-from typing import Optional
 
 NAME = re.compile("[a-z0-9._-]{1,32}")
 MARKED = re.compile(r"(!?~?)(\$.*)?")
@@ -63,6 +62,8 @@ def import_lines(path: str, options: list[str], fault: str) -> int:
                 counts[2] += 1
             else:
                 counts[name in rows] += 1
+                if rows.get(name, "").startswith("!") and not row.startswith("!"):
+                    row = f"!{row}"  # an import ends no lock
                 taken += f"{name} {row}\n"
                 rows[name] = row
         if counts[3] and "--skip-bad" not in options:

@@ -235,8 +235,7 @@ class Logs(Case):
         service.process.kill()
 
     def test_types(self) -> None:
-        """mypy --strict takes its modules, and those of credkeep-ask, by the oldest Python that they
-        may be run by."""
+        """mypy --strict takes its modules, and credkeep-ask's, by the oldest Python for them."""
         need("mypy")
         need_file("/usr/lib/python3/dist-packages/passlib-stubs")
         words = f"mypy --strict --python-version=3.9 --cache-dir={self.room()}".split()

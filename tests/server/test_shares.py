@@ -15,8 +15,8 @@ from collections.abc import AsyncIterator
 from unittest import mock
 
 from served import PYTHON, Case, Client, need_root
-from daemon import clients, shares
-from daemon.clients import FEW, Door
+from daemon import clients, doors, shares
+from daemon.doors import MOST_WAITING, Door
 from daemon.options import Options
 from daemon.service import TURNS, Service
 from daemon.shares import owner_of, share_of
@@ -86,7 +86,7 @@ class Floods(Case):
     async def door(self, service: Service) -> AsyncIterator[tuple[Door, contextlib.ExitStack]]:
         """A door of a service in this process, and what closes its clients in the end."""
         door = Door("a", str(self.room() / "s"), 0o600, "-", frozenset())
-        door.listener = door.listening()
+        door.listener = door.listen()
         accepting = asyncio.ensure_future(door.accept(service, door.listener))
         with contextlib.ExitStack() as stack:
             yield door, stack
@@ -106,7 +106,7 @@ class Floods(Case):
         async def waiting(is_flooded: bool) -> int:
             """A hundred come, and are let in; how many more can wait then."""
             async with self.door(Service(Options())) as (door, stack):
-                made = (socket.socket(socket.AF_UNIX) for _ in range(100 + 2 * FEW))
+                made = (socket.socket(socket.AF_UNIX) for _ in range(100 + 2 * MOST_WAITING))
                 clients = [stack.enter_context(it) for it in made]
                 for it in clients[:100]:
                     it.connect(door.path)
@@ -118,8 +118,8 @@ class Floods(Case):
                     it.setblocking(False)
                 return sum(it.connect_ex(door.path) == 0 for it in clients[100:])
 
-        self.assertEqual(asyncio.run(waiting(is_flooded=True)), FEW + 1)
-        self.assertEqual(asyncio.run(waiting(is_flooded=False)), 2 * FEW)
+        self.assertEqual(asyncio.run(waiting(is_flooded=True)), MOST_WAITING + 1)
+        self.assertEqual(asyncio.run(waiting(is_flooded=False)), 2 * MOST_WAITING)
 
     def test_lines_in_a_pass(self) -> None:
         """Connections take turns, a line in each, and a pass of the loop takes few lines of all."""
@@ -128,7 +128,7 @@ class Floods(Case):
         async def taken() -> str:
             nonlocal most
             lines, service = list[bytes](), Service(Options())
-            with mock.patch.object(service, "submit", lambda _, it: (lines.append(it) or b"", b"")):
+            with mock.patch.object(service, "submit", lambda _, tag, words: lines.append(tag)):
                 async with self.door(service) as (door, stack):
                     for letter in letters:
                         client = stack.enter_context(Client(pathlib.Path(door.path)))
@@ -159,7 +159,8 @@ class Floods(Case):
                 share_of.assert_called_with(os.getuid(), process.pid)
                 return sum(door.counts.values())
 
-        with mock.patch.multiple(clients, CLIENTS=64, KEPT=4, share_of=share_of):
+        few = mock.patch.multiple(doors, MOST_CLIENTS=64, LAST_PLACES=4)
+        with few, mock.patch.object(clients, "share_of", share_of):
             self.assertEqual(asyncio.run(let_in()), 49)
 
     def test_a_fault(self) -> None:
@@ -174,9 +175,10 @@ class Floods(Case):
                         await asyncio.sleep(0)
                 return door.counts["a", "other"]
 
-        with mock.patch.multiple(clients, share_of=share_of, log_seldom=mock.DEFAULT) as logged:
+        logged = mock.patch.object(doors, "log_seldom")
+        with mock.patch.object(clients, "share_of", share_of), logged as log_seldom:
             self.assertEqual(asyncio.run(let_in()), 1)
-        self.assertNotIn("secret", str(logged["log_seldom"].call_args_list))
+        self.assertNotIn("secret", str(log_seldom.call_args_list))
 
     def test_many_users(self) -> None:
         """However many connections many users have between them, one who has none comes in."""
@@ -185,7 +187,8 @@ class Floods(Case):
         async def are_let_in(*others: str) -> list[int]:
             """How many of each come in, once many users have what they get."""
             share_of = mock.Mock(side_effect=[*many, *others])
-            with mock.patch.multiple(clients, CLIENTS=256, KEPT=32, share_of=share_of):
+            few = mock.patch.multiple(doors, MOST_CLIENTS=256, LAST_PLACES=32)
+            with few, mock.patch.object(clients, "share_of", share_of):
                 async with self.door(Service(Options())) as (door, stack):
                     for _ in range(len(many) + len(others)):
                         stack.enter_context(Client(pathlib.Path(door.path)))

@@ -88,7 +88,7 @@ class Waiting(IsolatedAsyncioTestCase):
                 client.has_gone = lambda: False
                 client.queues = defaultdict(asyncio.Lock)
                 for _ in range(count):
-                    service.submit(client, f"a verify {name} -".encode())
+                    service.submit(client, b"a", [b"verify", name.encode(), b"-"])
             await asyncio.gather(*service.tasks)
         self.assertEqual(replies.await_count, sum(count for _, _, count in asked))
         return " ".join(names)

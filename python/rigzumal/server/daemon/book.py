@@ -23,11 +23,12 @@ NO_ACCOUNT = b"bad 5 noaccount"
 RETRY_SECONDS = 1.0  # from a process that couldn't start until the next one
 
 
-def decoded(field: bytes) -> Optional[bytes]:
-    """The password that a field of a line has; none if it isn't base64."""
-    padded = field + b"=" * (-len(field) % 4)
+def password_of(field: bytes) -> Optional[bytes]:
+    """The password that a field of a line has; None if it isn't base64."""
+    if field == b"-":
+        return b""
     try:
-        return b"" if field == b"-" else base64.b64decode(padded, validate=True)
+        return base64.b64decode(field + b"=" * (-len(field) % 4), validate=True)
     except ValueError:
         return None
 
@@ -111,10 +112,10 @@ class Book:
 
     async def open(self) -> None:
         """Starts its first process."""
-        self.hand_over_to(await self.started())
+        self.hand_over_to(await self.start_process())
 
-    async def started(self) -> Process:
-        """A new process, in a session of its own: a terminal's signals are the server's."""
+    async def start_process(self) -> Process:
+        """Starts a process in a session of its own: a terminal's signals are the server's."""
         loop, process = asyncio.get_running_loop(), Process()
         await loop.subprocess_exec(
             lambda: process, *self.command, stderr=None, start_new_session=True
@@ -167,6 +168,10 @@ class Book:
             return record
         return marks if record == NO_RECORD else marks + record
 
+    def is_lent(self) -> bool:
+        """Whether another program has the file."""
+        return self.process is None
+
     def has_ended(self) -> bool:
         """Whether it has ended, or is about to."""
         return self.ended.done() or self.is_ending
@@ -190,7 +195,7 @@ class Book:
         """Starts a process until one answers, or the server ends. Whoever waits is refused at the
         first that doesn't."""
         while not self.is_ending:
-            if process := await self.answering():
+            if process := await self.process_that_answers():
                 self.hand_over_to(process)
                 return
             self.is_down = True
@@ -201,10 +206,10 @@ class Book:
         if not self.ended.done():
             self.ended.set_result(self.status)
 
-    async def answering(self) -> Optional[Process]:
+    async def process_that_answers(self) -> Optional[Process]:
         """A new process that has answered a line, so that it has opened the file; or none."""
         try:
-            process = await self.started()
+            process = await self.start_process()
         except OSError as fault:
             log_seldom(("reopen", fault.errno), "%s: %s", self.command[0], fault.strerror)
             return None

@@ -9,6 +9,7 @@ import socket
 import sys
 import time
 from contextlib import suppress
+from typing import Any
 
 from .book import Book
 from .earlier import take_in
@@ -56,10 +57,9 @@ async def serve(options: Options) -> int:
         door.prepare()
     service = Service(options)
     loop = asyncio.get_running_loop()
-    text = "a fault: %s"  # without the exception's own text, which may quote a line
-    loop.set_exception_handler(lambda _, it: log.error(text, type(it.get("exception")).__name__))
+    loop.set_exception_handler(log_fault)
     await service.book.open()
-    serving = asyncio.create_task(open_doors(service))
+    serving = asyncio.create_task(serve_clients(service))
     service.book.ended.add_done_callback(lambda _: serving.cancel())
     for number in (signal.SIGTERM, signal.SIGINT):
         loop.add_signal_handler(number, serving.cancel)
@@ -71,54 +71,79 @@ async def serve(options: Options) -> int:
     return status
 
 
-async def open_doors(service: Service) -> None:
-    """Lets clients in once the book answers, and tells systemd so while the book answers."""
+def log_fault(_loop: asyncio.AbstractEventLoop, context: dict[str, Any]) -> None:
+    """Logs a fault of the server's own without its text, which may quote a line."""
+    log.error("a fault: %s", type(context.get("exception")).__name__)
+
+
+async def serve_clients(service: Service) -> None:
+    """Lets clients in once the book answers, and looks after them until it is cancelled."""
     await asyncio.shield(service.book.ask(b"show", b"-"))  # an answer that nobody cancels
     await take_in(service)
     service.transfers.remove_copy()
-    doors = [(door, door.listening()) for door in service.options.doors]
-    service.accepting = [asyncio.create_task(door.accept(service, it)) for door, it in doors]
+    for door in service.options.doors:
+        accepting = door.accept(service, door.listen())
+        service.accepting.append(asyncio.create_task(accepting))
     log.info("start: %s", service.options.file)
     notify("READY=1")
-    timing = [service.log_in(b"verify", b"-", b"-") for _ in range(HASHES)]
-    service.timing = asyncio.gather(*timing)  # of names that no book has
+    logins = [service.log_in(b"verify", b"-", b"-") for _ in range(HASHES)]
+    service.timing = asyncio.gather(*logins)  # of names that no book has
     idle = service.options.idle or float("inf")
     beat = beat_seconds()
     while True:
-        await told_that_it_goes_on(service.book, beat)
+        await notify_once_answered(service.book, beat)
         service.tally.names.drop_expired()
         service.tally.users.drop_expired()
-        for client in list(service.clients):
-            is_waiting = client.running and not client.writing.locked()
-            if client.active < time.monotonic() - idle and not is_waiting:
-                client.end(socket.SHUT_RDWR)
+        end_idle_clients(service, idle)
         await asyncio.sleep(min(beat, idle / 10))
 
 
-async def told_that_it_goes_on(book: Book, beat: float) -> None:
-    """Tells systemd so once the book answers, and while an import has the book's file."""
+async def notify_once_answered(book: Book, beat: float) -> None:
+    """Tells systemd that the server goes on once the book answers; and in each beat until then, if
+    an import has the book's file."""
     answer = book.ask(b"show", b"-")
     while not answer.done():
         await asyncio.wait([answer], timeout=beat)
-        if answer.done() or book.process is None:
+        if answer.done() or book.is_lent():
             notify("WATCHDOG=1")
 
 
 def beat_seconds() -> float:
     """How often systemd is told that the server goes on: in half of the time that it gives."""
-    given = os.environ.get("WATCHDOG_USEC", "")
-    microseconds = float(given) if given.isdecimal() else 0.0
+    text = os.environ.get("WATCHDOG_USEC", "")
+    microseconds = float(text) if text.isdecimal() else 0.0
     return microseconds / 2e6 if microseconds else UNWATCHED_SECONDS
+
+
+def end_idle_clients(service: Service, idle: float) -> None:
+    """Ends those that for so many seconds neither sent a line nor read their answers."""
+    for client in list(service.clients):
+        is_waiting = client.running and not client.writing.locked()
+        if client.active < time.monotonic() - idle and not is_waiting:
+            client.end(socket.SHUT_RDWR)
 
 
 async def end(service: Service) -> int:
     """Ends the clients, each once it has its answers, then the book; returns its status."""
-    began, seconds, book = time.monotonic(), 0.0, service.book
+    began = time.monotonic()
     notify("STOPPING=1")
     for task in service.accepting:
         task.cancel()  # the paths stay: the sockets may be systemd's
     for client in list(service.clients):
         client.end()
+    await wait_for_answers(service, began)
+    service.transfers.kill()
+    status = await end_book(service.book, LAST_SECONDS - (time.monotonic() - began))
+    audit = service.audit
+    if lacking := audit.lacking + audit.open_lines:
+        log.error("%s lacks %d lines", audit.path, lacking)
+    log.info("end: status %d, %s", status, service.tally.stats())
+    return status
+
+
+async def wait_for_answers(service: Service, began: float) -> None:
+    """Waits until each client has its answers and has gone, for as long as that may take."""
+    seconds = 0.0
     while (service.clients or service.tasks) and seconds <= LINES_SECONDS:
         await asyncio.sleep(0.01)
         seconds = time.monotonic() - began
@@ -127,20 +152,17 @@ async def end(service: Service) -> int:
                 client.end(socket.SHUT_RDWR)
     if count := sum(client.running for client in service.clients):
         log.error("%d lines had no answer after %d s", count, seconds)
-    service.transfers.kill()
+
+
+async def end_book(book: Book, seconds: float) -> int:
+    """Ends the book in order, or kills it if that takes longer; returns its status."""
     book.end()
-    await asyncio.wait([book.ended], timeout=LAST_SECONDS - seconds)
+    await asyncio.wait([book.ended], timeout=seconds)
     if not book.ended.done():
         log.error("the book is killed: it still runs after %d s", LAST_SECONDS)
         book.kill()
         await asyncio.wait([book.ended], timeout=KILLED_SECONDS)
     if book.ended.done():
-        status = book.ended.result()
-    else:
-        log.error("the book can't be killed: its disk hangs")
-        status = 128 + signal.SIGKILL
-    audit = service.audit
-    if lacking := audit.lacking + audit.open_lines:
-        log.error("%s lacks %d lines", audit.path, lacking)
-    log.info("end: status %d, %s", status, service.tally.stats())
-    return status
+        return book.ended.result()
+    log.error("the book can't be killed: its disk hangs")
+    return 128 + signal.SIGKILL

@@ -9,8 +9,8 @@ from collections.abc import Sequence
 from dataclasses import dataclass, field, fields
 from typing import Any, NoReturn
 
-from .clients import Door
 from .costs import TIMES, USUAL, costs_of, size_of
+from .doors import Door
 from .journal import Problem
 from .protocol import OPERATIONS
 

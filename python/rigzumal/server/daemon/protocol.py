@@ -1,8 +1,8 @@
 """The operations that a line asks for, and the answers that it gets: one table of each.
 
 The server, credkeep-ask and the HTTP door read these tables. tools/protocol.py writes what others
-have of them: the replies of the clients for Python, the header of the PAM module, and the answers in
-docs/ERRORS.md and credkeep-server(8). tests/server/test_protocol.py looks whether all agree.
+have of them: the replies of the clients for Python, the header of the PAM module, and the answers
+in docs/ERRORS.md and credkeep-server(8). tests/server/test_protocol.py looks whether all agree.
 """
 
 from __future__ import annotations
@@ -48,8 +48,8 @@ ANSWERS = {
         pam="SUCCESS",
     ),
     "expired": Answer(
-        "the password is right, and must be changed: by `change`, or `reset`. Of `expire`: it must be"
-        " changed from now on",
+        "the password is right, and must be changed: by `change`, or `reset`. Of `expire`: it must"
+        " be changed from now on",
         tried=RIGHT,
         changed=True,
         reply="EXPIRED",
@@ -129,8 +129,8 @@ ANSWERS = {
         text="The new password is the old one.",
     ),
     "later": Answer(
-        "too many tries at this name failed, and this one wasn't looked at: wait (1 s to 15 minutes),"
-        " or `credkeep-ask --server forgive NAME`",
+        "too many tries at this name failed, and this one wasn't looked at: wait (1 s to 15"
+        " minutes), or `credkeep-ask --server forgive NAME`",
         http=429,
         pam="MAXTRIES",
         ask=4,

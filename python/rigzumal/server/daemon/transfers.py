@@ -11,25 +11,27 @@ import asyncio
 import os
 import re
 import signal
-from collections.abc import AsyncIterator, Callable, Iterator
-from contextlib import asynccontextmanager, suppress
+from collections.abc import Iterator
+from contextlib import suppress
 from dataclasses import dataclass, field
 from typing import TYPE_CHECKING, BinaryIO, Optional
 
 from .book import UNAVAILABLE
+from .clients import BAD_LINE, LONG
 from .disk import FULL, NEEDED, has_room
 from .journal import log
+from .names import Names
 from .protocol import IMPORT_OPTIONS, LONGEST_TEXT, ONLY_TRIED
 
 if TYPE_CHECKING:
     from .service import Request, Service
 
 LONGEST_FAULTS = 1 << 20  # bytes that are kept of what credkeep writes on standard error
-PIECE = 65536  # bytes of a text that are read or sent at a time
+PIECE = 65536  # bytes that are read or sent at a time
 # The room that an import may need, times its text: the file grows, and its log before.
 ROOM_FOR_TEXT = 4
-LONG, BAD_LINE, BUSY = b"bad 16 long", b"bad 11 line", b"bad 14 busy"
-DATABASE_FAILED = 5  # the status of credkeep
+BUSY = b"bad 14 busy"
+DATABASE_FAILED = 5  # a status of credkeep
 ENDING = b"credkeep-server: the book is ending: nothing was done\n"
 KILLED_FIRST = "1000"  # of proc(5), oom_score_adj
 
@@ -39,38 +41,34 @@ def memory_file() -> BinaryIO:
     return open(os.memfd_create("credkeep-server"), "w+b")
 
 
-def size_of(path: str) -> int:
+def size_of_file(path: str) -> int:
     with suppress(OSError):
         return os.stat(path).st_size
     return 0
 
 
 @dataclass
-class Ended:
+class Result:
     """How a run of credkeep ended, and what it wrote on both streams."""
 
     status: int = 0
-    written: BinaryIO = field(default_factory=memory_file)
+    output: BinaryIO = field(default_factory=memory_file)
     faults: bytes = b""
-
-    def size(self) -> int:
-        """How many bytes it wrote."""
-        return self.written.seek(0, os.SEEK_END)
 
     def answer(self, tag: bytes) -> Iterator[bytes]:
         """The answer, in pieces: a line that has the sizes of both texts, and then these."""
-        left = self.size()
+        left = self.output.seek(0, os.SEEK_END)
         yield b"%b ended %d %d %d\n" % (tag, self.status, left, len(self.faults))
-        self.written.seek(0)
-        while left and (piece := self.written.read(min(left, PIECE))):
+        self.output.seek(0)
+        while left and (piece := self.output.read(min(left, PIECE))):
             left -= len(piece)
             yield piece
         yield self.faults
 
     def first_line(self) -> bytes:
         """What it says first, such as the counts of an import."""
-        self.written.seek(0)
-        return self.written.readline(PIECE).rstrip(b"\n")
+        self.output.seek(0)
+        return self.output.readline(PIECE).rstrip(b"\n")
 
 
 class Incoming:
@@ -78,7 +76,7 @@ class Incoming:
 
     def __init__(self, request: Request, size: int) -> None:
         self.request = request
-        self.missing = size
+        self.missing = size  # bytes
         self.text = memory_file()
 
     def take(self, data: bytes) -> bytes:
@@ -100,16 +98,18 @@ class Transfers:
         self.one_at_a_time = asyncio.Lock()
         self.running: Optional[asyncio.subprocess.Process] = None
 
+    # ---- what a client asks for
+
     def submit(self, request: Request) -> bytes:
-        """Begins to do what a line asks for, or returns the answer."""
-        operation, *fields = request.words
+        """Begins to do what is asked for, or returns the answer."""
+        word, *fields = request.words
         if self.service.audit.is_full():
             return UNAVAILABLE
-        if operation == b"import":
+        if word == b"import":
             return self.submit_import(request, fields)
         if any(fields):
             return BAD_LINE
-        if not self.has_room(size_of(self.file) + size_of(f"{self.file}-wal")):
+        if not self.has_room(size_of_file(self.file) + size_of_file(f"{self.file}-wal")):
             return FULL
         self.begin(request, None)
         return b""
@@ -141,72 +141,87 @@ class Transfers:
         self.has_import = False
 
     def begin(self, request: Request, text: Optional[BinaryIO]) -> None:
-        """Has a request answered, for which the client needn't wait."""
+        """Begins to do what is asked for; an import goes on if its client has gone."""
         request.client.running += 1
         self.service.begin(self.process(request, text))
 
+    # ---- it is done
+
     async def process(self, request: Request, text: Optional[BinaryIO]) -> None:
-        """Does what is asked for, notes it, and has the client know."""
-        client, operation = request.client, request.words[0]
+        """Does what is asked for, and answers. A fault costs this request, and never the
+        service."""
+        client = request.client
         try:
-            ended = await self.done(request, text)
-            if operation == b"import":
-                self.has_import = False
-            is_done = not ended.status and not is_only_tried(request)
-            said = ended.first_line() if operation == b"import" else b"ok"
-            if is_done and not await self.service.note(request, said):
-                await client.reply(request.tag, UNAVAILABLE)  # nobody says what isn't noted
+            result = await self.result(request, text)
+            if await self.is_noted(request, result):
+                await client.write(result.answer(request.tag))
             else:
-                await client.write(ended.answer(request.tag))
+                await client.reply(request.tag, UNAVAILABLE)  # nobody says what isn't noted
+        except Exception as fault:
+            log.error("%s: a fault: %s", request.word.decode(), type(fault).__name__)
+            await client.reply(request.tag, UNAVAILABLE)
         finally:
             client.running -= 1
             client.answered.set()
 
-    async def done(self, request: Request, text: Optional[BinaryIO]) -> Ended:
-        """How credkeep ended that did what is asked for, once no other one runs."""
-        operation = request.words[0]
-        async with self.one_at_a_time:
-            if self.service.book.has_ended():
-                return Ended(DATABASE_FAILED, faults=ENDING)
-            try:
-                if operation == b"import" and not is_only_tried(request):
-                    return await self.import_text(request, text)
-                return await self.of_copy(request, text)
-            except OSError as fault:
-                why = f"credkeep-server: {fault.filename or 'the system'}: {fault.strerror}\n"
-                return Ended(DATABASE_FAILED, faults=why.encode(errors="replace"))
+    async def is_noted(self, request: Request, result: Result) -> bool:
+        """Adds what was done to the audit log; false if that fails."""
+        if result.status or is_only_tried(request):
+            return True
+        is_import = request.word == b"import"
+        return await self.service.note(request, result.first_line() if is_import else b"ok")
 
-    async def import_text(self, request: Request, text: Optional[BinaryIO]) -> Ended:
-        """An import into the book, whose lines wait meanwhile."""
+    async def result(self, request: Request, text: Optional[BinaryIO]) -> Result:
+        """The result of what is asked for, which is done once no other run of credkeep goes on."""
+        try:
+            async with self.one_at_a_time:
+                if self.service.book.has_ended():
+                    return Result(DATABASE_FAILED, faults=ENDING)
+                if request.word == b"import" and not is_only_tried(request):
+                    return await self.import_text(request, text)
+                return await self.use_copy(request, text)
+        except OSError as fault:
+            what = fault.filename or self.service.options.credkeep
+            why = f"credkeep-server: {what}: {fault.strerror}\n"
+            return Result(DATABASE_FAILED, faults=why.encode(errors="replace"))
+        finally:
+            if request.word == b"import":
+                self.has_import = False
+
+    async def import_text(self, request: Request, text: Optional[BinaryIO]) -> Result:
+        """Imports into the book, whose lines wait meanwhile."""
         words = self.import_words(request)
         text = await self.with_names_of_book(text)
         async with self.service.book.lent() as status:
             if status:
-                return Ended(status, faults=ENDING)
+                return Result(status, faults=ENDING)
             log.info("an import has the book: lines wait")
-            ended = await self.run(self.file, *words, text=text)
-            log.info("the import has ended with status %d", ended.status)
-        self.service.tally.counts["changes"] += not ended.status
-        return ended
+            result = await self.run(self.file, *words, text=text)
+            log.info("the import has ended with status %d", result.status)
+        self.service.tally.counts["changes"] += not result.status
+        return result
 
-    async def of_copy(self, request: Request, text: Optional[BinaryIO]) -> Ended:
-        """What is done with a copy, while the book is served."""
-        operation = request.words[0]
+    async def use_copy(self, request: Request, text: Optional[BinaryIO]) -> Result:
+        """Does with a copy what is asked for, while the book is served."""
         try:
-            ended = await self.run(self.file, "backup", self.copy)
-            if ended.status:
-                return ended
-            if operation == b"backup":
-                return Ended(0, open(self.copy, "rb"), ended.faults)
-            if operation == b"import":
-                text = await self.with_names_of_book(text)
-                return await self.run(self.copy, *self.import_words(request), text=text)
-            ended = await self.run(self.copy, "export")
-            if self.service.foreign:
-                ended.written = await self.service.foreign.with_locks(ended.written)
-            return ended
+            backup = await self.run(self.file, "backup", self.copy)
+            if backup.status:
+                return backup
+            if request.word == b"backup":
+                return Result(0, open(self.copy, "rb"), backup.faults)
+            if request.word == b"export":
+                return await self.export_copy()
+            text = await self.with_names_of_book(text)
+            return await self.run(self.copy, *self.import_words(request), text=text)
         finally:
             self.remove_copy()
+
+    async def export_copy(self) -> Result:
+        """The lines of the copy, with a lock at those whom an old file bars."""
+        result = await self.run(self.copy, "export")
+        if self.service.foreign:
+            result.output = await self.service.foreign.with_locks(result.output)
+        return result
 
     def remove_copy(self) -> None:
         """Removes the copy, or what a kill left of it."""
@@ -218,10 +233,12 @@ class Transfers:
             except OSError as fault:
                 log.error("%s: %s", path, fault.strerror)
 
+    # ---- credkeep
+
     def import_words(self, request: Request) -> list[str]:
         """The words of credkeep's import: no record may need more than one in a line may."""
         options = self.service.options
-        words = ["import", *(it.decode() for it in request.words[2:])]
+        words = ["import", *(option.decode() for option in request.words[2:])]
         if options.most_memory:
             words += ["--most-memory", options.most_memory]
         if options.most_work:
@@ -232,31 +249,30 @@ class Transfers:
         """The text of an import, with its addresses as the book has them."""
         if text is None or not self.service.options.mail_names:
             return text
-        return await asyncio.to_thread(with_names, text, self.service.in_book)
+        return await asyncio.to_thread(with_names_of_book, text, self.service.names)
 
-    async def run(self, file: str, *words: str, text: Optional[BinaryIO] = None) -> Ended:
-        """How credkeep ends that gets this text, and what it writes."""
-        options, ended = self.service.options, Ended()
+    async def run(self, file: str, *words: str, text: Optional[BinaryIO] = None) -> Result:
+        """The result of credkeep that gets this text."""
+        options, result = self.service.options, Result()
         if text is not None:
             text.seek(0)
         process = await asyncio.create_subprocess_exec(
             *(options.credkeep, "--wait", str(options.wait), file, *words),
             stdin=asyncio.subprocess.DEVNULL if text is None else text,
-            stdout=ended.written,
+            stdout=result.output,
             stderr=asyncio.subprocess.PIPE,
             start_new_session=True,
         )
         self.running = process
-        with suppress(OSError), open(f"/proc/{process.pid}/oom_score_adj", "w") as file_of_score:
-            file_of_score.write(KILLED_FIRST)  # where memory runs out, and not the server
         if text is not None:
             text.close()
+        have_killed_first(process.pid)
         assert process.stderr is not None
-        ended.faults = await kept(process.stderr)
+        result.faults = await beginning_of(process.stderr)
         status = await process.wait()
         self.running = None
-        ended.status = status if status >= 0 else 128 - status
-        return ended
+        result.status = status if status >= 0 else 128 - status
+        return result
 
     def kill(self) -> None:
         """Kills the credkeep that runs: an import that is killed has done all, or nothing."""
@@ -269,7 +285,13 @@ def is_only_tried(request: Request) -> bool:
     return ONLY_TRIED.encode() in request.words
 
 
-async def kept(stream: asyncio.StreamReader) -> bytes:
+def have_killed_first(pid: int) -> None:
+    """Has the system kill a process before the server, where memory runs out."""
+    with suppress(OSError), open(f"/proc/{pid}/oom_score_adj", "w") as file:
+        file.write(KILLED_FIRST)
+
+
+async def beginning_of(stream: asyncio.StreamReader) -> bytes:
     """The whole lines at the beginning of a stream, which is read to its end."""
     text, left_out = b"", 0
     while more := await stream.read(PIECE):
@@ -284,12 +306,12 @@ async def kept(stream: asyncio.StreamReader) -> bytes:
     return text
 
 
-def with_names(text: BinaryIO, in_book: Callable[[bytes], bytes]) -> BinaryIO:
+def with_names_of_book(text: BinaryIO, names: Names) -> BinaryIO:
     """The lines of an import, with the addresses before their first colons as a book has them."""
     written = memory_file()
     text.seek(0)
     for line in text:
         name, colon, rest = line.partition(b":")
         is_address = b"@" in name and not name.startswith(b"#")
-        written.write(in_book(name) + colon + rest if is_address else line)
+        written.write(names.of_book(name) + colon + rest if is_address else line)
     return written

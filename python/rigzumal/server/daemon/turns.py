@@ -8,14 +8,17 @@ from typing import Hashable
 
 from .book import Book
 
-REST, LONGEST_REST = 1.5, 0.1  # of the time that a round took, and seconds
+REST = 1.5  # of the time that a round took
+LONGEST_REST = 0.1  # seconds
 
 
 class Places:
     """Places, for which users take turns: the one with the fewest has the next."""
 
     def __init__(self, count: int) -> None:
-        self.free, self.taken = count, Counter[Hashable]()
+        self.free = count
+        self.taken = Counter[Hashable]()  # by each user
+        # Who waits, in the order of their next turns, and for which places.
         self.users = OrderedDict[Hashable, deque[asyncio.Future[None]]]()
 
     def take(self, user: Hashable) -> asyncio.Future[None]:
@@ -29,17 +32,20 @@ class Places:
         return place
 
     def give(self, user: Hashable, place: asyncio.Future[None]) -> None:
+        """Gives a user a place that is free."""
         if not place.cancelled():  # as the server ends
             self.free -= 1
             self.taken[user] += 1
             place.set_result(None)
 
     def release(self, user: Hashable) -> None:
+        """Takes a place back, and gives it to the next user."""
         self.free += 1
         self.taken[user] -= 1
         self.give_next()
 
     def give_next(self) -> None:
+        """Gives the free places to those whose turn it is."""
         while self.free and self.users:
             user = min(self.users, key=self.taken.__getitem__)
             if self.free == 1 and self.taken[user]:
@@ -54,9 +60,11 @@ class Rounds:
     """Beside logins, changes go in rounds: all that hash, or one other; then a longer rest."""
 
     def __init__(self, book: Book, is_busy: Callable[[], bool]) -> None:
-        self.book, self.is_busy = book, is_busy  # whether somebody logs in
-        self.gate, self.running = asyncio.Event(), 0
+        self.book = book
+        self.is_busy = is_busy  # whether somebody logs in
+        self.gate = asyncio.Event()  # is open while no round goes on, and nobody rests
         self.gate.set()
+        self.running = 0  # changes of this round
 
     async def ask(self, words: list[bytes], is_alone: bool) -> bytes:
         """The answer to a change, which goes now, or in the next round."""
@@ -65,7 +73,8 @@ class Rounds:
             if not is_alone:
                 break
         self.gate.clear()
-        began, self.running = time.monotonic(), self.running + 1
+        began = time.monotonic()
+        self.running += 1
         answer = await self.book.ask(*words)
         self.running -= 1
         if not self.running:
@@ -75,5 +84,6 @@ class Rounds:
         return answer
 
     def end_rest(self) -> None:
+        """Begins the next round."""
         if not self.running:  # else the end of that round begins another rest
             self.gate.set()
