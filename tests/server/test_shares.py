@@ -15,11 +15,10 @@ from collections.abc import AsyncIterator
 from unittest import mock
 
 from served import PYTHON, Case, Client, need_root
-from daemon import clients, doors, shares
-from daemon.doors import MOST_WAITING, Door
+from daemon import doors
+from daemon.doors import MOST_WAITING, Door, owner_of, share_of
 from daemon.options import Options
 from daemon.service import TURNS, Service
-from daemon.shares import owner_of, share_of
 
 # What a client may send that costs the book nothing, and the end of each answer.
 IDLE_LINES = {
@@ -160,7 +159,7 @@ class Floods(Case):
                 return sum(door.counts.values())
 
         few = mock.patch.multiple(doors, MOST_CLIENTS=64, LAST_PLACES=4)
-        with few, mock.patch.object(clients, "share_of", share_of):
+        with few, mock.patch.object(doors, "share_of", share_of):
             self.assertEqual(asyncio.run(let_in()), 49)
 
     def test_a_fault(self) -> None:
@@ -176,7 +175,7 @@ class Floods(Case):
                 return door.counts["a", "other"]
 
         logged = mock.patch.object(doors, "log_seldom")
-        with mock.patch.object(clients, "share_of", share_of), logged as log_seldom:
+        with mock.patch.object(doors, "share_of", share_of), logged as log_seldom:
             self.assertEqual(asyncio.run(let_in()), 1)
         self.assertNotIn("secret", str(log_seldom.call_args_list))
 
@@ -188,7 +187,7 @@ class Floods(Case):
             """How many of each come in, once many users have what they get."""
             share_of = mock.Mock(side_effect=[*many, *others])
             few = mock.patch.multiple(doors, MOST_CLIENTS=256, LAST_PLACES=32)
-            with few, mock.patch.object(clients, "share_of", share_of):
+            with few, mock.patch.object(doors, "share_of", share_of):
                 async with self.door(Service(Options())) as (door, stack):
                     for _ in range(len(many) + len(others)):
                         stack.enter_context(Client(pathlib.Path(door.path)))
@@ -205,7 +204,7 @@ class Shares(Case):
         file = self.room() / "subuid"
         no_names = "nobody.here:300000:10\na\0b:300000:10\nodd\n:::\n"
         file.write_text(f"1000:100000:65536\nroot:200000:10\n{no_names}1002:300009:1\n")
-        with mock.patch.object(shares, "SUBORDINATE", str(file)):
+        with mock.patch.object(doors, "SUBORDINATE", str(file)):
             for uid, owner in {
                 0: 0,
                 33: 33,
@@ -231,7 +230,7 @@ class Shares(Case):
         file = self.room() / "subuid"
         lines = (f"nobody.{number}:{number}00000:65536\n" for number in range(1, 1000))
         file.write_text("".join(lines) + "root:100000000:65536\n")
-        with mock.patch.object(shares, "SUBORDINATE", str(file)):
+        with mock.patch.object(doors, "SUBORDINATE", str(file)):
             with mock.patch.object(pwd, "getpwnam", wraps=pwd.getpwnam) as looked_up:
                 self.assertEqual(owner_of(100000001), 0)
         self.assertEqual(looked_up.mock_calls, [mock.call("root")])
@@ -255,7 +254,7 @@ class Shares(Case):
                     await asyncio.sleep(0)
                 return dict(door.counts)
 
-        with mock.patch.object(shares, "SUBORDINATE", str(file)):
+        with mock.patch.object(doors, "SUBORDINATE", str(file)):
             ought = {("a", "uid 1000"): 3, ("a", "uid 165536"): 1}
             self.assertEqual(asyncio.run(users()), ought)
 

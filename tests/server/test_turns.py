@@ -9,7 +9,7 @@ from typing import Any
 from unittest import IsolatedAsyncioTestCase, mock
 
 from served import Case
-from daemon.turns import Places, Rounds
+from daemon.book import Places, Rounds
 from daemon.options import Options
 from daemon.protocol import OPERATIONS
 from daemon.service import Request, Service

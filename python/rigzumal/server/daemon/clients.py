@@ -5,17 +5,14 @@ from __future__ import annotations
 import asyncio
 import re
 import socket
-import struct
 import time
 from collections import Counter, defaultdict
 from collections.abc import Iterable
 from contextlib import suppress
 from typing import TYPE_CHECKING, Optional
 
-from .shares import owner_of, share_of
-
 if TYPE_CHECKING:
-    from .doors import Door
+    from .doors import Door, Peer
     from .service import Service
     from .transfers import Incoming
 
@@ -27,7 +24,6 @@ SEND_BUFFER = 16384  # bytes that may wait in the system for a client to read th
 TAG = re.compile(rb"[a-z0-9]{1,20}")
 NO_TAG = b"*"  # before the answer to a line that has none
 BAD_LINE, LONG = b"bad 11 line", b"bad 16 long"
-PEER = struct.Struct("3i")  # the peer's pid, uid and gid
 PAUSE_SECONDS = 0.001  # behind an answer without the book's work, times a user's clients
 
 
@@ -36,14 +32,14 @@ class Client:
 
     no_room = b"* unavailable\n"  # what one is told that isn't let in
 
-    def __init__(self, service: Service, door: Door, sock: socket.socket) -> None:
+    def __init__(self, service: Service, door: Door, sock: socket.socket, peer: Peer) -> None:
         self.service = service
         self.door = door
         self.socket = sock
-        peer = sock.getsockopt(socket.SOL_SOCKET, socket.SO_PEERCRED, PEER.size)
-        self.pid, self.uid, _gid = PEER.unpack(peer)
-        self.owner = owner_of(self.uid)
-        self.user = (door.name, share_of(self.owner, self.pid))  # whose turn it is
+        self.pid = peer.pid
+        self.uid = peer.uid
+        self.owner = peer.owner
+        self.user = peer.user
         self.is_ending = False  # it takes no more requests
         self.is_watched = False  # the loop tells when its socket can be read
         self.running = 0  # requests without an answer

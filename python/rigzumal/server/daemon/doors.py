@@ -1,13 +1,17 @@
-"""The sockets: who may ask what there, and who is let in."""
+"""The sockets: who may ask what there, who is let in, and whose share of the book they use."""
 
 from __future__ import annotations
 
 import asyncio
 import fcntl
+import functools
 import grp
 import os
 import pathlib
+import pwd
+import re
 import socket
+import struct
 from collections import Counter
 from contextlib import suppress
 from dataclasses import dataclass, field
@@ -24,6 +28,22 @@ MOST_WAITING = 64  # clients that wait to be let in, while none of them stays
 LAST_PLACES = 64  # of a door, for users that have none
 ACCEPTED_AT_ONCE = 16  # clients in a pass of the loop: then others have their turn
 FIRST_OF_SYSTEMD = 3  # the descriptor of its first socket: sd_listen_fds(3)
+PEER = struct.Struct("3i")  # of SO_PEERCRED: the peer's pid, uid and gid
+SUBORDINATE = "/etc/subuid"  # subuid(5): the uids that a person has in namespaces
+RANGE = re.compile(r"([^:\n]+):([0-9]{1,10}):([0-9]{1,10})\n?")  # a line of that file
+LEAST_SUBORDINATE = 60001  # the least uid that is looked up there: those of people are below
+# The first two names of a control group: /system.slice/ssh.service, /user.slice/user-1000.slice.
+GROUP = re.compile(rb"^\d+:(?:name=systemd)?:((?:/[^/\n]+){1,2})", re.M)
+
+
+@dataclass(frozen=True)
+class Peer:
+    """The process at the other end of a connection."""
+
+    pid: int
+    uid: int
+    owner: int  # the person who has that uid
+    user: tuple[str, str]  # whose turn it is: a door, and a share
 
 
 @dataclass(eq=False)
@@ -110,6 +130,13 @@ class Door:
                     what = type(fault).__name__
                     log_seldom((self.name, what), "%s: a fault: %s", self.path, what)
 
+    def peer_of(self, sock: socket.socket) -> Peer:
+        pid, uid, _gid = PEER.unpack(
+            sock.getsockopt(socket.SOL_SOCKET, socket.SO_PEERCRED, PEER.size)
+        )
+        owner = owner_of(uid)
+        return Peer(pid, uid, owner, (self.name, share_of(owner, pid)))
+
     def has_place(self, own: int) -> bool:
         """Whether a user who has so many places may have one more: of those that the others leave
         at most half, and of the last ones the first alone."""
@@ -123,7 +150,7 @@ class Door:
             if not sock.recv(1, socket.MSG_PEEK):
                 sock.close()
                 return False
-        client = self.client(service, self, sock)
+        client = self.client(service, self, sock, self.peer_of(sock))
         own = self.counts[client.user]
         if self.has_place(own):
             service.clients[client] = asyncio.ensure_future(client.run())
@@ -135,3 +162,36 @@ class Door:
         log_seldom(client.user, "no more connections at %s for %s, which has %d", *client.user, own)
         service.tally.counts["refused"] += 1
         return False
+
+
+@functools.lru_cache(maxsize=1)
+def ranges_in(path: str, _version: tuple[int, ...]) -> list[tuple[range, str]]:
+    """Ranges of uids with their owners, in a version of a file of subuid(5): names, or uids."""
+    with open(path, encoding="utf-8", errors="replace") as file:
+        lines = map(RANGE.fullmatch, file)
+        return [(range(int(it[2]), int(it[2]) + int(it[3])), it[1]) for it in lines if it]
+
+
+def owner_of(uid: int) -> int:
+    """The person who has a subordinate uid; another uid itself."""
+    if uid < LEAST_SUBORDINATE:
+        return uid
+    try:
+        found = os.stat(SUBORDINATE)
+        ranges = ranges_in(SUBORDINATE, (found.st_ino, found.st_size, found.st_mtime_ns))
+    except OSError:  # the machine has no such file
+        return uid
+    for uids, owner in ranges:
+        if uid in uids:
+            with suppress(KeyError, ValueError):  # nobody has this name, or it can't be one
+                return int(owner) if owner.isdecimal() else pwd.getpwnam(owner).pw_uid
+    return uid
+
+
+def share_of(uid: int, pid: int) -> str:
+    """The user whose share a process uses: its uid, or the service where that is root's."""
+    found = None
+    if uid == 0:
+        with suppress(OSError), open(f"/proc/{pid}/cgroup", "rb", buffering=0) as file:
+            found = GROUP.search(file.read(4096))
+    return f"uid {uid} in {found[1].decode(errors='replace')}" if found else f"uid {uid}"

@@ -12,7 +12,7 @@ from functools import partial
 from typing import TYPE_CHECKING, Any, Optional
 
 from .book import LACKS, LOCKED, MUST_CHANGE, NO_ACCOUNT, NO_RECORD, UNAVAILABLE
-from .book import Book, password_of
+from .book import Book, Places, Rounds, password_of
 from .clients import LONG, LONGEST, Client
 from .disk import FULL, NEEDED, has_room
 from .doors import Door
@@ -22,7 +22,6 @@ from .options import Options
 from .protocol import ANSWERS, NO_ANSWER, OPERATIONS, RIGHT, Operation
 from .transfers import Transfers
 from .tries import LATER, Tally
-from .turns import Places, Rounds
 
 if TYPE_CHECKING:
     from .foreign import Foreign
