@@ -31,9 +31,11 @@ PYTHON ?= /usr/bin/python3
 PROGRAMS := credbook credkeep
 # The programs themselves. What bin has is bin/launcher.in, which runs them with huge pages.
 LIBEXEC := $(PREFIX)/libexec/rigzumal
-# The modules of credkeep-server.
+# The modules of credkeep-server and, below them, of credkeep-ask.
 DAEMON := $(PREFIX)/share/rigzumal/daemon
-MODULES := $(notdir $(wildcard python/rigzumal/server/daemon/*.py))
+SOURCES := python/rigzumal/server/daemon
+MODULES := $(notdir $(wildcard $(SOURCES)/*.py))
+MODULES_OF_ASK := $(notdir $(wildcard $(SOURCES)/ask/*.py))
 MAN := $(PREFIX)/share/man
 PAGES := man1/credbook.1 man1/credkeep.1 man1/credkeep-ask.1 man5/rigzumal-script.5 man8/credkeep-server.8
 UNITS := $(notdir $(wildcard units/*))
@@ -109,7 +111,7 @@ TO_SHELLS = '$(DESTDIR)$(BASH_DIR)' '$(DESTDIR)$(ZSH_DIR)' '$(DESTDIR)$(FISH_DIR
 
 # The programs that were built, the server with its units, their pages and completions.
 install-programs:
-	packaging/folders make $(NOTED) programs $(TO_LIBEXEC) $(TO_PREFIX)/bin $(TO_PREFIX)/sbin $(TO_DAEMON) \
+	packaging/folders make $(NOTED) programs $(TO_LIBEXEC) $(TO_PREFIX)/bin $(TO_PREFIX)/sbin $(TO_DAEMON) $(TO_DAEMON)/ask \
 		$(TO_MAN)/man1 $(TO_MAN)/man5 $(TO_MAN)/man8 $(TO_UNITS) $(TO_SHELLS)
 	for name in $(PROGRAMS); do \
 		install -m 755 crates/$$name/out/$$name $(TO_LIBEXEC) && \
@@ -118,7 +120,8 @@ install-programs:
 	done
 	install -m 755 bin/credkeep-ask $(TO_PREFIX)/bin
 	install -m 755 bin/credkeep-server $(TO_PREFIX)/sbin
-	install -m 644 $(MODULES:%=python/rigzumal/server/daemon/%) $(TO_DAEMON)
+	install -m 644 $(MODULES:%=$(SOURCES)/%) $(TO_DAEMON)
+	install -m 644 $(MODULES_OF_ASK:%=$(SOURCES)/ask/%) $(TO_DAEMON)/ask
 	for page in $(PAGES); do install -m 644 man/$${page#*/} $(TO_MAN)/$$page || exit 1; done
 	for unit in $(UNITS); do \
 		sed 's|/usr/sbin/|$(PREFIX)/sbin/|' units/$$unit > $(TO_UNITS)/$$unit && \
@@ -132,8 +135,8 @@ uninstall:
 	$(MAKE) -C c/pam uninstall $(PAM_WORDS)
 	rm -f $(PROGRAMS:%=$(TO_PREFIX)/bin/%) $(PROGRAMS:%=$(TO_LIBEXEC)/%)
 	rm -f $(TO_PREFIX)/bin/credkeep-ask $(TO_PREFIX)/sbin/credkeep-server
-	rm -f $(MODULES:%=$(TO_DAEMON)/%)
-	rm -rf $(TO_DAEMON)/__pycache__
+	rm -f $(MODULES:%=$(TO_DAEMON)/%) $(MODULES_OF_ASK:%=$(TO_DAEMON)/ask/%)
+	rm -rf $(TO_DAEMON)/__pycache__ $(TO_DAEMON)/ask/__pycache__
 	rm -f $(PAGES:%=$(TO_MAN)/%) $(UNITS:%=$(TO_UNITS)/%)
 	$(PYTHON) tools/completions.py --remove $(TO_SHELLS)
 	packaging/folders remove $(NOTED) programs

@@ -52,7 +52,7 @@ FOLDERS = (
         "tests/server",
         parts={"sites": 2, "logins": 2},
         quiet=["starts_and_ends", "clients"],
-        long=["booted", "torture"],
+        long=["booted", "torture", "many_kills"],
     ),
     Folder("tests/tools", is_package=True, needs_library=False),
     Folder("tests/packages", is_package=True, packing=["install"], long=["empty_root"]),

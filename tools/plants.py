@@ -67,8 +67,8 @@ PLANTS = (
     ),
     Plant(
         "c/pam/pam_rigzumal.c",
-        'strcmp(answer, "later") == 0 ? PAM_MAXTRIES : PAM_AUTHINFO_UNAVAIL',
-        "PAM_AUTHINFO_UNAVAIL",
+        "return ANSWERS[i].result;",
+        "return PAM_AUTHINFO_UNAVAIL;",
         "c/pam/tests/test_answers",
     ),
     # The package for Python
@@ -106,13 +106,13 @@ PLANTS = (
     Plant("completions/rigzumal/bash", "import export list", "export list", "test_commands"),
     # The server and its clients
     Plant(
-        "python/rigzumal/server/daemon/answers.py",
-        '"later": Answer(http=429,',
-        '"later": Answer(http=403,',
+        "python/rigzumal/server/daemon/protocol.py",
+        "        http=429,\n",
+        "        http=403,\n",
         "tests/server/test_web",
     ),
     Plant(
-        "bin/credkeep-ask",
+        "python/rigzumal/server/daemon/ask/terminal.py",
         'end(6, "the two new passwords differ")',
         'end(0, "the two new passwords differ")',
         "tests/server/test_ask",

@@ -2,6 +2,7 @@
  * It keeps nothing between two calls and has no static state, so threads may be in it at once. A
  * call sends one line and reads one line, on a connection of its own, all before its deadline. */
 #define _GNU_SOURCE
+#include "answers.h"
 #include "base64.h"
 #include <errno.h>
 #include <poll.h>
@@ -180,33 +181,24 @@ static bool read_answer(int fd, char answer[MOST_ANSWER], long deadline) {
     return false;
 }
 
-/* Tells the user why a new password isn't taken. */
-static int refused(pam_handle_t *pamh, const char *why) {
-    pam_error(pamh, "%s", why);
-    return PAM_AUTHTOK_ERR;
-}
-
-static int result_of(pam_handle_t *pamh, const struct operation *operation, const char *answer) {
-    if (strncmp(answer, "1 ", 2) != 0)
+/* What a line of the server means, by its answer. A word that no operation gets is no answer. */
+static int result_of(pam_handle_t *pamh, const struct operation *operation, const char *line) {
+    if (strncmp(line, "1 ", 2) != 0)
         return PAM_AUTHINFO_UNAVAIL;
-    answer += 2;
-    if (strcmp(answer, operation->success) == 0)
+    const char *word = line + 2;
+    if (strcmp(word, operation->success) == 0)
         return PAM_SUCCESS;
-    if (strcmp(answer, "no") == 0 || strcmp(answer, "wrong") == 0)
-        return PAM_AUTH_ERR;
-    if (strcmp(answer, "absent") == 0)
+    if (strcmp(word, "absent") == 0)
         return operation->absent;
-    if (strcmp(answer, "expired") == 0)
+    if (strcmp(word, "expired") == 0)
         return operation->expired;
-    if (strcmp(answer, "short") == 0)
-        return refused(pamh, "The new password is too short.");
-    if (strcmp(answer, "same") == 0)
-        return refused(pamh, "The new password is the old one.");
-    if (strcmp(answer, "bad 19 disk") == 0)
-        return refused(pamh, "The server's disk is full: the password stays as it was.");
-    if (strcmp(answer, "noaccount") == 0 || strcmp(answer, "bad 3 name") == 0)
-        return PAM_USER_UNKNOWN;
-    return strcmp(answer, "later") == 0 ? PAM_MAXTRIES : PAM_AUTHINFO_UNAVAIL;
+    for (size_t i = 0; i < sizeof ANSWERS / sizeof *ANSWERS; i++)
+        if (strcmp(word, ANSWERS[i].word) == 0) {
+            if (ANSWERS[i].text != NULL)
+                pam_error(pamh, "%s", ANSWERS[i].text);
+            return ANSWERS[i].result;
+        }
+    return PAM_AUTHINFO_UNAVAIL;
 }
 
 static const char *text_item(const pam_handle_t *pamh, int item) {

@@ -289,7 +289,7 @@ class Debs(helpers.Case):
         debs = self.debs("c/pam", "CPU=")
         self.check(debs, [("rigzumal-tools", "amd64"), ("libpam-rigzumal", "amd64")])
         listed = "".join(run("dpkg-deb", "-c", it) for it in debs)
-        modules = (TOP / "python/rigzumal/server/daemon").glob("*.py")
+        modules = (TOP / "python/rigzumal/server/daemon").rglob("*.py")
         names = [f"/{it.name}\n" for it in [*(TOP / "units").iterdir(), *modules]]
         names += [
             f"/man{it.suffix[1:]}/{it.name}.gz"

@@ -8,8 +8,8 @@ import time
 import types
 
 sys.path.insert(0, str(pathlib.Path(__file__).parents[2] / "python/rigzumal/server"))
-import daemon  # noqa: E402
 from daemon import aging, tries  # noqa: E402
+from daemon.main import main  # noqa: E402
 
 CLOCK = pathlib.Path(os.environ["CLOCK"])
 tries.time = types.SimpleNamespace(  # type: ignore
@@ -18,4 +18,4 @@ tries.time = types.SimpleNamespace(  # type: ignore
 aging.time = types.SimpleNamespace(time=lambda: float(CLOCK.read_text()))  # type: ignore
 
 if __name__ == "__main__":
-    sys.exit(daemon.main())
+    sys.exit(main())

@@ -2,6 +2,7 @@
 """A book for tests, in place of credkeep: its hashes cost nothing, and it fails as it is told to.
 
     fast_book.py [--wait SECONDS] FILE serve --tagged [OPTION VALUE]..
+    fast_book.py [--wait SECONDS] FILE import|export|backup ..          fast_files.py has these
 
 It answers the tagged lines of docs/SERVING.md from N threads, and keeps its accounts in FILE, which
 it only appends to, a line for each change. In the environment BOOK_FAULTS has words:
@@ -18,6 +19,9 @@ it only appends to, a line for each change. In the environment BOOK_FAULTS has w
     refuses=WORD    lines with this operation are answered by `bad 4 memory`
     loses=N         each Nth change is answered, and not kept
     opens=S         it takes so many seconds until it answers
+    shut=PATH       it ends with status 5 before it answers, while there is a file PATH
+    import=WORD     an import waits while there is a file WORD, or is killed amid it (`killed`), or
+                    finds no room on the disk (`full`)
 
 BOOK_LOG names a file to which each line that came is appended, without its tag.
 """
@@ -25,6 +29,7 @@ BOOK_LOG names a file to which each line that came is appended, without its tag.
 import base64
 import fcntl
 import hashlib
+import importlib
 import itertools
 import os
 import random
@@ -260,6 +265,8 @@ def work(book: Book, output: threading.Lock, line: str) -> None:
 
 
 def serve(path: str, options: dict[str, str]) -> None:
+    if os.path.exists(FAULTS.get("shut", "")):
+        sys.exit(5)
     book, output = Book(path, options.get("--setting", COSTS)), threading.Lock()
     time.sleep(float(FAULTS.get("opens", "0")))
     log, any_bytes = os.environ.get("BOOK_LOG", os.devnull), "surrogateescape"
@@ -272,5 +279,8 @@ def serve(path: str, options: dict[str, str]) -> None:
 
 
 if __name__ == "__main__":
+    if "serve" not in sys.argv:
+        fast_files = importlib.import_module("fast_files")
+        sys.exit(fast_files.main(sys.argv[1:], FAULTS.get("import", "")))
     at = sys.argv.index("serve")
     serve(sys.argv[at - 1], dict(zip(sys.argv[at + 2 :: 2], sys.argv[at + 3 :: 2])))

@@ -13,7 +13,8 @@ from unittest import mock
 from machine import is_open, shell
 from served import SECRET, TOP, WRONG, Case, Client, Service, field_of, need, ran, until
 from daemon import tries
-from daemon.options import OPERATIONS, Options
+from daemon.options import Options
+from daemon.protocol import OPERATIONS
 from tests.helpers import Peer, run
 from tests.needs import need_file
 from tests.ports import free_port
@@ -234,14 +235,11 @@ class Logs(Case):
         service.process.kill()
 
     def test_types(self) -> None:
-        """mypy --strict takes its modules, and credkeep-ask, by the oldest Python that they may be
-        run by."""
+        """mypy --strict takes its modules, and credkeep-ask's, by the oldest Python for them."""
         need("mypy")
         need_file("/usr/lib/python3/dist-packages/passlib-stubs")
         words = f"mypy --strict --python-version=3.9 --cache-dir={self.room()}".split()
-        at = TOP / "python/rigzumal/server"
-        for checked in ("daemon", str(TOP / "bin/credkeep-ask")):
-            run(*words, checked, at=at)
+        run(*words, "daemon", at=TOP / "python/rigzumal/server")
 
 
 # Lines, and whether the audit log has them, with the names and answers that it has.
@@ -276,6 +274,17 @@ admin delete bob -> deleted | bob deleted
 
 
 class Audited(Case):
+    def test_keys(self) -> None:
+        """The manual names each key that a line has, and no other one."""
+        page = (TOP / "man/credkeep-server.8").read_text()
+        found = re.search(r"A line has the keys (.*?)\.\n", page, re.S)
+        assert found
+        path = self.room() / "audit"
+        service = self.serving("--audit", str(path))
+        service.talk("admin account ada -> ok\nadmin rename ada eve -> renamed")
+        keys = {key for entry in noted(path) for key in entry}
+        self.assertEqual(keys, {*re.findall(r"\\fB(\w+)\\fP", found[1])})
+
     def test_lines(self) -> None:
         """Each change is a line of JSON, with who asked for it and the answer; right logins are
         too."""

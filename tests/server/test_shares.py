@@ -15,11 +15,10 @@ from collections.abc import AsyncIterator
 from unittest import mock
 
 from served import PYTHON, Case, Client, need_root
-from daemon import clients, shares
-from daemon.clients import FEW, Door
+from daemon import doors
+from daemon.doors import MOST_WAITING, Door, owner_of, share_of
 from daemon.options import Options
 from daemon.service import TURNS, Service
-from daemon.shares import owner_of, share_of
 
 # What a client may send that costs the book nothing, and the end of each answer.
 IDLE_LINES = {
@@ -86,7 +85,7 @@ class Floods(Case):
     async def door(self, service: Service) -> AsyncIterator[tuple[Door, contextlib.ExitStack]]:
         """A door of a service in this process, and what closes its clients in the end."""
         door = Door("a", str(self.room() / "s"), 0o600, "-", frozenset())
-        door.listener = door.listening()
+        door.listener = door.listen()
         accepting = asyncio.ensure_future(door.accept(service, door.listener))
         with contextlib.ExitStack() as stack:
             yield door, stack
@@ -106,7 +105,7 @@ class Floods(Case):
         async def waiting(is_flooded: bool) -> int:
             """A hundred come, and are let in; how many more can wait then."""
             async with self.door(Service(Options())) as (door, stack):
-                made = (socket.socket(socket.AF_UNIX) for _ in range(100 + 2 * FEW))
+                made = (socket.socket(socket.AF_UNIX) for _ in range(100 + 2 * MOST_WAITING))
                 clients = [stack.enter_context(it) for it in made]
                 for it in clients[:100]:
                     it.connect(door.path)
@@ -118,8 +117,8 @@ class Floods(Case):
                     it.setblocking(False)
                 return sum(it.connect_ex(door.path) == 0 for it in clients[100:])
 
-        self.assertEqual(asyncio.run(waiting(is_flooded=True)), FEW + 1)
-        self.assertEqual(asyncio.run(waiting(is_flooded=False)), 2 * FEW)
+        self.assertEqual(asyncio.run(waiting(is_flooded=True)), MOST_WAITING + 1)
+        self.assertEqual(asyncio.run(waiting(is_flooded=False)), 2 * MOST_WAITING)
 
     def test_lines_in_a_pass(self) -> None:
         """Connections take turns, a line in each, and a pass of the loop takes few lines of all."""
@@ -128,7 +127,7 @@ class Floods(Case):
         async def taken() -> str:
             nonlocal most
             lines, service = list[bytes](), Service(Options())
-            with mock.patch.object(service, "submit", lambda _, it: (lines.append(it) or b"", b"")):
+            with mock.patch.object(service, "submit", lambda _, tag, words: lines.append(tag)):
                 async with self.door(service) as (door, stack):
                     for letter in letters:
                         client = stack.enter_context(Client(pathlib.Path(door.path)))
@@ -159,7 +158,8 @@ class Floods(Case):
                 share_of.assert_called_with(os.getuid(), process.pid)
                 return sum(door.counts.values())
 
-        with mock.patch.multiple(clients, CLIENTS=64, KEPT=4, share_of=share_of):
+        few = mock.patch.multiple(doors, MOST_CLIENTS=64, LAST_PLACES=4)
+        with few, mock.patch.object(doors, "share_of", share_of):
             self.assertEqual(asyncio.run(let_in()), 49)
 
     def test_a_fault(self) -> None:
@@ -174,9 +174,10 @@ class Floods(Case):
                         await asyncio.sleep(0)
                 return door.counts["a", "other"]
 
-        with mock.patch.multiple(clients, share_of=share_of, log_seldom=mock.DEFAULT) as logged:
+        logged = mock.patch.object(doors, "log_seldom")
+        with mock.patch.object(doors, "share_of", share_of), logged as log_seldom:
             self.assertEqual(asyncio.run(let_in()), 1)
-        self.assertNotIn("secret", str(logged["log_seldom"].call_args_list))
+        self.assertNotIn("secret", str(log_seldom.call_args_list))
 
     def test_many_users(self) -> None:
         """However many connections many users have between them, one who has none comes in."""
@@ -185,7 +186,8 @@ class Floods(Case):
         async def are_let_in(*others: str) -> list[int]:
             """How many of each come in, once many users have what they get."""
             share_of = mock.Mock(side_effect=[*many, *others])
-            with mock.patch.multiple(clients, CLIENTS=256, KEPT=32, share_of=share_of):
+            few = mock.patch.multiple(doors, MOST_CLIENTS=256, LAST_PLACES=32)
+            with few, mock.patch.object(doors, "share_of", share_of):
                 async with self.door(Service(Options())) as (door, stack):
                     for _ in range(len(many) + len(others)):
                         stack.enter_context(Client(pathlib.Path(door.path)))
@@ -202,7 +204,7 @@ class Shares(Case):
         file = self.room() / "subuid"
         no_names = "nobody.here:300000:10\na\0b:300000:10\nodd\n:::\n"
         file.write_text(f"1000:100000:65536\nroot:200000:10\n{no_names}1002:300009:1\n")
-        with mock.patch.object(shares, "SUBORDINATE", str(file)):
+        with mock.patch.object(doors, "SUBORDINATE", str(file)):
             for uid, owner in {
                 0: 0,
                 33: 33,
@@ -228,7 +230,7 @@ class Shares(Case):
         file = self.room() / "subuid"
         lines = (f"nobody.{number}:{number}00000:65536\n" for number in range(1, 1000))
         file.write_text("".join(lines) + "root:100000000:65536\n")
-        with mock.patch.object(shares, "SUBORDINATE", str(file)):
+        with mock.patch.object(doors, "SUBORDINATE", str(file)):
             with mock.patch.object(pwd, "getpwnam", wraps=pwd.getpwnam) as looked_up:
                 self.assertEqual(owner_of(100000001), 0)
         self.assertEqual(looked_up.mock_calls, [mock.call("root")])
@@ -252,7 +254,7 @@ class Shares(Case):
                     await asyncio.sleep(0)
                 return dict(door.counts)
 
-        with mock.patch.object(shares, "SUBORDINATE", str(file)):
+        with mock.patch.object(doors, "SUBORDINATE", str(file)):
             ought = {("a", "uid 1000"): 3, ("a", "uid 165536"): 1}
             self.assertEqual(asyncio.run(users()), ought)
 

@@ -10,7 +10,8 @@ from unittest import IsolatedAsyncioTestCase, mock
 
 from served import Case
 from daemon.book import Places, Rounds
-from daemon.options import OPERATIONS, Options
+from daemon.options import Options
+from daemon.protocol import OPERATIONS
 from daemon.service import Request, Service
 
 
@@ -87,7 +88,7 @@ class Waiting(IsolatedAsyncioTestCase):
                 client.has_gone = lambda: False
                 client.queues = defaultdict(asyncio.Lock)
                 for _ in range(count):
-                    service.submit(client, f"a verify {name} -".encode())
+                    service.submit(client, b"a", [b"verify", name.encode(), b"-"])
             await asyncio.gather(*service.tasks)
         self.assertEqual(replies.await_count, sum(count for _, _, count in asked))
         return " ".join(names)

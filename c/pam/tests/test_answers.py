@@ -54,7 +54,7 @@ class Answers(Case):
 
     def test_all_answers(self) -> None:
         """What comes of a password at each answer that the server has."""
-        for answer, meaning in importlib.import_module("daemon.answers").ANSWERS.items():
+        for answer, meaning in importlib.import_module("daemon.protocol").ANSWERS.items():
             self.check(f"1 {answer}\n".encode(), Pam[meaning.pam], VERIFY)
 
     def test_no_answers(self) -> None:

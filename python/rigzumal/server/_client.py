@@ -29,27 +29,29 @@ class Reply(enum.Enum):
     `reply is Reply.YES`.
     """
 
+    # tools/protocol.py writes these lines
     YES = "yes"
+    EXPIRED = "expired"
     NO = "no"
+    WRONG = "wrong"
     ABSENT = "absent"
     NO_ACCOUNT = "noaccount"
+    REPLACED = "replaced"
+    UPGRADED = "upgraded"
+    REMOVED = "removed"
+    KEPT = "kept"
     OK = "ok"
     ENROLLED = "enrolled"
-    EXISTS = "exists"
-    REPLACED = "replaced"
-    WRONG = "wrong"
-    UPGRADED = "upgraded"
-    KEPT = "kept"
-    REMOVED = "removed"
     DISABLED = "disabled"
     DELETED = "deleted"
     RENAMED = "renamed"
-    EXPIRED = "expired"
-    SHORT = "short"
-    SAME = "same"
     LOCKED = "locked"
     UNLOCKED = "unlocked"
+    EXISTS = "exists"
     NONE = "none"
+    SHORT = "short"
+    SAME = "same"
+    # up to here.
 
     # Hidden from mypy, whose `truthy-bool` then names each place where it is missing.
     if not TYPE_CHECKING:

@@ -1,4 +1,4 @@
-"""The book's process, and the turns of those who ask it."""
+"""The book: its process, which answers lines, and the turns of those who ask it."""
 
 import asyncio
 import base64
@@ -8,8 +8,8 @@ import re
 import signal
 import time
 from collections import Counter, OrderedDict, deque
-from collections.abc import Callable
-from contextlib import suppress
+from collections.abc import AsyncIterator, Callable
+from contextlib import asynccontextmanager, suppress
 from typing import Any, Hashable, Optional
 
 from .journal import log_seldom
@@ -21,14 +21,17 @@ LOCKED, MUST_CHANGE = b"!", b"~"  # the marks of an account, in this order befor
 LACKS = (b"absent", b"noaccount")  # its answers if it has no record, or no account
 NO_RECORD = b"none"  # the same of `show`
 NO_ACCOUNT = b"bad 5 noaccount"
-REST, LONGEST_REST = 1.5, 0.1  # of the time that a round took, and seconds
+RETRY_SECONDS = 1.0  # from a process that couldn't start until the next one
+REST = 1.5  # of the time that a round of changes took
+LONGEST_REST = 0.1  # seconds
 
 
-def decoded(field: bytes) -> Optional[bytes]:
-    """The password that a field of a line has; none if it isn't base64."""
-    padded = field + b"=" * (-len(field) % 4)
+def password_of(field: bytes) -> Optional[bytes]:
+    """The password that a field of a line has; None if it isn't base64."""
+    if field == b"-":
+        return b""
     try:
-        return b"" if field == b"-" else base64.b64decode(padded, validate=True)
+        return base64.b64decode(field + b"=" * (-len(field) % 4), validate=True)
     except ValueError:
         return None
 
@@ -38,30 +41,27 @@ def has_record(row: bytes) -> bool:
     return row.lstrip(LOCKED + MUST_CHANGE).startswith(b"$")
 
 
-class Book(asyncio.SubprocessProtocol):
-    """`credkeep FILE serve --tagged`, which answers in any order."""
+class Process(asyncio.SubprocessProtocol):
+    """A process of `credkeep FILE serve --tagged`, which answers in any order."""
 
     def __init__(self) -> None:
+        self.tags = itertools.count(1)
         self.pending = dict[bytes, asyncio.Future[bytes]]()  # answers, by their tags
-        self.tags, self.rest = itertools.count(1), b""
+        self.rest = b""  # the beginning of a line that it is writing
         self.ended: asyncio.Future[int] = asyncio.get_running_loop().create_future()
 
-    def connection_made(self, process: Any) -> None:
-        self.process, self.stdin = process, process.get_pipe_transport(0)
+    def connection_made(self, transport: Any) -> None:
+        self.transport = transport
+        self.stdin = transport.get_pipe_transport(0)
 
-    def ask(self, *words: bytes) -> asyncio.Future[bytes]:
-        """The answer to a line; UNAVAILABLE if the book ends before it has one."""
-        tag = b"%d" % next(self.tags)
-        answer = self.pending[tag] = asyncio.get_running_loop().create_future()
+    def ask(self, words: tuple[bytes, ...], answer: asyncio.Future[bytes]) -> None:
+        """Sends it a line, whose answer will be set; UNAVAILABLE if it ends before it has one."""
         if self.ended.done():
             answer.set_result(UNAVAILABLE)
-        else:
-            self.stdin.write(b"%b %b\n" % (tag, b" ".join(words)))
-        return answer
-
-    def row(self, name: bytes) -> asyncio.Future[bytes]:
-        """An account's marks with its record behind them, or NO_RECORD; or a refusal of `show`."""
-        return self.ask(b"show", name)
+            return
+        tag = b"%d" % next(self.tags)
+        self.pending[tag] = answer
+        self.stdin.write(b"%b %b\n" % (tag, b" ".join(words)))
 
     def pipe_data_received(self, _: int, data: bytes) -> None:
         """Hands over its answers, and kills it at one that has no end."""
@@ -72,29 +72,168 @@ class Book(asyncio.SubprocessProtocol):
                 is_text = re.fullmatch(rb"[ -~]+", text)
                 answer.set_result(text if is_text else UNAVAILABLE)
             else:
-                log_seldom(self, "the book answered a line that nobody sent")
+                log_seldom("the book", "the book answered a line that nobody sent")
         if len(self.rest) > LONGEST_ANSWER:
             self.kill()
 
     def connection_lost(self, _: object) -> None:
         """It has ended, and all that it wrote has come."""
-        status = self.process.get_returncode()
+        status = self.transport.get_returncode()
         self.ended.set_result(status if status >= 0 else 128 - status)
         for answer in self.pending.values():
             answer.set_result(UNAVAILABLE)
+        self.pending.clear()
+
+    def end(self) -> None:
+        """Has it answer the lines that it has, close the file, and end."""
+        self.stdin.close()
 
     def kill(self) -> None:
-        """Kills the book's process. asyncio's own call might lose its status."""
-        if self.process.get_returncode() is None:
+        """Kills it. asyncio's own call might lose its status."""
+        if self.transport.get_returncode() is None:
             with suppress(ProcessLookupError):
-                os.kill(self.process.get_pid(), signal.SIGKILL)
+                os.kill(self.transport.get_pid(), signal.SIGKILL)
+
+
+class Book:
+    """Who answers lines: one process after another, since only one can have the file.
+
+    While another program has the file (`lent`), lines wait for the next process.
+    """
+
+    def __init__(self, command: list[str]) -> None:
+        self.command = command
+        self.process: Optional[Process] = None  # that answers lines; none while the file is lent
+        self.living = set[Process]()
+        self.status = 0  # of the last process that ended
+        self.waiting = list[tuple[tuple[bytes, ...], asyncio.Future[bytes]]]()
+        self.is_down = False  # the last process couldn't start: no line waits for the next one
+        self.is_ending = False  # no process is started any more
+        self.opened = 0.0  # the moment since which no line has waited for a process
+        # With the status of its last process: that ended by itself, or the server ends.
+        self.ended: asyncio.Future[int] = asyncio.get_running_loop().create_future()
+
+    async def open(self) -> None:
+        """Starts its first process."""
+        self.hand_over_to(await self.start_process())
+
+    async def start_process(self) -> Process:
+        """Starts a process in a session of its own: a terminal's signals are the server's."""
+        loop, process = asyncio.get_running_loop(), Process()
+        await loop.subprocess_exec(
+            lambda: process, *self.command, stderr=None, start_new_session=True
+        )
+        self.living.add(process)
+        process.ended.add_done_callback(lambda ended: self.note_end(process, ended.result()))
+        return process
+
+    def note_end(self, process: Process, status: int) -> None:
+        """The book has ended if its process has, unless it was told to."""
+        self.living.discard(process)
+        self.status = status
+        if process is self.process and not self.ended.done():
+            self.ended.set_result(status)
+
+    def hand_over_to(self, process: Process) -> None:
+        """Has a process answer all lines from now on, those that waited first."""
+        self.process, self.is_down = process, False
+        self.opened = time.monotonic()
+        waiting, self.waiting = self.waiting, []
+        for words, answer in waiting:
+            process.ask(words, answer)
+
+    def ask(self, *words: bytes) -> asyncio.Future[bytes]:
+        """The answer to a line; UNAVAILABLE if the book ends before it has one."""
+        answer: asyncio.Future[bytes] = asyncio.get_running_loop().create_future()
+        if self.process is not None:
+            self.process.ask(words, answer)
+        elif self.is_down or self.is_ending:
+            answer.set_result(UNAVAILABLE)
+        else:
+            self.waiting.append((words, answer))
+        return answer
+
+    def row(self, name: bytes) -> asyncio.Future[bytes]:
+        """An account's marks with its record behind them, or NO_RECORD; or a refusal of `show`."""
+        return self.ask(b"show", name)
+
+    def is_lent(self) -> bool:
+        """Whether another program has the file."""
+        return self.process is None
+
+    def has_ended(self) -> bool:
+        """Whether it has ended, or is about to."""
+        return self.ended.done() or self.is_ending
+
+    @asynccontextmanager
+    async def lent(self) -> AsyncIterator[int]:
+        """The file without a process, for one at a time.
+
+        The process answers the lines that it has, and ends with the status that comes. Lines that
+        come meanwhile wait for the next process, which has the file behind the loan.
+        """
+        process, self.process = self.process, None
+        assert process is not None
+        process.end()
+        try:
+            yield await asyncio.shield(process.ended)
+        finally:
+            await self.reopen()
+
+    async def reopen(self) -> None:
+        """Starts a process until one answers, or the server ends. Whoever waits is refused at the
+        first that doesn't."""
+        while not self.is_ending:
+            if process := await self.process_that_answers():
+                self.hand_over_to(process)
+                return
+            self.is_down = True
+            self.refuse_waiting()
+            log_seldom("reopen", "the book can't be opened again; the server tries it each second")
+            await asyncio.sleep(RETRY_SECONDS)
+        self.refuse_waiting()
+        if not self.ended.done():
+            self.ended.set_result(self.status)
+
+    async def process_that_answers(self) -> Optional[Process]:
+        """A new process that has answered a line, so that it has opened the file; or none."""
+        try:
+            process = await self.start_process()
+        except OSError as fault:
+            log_seldom(("reopen", fault.errno), "%s: %s", self.command[0], fault.strerror)
+            return None
+        answer: asyncio.Future[bytes] = asyncio.get_running_loop().create_future()
+        process.ask((b"show", b"-"), answer)
+        if await answer != UNAVAILABLE:
+            return process
+        process.kill()
+        await process.ended
+        return None
+
+    def refuse_waiting(self) -> None:
+        waiting, self.waiting = self.waiting, []
+        for _, answer in waiting:
+            answer.set_result(UNAVAILABLE)
+
+    def end(self) -> None:
+        """Has its process end in order; no other one is started any more."""
+        self.is_ending = True
+        self.refuse_waiting()
+        for process in self.living:
+            process.end()
+
+    def kill(self) -> None:
+        for process in self.living:
+            process.kill()
 
 
 class Places:
     """Places, for which users take turns: the one with the fewest has the next."""
 
     def __init__(self, count: int) -> None:
-        self.free, self.taken = count, Counter[Hashable]()
+        self.free = count
+        self.taken = Counter[Hashable]()  # by each user
+        # Who waits, in the order of their next turns, and for which places.
         self.users = OrderedDict[Hashable, deque[asyncio.Future[None]]]()
 
     def take(self, user: Hashable) -> asyncio.Future[None]:
@@ -108,17 +247,20 @@ class Places:
         return place
 
     def give(self, user: Hashable, place: asyncio.Future[None]) -> None:
+        """Gives a user a place that is free."""
         if not place.cancelled():  # as the server ends
             self.free -= 1
             self.taken[user] += 1
             place.set_result(None)
 
     def release(self, user: Hashable) -> None:
+        """Takes a place back, and gives it to the next user."""
         self.free += 1
         self.taken[user] -= 1
         self.give_next()
 
     def give_next(self) -> None:
+        """Gives the free places to those whose turn it is."""
         while self.free and self.users:
             user = min(self.users, key=self.taken.__getitem__)
             if self.free == 1 and self.taken[user]:
@@ -133,9 +275,11 @@ class Rounds:
     """Beside logins, changes go in rounds: all that hash, or one other; then a longer rest."""
 
     def __init__(self, book: Book, is_busy: Callable[[], bool]) -> None:
-        self.book, self.is_busy = book, is_busy  # whether somebody logs in
-        self.gate, self.running = asyncio.Event(), 0
+        self.book = book
+        self.is_busy = is_busy  # whether somebody logs in
+        self.gate = asyncio.Event()  # is open while no round goes on, and nobody rests
         self.gate.set()
+        self.running = 0  # changes of this round
 
     async def ask(self, words: list[bytes], is_alone: bool) -> bytes:
         """The answer to a change, which goes now, or in the next round."""
@@ -144,7 +288,8 @@ class Rounds:
             if not is_alone:
                 break
         self.gate.clear()
-        began, self.running = time.monotonic(), self.running + 1
+        began = time.monotonic()
+        self.running += 1
         answer = await self.book.ask(*words)
         self.running -= 1
         if not self.running:
@@ -154,5 +299,6 @@ class Rounds:
         return answer
 
     def end_rest(self) -> None:
+        """Begins the next round."""
         if not self.running:  # else the end of that round begins another rest
             self.gate.set()

@@ -9,7 +9,7 @@ NEEDED = 8 << 20
 FULL = b"bad 19 disk"  # the answer to a change that isn't tried
 
 
-def has_room(folder: str) -> bool:
+def has_room(folder: str, needed: int = NEEDED) -> bool:
     """Whether a change may be tried in a folder, as far as its filesystem tells.
 
     Blocks that are reserved for root don't count, for root either. A user's quota can't be seen.
@@ -20,4 +20,4 @@ def has_room(folder: str) -> bool:
         return True  # the book has the files open, and may know better
     if found.f_blocks == 0:  # a filesystem without a size, such as ramfs
         return True
-    return found.f_bavail * found.f_frsize >= NEEDED
+    return found.f_bavail * found.f_frsize >= needed

@@ -12,8 +12,9 @@ from .journal import Marks, Problem, log
 if TYPE_CHECKING:
     from .service import Service
 
-# The mark in a row that each operation makes, and its answer.
-MADE = {b"lock": (LOCKED, b"locked"), b"expire": (MUST_CHANGE, b"expired")}
+# The marks that the book has, by the operations that make them, and the answers to these.
+MARK_OF = {b"lock": LOCKED, b"expire": MUST_CHANGE}
+ANSWER_OF = {b"lock": b"locked", b"expire": b"expired"}
 
 
 async def take_in(service: Service) -> None:
@@ -26,9 +27,11 @@ async def take_in(service: Service) -> None:
     if not os.path.lexists(path):
         return
     marks = Marks(path)
-    pairs = [(name, operation) for name, operation in sorted(marks.pairs) if operation in MADE]
+    taken = list[bool]()
     try:
-        taken = [await has_taken(service, *pair) for pair in pairs]
+        for name, word in sorted(marks.pairs):
+            if word in MARK_OF:
+                taken.append(await has_taken(service, name, word))
         os.unlink(path)
         marks.sync_name()
     finally:
@@ -39,32 +42,31 @@ async def take_in(service: Service) -> None:
         log.warning("%d of its marks were of names without an account, or a record", lacking)
 
 
-async def has_taken(service: Service, name: bytes, operation: bytes) -> bool:
-    """Has the book take a mark; false if there is nobody to have it."""
+async def has_taken(service: Service, name: bytes, word: bytes) -> bool:
+    """Has the book take the mark of an operation; false if there is nobody to have it."""
     if not NAME.fullmatch(name):  # such as one that is too long for a line
         return False
-    mark, answer = MADE[operation]
     row = await asyncio.shield(service.book.row(name))
-    if mark in row.partition(b"$")[0]:
+    if MARK_OF[word] in row.partition(b"$")[0]:
         return True
     if not service.has_room():
         raise Problem("the book's disk has no room for a mark")
-    said = await ask(service, operation, name)
-    if said in LACKS:
-        said = await mark_of_old_file(service, name, operation) or said
-    if said != answer and said not in LACKS:
-        raise Problem(f"the book answered {operation.decode()} by {said.decode()!r}")
-    return said == answer
+    answer = await ask(service, word, name)
+    if answer in LACKS:
+        answer = await mark_in_old_file(service, name, word) or answer
+    if answer != ANSWER_OF[word] and answer not in LACKS:
+        raise Problem(f"the book answered {word.decode()} by {answer.decode()!r}")
+    return answer == ANSWER_OF[word]
 
 
-async def mark_of_old_file(service: Service, name: bytes, operation: bytes) -> bytes:
-    """The answer to a mark of a user whom an old htpasswd file alone has; empty for others."""
+async def mark_in_old_file(service: Service, name: bytes, word: bytes) -> bytes:
+    """Marks a user whom an old htpasswd file alone has; the answer is empty for others."""
     if not service.foreign or not (await service.foreign.file.line(name)).record:
         return b""
-    if operation == b"expire":
+    if word == b"expire":
         return b"expired" if await service.foreign.file.expire(name) else UNAVAILABLE
     await ask(service, b"account", name)
-    return await ask(service, operation, name)
+    return await ask(service, word, name)
 
 
 async def ask(service: Service, *words: bytes) -> bytes:

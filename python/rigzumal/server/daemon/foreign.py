@@ -1,23 +1,26 @@
 """Users of an htpasswd file, who move into the book by right passwords."""
 
 import asyncio
+from collections.abc import Collection
 from contextlib import AsyncExitStack
 from dataclasses import replace
+from typing import BinaryIO
 from weakref import WeakValueDictionary
 
 from .aging import Line, today
-from .book import LACKS, LOCKED, NO_ACCOUNT, NO_RECORD, UNAVAILABLE, decoded, has_record
+from .book import LACKS, LOCKED, NO_ACCOUNT, NO_RECORD, UNAVAILABLE, has_record, password_of
 from .old_file import OldFile
 from .schemes import is_right
 from .service import Request, Service
+from .transfers import memory_file
 
-# Answered to a password if the book has a record.
-HAS = (b"yes", b"expired", b"same", b"replaced", b"upgraded", b"kept", b"enrolled")
-# What an operation that makes a name is answered if the file has the name.
-TAKES = {b"account": b"bad 1 exists", b"rename": b"exists"}
-ENDS = (b"disable", b"delete", b"rename", b"remove")  # leave no record in the book
+# Answers to a password after which the book has a record.
+HAS_RECORD = (b"yes", b"expired", b"same", b"replaced", b"upgraded", b"kept", b"enrolled")
+# The answers to operations that make a name, if the file has the name.
+IF_NAME_IS_TAKEN = {b"account": b"bad 1 exists", b"rename": b"exists"}
+ENDS_RECORD = (b"disable", b"delete", b"rename", b"remove")  # leave none in the book
 MARKS = (b"lock", b"unlock", b"expire")
-EXPIRED = b"expired"  # what `expire` is answered
+EXPIRED = b"expired"  # the answer to `expire`
 
 
 class Foreign:
@@ -25,120 +28,136 @@ class Foreign:
 
     def __init__(self, service: Service, path: str) -> None:
         self.service = service
-        self.file = OldFile(path, service.in_book)
-        self.locks = WeakValueDictionary[bytes, asyncio.Lock]()
+        self.file = OldFile(path, service.names)
+        self.locks = WeakValueDictionary[bytes, asyncio.Lock]()  # of names, one request at a time
 
     async def answer(self, request: Request) -> bytes:
         """The answer: a wrong password's for whom the file bars, else the book's or the file's."""
-        operation, name = request.words[:2]
-        if not request.kind.names:
-            page = await self.service.ask(request)
-            return page if operation == b"list" else await self.with_bars(request.words, page)
-        if not request.kind.tries and operation not in (b"known", b"show"):
+        if request.word == b"list":
+            return await self.service.ask(request)
+        if request.word == b"marks":
+            return await self.page_of_marks(request)
+        if not request.operation.tries and request.word not in (b"known", b"show"):
             return await self.answer_unbarred(request)
-        is_barred, asked = await self.file.bars(name), request
-        if is_barred and request.kind.tries:
+        name, question = request.words[1], request
+        is_barred = await self.file.bars(name)
+        if is_barred and request.operation.tries:
             # As long as a wrong password takes, and nothing is changed.
-            asked = replace(request, words=[b"verify", *request.words[1:3]])
-        answer = await self.answer_unbarred(asked)
-        is_barred = is_barred or await self.file.bars(name)  # since the file may have changed
-        return barred(request, answer) if is_barred else answer
+            question = replace(request, words=[b"verify", *request.words[1:3]])
+        answer = await self.answer_unbarred(question)
+        if is_barred or await self.file.bars(name):  # the file may have changed
+            return answer_to_barred(request, answer)
+        return answer
 
-    async def with_bars(self, words: list[bytes], page: bytes) -> bytes:
+    async def page_of_marks(self, request: Request) -> bytes:
         """A page of `marks`, with a lock at those whom the file bars."""
-        operation, *items = page.split(b" ")
-        if operation != b"marks":
+        page = await self.service.ask(request)
+        word, *items = page.split(b" ")
+        if word != b"marks":
             return page
-        first, count = words[1], int(words[2])
-        marks = {name: of for name, _, of in (it.partition(b":") for it in items)}
-        is_last = len(items) < count
+        first, count = request.words[1], int(request.words[2])
+        rows = dict[bytes, bytes]()
+        for item in items:
+            name, _, marks = item.partition(b":")
+            rows[name] = marks
+        last = max(rows) if len(items) == count else b""  # none on the last page
         for name in await self.file.barred():
-            if first <= name and (is_last or name <= max(marks)):
-                marks[name] = locked(marks.get(name, b""))
-        return b" ".join([operation, *(b"%b:%b" % it for it in sorted(marks.items())[:count])])
+            if first <= name and (not last or name <= last):
+                rows[name] = row_with_lock(rows.get(name, b""))
+        names = sorted(rows)[:count]
+        return b" ".join([word, *(b"%b:%b" % (name, rows[name]) for name in names)])
+
+    async def with_locks(self, text: BinaryIO) -> BinaryIO:
+        """An export, with a lock at those whom the file bars."""
+        return await asyncio.to_thread(with_locks, text, await self.file.barred())
 
     async def answer_unbarred(self, request: Request) -> bytes:
         """The answer: the book's, or the file's where the book lacks the name. A name that the file
         may decide about has one request after another."""
-        operation, name = request.words[:2]
-        names = {name, request.words[-1]} if operation in TAKES else {name}
-        may_end = operation in ENDS and not self.file.has_moved(name)
+        word, name = request.words[:2]
+        makes_name = word in IF_NAME_IS_TAKEN
+        names = {name, request.words[-1]} if makes_name else {name}
+        may_end = word in ENDS_RECORD and not self.file.has_moved(name)
         is_of_file = (await self.file.line(name)).record or self.file.is_expired(name)
-        is_asked_about = any(it in self.locks for it in names)
-        if not (operation in TAKES or may_end or is_of_file or is_asked_about):
+        is_asked_about = any(each in self.locks for each in names)
+        if not (makes_name or may_end or is_of_file or is_asked_about):
             return await self.service.ask(request)
         async with AsyncExitStack() as stack:
-            for it in sorted(names):
-                await stack.enter_async_context(self.locks.setdefault(it, asyncio.Lock()))
+            for each in sorted(names):
+                await stack.enter_async_context(self.locks.setdefault(each, asyncio.Lock()))
             answer = await self.answer_in_turn(request)
         return answer
 
     async def answer_in_turn(self, request: Request) -> bytes:
         """The answer to a request, while no other one is asked about its names."""
-        operation, name = request.words[:2]
-        if operation in TAKES and (await self.file.line(request.words[-1])).record:
-            return TAKES[operation]
+        word, name = request.words[:2]
+        if word in IF_NAME_IS_TAKEN and (await self.file.line(request.words[-1])).record:
+            return IF_NAME_IS_TAKEN[word]
         line, book = await self.file.line(name), self.service.book
-        if refusal := await self.prepared(request, line, await book.row(name)):
+        if refusal := await self.prepare(request, line, await book.row(name)):
             return refusal
         answer = await self.service.ask(request)
-        if line.record and answer in LACKS:
-            return await self.answer_alone(request, line, answer)
-        return await self.moving(request, answer) if line.record else answer
+        if not line.record:
+            return answer
+        if answer in LACKS:
+            return await self.answer_of_file(request, line, answer)
+        await self.note_move(request, answer)
+        return answer
 
-    async def prepared(self, request: Request, line: Line, row: bytes) -> bytes:
+    async def prepare(self, request: Request, line: Line, row: bytes) -> bytes:
         """Does what has to be done before the book is asked; returns the answer if it isn't."""
-        operation, name = request.words[:2]
+        word, name = request.words[:2]
         if row == UNAVAILABLE or row.startswith(b"bad ") and row != NO_ACCOUNT:
             return row
-        if operation == b"rename" and line.record and not has_record(row):
+        if word == b"rename" and line.record and not has_record(row):
             return b"noaccount"  # it would leave the name to the file, without a lock
-        if has_record(row) and self.file.is_expired(name) and operation not in (b"show", *MARKS):
-            if refusal := await self.finish(request):
+        if has_record(row) and self.file.is_expired(name) and word not in (b"show", *MARKS):
+            if refusal := await self.finish_move(request):
                 return refusal
-        if ends_record(operation, row) and not await self.file.have_moved(name):
+        if ends_record(word, row) and not await self.file.note_moved(name):
             return UNAVAILABLE  # else the file decides, also once it is back
         return b""
 
-    async def finish(self, request: Request) -> bytes:
+    async def finish_move(self, request: Request) -> bytes:
         """Finishes a move behind `enrol`, where a kill may have cut it; returns a refusal."""
         name = request.words[1]
         answer = await self.service.ask_besides(request, b"expire", name)
         if answer != EXPIRED:
             return answer
-        return b"" if await self.file.have_moved(name) else UNAVAILABLE
+        return b"" if await self.file.note_moved(name) else UNAVAILABLE
 
-    async def moving(self, request: Request, answer: bytes) -> bytes:
-        """The book's answer, after which a name has moved if the book has its record."""
-        if request.kind.hashes and answer in HAS:
-            await self.file.have_moved(request.words[1])
-        return answer
+    async def note_move(self, request: Request, answer: bytes) -> None:
+        """Notes that a name has moved, if the book has its record after this answer."""
+        if request.operation.hashes and answer in HAS_RECORD:
+            await self.file.note_moved(request.words[1])
 
-    async def answer_alone(self, request: Request, line: Line, lacks: bytes) -> bytes:
+    async def answer_of_file(self, request: Request, line: Line, answer: bytes) -> bytes:
         """The answer to a request for a user whom the file has, and the book lacks."""
-        operation, name = request.words[:2]
-        if request.kind.tries:
+        word, name = request.words[:2]
+        if request.operation.tries:
             return await self.judge(request, line)
-        if operation == b"known":
+        if word == b"known":
             is_shut = line.why_shut(today()) or await self.is_locked(name)
-            return b"absent" if is_shut else self.known(name, line)
-        if operation == b"expire":
+            return b"absent" if is_shut else self.answer_to_known(name, line)
+        if word == b"expire":
             return EXPIRED if await self.file.expire(name) else UNAVAILABLE
-        if operation == b"unlock":
+        if word == b"unlock":
             return b"none"
-        if operation == b"delete":
+        if word == b"delete":
             return b"deleted"
-        if operation not in (b"lock", b"disable", b"reset"):
-            return lacks
+        if word not in (b"lock", b"disable", b"reset"):
+            return answer
         said = await self.service.ask_besides(request, b"account", name)
-        if operation == b"disable":
+        if word == b"disable":
             return b"disabled"
         if said not in (b"ok", b"bad 1 exists"):
             return said
-        return await self.moving(request, await self.service.ask(request))
+        answer = await self.service.ask(request)
+        await self.note_move(request, answer)
+        return answer
 
-    def known(self, name: bytes, line: Line) -> bytes:
-        """The answer to the right password of whom nothing shuts out."""
+    def answer_to_known(self, name: bytes, line: Line) -> bytes:
+        """The answer to `known`, and to a right password, of whom nothing shuts out."""
         return b"expired" if self.file.must_change(name, line) else b"yes"
 
     async def is_locked(self, name: bytes) -> bool:
@@ -146,24 +165,26 @@ class Foreign:
 
     async def judge(self, request: Request, line: Line) -> bytes:
         """The answer to a try, by the file's record; a right password moves its user."""
-        name, typed = request.words[1], decoded(request.words[2]) or b""
-        is_known = await asyncio.to_thread(is_right, line.record, typed)
+        name, password = request.words[1], password_of(request.words[2]) or b""
+        is_password = await asyncio.to_thread(is_right, line.record, password)
         is_same = await self.file.line(name) == line  # as before that hash
         is_open = is_same and not line.why_shut(today()) and not await self.is_locked(name)
-        if not is_known or not is_open:
-            return request.kind.wrong
-        is_login = not request.kind.changes
+        if not is_password or not is_open:
+            return request.operation.wrong
+        is_login = not request.operation.changes
         if is_login and not self.service.has_room():  # the user moves another day
-            return self.known(name, line)
+            return self.answer_to_known(name, line)
         if refusal := await self.move(request, line):
             return refusal
-        return await self.moving(request, await self.service.ask(request))
+        answer = await self.service.ask(request)
+        await self.note_move(request, answer)
+        return answer
 
     async def move(self, request: Request, line: Line) -> bytes:
         """Puts a user's record into the book, and has the file decide no more; returns a refusal.
 
         A password that must be changed is noted before, since a kill behind `enrol` would leave a
-        record without the mark: `finish` sees the note.
+        record without the mark: `finish_move` sees the note.
         """
         name, field = request.words[1:3]
         if line.must_change(today()) and not await self.file.expire(name):
@@ -174,30 +195,44 @@ class Foreign:
             return b""
         if answer == b"enrolled" and self.file.is_expired(name):
             answer = await self.service.ask_besides(request, b"expire", name)
-        if answer not in HAS:
+        if answer not in HAS_RECORD:
             return answer
-        await self.file.have_moved(name)
+        await self.file.note_moved(name)
         return b""
 
 
-def ends_record(operation: bytes, row: bytes) -> bool:
+def ends_record(word: bytes, row: bytes) -> bool:
     """Whether an operation takes a row's record, or the lock of a row without one, from a name."""
-    if operation == b"rename":
+    if word == b"rename":
         return has_record(row) or row.startswith(LOCKED)
-    return operation in (b"disable", b"delete") or operation == b"remove" and has_record(row)
+    if word == b"remove":
+        return has_record(row)
+    return word in (b"disable", b"delete")
 
 
-def locked(row: bytes) -> bytes:
-    """A row with a lock, also where there was no record, or no account."""
+def row_with_lock(row: bytes) -> bytes:
+    """A row with a lock, also where there was no record, or no account; a refusal as it is."""
     if row in (NO_ACCOUNT, NO_RECORD):
         return LOCKED
-    return row if row.startswith((b"bad ", LOCKED)) or row == UNAVAILABLE else LOCKED + row
+    if row.startswith((b"bad ", LOCKED)) or row == UNAVAILABLE:
+        return row
+    return LOCKED + row
 
 
-def barred(request: Request, answer: bytes) -> bytes:
+def with_locks(text: BinaryIO, names: Collection[bytes]) -> BinaryIO:
+    """The lines of an export, with a lock at these names."""
+    locked = memory_file()
+    text.seek(0)
+    for line in text:
+        name, colon, row = line.partition(b":")
+        locked.write(name + colon + row_with_lock(row) if name in names else line)
+    return locked
+
+
+def answer_to_barred(request: Request, answer: bytes) -> bytes:
     """What is answered in place of this answer for a user whom the file bars."""
-    if request.words[0] == b"show":
-        return locked(answer)
+    if request.word == b"show":
+        return row_with_lock(answer)
     if answer not in (b"yes", b"no", b"expired"):
         return answer
-    return b"absent" if request.words[0] == b"known" else request.kind.wrong
+    return b"absent" if request.word == b"known" else request.operation.wrong

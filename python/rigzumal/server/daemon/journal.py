@@ -17,7 +17,7 @@ from .appending import FAULT, SIZE, GrowingFile, private
 
 log = logging.getLogger("credkeep-server")
 SELDOM = 3600.0  # seconds
-logged = dict[Hashable, float]()  # when log_seldom logged what
+logged_at = dict[Hashable, float]()  # when log_seldom logged what
 MARKED = re.compile(rb"([!-~]+)(?: ([a-z]+))? \d{4}-\d\d-\d\dT\d\d:\d\d:\d\dZ")
 MOST_LINES = 4096  # of a journal, that wait for its disk
 UNDOES = {b"unlock": b"lock", b"renew": b"expire"}  # a mark of these takes one back
@@ -30,8 +30,8 @@ class Problem(Exception):
 def log_seldom(key: Hashable, text: str, *values: object) -> None:
     """Logs messages of one key once an hour."""
     now = time.monotonic()
-    if now >= logged.get(key, -SELDOM) + SELDOM:
-        logged[key] = now
+    if now >= logged_at.get(key, -SELDOM) + SELDOM:
+        logged_at[key] = now
         log.warning(text, *values)
 
 
@@ -44,8 +44,8 @@ def notify(text: str) -> None:
     """Sends systemd a notice, if it wants them."""
     if path := os.environ.get("NOTIFY_SOCKET"):
         try:
-            with socket.socket(socket.AF_UNIX, socket.SOCK_DGRAM) as it:
-                it.sendto(text.encode(), re.sub("^@", "\0", path))
+            with socket.socket(socket.AF_UNIX, socket.SOCK_DGRAM) as notices:
+                notices.sendto(text.encode(), re.sub("^@", "\0", path))
         except OSError as fault:
             log_seldom("systemd", "NOTIFY_SOCKET: %s", fault.strerror)
 
@@ -55,8 +55,9 @@ class Journal(GrowingFile):
 
     def __init__(self, path: str) -> None:
         super().__init__(path)
-        self.lines, self.one_at_a_time = list[bytes](), asyncio.Lock()
-        self.open_lines = 0  # those that wait, and those that are being written
+        self.lines = list[bytes]()  # those that wait
+        self.one_at_a_time = asyncio.Lock()
+        self.open_lines = 0  # those that wait, and those that are written now
         self.lacking = 0  # lines that it never got
 
     def is_full(self) -> bool:
@@ -79,8 +80,10 @@ class Journal(GrowingFile):
         return self.written
 
     async def write(self) -> bool:
+        """Writes all lines that wait once it is free; false if that fails."""
         async with self.one_at_a_time:
-            lines, self.lines = self.lines, []
+            lines = self.lines
+            self.lines = []
             try:
                 await self.write_text(b"".join(line + b"\n" for line in lines))
                 return True
@@ -92,6 +95,7 @@ class Journal(GrowingFile):
                 self.open_lines -= len(lines)
 
     async def write_text(self, text: bytes) -> None:
+        """Writes a text to the disk."""
         await asyncio.to_thread(self.append, text)
 
 
@@ -143,10 +147,12 @@ class Marks(Journal):
         super().__init__(path)
         self.pairs = set[tuple[bytes, bytes]]()
         with suppress(FileNotFoundError), open(path, "rb", opener=private) as file:
-            for it in filter(None, map(MARKED.fullmatch, file.read().split(b"\n"))):
-                self.apply(it[1], it[2] or b"")
+            for line in file.read().split(b"\n"):
+                if found := MARKED.fullmatch(line):
+                    self.apply(found[1], found[2] or b"")
 
     def apply(self, name: bytes, mark: bytes) -> None:
+        """Counts a mark of a name, or one that takes another back."""
         if mark in UNDOES:
             self.pairs.discard((name, UNDOES[mark]))
         else:
@@ -157,7 +163,8 @@ class Marks(Journal):
 
     async def put(self, name: bytes, mark: bytes = b"") -> bool:
         """Writes a mark to the disk, and then counts it; false if that fails."""
-        is_kept = await self.add(b" ".join(filter(None, (name, mark, utc().encode()))))
-        if is_kept:
+        words = (name, mark, utc().encode()) if mark else (name, utc().encode())
+        is_on_disk = await self.add(b" ".join(words))
+        if is_on_disk:
             self.apply(name, mark)
-        return is_kept
+        return is_on_disk

@@ -3,15 +3,16 @@
 import asyncio
 import re
 import time
-from collections.abc import Callable
 
 from .aging import Line, today
 from .appending import status_of
 from .book import NAME
 from .journal import Marks, log, log_seldom
+from .names import Names
 from .schemes import why_unknown
 
-STILL, LOOKS = 0.1, 20  # seconds, and how often the file is looked at
+STILL_SECONDS = 0.1  # for which a file that is read doesn't change
+MOST_LOOKS = 20  # until it is read all the same
 MOST_TOLD = 20  # names in a line of the log
 MUST_CHANGE = b"expire"  # the mark in HTPASSWD.moved of who must change before they move
 
@@ -20,39 +21,36 @@ class OldFile:
     """The file, read again once it has changed. HTPASSWD.moved has who has left it, and who of the
     others must change the password."""
 
-    def __init__(self, path: str, in_book: Callable[[bytes], bytes]) -> None:
-        self.path, self.in_book = path, in_book
+    def __init__(self, path: str, names: Names) -> None:
+        self.path = path
+        self.names = names
         self.version: tuple[int, ...] = ()
-        self.lines = dict[bytes, Line]()
-        self.last = self.lines  # as it was when it could be read, for those whom it bars
+        self.lines = dict[bytes, Line]()  # none while the file can't be read
+        self.last_lines = self.lines  # as they were when it could be, for those whom it bars
         self.reading = asyncio.Lock()
         self.moved = Marks(f"{path}.moved")
         self.moved.append(b"")
         self.read()
 
     def read(self) -> None:
-        """Reads the file once it no longer changes: htpasswd empties it, and writes it again."""
-        for _ in range(LOOKS):
-            version = version_of(self.path)
-            time.sleep(STILL)
-            if version == version_of(self.path):
-                break
+        """Reads the file, and logs who can't move."""
+        version = version_at_rest(self.path)
         lines, stuck = dict[bytes, Line](), list[str]()
-        with open(self.path, "rb") as file:
-            users = [it.rstrip().split(b":") for it in file if b":" in it and it[:1] != b"#"]
-        for typed, record, *others in users:  # of two lines of a name the first decides
-            name, line = self.in_book(typed), Line(record, tuple(others))
-            is_new = name not in lines and not self.has_moved(name)
-            if is_new and record and (why := why_stuck(name, line)):
-                stuck.append(f"{re.sub(b'[^!-~]', b'?', typed).decode()} ({why})")
-            lines.setdefault(name, line)
-        self.version, self.lines, self.last = version, lines, lines
+        for user, record, *others in users_in(self.path):
+            name, line = self.names.of_book(user), Line(record, tuple(others))
+            if name in lines:  # of two lines of a name the first decides
+                continue
+            lines[name] = line
+            if record and not self.has_moved(name) and (why := why_stuck(name, line)):
+                stuck.append(f"{printable(user)} ({why})")
+        self.version = version
+        self.lines = lines
+        self.last_lines = lines
         if stuck:
-            shown = ", ".join(stuck[:MOST_TOLD])
-            if len(stuck) > MOST_TOLD:
-                shown += ", ..."
-            text = "%s: %d of %d users can't move: %s"
-            log.warning(text, self.path, len(stuck), len(lines), shown)
+            dots = ", ..." if len(stuck) > MOST_TOLD else ""
+            text = "%s: %d of %d users can't move: %s%s"
+            users = ", ".join(stuck[:MOST_TOLD])
+            log.warning(text, self.path, len(stuck), len(lines), users, dots)
 
     async def refresh(self) -> None:
         """Reads the file again if it has changed; without it the book decides, but on its bars."""
@@ -62,7 +60,8 @@ class OldFile:
                     await asyncio.to_thread(self.read)
             except OSError as fault:
                 log_seldom(self.path, "%s: %s", self.path, fault.strerror)
-                self.lines, self.version = {}, ()
+                self.lines = {}
+                self.version = ()
 
     async def line(self, name: bytes) -> Line:
         """The file's line of a name that hasn't moved, or one without a record."""
@@ -72,17 +71,18 @@ class OldFile:
     async def bars(self, name: bytes) -> bool:
         """Whether the file's line of a name bars its user, also once they have moved."""
         await self.refresh()
-        return bool(self.last.get(name, Line()).bar(today()))
+        return bool(self.last_lines.get(name, Line()).bar(today()))
 
     async def barred(self) -> set[bytes]:
         """Those names of a book whose users the file's lines bar."""
         await self.refresh()
-        return {it for it, line in self.last.items() if NAME.fullmatch(it) and line.bar(today())}
+        barred = {name for name, line in self.last_lines.items() if line.bar(today())}
+        return {name for name in barred if NAME.fullmatch(name)}
 
     def has_moved(self, name: bytes) -> bool:
         return self.moved.has(name)
 
-    async def have_moved(self, name: bytes) -> bool:
+    async def note_moved(self, name: bytes) -> bool:
         """Has the file decide no more about a name; false if that can't be written."""
         return self.has_moved(name) or await self.moved.put(name)
 
@@ -101,8 +101,31 @@ class OldFile:
 
 def version_of(path: str) -> tuple[int, ...]:
     """The marks of a file, which differ once it has been written or replaced."""
-    it = status_of(path)
-    return it.st_ino, it.st_size, it.st_mtime_ns, it.st_ctime_ns
+    status = status_of(path)
+    return status.st_ino, status.st_size, status.st_mtime_ns, status.st_ctime_ns
+
+
+def version_at_rest(path: str) -> tuple[int, ...]:
+    """The version of a file that no longer changes: htpasswd empties it, and writes it again."""
+    version = version_of(path)
+    for _ in range(MOST_LOOKS):
+        time.sleep(STILL_SECONDS)
+        before, version = version, version_of(path)
+        if version == before:
+            break
+    return version
+
+
+def users_in(path: str) -> list[list[bytes]]:
+    """The fields of each user's line of a file."""
+    with open(path, "rb") as file:
+        lines = [line.rstrip() for line in file if not line.startswith(b"#")]
+    return [line.split(b":") for line in lines if b":" in line]
+
+
+def printable(name: bytes) -> str:
+    """A name as the log may have it."""
+    return re.sub(rb"[^!-~]", b"?", name).decode()
 
 
 def why_stuck(name: bytes, line: Line) -> str:

@@ -1,4 +1,4 @@
-"""The command line, and the operations that a socket may allow."""
+"""The command line."""
 
 import argparse
 import os
@@ -9,60 +9,14 @@ from collections.abc import Sequence
 from dataclasses import dataclass, field, fields
 from typing import Any, NoReturn
 
-from .clients import Door
 from .costs import TIMES, USUAL, costs_of, size_of
+from .doors import Door
 from .journal import Problem
+from .protocol import OPERATIONS
 
 VERSION = "0.2.0"
 BOOKS, SOCKETS = pathlib.Path("/var/lib/rigzumal"), pathlib.Path("/run/rigzumal")
 MOST_AT_ONCE = 254  # of a user: credkeep takes 255
-
-
-@dataclass(frozen=True)
-class Kind:
-    """The fields of an operation's line, and its cost for the book."""
-
-    names: int = 1  # how many of its fields are names, from the first on
-    hashes: bool = False
-    changes: bool = False
-    tries: bool = False  # it takes the present password, so it may be a guess
-    wrong: bytes = b"wrong"  # the answer to a wrong password
-    new: int = 0  # which field is a new password, if any
-    setting: int = 0  # which field gives costs and a salt, if a line may have one
-    is_own: bool = False  # it is answered by the server, and not by the book
-
-
-LOOK = Kind()
-LOGIN = Kind(hashes=True, tries=True, wrong=b"no")
-NEW_PASSWORD = Kind(hashes=True, changes=True, new=2, setting=3)
-CHANGE = Kind(changes=True)
-LIST = Kind(names=0)  # its field is where in the book's order a page begins
-OWN = Kind(is_own=True)
-OPERATIONS = {
-    b"verify": LOGIN,
-    b"login": LOGIN,
-    b"change": Kind(hashes=True, tries=True, changes=True, new=3, setting=4),
-    b"upgrade": Kind(hashes=True, tries=True, changes=True, setting=3),
-    b"remove": Kind(hashes=True, tries=True, changes=True),
-    b"enrol": NEW_PASSWORD,
-    b"reset": NEW_PASSWORD,
-    b"account": CHANGE,
-    b"load": CHANGE,
-    b"disable": CHANGE,
-    b"delete": CHANGE,
-    b"rename": Kind(changes=True, names=2),
-    b"lock": CHANGE,
-    b"unlock": CHANGE,
-    b"expire": CHANGE,
-    b"known": LOOK,
-    b"show": LOOK,
-    b"list": LIST,
-    b"marks": LIST,
-    b"forgive": OWN,
-    b"last": OWN,
-    b"stats": Kind(names=0, is_own=True),
-    b"waits": Kind(names=0, is_own=True),
-}
 
 
 def number(word: str, most: int) -> int:

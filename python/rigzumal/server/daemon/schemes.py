@@ -8,7 +8,7 @@ from contextlib import suppress
 
 from passlib.hash import apr_md5_crypt
 
-from .book import decoded
+from .book import password_of
 
 CRYPT_DATA = 131232  # bytes of crypt_r's own in the oldest libraries, which need most
 BCRYPT, LONGEST_BCRYPT = (b"$2a$", b"$2b$", b"$2y$"), 72  # bytes: it ignores all behind
@@ -43,7 +43,7 @@ def is_right(record: bytes, password: bytes) -> bool:
         data = ctypes.create_string_buffer(CRYPT_DATA)
         return hmac.compare_digest(crypt_r(password, record, data) or b"", record)
     scheme, _, field = record.partition(b"}")
-    digest = decoded(field) or b""
+    digest = password_of(field) or b""
     salt = digest[20:] if scheme == b"{SSHA" else b""
     made = hashlib.sha1(password + salt).digest() + salt
     return scheme in (b"{SHA", b"{SSHA") and hmac.compare_digest(made, digest)

@@ -1,44 +1,47 @@
-"""Clients' lines to the book, and its answers to them."""
+"""The requests of clients: who may ask what, when the book is asked, and what is noted."""
 
 import asyncio
-import base64
-import hashlib
 import json
 import os
 import random
-import re
 import time
 from collections import deque
+from collections.abc import Coroutine
 from dataclasses import dataclass, replace
 from functools import partial
 from typing import TYPE_CHECKING, Any, Optional
 
-from .answers import ANSWERS, NO_ANSWER, RIGHT
 from .book import LACKS, LOCKED, MUST_CHANGE, NO_ACCOUNT, NO_RECORD, UNAVAILABLE
-from .book import Book, Places, Rounds, decoded
-from .clients import LONGEST, Client, Door
+from .book import Book, Places, Rounds, password_of
+from .clients import LONG, LONGEST, Client
 from .disk import FULL, NEEDED, has_room
+from .doors import Door
 from .journal import AuditLog, log_seldom, utc
-from .options import OPERATIONS, Kind, Options
+from .names import Names
+from .options import Options
+from .protocol import ANSWERS, NO_ANSWER, OPERATIONS, RIGHT, Operation
+from .transfers import Transfers
 from .tries import LATER, Tally
 
 if TYPE_CHECKING:
     from .foreign import Foreign
 
-LONG = b"bad 16 long"
-# Its answers, by what a row begins with.
+DENIED = b"denied"
+SHORT = b"short"
+# The answers to `known`, by what a row begins with.
 KNOWN = {b"$": b"yes", LOCKED: b"absent", MUST_CHANGE: b"expired"}
 KNOWN |= {NO_RECORD: b"absent", NO_ACCOUNT: b"noaccount"}
 TURNS = 8  # places for lines that are taken in a pass of the loop
 LOOKS, CHANGES = 16, 128  # places for lines that change nothing, and for quick changes
-SYNC = 0.01  # seconds that a change waits for the disk, more or less
-REFUSED = (b"noaccount", b"bad ", LATER)  # changes nothing; a name may be a password
-PEOPLE = range(1000, 60001)  # uids whose failed tries count: a service logs in many
+SYNC_SECONDS = 0.01  # that a change waits for the disk, more or less
+REFUSALS = (b"noaccount", b"bad ", LATER)  # change nothing; a name may be a password
+PEOPLE = range(1000, 60001)  # uids whose failed tries count: a service logs many in
+MOST_LOGINS_TIMED = 16
 
 
 @dataclass(eq=False)
 class Request:
-    """A line that waits for its place, or for the book."""
+    """What a client asks for, and the places for which it waits."""
 
     client: Client
     tag: bytes
@@ -46,7 +49,12 @@ class Request:
     places: Places
 
     @property
-    def kind(self) -> Kind:
+    def word(self) -> bytes:
+        """The word of its operation."""
+        return self.words[0]
+
+    @property
+    def operation(self) -> Operation:
         return OPERATIONS[self.words[0]]
 
     @property
@@ -66,10 +74,11 @@ class Service:
 
     def __init__(self, options: Options) -> None:
         self.options = options
+        self.names = Names(options)
         # The files that a change writes, and their folders: SQLite writes beside the book.
         files = filter(None, (options.file, options.audit))
         self.folders = {path: os.path.dirname(os.path.realpath(path)) for path in files}
-        self.book = Book()
+        self.book = Book(options.book_words())
         self.tally = Tally(options)
         self.turns = Places(TURNS)
         self.hashes = Places(options.workers())
@@ -78,15 +87,16 @@ class Service:
         self.logins = 0  # that the book is asked for
         self.rounds = Rounds(self.book, lambda: self.logins > 0)
         self.hash_seconds = 1.0  # what a hash takes if nothing else waits
-        self.login_seconds = deque[float](maxlen=16)  # what the last logins took
+        self.login_seconds = deque[float](maxlen=MOST_LOGINS_TIMED)  # what the last logins took
         self.timing: Optional[asyncio.Future[Any]] = None  # the hashes of the start
         self.clients = dict[Client, asyncio.Task[None]]()
         self.accepting = list[asyncio.Task[None]]()  # a task for each door
-        self.tasks = set[asyncio.Task[None]]()  # a task for each line
+        self.tasks = set[asyncio.Task[None]]()  # a task for each request
         self.audit = AuditLog(options.audit)
         if options.audit:
             self.audit.append(b"")  # which fails now if it can't be written
         self.upgrading = asyncio.Lock()
+        self.transfers = Transfers(self)
         self.answer = self.ask  # or an old file's, where the book lacks the name
         self.foreign: Optional["Foreign"] = None
         if options.foreign:
@@ -95,114 +105,100 @@ class Service:
             self.foreign = Foreign(self, options.foreign)
             self.answer = self.foreign.answer
 
-    def submit(self, client: Client, line: bytes) -> tuple[bytes, bytes]:
-        """Begins to process a line, or returns its tag and an answer."""
-        tag, *words = line.split(b" ")
-        is_tag = re.fullmatch(rb"[a-z0-9]{1,20}", tag)
-        if len(line) > LONGEST:
-            return tag if is_tag else b"*", LONG
-        if not is_tag:
-            return b"*", b"bad 11 line"
+    # ---- a request comes
+
+    def submit(self, client: Client, tag: bytes, words: list[bytes]) -> bytes:
+        """Begins to process a request, or returns the answer that the server itself has."""
         while len(words) < 2:  # an operation, and one field at least
             words.append(b"")
-        if what := denied(client.door, words):
+        if what := why_denied(client.door, words):
             self.tell_denied(client, what)
-            return tag, b"denied"
+            return DENIED
+        operation = OPERATIONS[words[0]]
+        if operation.is_transfer:
+            return self.transfers.submit(Request(client, tag, words, self.changes))
         words = self.with_names_of_book(words)
         if answer := self.own_answer(words):
-            return tag, answer
+            return answer
         client.running += 1
-        request = Request(client, tag, words, self.places_for(OPERATIONS[words[0]]))
-        task = asyncio.ensure_future(self.process(request))
+        self.begin(self.process(Request(client, tag, words, self.places_for(operation))))
+        return b""
+
+    def begin(self, answering: Coroutine[Any, Any, None]) -> None:
+        """Begins a task, for whose end the server's own waits."""
+        task = asyncio.ensure_future(answering)
         self.tasks.add(task)
         task.add_done_callback(self.tasks.discard)
-        return tag, b""
 
     def tell_denied(self, client: Client, what: str) -> None:
         self.tally.counts["denied"] += 1
         values = (client.door.name, client.uid, what)
         log_seldom(values, "denied at %s to uid %d: %s", *values)
 
-    def places_for(self, kind: Kind) -> Places:
-        """Where a line waits: for a hash, for the disk, or for neither."""
-        is_quick = kind.changes and self.hash_seconds <= SYNC
-        if kind.hashes and not is_quick:
-            return self.hashes
-        return self.changes if kind.changes else self.looks
-
     def with_names_of_book(self, words: list[bytes]) -> list[bytes]:
-        """The words of a line, with its names as the book has them."""
-        operation, *fields = words
-        count = OPERATIONS[operation].names
-        return [operation, *map(self.in_book, fields[:count]), *fields[count:]]
+        """The words of a request, with its names as the book has them."""
+        word, *fields = words
+        count = OPERATIONS[word].names
+        return [word, *map(self.names.of_book, fields[:count]), *fields[count:]]
 
     def own_answer(self, words: list[bytes]) -> bytes:
-        """The server's answer to a line that the book needn't be asked for, or nothing."""
-        kind = OPERATIONS[words[0]]
+        """The server's answer to a request for which the book needn't be asked, or nothing."""
+        operation = OPERATIONS[words[0]]
         if len(b" ".join(words)) + 1 > LONGEST:  # with names that became longer
             return LONG
-        if kind.is_own:
+        if operation.is_own:
             return self.tally.answer(words[0], words[1].decode(errors="replace")).encode()
-        return self.why_refused(kind, words) if 0 < kind.new < len(words) else b""
+        if 0 < operation.new < len(words):
+            return self.answer_to_new_password(words[operation.new])
+        return b""
 
-    def why_refused(self, kind: Kind, words: list[bytes]) -> bytes:
-        """The answer to a new password that is refused; empty for others."""
-        password = decoded(words[kind.new])
+    def answer_to_new_password(self, field: bytes) -> bytes:
+        """The answer to one that is refused; empty for others, and for what is no password."""
+        password = password_of(field)
         if password is None:  # which the book refuses
             return b""
         length = len(password.decode(errors="surrogateescape"))
-        return b"short" if length < self.options.least_length else b""
+        return SHORT if length < self.options.least_length else b""
 
-    def in_book(self, name: bytes) -> bytes:
-        """The book's form of a name; "@", which is no name, for a refused one."""
-        local, at, domain = name.rpartition(b"@")
-        if not self.options.mail_names or not (at or re.fullmatch(rb"e\.[a-z2-7]{30}", name)):
-            return name
-        is_whole = local and domain and not re.search(rb"[\0-\x20\x7f]", name)
-        if not is_whole or len(name) > 254:
-            return b"@"
-        digest = hashlib.blake2b(self.folded(name), digest_size=20).digest()
-        return b"e." + base64.b32encode(digest)[:30].lower()
+    def places_for(self, operation: Operation) -> Places:
+        """Where a request waits: for a hash, for the disk, or for neither."""
+        is_quick = operation.changes and self.hash_seconds <= SYNC_SECONDS
+        if operation.hashes and not is_quick:
+            return self.hashes
+        return self.changes if operation.changes else self.looks
 
-    def folded(self, name: bytes) -> bytes:
-        """The one spelling of an address that may be typed in several; other names as they are."""
-        local, at, domain = name.rpartition(b"@")
-        if not self.options.mail_names or not at:
-            return name
-        if self.options.fold_local_part:
-            local = local.lower()
-        return local + at + domain.lower()
+    # ---- it is answered
 
     async def process(self, request: Request) -> None:
         """Has a request answered, and notes the answer: that of a change before the client has it,
         and that of a login behind it, since a slow disk holds up no login."""
-        client, kind = request.client, request.kind
+        client, operation = request.client, request.operation
         answer = await self.answer_in_turn(request)
         # Not the record that a `disable` shows.
-        noted = b"disabled" if kind.changes and b":" in answer else answer
-        self.tally.count(kind, request.name, request.person, noted.decode())
+        noted = b"disabled" if operation.changes and b":" in answer else answer
+        self.tally.count(operation, request.name, request.person, noted.decode())
         if answer == LATER:
             # After the time of a hash: names that the book lacks take that too.
             await asyncio.sleep(random.choice(self.login_seconds or [self.hash_seconds]))
-        if kind.changes and not await self.note(request, noted):
+        if operation.changes and not await self.note(request, noted):
             answer = UNAVAILABLE  # nobody says that a change was made that isn't noted
         await client.reply(request.tag, answer)
         client.running -= 1
         client.answered.set()
-        if not kind.changes:
+        if not operation.changes:
             await self.note(request, noted)
-        if answer == b"yes" and self.options.upgrade and request.words[0] == b"verify":
+        if answer == b"yes" and self.options.upgrade and request.word == b"verify":
             await self.upgrade(request)
 
     async def answer_in_turn(self, request: Request) -> bytes:
         """The answer to a request, once it has a place; nothing for one that changes nothing, and
         whose client has gone by then."""
         client, came = request.client, time.monotonic()
-        async with client.queues[request.places]:  # one of its lines waits at a time
+        async with client.queues[request.places]:  # one of its requests waits at a time
             await request.places.take(client.user)
         self.tally.waited += time.monotonic() - came
         try:
-            if not request.kind.changes and client.has_gone():
+            if not request.operation.changes and client.has_gone():
                 return b""
             return await self.answer_within_tries(request)
         finally:
@@ -212,10 +208,19 @@ class Service:
         """The answer to a request; LATER if too many tries at its name, or of its person, failed
         before."""
         answering = partial(self.answer_if_room, request)
-        if not request.kind.tries:
+        if not request.operation.tries:
             return await answering()
         judging = partial(self.tally.names.judge, request.name, answering)
         return await self.tally.users.judge(request.person, judging)
+
+    async def answer_if_room(self, request: Request) -> bytes:
+        """The answer to a request. A change isn't tried if it finds no room, or if so many lines
+        wait for the audit log that it can't be noted."""
+        if request.operation.changes and self.audit.is_full():
+            return UNAVAILABLE
+        if request.operation.changes and not self.has_room():
+            return FULL
+        return await self.answer(request)
 
     def has_room(self) -> bool:
         """Whether the disks have room for a change: one that finds none ends the book, or is made
@@ -226,37 +231,35 @@ class Service:
             log_seldom(("disk", path), text, path, NEEDED // 1024)
         return not full
 
-    async def answer_if_room(self, request: Request) -> bytes:
-        """The answer to a request. A change isn't tried if it finds no room, or if so many lines
-        wait for the audit log that it can't be noted."""
-        if request.kind.changes and self.audit.is_full():
-            return UNAVAILABLE
-        if request.kind.changes and not self.has_room():
-            return FULL
-        return await self.answer(request)
+    # ---- the book is asked
 
     async def ask(self, request: Request) -> bytes:
-        operation, *fields = request.words
-        if operation in (b"known", b"show") and len(fields) == 1:
+        """The book's answer to a request."""
+        word, *fields = request.words
+        if word in (b"known", b"show") and len(fields) == 1:
             row = await self.book.row(*fields)
-            return row if operation == b"show" else known_by(row)
-        if request.kind.tries and not request.kind.changes:
-            is_upgrading = operation == b"login" and self.has_room()
+            return row if word == b"show" else answer_to_known(row)
+        if request.operation.tries and not request.operation.changes:
+            is_upgrading = word == b"login" and self.has_room()
             return await self.log_in(b"login" if is_upgrading else b"verify", *fields)
         if request.places is self.changes:
-            return await self.rounds.ask(request.words, is_alone=not request.kind.hashes)
+            is_alone = not request.operation.hashes
+            return await self.rounds.ask(request.words, is_alone=is_alone)
         return await self.book.ask(*request.words)
 
     async def log_in(self, *words: bytes) -> bytes:
-        """The answer to a login; the quickest tells the time of a hash of new costs."""
+        """The answer to a login. The quickest one that the book lacks tells the time of a hash of
+        the costs of new records."""
         began = time.monotonic()
         self.logins += 1
         answer = await self.book.ask(*words)
         self.logins -= 1
         seconds = time.monotonic() - began
+        if began < self.book.opened:  # it waited for an import
+            return answer
         if answer in (b"yes", b"no", *LACKS):
             self.login_seconds.append(seconds)
-        if answer in LACKS:  # behind a hash of the costs of new records
+        if answer in LACKS:
             self.hash_seconds = min(seconds, 1.01 * self.hash_seconds)
         return answer
 
@@ -266,22 +269,6 @@ class Service:
         await self.note(replace(request, words=list(words)), answer)
         return answer
 
-    async def note(self, request: Request, answer: bytes) -> bool:
-        """Adds an answered change or a right password to the audit log; false if it can't."""
-        is_refused, kind = answer.startswith(REFUSED), request.kind
-        meaning = ANSWERS.get(answer.decode(), NO_ANSWER)
-        tried = meaning.tried if kind.tries else ""
-        is_noted = tried == RIGHT or tried and self.options.audit_tries
-        if not self.audit.path or not (is_noted or kind.changes and not is_refused):
-            return True
-        client, (operation, *fields) = request.client, request.words
-        entry: dict[str, Any] = {"time": utc(), "door": client.door.name}
-        entry.update(uid=client.uid, pid=client.pid, operation=operation.decode())
-        for key, name in zip(("name", "new_name"), fields[: kind.names]):
-            entry[key] = None if is_refused else name.decode(errors="replace")
-        entry["answer"] = answer.decode()
-        return await self.audit.add(json.dumps(entry).encode())
-
     async def upgrade(self, request: Request) -> None:
         """Upgrades a record of other costs, after its password was right; one at a time."""
         if self.upgrading.locked() or not self.has_room():
@@ -289,24 +276,55 @@ class Service:
         async with self.upgrading:
             name, password = request.words[1:3]
             record = await self.book.ask(b"show", name)
-            if record[:1] == b"$" and not record.startswith(f"{self.options.upgrade}$".encode()):
+            costs = f"{self.options.upgrade}$".encode()
+            if record.startswith(b"$") and not record.startswith(costs):
                 answer = await self.ask_besides(request, b"upgrade", name, password)
                 self.tally.counts["upgraded"] += answer == b"upgraded"
 
+    # ---- the audit log
 
-def known_by(row: bytes) -> bytes:
-    """The answer to `known`, by an account's row."""
-    return next((answer for begin, answer in KNOWN.items() if row.startswith(begin)), row)
+    async def note(self, request: Request, answer: bytes) -> bool:
+        """Adds an answered change or a right password to the audit log; false if it can't."""
+        if not self.audit.path or not self.is_noted(request, answer):
+            return True
+        client, (word, *fields) = request.client, request.words
+        entry: dict[str, Any] = {"time": utc(), "door": client.door.name}
+        entry.update(uid=client.uid, pid=client.pid, operation=word.decode())
+        for key, name in zip(("name", "new_name"), fields[: request.operation.names]):
+            is_name_hidden = answer.startswith(REFUSALS)
+            entry[key] = None if is_name_hidden else name.decode(errors="replace")
+        entry["answer"] = answer.decode()
+        return await self.audit.add(json.dumps(entry).encode())
+
+    def is_noted(self, request: Request, answer: bytes) -> bool:
+        """Whether the audit log has such an answer."""
+        operation = request.operation
+        if operation.is_transfer:
+            return True
+        if operation.changes and not answer.startswith(REFUSALS):
+            return True
+        if not operation.tries:
+            return False
+        tried = ANSWERS.get(answer.decode(), NO_ANSWER).tried
+        return tried == RIGHT or bool(tried) and self.options.audit_tries
 
 
-def denied(door: Door, words: list[bytes]) -> str:
-    """The part of a line that its socket doesn't allow, as the log names it; empty if none."""
-    operation = words[0]
-    if operation not in OPERATIONS:
+def answer_to_known(row: bytes) -> bytes:
+    """The answer to `known`, by an account's row; the row itself if it is a refusal."""
+    for begin, answer in KNOWN.items():
+        if row.startswith(begin):
+            return answer
+    return row
+
+
+def why_denied(door: Door, words: list[bytes]) -> str:
+    """The part of a request that its socket doesn't allow, as the log names it; empty if none."""
+    word = words[0]
+    if word not in OPERATIONS:
         return "an unknown operation"
-    if operation not in door.operations:
-        return operation.decode()
-    is_setting_given = 0 < OPERATIONS[operation].setting < len(words)
+    if word not in door.operations:
+        return word.decode()
+    is_setting_given = 0 < OPERATIONS[word].setting < len(words)
     if is_setting_given and b"load" not in door.operations:  # costs are an administrator's
-        return f"{operation.decode()} with a setting"
+        return f"{word.decode()} with a setting"
     return ""

@@ -9,9 +9,9 @@ from collections import Counter, OrderedDict
 from collections.abc import Awaitable, Callable, Iterator
 from dataclasses import dataclass
 
-from .answers import ANSWERS, NO_ANSWER, RIGHT
 from .journal import Problem, log, log_seldom, utc
-from .options import Kind, Options, folder_of
+from .options import Options, folder_of
+from .protocol import ANSWERS, NO_ANSWER, RIGHT, Operation
 
 LATER = b"later"  # for this try it is too early
 EXPIRED = "expired"  # what `expire` is answered, and a right password that must be changed
@@ -143,7 +143,7 @@ class Tally:
         self.counts, self.waited = Counter[str](), 0.0
         self.logins = OrderedDict[str, float]()
 
-    def count(self, kind: Kind, name: str, user: str, answer: str) -> None:
+    def count(self, kind: Operation, name: str, user: str, answer: str) -> None:
         """Counts an answer, and the failed try that it may be, at its name and its user."""
         self.counts["later"] += answer == "later"
         meaning = ANSWERS.get(answer, NO_ANSWER)

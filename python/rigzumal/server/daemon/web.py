@@ -8,36 +8,42 @@ from typing import Any, Optional
 
 import h11
 
-from .answers import ANSWERS, NO_ANSWER
-from .clients import READ, Client
+from .clients import READ_SIZE, Client
+from .protocol import ANSWERS, NO_ANSWER
 
 CHALLENGE = ("WWW-Authenticate", 'Basic realm="book", charset="UTF-8"')
 CLOSE = ("Connection", "close")
 HEADERS = {400: [CLOSE], 401: [CHALLENGE], 405: [("Allow", "GET, HEAD")], 505: [CLOSE]}
 VERSIONS = (b"1.0", b"1.1")
+METHODS = (b"GET", b"HEAD")
+LONGEST_HEAD = 8192  # bytes
 BASIC = re.compile(rb"basic +([A-Za-z0-9+/]+={0,2})", re.I)
+NAME = re.compile(rb"[!-~\x80-\xff]+")
+TAG = b"1"  # of each request: one is answered at a time
 
 
-def credentials(headers: Sequence[tuple[bytes, bytes]]) -> Optional[bytes]:
-    """Name and password of a request's one Authorization, as fields of a line: RFC 7617."""
-    given = [value for name, value in headers if name == b"authorization"]
-    found = BASIC.fullmatch(given[0]) if len(given) == 1 else None
+def credentials(headers: Sequence[tuple[bytes, bytes]]) -> Optional[tuple[bytes, bytes]]:
+    """The name in a request's one Authorization, and the password as a line has it: RFC 7617."""
+    values = [value for name, value in headers if name == b"authorization"]
+    found = BASIC.fullmatch(values[0]) if len(values) == 1 else None
+    if found is None:
+        return None
     try:
-        text = base64.b64decode(found[1] if found else b"", validate=True)
+        text = base64.b64decode(found[1], validate=True)
     except ValueError:
         return None
     name, colon, password = text.partition(b":")
-    if not colon or not re.fullmatch(rb"[!-~\x80-\xff]+", name):
+    if not colon or not NAME.fullmatch(name):
         return None
-    return name + b" " + (base64.b64encode(password).rstrip(b"=") or b"-")
+    return name, base64.b64encode(password).rstrip(b"=") or b"-"
 
 
-def why_refused(request: Any) -> int:
+def status_of_framing(request: Any) -> int:
     """The status of a request that no server can be sure of; 0 for others. RFC 9112, 6.1."""
-    names = {name for name, _ in request.headers}
-    is_framed_twice = b"content-length" in names or request.http_version == b"1.0"
     if request.http_version not in VERSIONS:
         return 505
+    names = {name for name, _ in request.headers}
+    is_framed_twice = b"content-length" in names or request.http_version == b"1.0"
     return 400 if b"transfer-encoding" in names and is_framed_twice else 0
 
 
@@ -48,27 +54,46 @@ class WebClient(Client):
 
     def __init__(self, *words: Any) -> None:
         super().__init__(*words)
-        self.http: Any = h11.Connection(h11.SERVER, max_incomplete_event_size=8192)  # bytes
+        self.http: Any = h11.Connection(h11.SERVER, max_incomplete_event_size=LONGEST_HEAD)
+        self.name = b""  # in the request that is being answered
 
     async def read(self) -> None:
         try:
-            while not self.is_ending and (more := await self.loop.sock_recv(self.socket, READ)):
-                self.http.receive_data(more)
-                while not self.is_ending and isinstance(it := self.http.next_event(), h11.Request):
-                    is_whole = isinstance(self.http.next_event(), h11.EndOfMessage)
-                    await self.take(it, is_whole)
-                    await self.has_fewer(1)
+            while not self.is_ending:
+                data = await self.loop.sock_recv(self.socket, READ_SIZE)
+                if not data:
+                    return
+                self.http.receive_data(data)
+                await self.answer_requests()
         except h11.RemoteProtocolError as fault:
             await self.respond(fault.error_status_hint)
 
-    async def take(self, request: Any, is_whole: bool) -> None:
-        if status := why_refused(request):
-            return await self.respond(status)
-        fields, is_read = credentials(request.headers), request.method in (b"GET", b"HEAD")
-        if fields and is_whole and is_read:
-            self.name = fields.split(b" ")[0]
-            return await self.submit(b"1 verify " + fields)
-        await self.respond(413 if not is_whole else 401 if is_read else 405)
+    async def answer_requests(self) -> None:
+        """Answers those that have come."""
+        while not self.is_ending:
+            request = self.http.next_event()
+            if not isinstance(request, h11.Request):
+                return
+            has_body = not isinstance(self.http.next_event(), h11.EndOfMessage)
+            await self.answer_request(request, has_body)
+            await self.has_fewer(1)
+
+    async def answer_request(self, request: Any, has_body: bool) -> None:
+        if status := status_of_framing(request):
+            await self.respond(status)
+            return
+        found = credentials(request.headers)
+        if has_body:
+            status = 413
+        elif request.method not in METHODS:
+            status = 405
+        elif found is None:
+            status = 401
+        else:
+            self.name, password = found
+            await self.submit(TAG, [b"verify", self.name, password])
+            return
+        await self.respond(status)
         await self.pause()
 
     async def reply(self, tag: bytes, answer: bytes) -> None:
@@ -79,15 +104,19 @@ class WebClient(Client):
         """Sends a status, and goes on with the next request if there may be one."""
         headers: list[tuple[str, Any]] = [("Content-Length", "0"), *HEADERS.get(status, ())]
         if status == 200:
-            headers.append(("Remote-User", self.service.folded(self.name)))
+            headers.append(("Remote-User", self.service.names.spelling(self.name)))
         if status == 429:
-            name = self.service.in_book(self.name).decode(errors="replace")
-            tally, user = self.service.tally, f"uid={self.owner}"
-            seconds = max(tally.names.rest(name), tally.users.rest(user))
-            headers.append(("Retry-After", str(max(1, math.ceil(seconds)))))
+            headers.append(("Retry-After", str(self.seconds_to_wait())))
         head = h11.Response(status_code=status, headers=headers)
-        await self.write(self.http.send(head) + self.http.send(h11.EndOfMessage()))
+        await self.write([self.http.send(head) + self.http.send(h11.EndOfMessage())])
         if self.http.our_state is self.http.their_state is h11.DONE:
             self.http.start_next_cycle()
         else:
             self.end()
+
+    def seconds_to_wait(self) -> int:
+        """How long the next try at this name, or of this person, has to wait; at least a second."""
+        tally, name = self.service.tally, self.service.names.of_book(self.name)
+        of_name = tally.names.rest(name.decode(errors="replace"))
+        of_person = tally.users.rest(f"uid={self.owner}")
+        return max(1, math.ceil(max(of_name, of_person)))

@@ -1,0 +1,190 @@
+"""The commands of an administrator, which the server that has the book does."""
+
+from __future__ import annotations
+
+import base64
+import os
+import re
+import subprocess
+import sys
+import tempfile
+from typing import BinaryIO, cast
+
+from ..protocol import ANSWERS, IMPORT_OPTIONS, LONGEST_TEXT, OPERATIONS, Command
+
+from .file import PROGRAM
+from .server import Server
+from .terminal import end, end_in_order, read_passwords, write_answer
+
+LONGEST_PASSWORD = 256  # bytes
+LONGEST_NAME = 254  # bytes: it may be an address
+# The commands, by their words: those of operations, and two that ask for more than one.
+COMMANDS = {
+    "add": Command("NAME", "make an account, or its first record: asks for a password, twice"),
+    "check": Command("NAME", "ask for the password: is it right?"),
+}
+COMMANDS |= {
+    word.decode(): operation.command
+    for word, operation in OPERATIONS.items()
+    if operation.command is not None
+}
+OPTIONS = {"show": ("--record",), "import": IMPORT_OPTIONS}
+# The marks of an account in an answer, and how they are told.
+MARKS = {"~": "expired", "!": "locked"}
+# Answers to `check` that let nobody in, though the same words are answers to what was done.
+NO_LOGIN = ("expired", "locked")
+LISTS = ("list", "marks", "stats", "waits")  # commands whose answers are names, and no refusals
+
+
+class Commands:
+    """What a command does, by its word: each prints its answer, and returns the status."""
+
+    def __init__(self, server: Server) -> None:
+        self.server = server
+
+    def do(self, command: str, words: list[str], options: list[str]) -> int:
+        if command == "import":
+            return self.import_text(options)
+        if command == "export":
+            return self.server.run("export", sys.stdout.buffer)
+        if command == "backup":
+            return self.backup(words[0])
+        said = self.answer(command, words, "--record" in options)
+        write_answer(said)
+        if command in LISTS:
+            return 4 if said == "noaccount" and command == "marks" else 0
+        if command == "check" and said in NO_LOGIN:
+            return 4
+        return ANSWERS[said].ask if said in ANSWERS else 0
+
+    def answer(self, command: str, names: list[str], is_whole: bool) -> str:
+        """What a command prints."""
+        if command == "add":
+            return self.add(names[0])
+        if command in ("check", "reset"):
+            return self.with_password(command, names[0])
+        if command == "marks":
+            return self.marks(names)
+        if command in ("stats", "waits"):
+            return self.items(command)
+        if command == "show":
+            return self.show(names[0], is_whole)
+        if command == "list":
+            return "\n".join(self.server.pages("list"))
+        if command == "load":
+            return self.load(names[0])
+        return self.server.ask(command, *names)
+
+    def add(self, name: str) -> str:
+        """Makes an account with a record, or the first record of one."""
+        known = self.server.ask("known", name)
+        if known in ("yes", "expired"):
+            return "exists"
+        field = field_of(read_passwords("add")[0])
+        if known == "noaccount" and (said := self.server.ask("account", name)) != "ok":
+            return said
+        try:
+            return self.server.ask("enrol", name, field)
+        except SystemExit:  # a refused password leaves no account behind
+            if known == "noaccount":
+                self.server.send("delete", name)
+            raise
+
+    def with_password(self, command: str, name: str) -> str:
+        """Checks or resets a password, of an account that exists."""
+        known = self.server.ask("known", name)
+        if known == "absent" and command == "check":
+            return "locked" if self.is_locked(name) else known
+        if known == "noaccount":
+            return known
+        field = field_of(read_passwords(command)[0])
+        return self.server.ask("verify" if command == "check" else command, name, field)
+
+    def is_locked(self, name: str) -> bool:
+        """Whether an account is locked, as far as the socket tells."""
+        return "!" in marks_of(self.server.send("show", name))
+
+    def items(self, command: str) -> str:
+        """A line for each item of an answer, and how many it leaves out on standard error."""
+        items = self.server.ask(command).split()[1:]
+        if items and items[-1].startswith("more="):
+            more = items.pop().removeprefix("more=")
+            print(f"credkeep-ask: {more} more aren't shown", file=sys.stderr)
+        return "\n".join(items)
+
+    def marks(self, names: list[str]) -> str:
+        """The marks of all names, or of one, a line each."""
+        if not names:
+            found = self.server.pages("marks")
+        else:
+            said = self.server.ask("show", names[0])
+            if said == "noaccount":
+                return said
+            found = {names[0]: marks_of(said)}
+        told = [(name, mark) for name, marks in found.items() for mark in MARKS if mark in marks]
+        return "\n".join(f"{name}:{MARKS[mark]}" for name, mark in told)
+
+    def show(self, name: str, is_whole: bool) -> str:
+        """A record's costs, or all of it, behind the marks."""
+        said = self.server.ask("show", name)
+        marks = marks_of(said)
+        if said in ("none", marks):
+            return "absent"
+        is_record = said[len(marks) :].startswith("$")
+        return "$".join(said.split("$")[:-2]) if is_record and not is_whole else said
+
+    def load(self, name: str) -> str:
+        """Puts a record, or a line of NAME:RECORD, from standard input."""
+        line = sys.stdin.buffer.readline().strip()
+        record = line.decode("ascii", "replace").removeprefix(f"{name}:")
+        if not re.fullmatch(r"\$[!-~]{1,600}", record):
+            end(6, "standard input has no record")
+        return self.server.ask("load", name, record)
+
+    # ---- the whole book
+
+    def import_text(self, options: list[str]) -> int:
+        """Has the accounts of the lines of standard input added."""
+        text = sys.stdin.buffer.read(LONGEST_TEXT + 1)
+        if len(text) > LONGEST_TEXT:
+            end(6, f"standard input has over {LONGEST_TEXT >> 20} MiB: import it in parts")
+        return self.server.run_with(text, "import", str(len(text)), *options)
+
+    def backup(self, file: str) -> int:
+        """Writes a copy of the book beside its place, where credkeep puts it as each backup."""
+        end_in_order()
+        folder = os.path.dirname(os.path.abspath(file))
+        try:
+            copy = tempfile.NamedTemporaryFile(prefix=".credkeep-ask-", dir=folder)
+        except OSError as fault:
+            end(5, f"{folder}: {fault.strerror}")
+        with copy:
+            if status := self.server.run("backup", cast(BinaryIO, copy)):
+                return status
+            try:
+                return subprocess.run([PROGRAM, copy.name, "backup", file]).returncode
+            except OSError as fault:
+                end(1, f"{PROGRAM}: {fault.strerror}")
+
+
+def marks_of(said: str) -> str:
+    """The marks before a record, in the answer to `show`."""
+    return said[: len(said) - len(said.lstrip("!~"))]
+
+
+def is_name(word: str) -> bool:
+    """Whether a name is one field of a line, and no longer than an address."""
+    try:
+        size = len(word.encode())
+    except UnicodeEncodeError:  # a byte of the command line that isn't UTF-8
+        return False
+    return 0 < size <= LONGEST_NAME and not re.search(r"[\0-\x20\x7f]", word)
+
+
+def field_of(password: bytes) -> str:
+    """A password as a line has it."""
+    if not password:
+        end(6, "the password is empty")
+    if len(password) > LONGEST_PASSWORD:
+        end(6, f"the password has over {LONGEST_PASSWORD} bytes")
+    return base64.b64encode(password).decode().rstrip("=")

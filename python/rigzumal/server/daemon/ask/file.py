@@ -1,0 +1,94 @@
+"""A book's file: credkeep is run with the same words, and gets the passwords by a pipe."""
+
+from __future__ import annotations
+
+import os
+import subprocess
+import sys
+from dataclasses import dataclass
+from typing import NoReturn, Optional
+
+from .terminal import NEW, PRESENT, end, read_passwords
+
+PROGRAM = os.environ.get("CREDKEEP", "credkeep")
+VALUED = ("--wait", "--setting")  # options that have a value behind them
+
+
+@dataclass(frozen=True)
+class Words:
+    """What the words of a command line mean for credkeep, as far as it matters here."""
+
+    file: str = ""
+    command: str = ""
+    account: str = ""
+    wait: str = "0"
+
+    def has_passwords(self) -> bool:
+        return self.command in PRESENT | NEW and bool(self.account)
+
+
+def meaning_of(words: list[str]) -> Words:
+    plain, wait, rest = list[str](), "0", iter(words)
+    for word in rest:
+        name, equals, value = word.partition("=")
+        if name in VALUED:
+            value = value if equals else next(rest, "")
+            wait = value if name == "--wait" else wait
+        elif not word.startswith("-"):
+            plain.append(word)
+    file, command, account = [*plain, "", "", ""][:3]
+    return Words(file, command, account, wait)
+
+
+def become_credkeep(words: list[str]) -> NoReturn:
+    """Runs credkeep in the place of this program."""
+    try:
+        os.execvp(PROGRAM, [PROGRAM, *words])
+    except OSError as fault:
+        end(1, f"{PROGRAM}: {fault.strerror}")
+
+
+def tell_left_out(file: str) -> None:
+    """Says that a backup leaves out the locks that an earlier server kept beside the book."""
+    if os.path.exists(f"{file}-locks"):
+        text = f"{file}-locks has locks of an earlier credkeep-server, which the copy lacks"
+        print(f"credkeep-ask: {text}: start credkeep-server once before", file=sys.stderr)
+
+
+def ask_credkeep(words: list[str]) -> int:
+    """Has credkeep do what the words say; returns its status.
+
+    Before passwords are asked for it looks for the account: where none would help, its answer is
+    told at once.
+    """
+    meant = meaning_of(words)
+    if meant.command == "backup":
+        tell_left_out(meant.file)
+    if not meant.has_passwords() or {"-h", "--help"}.intersection(words):
+        become_credkeep(words)
+    if (status := status_without_asking(meant)) is not None:
+        return status
+    given = b"".join(password + b"\n" for password in read_passwords(meant.command))
+    status = subprocess.run([PROGRAM, *words], input=given).returncode
+    return status if status >= 0 else 128 - status
+
+
+def status_without_asking(meant: Words) -> Optional[int]:
+    """The status if no password would help, once credkeep's answer is printed; None if one may."""
+    show = [PROGRAM, "--wait", meant.wait, meant.file, "show", meant.account]
+    try:
+        shown = subprocess.run(show, stdin=subprocess.DEVNULL, stdout=subprocess.PIPE)
+    except OSError as fault:
+        end(1, f"{PROGRAM}: {fault.strerror}")
+    status, said = shown.returncode, shown.stdout.strip()
+    if status == 0 and meant.command == "add":
+        print("exists")
+        return 4
+    if status == 0:
+        return None
+    has_no_record = status == 4 and (meant.command == "reset" and said == b"absent")
+    if has_no_record or status == 4 and meant.command == "add":
+        return None
+    if status == 4:
+        print(said.decode())
+    return status

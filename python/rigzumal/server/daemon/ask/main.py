@@ -1,0 +1,70 @@
+"""The command line.
+
+credkeep-ask FILE COMMAND ..                runs credkeep
+credkeep-ask --server [SOCKET] COMMAND ..   asks the server that has the book
+"""
+
+from __future__ import annotations
+
+import signal
+import sys
+
+from .commands import COMMANDS, LONGEST_NAME, OPTIONS, Commands, is_name
+from .file import ask_credkeep
+from .server import Server
+from .terminal import end
+
+HEAD = """usage: credkeep-ask FILE COMMAND .., as credkeep(1) has them
+       credkeep-ask --server [SOCKET] COMMAND [NAME]
+
+SOCKET is that of an administrator, the path or the name of the book (users). COMMAND is one of
+"""
+WIDTH = 22  # of a command with what stands behind it
+HELP = frozenset({"-h", "--help"})
+
+
+def usage() -> str:
+    """The text of help, with a line for each command of a server."""
+    commands = [(f"{word} {command.words}", command.text) for word, command in COMMANDS.items()]
+    return HEAD + "\n".join(f"  {words:{WIDTH}}{text}" for words, text in commands)
+
+
+def how_many(counts: range) -> str:
+    """How many words a command takes, in words."""
+    if len(counts) > 1:
+        return "a name or none"
+    if counts.start == 0:
+        return "no names"
+    return "1 name" if counts.start == 1 else f"{counts.start} names"
+
+
+def path_of(book: str) -> str:
+    """An administrator's socket: its path, or that of a book by its name."""
+    return book if "/" in book else f"/run/rigzumal/{book}/admin.sock"
+
+
+def ask_server(words: list[str]) -> int:
+    """Asks the server, prints its answer, and returns the status."""
+    is_book_named = bool(words) and words[0] not in COMMANDS
+    book, words = (words[0], words[1:]) if is_book_named else ("users", words)
+    command, *rest = words or [""]
+    if command not in COMMANDS:
+        end(1, f"no such command\n{usage()}")
+    options = [word for word in rest if word in OPTIONS.get(command, ())]
+    behind = [word for word in rest if word not in options]
+    if len(behind) not in COMMANDS[command].counts:
+        end(1, f"{command} takes {how_many(COMMANDS[command].counts)}")
+    if command != "backup" and not all(map(is_name, behind)):
+        end(1, f"a name has no spaces, isn't empty, and has up to {LONGEST_NAME} bytes of UTF-8")
+    return Commands(Server(path_of(book))).do(command, behind, options)
+
+
+def main() -> int:
+    signal.signal(signal.SIGINT, signal.SIG_DFL)
+    words = sys.argv[1:]
+    is_server = words[:1] == ["--server"]
+    asks_for_help = HELP.intersection(words if is_server else words[:1])
+    if not words or asks_for_help:
+        print(usage())
+        return 0
+    return ask_server(words[1:]) if is_server else ask_credkeep(words)

@@ -1,0 +1,129 @@
+"""The server at an administrator's socket: lines, and its answers."""
+
+from __future__ import annotations
+
+import socket
+import sys
+from contextlib import suppress
+from typing import BinaryIO
+
+from ..protocol import ANSWERS
+
+from .terminal import end, end_unwritten
+
+SECONDS = 60.0  # until a line is answered
+AT_ONCE = 1000  # names of a page
+PIECE = 65536  # bytes of a book that are written at a time
+TAG = "1"
+# Refusals that an administrator's command tells by the word alone.
+PLAIN = ("bad 1 exists", "bad 5 noaccount")
+
+
+class Server:
+    """A connection to the server. Each of its calls ends the program if it can't go on."""
+
+    def __init__(self, path: str) -> None:
+        self.path = path
+        self.socket = socket.socket(socket.AF_UNIX)
+        self.socket.settimeout(SECONDS)
+        try:
+            self.socket.connect(path)
+        except OSError as fault:
+            is_away = isinstance(fault, (FileNotFoundError, ConnectionRefusedError))
+            said = "; no server runs there: credkeep-server(8)" if is_away else ""
+            end(5, f"{path}: {fault.strerror or fault}{said}")
+        self.answers = self.socket.makefile("rb")
+
+    def send(self, *words: str) -> str:
+        """The answer to a line, whatever it is."""
+        with suppress(OSError):  # a server that has gone answers nothing
+            self.socket.sendall(f"{TAG} {' '.join(words)}\n".encode())
+        return self.answer()
+
+    def answer(self) -> str:
+        """The next answer."""
+        line = b""
+        with suppress(OSError):
+            line = self.answers.readline()
+        tag, _, said = line.decode("ascii", "replace").rstrip("\n").partition(" ")
+        if tag != TAG or not line.endswith(b"\n") or said == "unavailable":
+            end(5, f"{self.path}: no answer; the change may be stored or not: ask by `show`")
+        return said
+
+    def ask(self, *words: str) -> str:
+        """The answer to a line that isn't refused."""
+        said = self.send(*words)
+        if said in PLAIN:
+            return said.split(" ")[2]
+        if said == "denied":
+            end(1, f"{self.path} doesn't allow {words[0]}")
+        if said.startswith("bad "):
+            status = ANSWERS[said].ask if said in ANSWERS else 1
+            _, number, word = said.split(" ", 2)
+            end(status, f"{words[0]} is refused: {word} ({number}; see docs/ERRORS.md)")
+        if said in ANSWERS and ANSWERS[said].text:
+            end(ANSWERS[said].ask, as_said_here(ANSWERS[said].text))
+        return said
+
+    def pages(self, operation: str) -> dict[str, str]:
+        """All names of a list, with their marks: each page begins with the last name of another."""
+        found, first = dict[str, str](), "-"
+        while True:
+            page = self.ask(operation, first, str(AT_ONCE)).split()[1:]
+            for item in page:
+                first, _, marks = item.partition(":")
+                found[first] = marks
+            if len(page) < AT_ONCE:
+                return found
+
+    # ---- whole books, which credkeep reads and writes beside the server
+
+    def run(self, operation: str, output: BinaryIO) -> int:
+        """Has credkeep do an operation; the output has what it writes. Returns its status."""
+        self.socket.settimeout(None)  # a large book takes long
+        return self.copy_result(self.ask(operation), output)
+
+    def run_with(self, text: bytes, *words: str) -> int:
+        """The same of an operation that reads a text, which standard output has the answer of."""
+        self.socket.settimeout(None)
+        said = self.ask(*words)
+        if said != f"send {len(text)}":
+            end(5, f"{self.path}: the server's answer is none: {said:.40}")
+        with suppress(OSError):  # a server that has gone answers nothing
+            self.socket.sendall(text)
+        return self.copy_result(self.answer(), sys.stdout.buffer)
+
+    def copy_result(self, said: str, output: BinaryIO) -> int:
+        """Copies what credkeep wrote on both streams, and returns its status."""
+        word, *numbers = said.split(" ")
+        if word != "ended" or len(numbers) != 3 or not all(map(str.isdecimal, numbers)):
+            end(5, f"{self.path}: the server's answer is none: {said:.40}")
+        status, size, size_of_faults = map(int, numbers)
+        self.copy(size, output)
+        self.copy(size_of_faults, sys.stderr.buffer)
+        return status
+
+    def copy(self, size: int, output: BinaryIO) -> None:
+        """Copies so many bytes that the server sends."""
+        try:
+            while size:
+                piece = self.piece(min(size, PIECE))
+                size -= len(piece)
+                output.write(piece)
+            output.flush()
+        except OSError:
+            end_unwritten()
+
+    def piece(self, most: int) -> bytes:
+        """Some bytes that the server sends."""
+        piece = b""
+        with suppress(OSError):
+            piece = self.answers.read(most)
+        if not piece:
+            end(5, f"{self.path}: the server has ended, and this isn't all of it")
+        return piece
+
+
+def as_said_here(text: str) -> str:
+    """A sentence behind the program's name."""
+    return text[0].lower() + text[1:].rstrip(".")

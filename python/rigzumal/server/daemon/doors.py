@@ -1,0 +1,201 @@
+"""The sockets: who may ask what there, who is let in, and whose share of the book they use."""
+
+from __future__ import annotations
+
+import asyncio
+import fcntl
+import functools
+import grp
+import os
+import pathlib
+import pwd
+import re
+import socket
+import struct
+from collections import Counter
+from contextlib import suppress
+from dataclasses import dataclass, field
+from typing import TYPE_CHECKING, Hashable, Optional
+
+from .clients import Client
+from .journal import Problem, log_seldom
+
+if TYPE_CHECKING:
+    from .service import Service
+
+MOST_CLIENTS = 1024  # of a door
+MOST_WAITING = 64  # clients that wait to be let in, while none of them stays
+LAST_PLACES = 64  # of a door, for users that have none
+ACCEPTED_AT_ONCE = 16  # clients in a pass of the loop: then others have their turn
+FIRST_OF_SYSTEMD = 3  # the descriptor of its first socket: sd_listen_fds(3)
+PEER = struct.Struct("3i")  # of SO_PEERCRED: the peer's pid, uid and gid
+SUBORDINATE = "/etc/subuid"  # subuid(5): the uids that a person has in namespaces
+RANGE = re.compile(r"([^:\n]+):([0-9]{1,10}):([0-9]{1,10})\n?")  # a line of that file
+LEAST_SUBORDINATE = 60001  # the least uid that is looked up there: those of people are below
+# The first two names of a control group: /system.slice/ssh.service, /user.slice/user-1000.slice.
+GROUP = re.compile(rb"^\d+:(?:name=systemd)?:((?:/[^/\n]+){1,2})", re.M)
+
+
+@dataclass(frozen=True)
+class Peer:
+    """The process at the other end of a connection."""
+
+    pid: int
+    uid: int
+    owner: int  # the person who has that uid
+    user: tuple[str, str]  # whose turn it is: a door, and a share
+
+
+@dataclass(eq=False)
+class Door:
+    """A socket, what its clients may ask for, and who they are."""
+
+    name: str
+    path: str
+    mode: int
+    group: str  # or "-" for none
+    operations: frozenset[bytes]
+    client: type[Client] = Client  # what its clients speak
+    gid: int = -1
+    listener: Optional[socket.socket] = None  # that systemd has opened
+    counts: Counter[Hashable] = field(default_factory=Counter)  # clients of each user
+
+    def prepare(self) -> None:
+        """Finds systemd's socket; or its group, and locks the path of its own."""
+        if os.environ.get("LISTEN_PID") == str(os.getpid()):
+            self.listener = self.socket_of_systemd()
+            return
+        try:
+            self.gid = -1 if self.group == "-" else grp.getgrnam(self.group).gr_gid
+        except KeyError:
+            raise Problem(f"there is no group {self.group}, for {self.path}") from None
+        self.lock()
+
+    def socket_of_systemd(self) -> socket.socket:
+        """The socket that systemd hands over under this name."""
+        names = os.environ.get("LISTEN_FDNAMES", "").split(":")
+        if self.name in names:
+            found = socket.socket(fileno=FIRST_OF_SYSTEMD + names.index(self.name))
+            if (found.type, found.family) == (socket.SOCK_STREAM, socket.AF_UNIX):
+                return found
+        raise Problem(f"systemd handed over no stream socket with the name {self.name}")
+
+    def lock(self) -> None:
+        """Makes its folder, and locks the path to the process's end."""
+        folder = os.path.dirname(self.path)
+        if not os.path.isdir(folder):
+            os.mkdir(folder)
+            os.chmod(folder, 0o755)
+        lock = os.open(f"{self.path}.lock", os.O_RDWR | os.O_CREAT, 0o600)
+        try:
+            fcntl.flock(lock, fcntl.LOCK_EX | fcntl.LOCK_NB)
+        except BlockingIOError:
+            raise Problem(f"another server has {self.path}") from None
+
+    def own_socket(self) -> socket.socket:
+        """A socket at its path, whose mode is set before it listens."""
+        listener = socket.socket(socket.AF_UNIX)
+        if pathlib.Path(self.path).is_socket():
+            if listener.connect_ex(self.path) == 0:
+                raise Problem(f"another server listens at {self.path}")
+            os.unlink(self.path)
+        listener.bind(self.path)
+        os.chown(self.path, -1, self.gid)
+        os.chmod(self.path, self.mode)
+        return listener
+
+    def listen(self) -> socket.socket:
+        """Its socket, at which clients may connect from now on."""
+        try:
+            listener = self.listener or self.own_socket()
+            listener.setblocking(False)
+            listener.listen(MOST_CLIENTS)
+        except OSError as fault:
+            raise Problem(f"{self.path}: {fault.strerror}") from None
+        return listener
+
+    async def accept(self, service: Service, listener: socket.socket) -> None:
+        """Lets clients in; while none of them stays, few may wait before the others."""
+        with listener:
+            while True:
+                try:
+                    for _ in range(ACCEPTED_AT_ONCE):
+                        sock, _address = await asyncio.get_running_loop().sock_accept(listener)
+                        stays = self.let_in(service, sock)
+                        listener.listen(MOST_CLIENTS if stays else MOST_WAITING)
+                    await asyncio.sleep(0)
+                except OSError:  # no descriptor is free
+                    await asyncio.sleep(0.1)
+                except Exception as fault:  # it costs one client, and never the socket
+                    what = type(fault).__name__
+                    log_seldom((self.name, what), "%s: a fault: %s", self.path, what)
+
+    def peer_of(self, sock: socket.socket) -> Peer:
+        pid, uid, _gid = PEER.unpack(
+            sock.getsockopt(socket.SOL_SOCKET, socket.SO_PEERCRED, PEER.size)
+        )
+        owner = owner_of(uid)
+        return Peer(pid, uid, owner, (self.name, share_of(owner, pid)))
+
+    def has_place(self, own: int) -> bool:
+        """Whether a user who has so many places may have one more: of those that the others leave
+        at most half, and of the last ones the first alone."""
+        taken = sum(self.counts.values())
+        is_at_most_half = own + taken < MOST_CLIENTS - 1
+        return is_at_most_half and (own == 0 or taken < MOST_CLIENTS - LAST_PLACES)
+
+    def let_in(self, service: Service, sock: socket.socket) -> bool:
+        """Whether it stays, in a place that its user may have; it is told otherwise."""
+        with suppress(OSError):  # if nothing has come
+            if not sock.recv(1, socket.MSG_PEEK):
+                sock.close()
+                return False
+        client = self.client(service, self, sock, self.peer_of(sock))
+        own = self.counts[client.user]
+        if self.has_place(own):
+            service.clients[client] = asyncio.ensure_future(client.run())
+            self.counts[client.user] += 1
+            return True
+        with suppress(OSError):
+            sock.send(client.no_room)
+        sock.close()
+        log_seldom(client.user, "no more connections at %s for %s, which has %d", *client.user, own)
+        service.tally.counts["refused"] += 1
+        return False
+
+
+@functools.lru_cache(maxsize=1)
+def ranges_in(path: str, _version: tuple[int, ...]) -> list[tuple[range, str]]:
+    """Ranges of uids with their owners, in a version of a file of subuid(5): names, or uids."""
+    with open(path, encoding="utf-8", errors="replace") as file:
+        lines = [found for found in map(RANGE.fullmatch, file) if found]
+    ranges = list[tuple[range, str]]()
+    for line in lines:
+        owner, first, count = line[1], int(line[2]), int(line[3])
+        ranges.append((range(first, first + count), owner))
+    return ranges
+
+
+def owner_of(uid: int) -> int:
+    """The person who has a subordinate uid; another uid itself."""
+    if uid < LEAST_SUBORDINATE:
+        return uid
+    try:
+        found = os.stat(SUBORDINATE)
+        ranges = ranges_in(SUBORDINATE, (found.st_ino, found.st_size, found.st_mtime_ns))
+    except OSError:  # the machine has no such file
+        return uid
+    for uids, owner in ranges:
+        if uid in uids:
+            with suppress(KeyError, ValueError):  # nobody has this name, or it can't be one
+                return int(owner) if owner.isdecimal() else pwd.getpwnam(owner).pw_uid
+    return uid
+
+
+def share_of(uid: int, pid: int) -> str:
+    """The user whose share a process uses: its uid, or the service where that is root's."""
+    found = None
+    if uid == 0:
+        with suppress(OSError), open(f"/proc/{pid}/cgroup", "rb", buffering=0) as file:
+            found = GROUP.search(file.read(4096))
+    return f"uid {uid} in {found[1].decode(errors='replace')}" if found else f"uid {uid}"

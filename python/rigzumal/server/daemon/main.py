@@ -1,0 +1,168 @@
+"""How the server begins, goes on and ends."""
+
+import asyncio
+import logging
+import os
+import resource
+import signal
+import socket
+import sys
+import time
+from contextlib import suppress
+from typing import Any
+
+from .book import Book
+from .earlier import take_in
+from .journal import Problem, log, notify
+from .options import Options, parse
+from .service import Service
+from .tries import metrics
+
+HASHES = 3  # of no account, at the start: the quickest tells how long a hash takes
+UNWATCHED_SECONDS = 30.0  # between two looks at the book, if systemd asks for no watchdog
+# After a signal to end: until a client that reads no answers is closed, until the lines that have
+# no answer are dropped, and until the book is killed.
+UNREAD_SECONDS = 0.5
+LINES_SECONDS = 18.0
+LAST_SECONDS = 20.0
+KILLED_SECONDS = 1.0  # until a killed book is gone, unless a disk holds it up
+
+
+def main() -> int:
+    logging.basicConfig(format="credkeep-server: %(message)s", level=logging.INFO)
+    logging.getLogger("asyncio").disabled = True  # what it says may quote a line
+    os.umask(0o177)
+    signal.signal(signal.SIGHUP, signal.SIG_IGN)
+    resource.setrlimit(resource.RLIMIT_CORE, (0, 0))
+    most = resource.getrlimit(resource.RLIMIT_NOFILE)[1]
+    resource.setrlimit(resource.RLIMIT_NOFILE, (most, most))
+    try:
+        options = parse(sys.argv[1:])
+        if options.metrics:
+            print(metrics(options.metrics), end="")
+            return 0
+        return asyncio.run(serve(options))
+    except Problem as problem:
+        log.error("%s", problem)
+    except ImportError as fault:
+        log.error("python3-%s is missing, which an option needs", fault.name)
+    except OSError as fault:
+        log.error("%s: %s", fault.filename or "the system", fault.strerror)
+    return 1
+
+
+async def serve(options: Options) -> int:
+    """Answers clients until the book ends or a signal comes; returns the status."""
+    for door in options.doors:
+        door.prepare()
+    service = Service(options)
+    loop = asyncio.get_running_loop()
+    loop.set_exception_handler(log_fault)
+    await service.book.open()
+    serving = asyncio.create_task(serve_clients(service))
+    service.book.ended.add_done_callback(lambda _: serving.cancel())
+    for number in (signal.SIGTERM, signal.SIGINT):
+        loop.add_signal_handler(number, serving.cancel)
+    try:
+        with suppress(asyncio.CancelledError):
+            await serving
+    finally:
+        status = await end(service)
+    return status
+
+
+def log_fault(_loop: asyncio.AbstractEventLoop, context: dict[str, Any]) -> None:
+    """Logs a fault of the server's own without its text, which may quote a line."""
+    log.error("a fault: %s", type(context.get("exception")).__name__)
+
+
+async def serve_clients(service: Service) -> None:
+    """Lets clients in once the book answers, and looks after them until it is cancelled."""
+    await asyncio.shield(service.book.ask(b"show", b"-"))  # an answer that nobody cancels
+    await take_in(service)
+    service.transfers.remove_copy()
+    for door in service.options.doors:
+        accepting = door.accept(service, door.listen())
+        service.accepting.append(asyncio.create_task(accepting))
+    log.info("start: %s", service.options.file)
+    notify("READY=1")
+    logins = [service.log_in(b"verify", b"-", b"-") for _ in range(HASHES)]
+    service.timing = asyncio.gather(*logins)  # of names that no book has
+    idle = service.options.idle or float("inf")
+    beat = beat_seconds()
+    while True:
+        await notify_once_answered(service.book, beat)
+        service.tally.names.drop_expired()
+        service.tally.users.drop_expired()
+        end_idle_clients(service, idle)
+        await asyncio.sleep(min(beat, idle / 10))
+
+
+async def notify_once_answered(book: Book, beat: float) -> None:
+    """Tells systemd that the server goes on once the book answers; and in each beat until then, if
+    an import has the book's file."""
+    answer = book.ask(b"show", b"-")
+    while not answer.done():
+        await asyncio.wait([answer], timeout=beat)
+        if answer.done() or book.is_lent():
+            notify("WATCHDOG=1")
+
+
+def beat_seconds() -> float:
+    """How often systemd is told that the server goes on: in half of the time that it gives."""
+    text = os.environ.get("WATCHDOG_USEC", "")
+    microseconds = float(text) if text.isdecimal() else 0.0
+    return microseconds / 2e6 if microseconds else UNWATCHED_SECONDS
+
+
+def end_idle_clients(service: Service, idle: float) -> None:
+    """Ends those that for so many seconds neither sent a line nor read their answers."""
+    for client in list(service.clients):
+        is_waiting = client.running and not client.writing.locked()
+        if client.active < time.monotonic() - idle and not is_waiting:
+            client.end(socket.SHUT_RDWR)
+
+
+async def end(service: Service) -> int:
+    """Ends the clients, each once it has its answers, then the book; returns its status."""
+    began = time.monotonic()
+    notify("STOPPING=1")
+    for task in service.accepting:
+        task.cancel()  # the paths stay: the sockets may be systemd's
+    for client in list(service.clients):
+        client.end()
+    await wait_for_answers(service, began)
+    service.transfers.kill()
+    status = await end_book(service.book, LAST_SECONDS - (time.monotonic() - began))
+    audit = service.audit
+    if lacking := audit.lacking + audit.open_lines:
+        log.error("%s lacks %d lines", audit.path, lacking)
+    log.info("end: status %d, %s", status, service.tally.stats())
+    return status
+
+
+async def wait_for_answers(service: Service, began: float) -> None:
+    """Waits until each client has its answers and has gone, for as long as that may take."""
+    seconds = 0.0
+    while (service.clients or service.tasks) and seconds <= LINES_SECONDS:
+        await asyncio.sleep(0.01)
+        seconds = time.monotonic() - began
+        for client in list(service.clients):
+            if client.writing.locked() and seconds > UNREAD_SECONDS:
+                client.end(socket.SHUT_RDWR)
+    if count := sum(client.running for client in service.clients):
+        log.error("%d lines had no answer after %d s", count, seconds)
+
+
+async def end_book(book: Book, seconds: float) -> int:
+    """Ends the book in order, or kills it if that takes longer; returns its status."""
+    book.end()
+    await asyncio.wait([book.ended], timeout=seconds)
+    if not book.ended.done():
+        log.error("the book is killed: it still runs after %d s", LAST_SECONDS)
+        book.kill()
+        await asyncio.wait([book.ended], timeout=KILLED_SECONDS)
+    if book.ended.done():
+        return book.ended.result()
+    log.error("the book can't be killed: its disk hangs")
+    return 128 + signal.SIGKILL

@@ -1,0 +1,355 @@
+"""The operations that a line asks for, and the answers that it gets: one table of each.
+
+The server, credkeep-ask and the HTTP door read these tables. tools/protocol.py writes what others
+have of them: the replies of the clients for Python, the header of the PAM module, and the answers
+in docs/ERRORS.md and credkeep-server(8). tests/server/test_protocol.py looks whether all agree.
+"""
+
+from __future__ import annotations
+
+from dataclasses import dataclass
+from functools import cached_property
+from typing import Optional
+
+# As what an answer to a try is counted.
+RIGHT, WRONG, ABSENT, NO_ACCOUNT = "yes", "no", "absent", "noaccount"
+
+
+@dataclass(frozen=True)
+class Answer:
+    """One that has no other words, such as names, behind it."""
+
+    meaning: str  # on pages
+    tried: str = ""  # as what a try is counted that gets it
+    changed: bool = False  # whether the book has changed; a try that is `expired` changes nothing
+    reply: str = ""  # the member of the clients' Reply; none if they raise an exception
+    http: int = 503  # the status of a request whose password gets it
+    pam: str = "AUTHINFO_UNAVAIL"  # what pam_rigzumal says of such a password, without PAM_
+    ask: int = 0  # the status of credkeep-ask
+    text: str = ""  # what a person is told who gave the new password
+
+
+def done(reply: str, meaning: str) -> Answer:
+    """The answer to a change that was made."""
+    return Answer(meaning, changed=True, reply=reply)
+
+
+def refused(meaning: str, ask: int = 1, http: int = 503) -> Answer:
+    """The answer to a line that isn't taken."""
+    return Answer(meaning, ask=ask, http=http)
+
+
+ANSWERS = {
+    "yes": Answer(
+        "the password is right; of `known`: the account has a record",
+        tried=RIGHT,
+        reply="YES",
+        http=200,
+        pam="SUCCESS",
+    ),
+    "expired": Answer(
+        "the password is right, and must be changed: by `change`, or `reset`. Of `expire`: it must"
+        " be changed from now on",
+        tried=RIGHT,
+        changed=True,
+        reply="EXPIRED",
+        http=403,
+        pam="SUCCESS",
+    ),
+    "no": Answer(
+        "the password is wrong, or the account is locked",
+        tried=WRONG,
+        reply="NO",
+        http=401,
+        pam="AUTH_ERR",
+        ask=4,
+    ),
+    "wrong": Answer(
+        "the present password is wrong, or the account is locked",
+        tried=WRONG,
+        reply="WRONG",
+        pam="AUTH_ERR",
+        ask=4,
+    ),
+    "absent": Answer(
+        "the account has no record; of `known`, also: it is locked",
+        tried=ABSENT,
+        reply="ABSENT",
+        http=401,
+        pam="AUTH_ERR",
+        ask=4,
+    ),
+    "noaccount": Answer(
+        "the book lacks the name",
+        tried=NO_ACCOUNT,
+        reply="NO_ACCOUNT",
+        http=401,
+        pam="USER_UNKNOWN",
+        ask=4,
+    ),
+    "replaced": Answer(
+        "the account has the new password", tried=RIGHT, changed=True, reply="REPLACED"
+    ),
+    "upgraded": Answer("the record has the new costs", tried=RIGHT, changed=True, reply="UPGRADED"),
+    "removed": Answer(
+        "the record is gone, and the name stays", tried=RIGHT, changed=True, reply="REMOVED"
+    ),
+    "kept": Answer("the record has these costs already", tried=RIGHT, reply="KEPT"),
+    "ok": done("OK", "it is done"),
+    "enrolled": done("ENROLLED", "the account has its first record"),
+    "disabled": done("DISABLED", "the record is gone, and the name stays"),
+    "deleted": done("DELETED", "name and record are gone"),
+    "renamed": done("RENAMED", "the account has the new name"),
+    "locked": done("LOCKED", "each password is wrong from now on, until `unlock`"),
+    "unlocked": done("UNLOCKED", "the record counts again"),
+    "forgiven": Answer("the failed tries are forgotten"),
+    "exists": Answer(
+        "the account has a record already; of `rename`: the new name is an account",
+        reply="EXISTS",
+        ask=4,
+    ),
+    "none": Answer(
+        "there is nothing of this kind: a record, a lock, failed tries, a right password",
+        reply="NONE",
+        ask=4,
+    ),
+    "short": Answer(
+        "the new password has fewer characters than the server's `--least-length`",
+        reply="SHORT",
+        pam="AUTHTOK_ERR",
+        ask=6,
+        text="The new password is too short.",
+    ),
+    "same": Answer(
+        "after `expire` the user needs another password than before",
+        tried=RIGHT,
+        reply="SAME",
+        pam="AUTHTOK_ERR",
+        ask=6,
+        text="The new password is the old one.",
+    ),
+    "later": Answer(
+        "too many tries at this name failed, and this one wasn't looked at: wait (1 s to 15"
+        " minutes), or `credkeep-ask --server forgive NAME`",
+        http=429,
+        pam="MAXTRIES",
+        ask=4,
+    ),
+    "denied": Answer(
+        "the socket doesn't allow this operation, or not with a setting: ask at the admin socket",
+        http=403,
+        ask=1,
+    ),
+    "unavailable": Answer(
+        "the book has ended, or is ending: a change may be made or not, so look at the account",
+        ask=5,
+    ),
+    "bad 1 exists": refused("the book, or the file of `--foreign`, has the name already", ask=4),
+    "bad 2 full": refused("the book has no room for another account", ask=6),
+    "bad 3 name": Answer("no book can have such a name", http=401, pam="USER_UNKNOWN", ask=1),
+    "bad 4 memory": refused("there was no memory for a hash: see `--memory`", ask=3),
+    "bad 5 noaccount": refused("the book lacks the name", ask=4),
+    "bad 11 line": refused("no such line exists"),
+    "bad 13 password": refused("the password isn't base64 of up to 256 bytes", ask=6, http=401),
+    "bad 14 busy": refused(
+        "others changed the account meanwhile, or another import is under way: try again", ask=5
+    ),
+    "bad 16 long": refused(
+        "a line of over 960 bytes, or an import of over 128 MiB; the connection goes on", http=401
+    ),
+    "bad 18 costly": refused(
+        "the record or the setting needs more than `--most-memory`" " or `--most-work` allows"
+    ),
+    "bad 19 disk": Answer(
+        "the disk of the book or of the audit log has too little room for a change; logins go on",
+        pam="AUTHTOK_ERR",
+        ask=5,
+        text="The server's disk is full: the password stays as it was.",
+    ),
+}
+NO_ANSWER = Answer("")  # any other text
+
+
+@dataclass(frozen=True)
+class Command:
+    """A command of credkeep-ask for a server: what stands behind it, and what its help says."""
+
+    words: str
+    text: str
+
+    @cached_property
+    def counts(self) -> range:
+        """How many words may stand behind it, without options."""
+        words = [word for word in self.words.split() if not word.startswith(("[-", "[OPTION]"))]
+        least = sum(not word.startswith("[") for word in words)
+        return range(least, len(words) + 1)
+
+
+@dataclass(frozen=True)
+class Operation:
+    """What a line asks for, and its cost for the book.
+
+    Its fields are called NAME, OTHER (a new name), PW (the present password, so that the line may
+    be a guess), NEW (a new password), RECORD, SETTING (costs and a salt, which a line may lack),
+    FROM and COUNT (of a page), SIZE.
+    """
+
+    fields: str = "NAME"
+    answers: str = ""  # of the book; not those that any line may get, and no other texts
+    hashes: bool = False
+    changes: bool = False
+    is_own: bool = False  # it is answered by the server, and not by the book
+    is_transfer: bool = False  # it is of the whole book, and credkeep itself does it
+    command: Optional[Command] = None  # of credkeep-ask, by the same word
+
+    @cached_property
+    def tries(self) -> bool:
+        """Whether a line may be a guess."""
+        return self.place("PW") > 0
+
+    @cached_property
+    def names(self) -> int:
+        """How many of its fields are names, from the first on."""
+        return sum(field in ("NAME", "OTHER") for field in self.fields.split())
+
+    @cached_property
+    def new(self) -> int:
+        """Which of its fields is a new password; 0 if none is."""
+        return self.place("NEW")
+
+    @cached_property
+    def setting(self) -> int:
+        """Which of its fields is a setting, if a line has one; 0 if none may be."""
+        return self.place("[SETTING]")
+
+    @cached_property
+    def wrong(self) -> bytes:
+        """The answer to a wrong password."""
+        return b"wrong" if "wrong" in self.answers.split() else b"no"
+
+    def place(self, field: str) -> int:
+        fields = self.fields.split()
+        return 1 + fields.index(field) if field in fields else 0
+
+
+# Answers of the server itself to a new password, before the book is asked.
+TO_NEW_PASSWORDS = ("short",)
+LOOK = "yes expired absent noaccount"
+OPERATIONS = {
+    b"verify": Operation("NAME PW", f"no {LOOK}", hashes=True),
+    b"login": Operation("NAME PW", f"no {LOOK}", hashes=True),
+    b"change": Operation(
+        "NAME PW NEW [SETTING]",
+        "replaced wrong same absent noaccount",
+        hashes=True,
+        changes=True,
+    ),
+    b"upgrade": Operation(
+        "NAME PW [SETTING]",
+        "upgraded kept wrong expired absent noaccount",
+        hashes=True,
+        changes=True,
+    ),
+    b"remove": Operation(
+        "NAME PW", "removed wrong expired absent noaccount", hashes=True, changes=True
+    ),
+    b"enrol": Operation(
+        "NAME NEW [SETTING]", "enrolled exists noaccount", hashes=True, changes=True
+    ),
+    b"reset": Operation(
+        "NAME NEW [SETTING]",
+        "replaced enrolled noaccount",
+        hashes=True,
+        changes=True,
+        command=Command("NAME", "ask for a new password, twice"),
+    ),
+    b"account": Operation("NAME", "ok", changes=True),
+    b"load": Operation(
+        "NAME RECORD",
+        "ok",
+        changes=True,
+        command=Command("NAME", "put the record that is read from standard input"),
+    ),
+    b"disable": Operation(
+        "NAME",
+        "disabled absent noaccount",
+        changes=True,
+        command=Command("NAME", "remove the record; the name stays"),
+    ),
+    b"delete": Operation(
+        "NAME",
+        "deleted noaccount",
+        changes=True,
+        command=Command("NAME", "remove the account"),
+    ),
+    b"rename": Operation(
+        "NAME OTHER",
+        "renamed exists noaccount",
+        changes=True,
+        command=Command("NAME NEW", "give the account another name"),
+    ),
+    b"lock": Operation(
+        "NAME",
+        "locked noaccount",
+        changes=True,
+        command=Command("NAME", "refuse each password; the record stays"),
+    ),
+    b"unlock": Operation(
+        "NAME",
+        "unlocked none noaccount",
+        changes=True,
+        command=Command("NAME", "refuse them no longer"),
+    ),
+    b"expire": Operation(
+        "NAME",
+        "expired absent noaccount",
+        changes=True,
+        command=Command("NAME", "the password must be changed"),
+    ),
+    b"known": Operation("NAME", LOOK),
+    b"show": Operation(
+        "NAME", "none", command=Command("[--record] NAME", "the costs of its record, or all of it")
+    ),
+    b"list": Operation("FROM COUNT", command=Command("", "all names")),
+    b"marks": Operation(
+        "FROM COUNT",
+        command=Command("[NAME]", "who is locked, and who must change the password"),
+    ),
+    b"import": Operation(
+        "SIZE [OPTION]..",
+        changes=True,
+        is_transfer=True,
+        command=Command("[OPTION]..", "add the accounts of the lines on standard input"),
+    ),
+    b"export": Operation(
+        "", is_transfer=True, command=Command("", "a line NAME:RECORD for each account")
+    ),
+    b"backup": Operation(
+        "", is_transfer=True, command=Command("FILE", "write a copy of the whole book")
+    ),
+    b"forgive": Operation(
+        "NAME",
+        "forgiven none",
+        is_own=True,
+        command=Command("NAME", "end a wait after failed tries"),
+    ),
+    b"last": Operation(
+        "NAME",
+        "none",
+        is_own=True,
+        command=Command("NAME", "the time of the last right password"),
+    ),
+    b"stats": Operation("", is_own=True, command=Command("", "counts of answers")),
+    b"waits": Operation("", is_own=True, command=Command("", "who must wait after failed tries")),
+}
+# The options of an import, as credkeep has them.
+ONLY_TRIED = "--dry-run"
+IMPORT_OPTIONS = (
+    "--skip-existing",
+    "--update",
+    "--skip-bad",
+    "--disable-locked",
+    "--keep-locked",
+    ONLY_TRIED,
+)
+LONGEST_TEXT = 128 << 20  # bytes of an import: some million accounts

@@ -1,0 +1,320 @@
+"""Whole books through a socket: an import, an export and a backup.
+
+credkeep does each of them. An import needs the book's file: the book's process ends in order, lines
+wait, and the next process starts behind the import. An export, a backup and an import that is only
+tried are of a copy, which credkeep makes beside the file while the book is served.
+"""
+
+from __future__ import annotations
+
+import asyncio
+import os
+import re
+import signal
+from collections.abc import Iterator
+from contextlib import suppress
+from dataclasses import dataclass, field
+from typing import TYPE_CHECKING, BinaryIO, Optional
+
+from .book import UNAVAILABLE
+from .clients import BAD_LINE, LONG
+from .disk import FULL, NEEDED, has_room
+from .journal import log
+from .names import Names
+from .protocol import IMPORT_OPTIONS, LONGEST_TEXT, ONLY_TRIED
+
+if TYPE_CHECKING:
+    from .service import Request, Service
+
+LONGEST_FAULTS = 1 << 20  # bytes that are kept of what credkeep writes on standard error
+PIECE = 65536  # bytes that are read or sent at a time
+# The room that an import may need, times its text: the file grows, and its log before.
+ROOM_FOR_TEXT = 4
+BUSY = b"bad 14 busy"
+DATABASE_FAILED = 5  # a status of credkeep
+ENDING = b"credkeep-server: the book is ending: nothing was done\n"
+KILLED_FIRST = "1000"  # of proc(5), oom_score_adj
+
+
+def memory_file() -> BinaryIO:
+    """A file without a name, which no disk that hangs holds up."""
+    return open(os.memfd_create("credkeep-server"), "w+b")
+
+
+def size_of_file(path: str) -> int:
+    with suppress(OSError):
+        return os.stat(path).st_size
+    return 0
+
+
+@dataclass
+class Result:
+    """How a run of credkeep ended, and what it wrote on both streams."""
+
+    status: int = 0
+    output: BinaryIO = field(default_factory=memory_file)
+    faults: bytes = b""
+
+    def answer(self, tag: bytes) -> Iterator[bytes]:
+        """The answer, in pieces: a line that has the sizes of both texts, and then these."""
+        left = self.output.seek(0, os.SEEK_END)
+        yield b"%b ended %d %d %d\n" % (tag, self.status, left, len(self.faults))
+        self.output.seek(0)
+        while left and (piece := self.output.read(min(left, PIECE))):
+            left -= len(piece)
+            yield piece
+        yield self.faults
+
+    def first_line(self) -> bytes:
+        """What it says first, such as the counts of an import."""
+        self.output.seek(0)
+        return self.output.readline(PIECE).rstrip(b"\n")
+
+
+class Incoming:
+    """The text of an import, as far as it has come."""
+
+    def __init__(self, request: Request, size: int) -> None:
+        self.request = request
+        self.missing = size  # bytes
+        self.text = memory_file()
+
+    def take(self, data: bytes) -> bytes:
+        """Takes what belongs to the text, and returns what comes behind it."""
+        own, rest = data[: self.missing], data[self.missing :]
+        self.text.write(own)
+        self.missing -= len(own)
+        return rest
+
+
+class Transfers:
+    """The imports, exports and backups of a server. Runs of credkeep go one after another."""
+
+    def __init__(self, service: Service) -> None:
+        self.service = service
+        self.file = service.options.file
+        self.copy = f"{self.file}-transfer"
+        self.has_import = False  # one, whose text comes, or which waits or runs
+        self.one_at_a_time = asyncio.Lock()
+        self.running: Optional[asyncio.subprocess.Process] = None
+
+    # ---- what a client asks for
+
+    def submit(self, request: Request) -> bytes:
+        """Begins to do what is asked for, or returns the answer."""
+        word, *fields = request.words
+        if self.service.audit.is_full():
+            return UNAVAILABLE
+        if word == b"import":
+            return self.submit_import(request, fields)
+        if any(fields):
+            return BAD_LINE
+        if not self.has_room(size_of_file(self.file) + size_of_file(f"{self.file}-wal")):
+            return FULL
+        self.begin(request, None)
+        return b""
+
+    def submit_import(self, request: Request, fields: list[bytes]) -> bytes:
+        """Has the client send the text, by the answer `send`; or returns another one."""
+        size, *options = fields
+        are_known = all(option.decode(errors="replace") in IMPORT_OPTIONS for option in options)
+        if not re.fullmatch(rb"[0-9]{1,12}", size) or not are_known:
+            return BAD_LINE
+        if int(size) > LONGEST_TEXT:
+            return LONG
+        if self.has_import:
+            return BUSY
+        if not self.has_room(ROOM_FOR_TEXT * int(size)):
+            return FULL
+        try:
+            request.client.incoming = Incoming(request, int(size))
+        except OSError:  # no descriptor is free
+            return UNAVAILABLE
+        self.has_import = True
+        return b"send %d" % int(size)
+
+    def has_room(self, size: int) -> bool:
+        """Whether the disks have room for a change, and the book's for so many bytes more."""
+        folder = self.service.folders[self.file]
+        return self.service.has_room() and has_room(folder, size + NEEDED)
+
+    def drop(self, incoming: Incoming) -> None:
+        """Forgets a text that didn't come to its end."""
+        incoming.text.close()
+        self.has_import = False
+
+    def begin(self, request: Request, text: Optional[BinaryIO]) -> None:
+        """Begins to do what is asked for; an import goes on if its client has gone."""
+        request.client.running += 1
+        self.service.begin(self.process(request, text))
+
+    # ---- it is done
+
+    async def process(self, request: Request, text: Optional[BinaryIO]) -> None:
+        """Does what is asked for, and answers. A fault costs this request, and never the
+        service."""
+        client = request.client
+        try:
+            result = await self.result(request, text)
+            if await self.is_noted(request, result):
+                await client.write(result.answer(request.tag))
+            else:
+                await client.reply(request.tag, UNAVAILABLE)  # nobody says what isn't noted
+        except Exception as fault:
+            log.error("%s: a fault: %s", request.word.decode(), type(fault).__name__)
+            await client.reply(request.tag, UNAVAILABLE)
+        finally:
+            client.running -= 1
+            client.answered.set()
+
+    async def is_noted(self, request: Request, result: Result) -> bool:
+        """Adds what was done to the audit log; false if that fails."""
+        if result.status or is_only_tried(request):
+            return True
+        is_import = request.word == b"import"
+        return await self.service.note(request, result.first_line() if is_import else b"ok")
+
+    async def result(self, request: Request, text: Optional[BinaryIO]) -> Result:
+        """The result of what is asked for, which is done once no other run of credkeep goes on."""
+        try:
+            async with self.one_at_a_time:
+                if self.service.book.has_ended():
+                    return Result(DATABASE_FAILED, faults=ENDING)
+                if request.word == b"import" and not is_only_tried(request):
+                    return await self.import_text(request, text)
+                return await self.use_copy(request, text)
+        except OSError as fault:
+            what = fault.filename or self.service.options.credkeep
+            why = f"credkeep-server: {what}: {fault.strerror}\n"
+            return Result(DATABASE_FAILED, faults=why.encode(errors="replace"))
+        finally:
+            if request.word == b"import":
+                self.has_import = False
+
+    async def import_text(self, request: Request, text: Optional[BinaryIO]) -> Result:
+        """Imports into the book, whose lines wait meanwhile."""
+        words = self.import_words(request)
+        text = await self.with_names_of_book(text)
+        async with self.service.book.lent() as status:
+            if status:
+                return Result(status, faults=ENDING)
+            log.info("an import has the book: lines wait")
+            result = await self.run(self.file, *words, text=text)
+            log.info("the import has ended with status %d", result.status)
+        self.service.tally.counts["changes"] += not result.status
+        return result
+
+    async def use_copy(self, request: Request, text: Optional[BinaryIO]) -> Result:
+        """Does with a copy what is asked for, while the book is served."""
+        try:
+            backup = await self.run(self.file, "backup", self.copy)
+            if backup.status:
+                return backup
+            if request.word == b"backup":
+                return Result(0, open(self.copy, "rb"), backup.faults)
+            if request.word == b"export":
+                return await self.export_copy()
+            text = await self.with_names_of_book(text)
+            return await self.run(self.copy, *self.import_words(request), text=text)
+        finally:
+            self.remove_copy()
+
+    async def export_copy(self) -> Result:
+        """The lines of the copy, with a lock at those whom an old file bars."""
+        result = await self.run(self.copy, "export")
+        if self.service.foreign:
+            result.output = await self.service.foreign.with_locks(result.output)
+        return result
+
+    def remove_copy(self) -> None:
+        """Removes the copy, or what a kill left of it."""
+        for path in (self.copy, f"{self.copy}-wal", f"{self.copy}-new"):
+            try:
+                os.unlink(path)
+            except FileNotFoundError:
+                pass
+            except OSError as fault:
+                log.error("%s: %s", path, fault.strerror)
+
+    # ---- credkeep
+
+    def import_words(self, request: Request) -> list[str]:
+        """The words of credkeep's import: no record may need more than one in a line may."""
+        options = self.service.options
+        words = ["import", *(option.decode() for option in request.words[2:])]
+        if options.most_memory:
+            words += ["--most-memory", options.most_memory]
+        if options.most_work:
+            words += ["--most-work", options.most_work]
+        return words
+
+    async def with_names_of_book(self, text: Optional[BinaryIO]) -> Optional[BinaryIO]:
+        """The text of an import, with its addresses as the book has them."""
+        if text is None or not self.service.options.mail_names:
+            return text
+        return await asyncio.to_thread(with_names_of_book, text, self.service.names)
+
+    async def run(self, file: str, *words: str, text: Optional[BinaryIO] = None) -> Result:
+        """The result of credkeep that gets this text."""
+        options, result = self.service.options, Result()
+        if text is not None:
+            text.seek(0)
+        process = await asyncio.create_subprocess_exec(
+            *(options.credkeep, "--wait", str(options.wait), file, *words),
+            stdin=asyncio.subprocess.DEVNULL if text is None else text,
+            stdout=result.output,
+            stderr=asyncio.subprocess.PIPE,
+            start_new_session=True,
+        )
+        self.running = process
+        if text is not None:
+            text.close()
+        have_killed_first(process.pid)
+        assert process.stderr is not None
+        result.faults = await beginning_of(process.stderr)
+        status = await process.wait()
+        self.running = None
+        result.status = status if status >= 0 else 128 - status
+        return result
+
+    def kill(self) -> None:
+        """Kills the credkeep that runs: an import that is killed has done all, or nothing."""
+        if self.running is not None and self.running.returncode is None:
+            with suppress(ProcessLookupError):
+                os.kill(self.running.pid, signal.SIGKILL)
+
+
+def is_only_tried(request: Request) -> bool:
+    return ONLY_TRIED.encode() in request.words
+
+
+def have_killed_first(pid: int) -> None:
+    """Has the system kill a process before the server, where memory runs out."""
+    with suppress(OSError), open(f"/proc/{pid}/oom_score_adj", "w") as file:
+        file.write(KILLED_FIRST)
+
+
+async def beginning_of(stream: asyncio.StreamReader) -> bytes:
+    """The whole lines at the beginning of a stream, which is read to its end."""
+    text, left_out = b"", 0
+    while more := await stream.read(PIECE):
+        if len(text) < LONGEST_FAULTS:
+            text += more
+        else:
+            left_out += len(more)
+    if left_out:
+        text, _, rest = text.rpartition(b"\n")
+        left_out += len(rest)
+        text += b"\ncredkeep-server: %d bytes more aren't shown\n" % left_out
+    return text
+
+
+def with_names_of_book(text: BinaryIO, names: Names) -> BinaryIO:
+    """The lines of an import, with the addresses before their first colons as a book has them."""
+    written = memory_file()
+    text.seek(0)
+    for line in text:
+        name, colon, rest = line.partition(b":")
+        is_address = b"@" in name and not name.startswith(b"#")
+        written.write(names.of_book(name) + colon + rest if is_address else line)
+    return written

@@ -1,0 +1,141 @@
+#!/usr/bin/env python3
+"""Writes what other files have of the server's table of answers.
+
+    python3 tools/protocol.py [--write]
+
+The table is in python/rigzumal/server/daemon/protocol.py. Of it are the header of the PAM module
+(all of c/pam/answers.h), and between two marks of their own the replies of the clients for Python,
+the table of docs/ERRORS.md and the section ANSWERS of credkeep-server(8). Without --write it names
+the files that have another text, and the status is 1 if there is one.
+"""
+
+import argparse
+import re
+import sys
+import textwrap
+
+from tree import TOP
+
+sys.path.insert(0, str(TOP / "python/rigzumal/server"))
+from daemon.protocol import ANSWERS, OPERATIONS, TO_NEW_PASSWORDS  # noqa: E402
+
+# Answers that mean something else to each operation of the PAM module, or let nobody in.
+OF_AN_OPERATION = ("absent", "expired")
+ELSE = ("SUCCESS", "AUTHINFO_UNAVAIL")
+COLUMNS = 140  # of a page's line
+
+HEADER = """/* What answers to a password mean for PAM, but for those that differ by operation. Any
+ * other one is PAM_AUTHINFO_UNAVAIL. tools/protocol.py writes this file. */
+#ifndef RIGZUMAL_PAM_ANSWERS_H
+#define RIGZUMAL_PAM_ANSWERS_H
+
+#include <security/pam_modules.h>
+#include <stddef.h>
+
+struct answer {
+    const char *word;
+    int result;
+    const char *text; /* what the user is told, or NULL */
+};
+
+static const struct answer ANSWERS[] = {
+%s
+};
+
+#endif
+"""
+
+
+def header():
+    """The header of the PAM module."""
+    rows = []
+    for word, answer in ANSWERS.items():
+        if answer.pam in ELSE or word in OF_AN_OPERATION:
+            continue
+        text = f'"{answer.text}"' if answer.text else "NULL"
+        rows.append(f'    {{"{word}", PAM_{answer.pam}, {text}}},')
+    return HEADER % "\n".join(rows)
+
+
+def replies():
+    """The members of the clients' enumeration."""
+    rows = [f'    {it.reply} = "{word}"' for word, it in ANSWERS.items() if it.reply]
+    return "\n".join(rows)
+
+
+def rows_of_page():
+    """The table of docs/ERRORS.md."""
+    rows = ["| Answer | What it means | HTTP | `credkeep-ask` ends with |", "|---|---|--:|--:|"]
+    of_http = set(OPERATIONS[b"verify"].answers.split())
+    of_others = {word for it in OPERATIONS.values() for word in it.answers.split()} - of_http
+    of_others.update(TO_NEW_PASSWORDS)
+    for word, answer in ANSWERS.items():
+        http = "" if word in of_others else answer.http
+        rows.append(f"| `{word}` | {answer.meaning} | {http} | {answer.ask} |")
+    return "\n".join(rows)
+
+
+def section():
+    """The section of the manual."""
+    lines = []
+    for word, answer in ANSWERS.items():
+        text = re.sub(r"`([^`]*)`", r"\\fB\1\\fP", answer.meaning).replace("-", "\\-")
+        lines.append(f'.IP "\\fB{word}\\fP"')
+        lines += textwrap.wrap(f"{text[0].upper()}{text[1:]}.", COLUMNS - 20)
+    return "\n".join(lines)
+
+
+# By file: the line before what is written there, and the line behind it.
+PARTS = {
+    "python/rigzumal/server/_client.py": (
+        replies,
+        "    # tools/protocol.py writes these lines",
+        "    # up to here.",
+    ),
+    "docs/ERRORS.md": (
+        rows_of_page,
+        "<!-- tools/protocol.py writes this table -->",
+        "<!-- up to here -->",
+    ),
+    "man/credkeep-server.8": (
+        section,
+        '.\\" tools/protocol.py writes this section',
+        '.\\" up to here',
+    ),
+}
+
+
+def written(text, made, begin, end):
+    """A file's text, with what is made between two of its lines."""
+    before, found, rest = text.partition(f"{begin}\n")
+    _, found_end, after = rest.partition(f"{end}\n")
+    if not found or not found_end:
+        raise SystemExit(f"protocol.py: the lines {begin!r} and {end!r} aren't there")
+    return f"{before}{begin}\n{made}\n{end}\n{after}"
+
+
+def texts():
+    """Each file, and the text that it ought to have."""
+    yield TOP / "c/pam/answers.h", header()
+    for name, (make, begin, end) in PARTS.items():
+        path = TOP / name
+        yield path, written(path.read_text(), make(), begin, end)
+
+
+def main():
+    parser = argparse.ArgumentParser(description=__doc__.partition("\n")[0])
+    parser.add_argument("--write", action="store_true", help="write the files")
+    options, status = parser.parse_args(), 0
+    for path, text in texts():
+        if path.exists() and path.read_text() == text:
+            continue
+        if options.write:
+            path.write_text(text)
+        else:
+            print(f"{path.relative_to(TOP)} isn't of the table: tools/protocol.py --write")
+            status = 1
+    return status
+
+
+if __name__ == "__main__":
+    sys.exit(main())
