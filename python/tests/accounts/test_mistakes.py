@@ -180,6 +180,9 @@ class AtAShell(support.Commands):
         *((f"hash {it} 12", "is --memory, --pass") for it in ("--cost", "--costs", "--setting")),
         *((f"hash --memory {it}", f"'{it}' is not a size") for it in ("M", "x", "6x", "\u0663M")),
         ("hash --memroy 64M", "is --memory meant?"),
+        ("hash --pass hunter2", "an unknown option, which isn't shown; is --passes meant?"),
+        ("hash --pass=hunter2", "an unknown option, which isn't shown; is --passes meant?"),
+        ("accounts --database sqlite:///x add ann --pass hunter2", "isn't shown; is --passes"),
         ("hash --hunter2", "an unknown option, which isn't shown\n"),
         # Options of other commands alone.
         ("calibrate --time 3", "an unknown option, which isn't shown\n"),
