@@ -276,6 +276,11 @@ class Errors(Base):
         ("host=x password=hunter2 port=1", "host=x password=*** port=1"),
         ("passwd = 'hunter2 hunter2' x", "passwd = *** x"),
         ("Password=hunter2;PWD=hunter2", "Password=***;PWD=***"),
+        (
+            'is bad: invalid integer value "hunter2" for connection option "port"',
+            'invalid integer value *** for connection option "port"',
+        ),
+        ('invalid port number: "12345678"', "invalid port number: ***"),
         ("x" * 5000, "xxx"),
     )
     def test_unavailable_says_why(self, text, said):
