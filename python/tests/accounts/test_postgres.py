@@ -206,6 +206,17 @@ class OnPostgres(engines.OnPostgres, Base):
         self.assertTrue(words.copies)
         self.assertEqual(self.execute("SELECT name, record FROM users"), [(key, RECORD)])
 
+    @each("number", "name", "made", "came", "put")
+    def test_columns_of_any_name_are_copied(self, name):
+        """The table's own may have those of the tables that a copy passes through."""
+        self.dialect = self.another_dialect(key=name)
+        self.execute("DROP TABLE users")
+        self.execute(f"CREATE TABLE users ({name} text PRIMARY KEY, record text, more int)")
+        words = _import.Import(self.accounts(), self.dialect, PerThread(self.connect))
+        with mock.patch.object(_import, "SHARE", 1):
+            self.assertEqual(words.put([("ann", RECORD), ("ann", TWO)]), ["added", "another"])
+        self.assertTrue(words.copies)
+
     def test_what_can_not_be_copied(self):
         """By a role that makes no temporary table, or past a trigger that makes another record: it
         is undone, and put by the statements of every engine."""

@@ -183,7 +183,7 @@ class Postgres(Dialect):
         same = f'kept.{self.record}::text COLLATE "C" = came.made'
         joined = "rigzumal_came AS came LEFT JOIN rigzumal_put AS put USING (number)"
         return self.alone(
-            f"SELECT number, put.number IS NOT NULL, {same} FROM {joined}"
+            f"SELECT came.number, put.number IS NOT NULL, {same} FROM {joined}"
             f" LEFT JOIN {self.table} AS kept ON kept.{self.key} = came.name"
             f" WHERE put.number IS NULL OR ({same}) IS NOT TRUE"
         )
