@@ -126,6 +126,16 @@ class OnSqlite(Said, engines.OnSqlite, support.Base):
         self.assertEqual(fault.severity.value, "error" if is_error else "warning")
         self.assertEqual(str(fault), fault.text)
 
+    @each("CHECK (record IS NOT NULL)", "CHECK (coalesce(record, '') <> '')")
+    def test_records_that_can_not_be_removed(self, check):
+        self.execute("DROP TABLE users")
+        self.execute(self.table_of.format(f"name TEXT PRIMARY KEY, record TEXT {check}"))
+        self.give("one")
+        self.assertEqual(self.accounts().examine(), [])
+        (fault,) = self.accounts().examine(Kind.REMOVE)
+        said = f"no record can be removed: IntegrityError {CHECK_FAILED}".rstrip()
+        self.assertEqual((fault.code, fault.is_error, fault.text), ("no-update", True, said))
+
     @each(
         ("TEXT", int, "name is TEXT, and keys are int"),
         *((it, str, f"name is {it}, and keys are str") for it in ("INTEGER", "DECIMAL(9)")),

@@ -52,10 +52,39 @@ class OnPostgres(engines.OnPostgres, Base):
         self.assertEqual((fault.code, fault.is_error), ("no-update", True))
         self.assertIn(state, str(fault))
 
-    def test_a_policy_that_reads_no_row(self):
+    def test_row_security_without_a_policy(self):
+        """It shows a role no row, and each login would be one of no account."""
+        said = "row security shows this role no row"
+        self.execute("ALTER TABLE users ENABLE ROW LEVEL SECURITY")
+        role = self.of_role("SELECT, UPDATE")
+        accounts = self.accounts(connect=role)
+        with role() as conn:
+            ((name,),) = self.execute("SELECT current_user", conn=conn)
+        self.assertNotIn(said, self.said(self.accounts()))  # of the owner, whom it doesn't bind
+        for policy, is_shown in (
+            ("FOR UPDATE USING (true)", False),
+            ("AS RESTRICTIVE USING (true)", False),
+            ("TO pg_monitor USING (true)", False),
+            (f"TO {name} USING (true)", True),
+            ("FOR SELECT USING (true)", True),
+        ):
+            self.execute(f"CREATE POLICY one ON users {policy}")
+            with self.subTest(policy=policy):
+                reply = accounts.verify("ann", "one")
+                self.assertEqual(reply is Reply.YES, is_shown)
+                found = {it.text: it.is_error for it in accounts.examine() if said in it.text}
+                self.assertEqual([*found.values()], [True] * (not is_shown))
+            self.execute("DROP POLICY one ON users")
+
+    @each("uuid", "kinds")
+    def test_a_policy_that_reads_no_row(self, kind):
         """That it can't read its own setting is a fault, and no name that doesn't exist."""
-        self.execute("ALTER TABLE users ADD tenant uuid, ENABLE ROW LEVEL SECURITY")
-        self.execute("CREATE POLICY own ON users USING (tenant = current_setting('a.b')::uuid)")
+        self.execute("DROP TYPE IF EXISTS kinds CASCADE")
+        self.execute("CREATE TYPE kinds AS ENUM ('ann')")
+        self.create()
+        self.give("one")
+        self.execute(f"ALTER TABLE users ADD tenant {kind}, ENABLE ROW LEVEL SECURITY")
+        self.execute(f"CREATE POLICY own ON users USING (tenant = current_setting('a.b')::{kind})")
         role = self.of_role("SELECT, UPDATE")
 
         def unset():
