@@ -146,6 +146,10 @@ class Table:
             await dialect.prepare(session)
             await dialect.start(session)
             answer = await self._answer(session, worked, also)
+            if answer.reply is Reply.CHANGED:
+                # What a trigger has written in the place of a row that isn't counted, say.
+                await dialect.undo(session)
+                return answer
             if answer.reply.makes_change:
                 self.before_commit(worked)
             is_sent = True
@@ -260,7 +264,9 @@ class Table:
                 copy = await self.one(session, self.dialect.locked, key)
                 for put in puts:
                     ticket = Ticket(Request(Kind.RESET, key), copy)
-                    await self.compare(session, Worked(ticket, put.reply, put.after))
+                    answer = await self.compare(session, Worked(ticket, put.reply, put.after))
+                    if answer.reply is not put.reply:
+                        raise StoreFault("the server doesn't count the row that it has written")
                     await self.dialect.settle(session)
                     copy = put.after
         except StoreFault as raised:
