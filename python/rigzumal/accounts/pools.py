@@ -204,7 +204,7 @@ class PerUse:
             connecting = self._connect()
             if not inspect.isawaitable(connecting):
                 with suppress(Exception):
-                    connecting.close()
+                    connecting.close()  # type: ignore[attr-defined]
                 raise TypeError("`connect` returned no awaitable: use Accounts and PerThread")
             opening = asyncio.ensure_future(connecting)
             try:

@@ -6,7 +6,7 @@ from unittest import mock
 import engines
 import support
 from support import CHECK_FAILED, each
-from rigzumal.accounts import PerThread, Reply, StoreFault
+from rigzumal.accounts import PerThread, Reply
 from rigzumal.accounts.types import Kind
 
 CASE, BLANKS = "differ in case", "differ by blanks at the end"
@@ -125,48 +125,6 @@ class OnSqlite(Said, engines.OnSqlite, support.Base):
         self.assertEqual((fault.code, fault.is_error), (code, bool(is_error)))
         self.assertEqual(fault.severity.value, "error" if is_error else "warning")
         self.assertEqual(str(fault), fault.text)
-
-    def test_a_key_that_is_generated(self):
-        """It is a column like any other."""
-        self.execute("DROP TABLE users")
-        generated = "name TEXT AS (lower(typed)) STORED UNIQUE"
-        self.execute(self.table_of.format(f"typed TEXT PRIMARY KEY, {generated}, record TEXT"))
-        self.execute("INSERT INTO users (typed, record) VALUES ('Ann', ?)", support.RECORD)
-        self.assertEqual(self.accounts().examine(), [])
-        self.assert_replies("login ann one yes; change ann one two replaced")
-
-    def test_records_that_are_bytes(self):
-        """A column of text may have them too."""
-        self.execute("UPDATE users SET record = CAST(record AS BLOB)")
-        self.assertRaisesRegex(StoreFault, "bytes", self.accounts().login, "ann", "one")
-        (fault,) = self.accounts().examine()
-        said = "record is a blob in some row, not text"
-        self.assertEqual((fault.code, fault.is_error, fault.text), ("record-type", True, said))
-
-    def test_a_view_that_counts_no_row(self):
-        """SQLite counts no row that a trigger writes in a view's place."""
-        self.execute("CREATE VIEW seen AS SELECT * FROM users")
-        self.execute(
-            "CREATE TRIGGER puts INSTEAD OF UPDATE ON seen"
-            " BEGIN UPDATE users SET record = NEW.record WHERE name = NEW.name; END"
-        )
-        accounts = self.accounts(dialect=self.another_dialect(table="seen"))
-        codes = [it.code for it in accounts.examine() if it.is_error]
-        self.assertEqual(codes, ["key-not-unique", "not-a-table", "no-update"])
-        for name, *given in (("change", "one", "two"), ("reset", "two"), ("remove", "one")):
-            with self.subTest(name=name):
-                self.assertFalse(getattr(accounts, name)("ann", *given).makes_change)
-                self.assertTrue(self.is_right("one"), "what isn't counted isn't stored")
-
-    @each("CHECK (record IS NOT NULL)", "CHECK (coalesce(record, '') <> '')")
-    def test_records_that_can_not_be_removed(self, check):
-        self.execute("DROP TABLE users")
-        self.execute(self.table_of.format(f"name TEXT PRIMARY KEY, record TEXT {check}"))
-        self.give("one")
-        self.assertEqual(self.accounts().examine(), [])
-        (fault,) = self.accounts().examine(Kind.REMOVE)
-        said = f"no record can be removed: IntegrityError {CHECK_FAILED}".rstrip()
-        self.assertEqual((fault.code, fault.is_error, fault.text), ("no-update", True, said))
 
     @each(
         ("TEXT", int, "name is TEXT, and keys are int"),
