@@ -53,6 +53,35 @@ class MovingTest(Case):
         need_module("passlib", "bcrypt")
         self.run_sample("sample_of_moving.py", PAGE)
 
+    def lines_of(self, title, command, lines):
+        """What a command on the page, up to its file of records, makes of a file's lines."""
+        part = PAGE.read_text().split(f"\n## {title}\n", 1)[1].split("\n## ", 1)[0]
+        (found,) = re.findall(rf"^{command}.*> records$", part, re.M)
+        room = self.room()
+        for name in ("users", "users.htpasswd"):
+            (room / name).write_text("\n".join(lines) + "\n")
+        run("sh", "-c", found, at=room)
+        return (room / "records").read_text().splitlines()
+
+    def test_lines_of_dovecot(self):
+        """Who may come in from everywhere moves, with the record alone."""
+        rest = "1000:1000::/home/x::"
+        moves = [f"a{it}:{{{it}}}$argon2x:{rest}" for it in ("ARGON2ID", "ARGON2I", "ARGON2")]
+        moves += [f"ann:{{ARGON2ID}}$argon2x:{rest}x=nologins", "bare:{ARGON2ID}$argon2x"]
+        shut = "nologin nologin=y noauthenticate allow_nets=10.0.0.0/8 allow_real_nets=::1".split()
+        out = [f"x:{{ARGON2ID}}$argon2x:{rest}{it}" for it in (*shut, *(f"y=1 {it}" for it in shut))]
+        out += [f"#x:{{ARGON2ID}}$argon2x:{rest}", f"x:!{{ARGON2ID}}$argon2x:{rest}"]
+        out += [f"x:{{PLAIN}}secret:{rest}", f"x:{{ARGON2ID.HEX}}24:{rest}", "", "x", "x:"]
+        found = self.lines_of("Dovecot's passwd-file", "grep -vE", [*moves, *out])
+        self.assertEqual(found, [f"{it.partition(':')[0]} $argon2x" for it in moves])
+
+    def test_lines_of_htpasswd(self):
+        """What stands behind a record and a colon is a comment, as to Apache and nginx."""
+        moves = ["ann:$apr1$x$y", "ben:$2y$05$z:his comment", "c d:{SHA}x=:a:b"]
+        out = ["#x:$apr1$x$y", "x:!$apr1$x$y", "x:*", "x:!"]
+        found = self.lines_of("htpasswd", "grep -vE", [*moves, *out])
+        self.assertEqual(found, ["ann $apr1$x$y", "ben $2y$05$z", "c d {SHA}x="])
+
     def test_names_in_a_table_of_django(self):
         """A name is no line of another user's, whatever a service let people sign up with."""
         need("sqlite3")
