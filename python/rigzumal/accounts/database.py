@@ -21,6 +21,7 @@ from typing import Any, Final
 from urllib.parse import parse_qsl, unquote
 
 from rigzumal.accounts.dialects import Dialect, MariaDB, MySQL, Postgres, Sqlite
+from rigzumal.accounts.types import StoreFault
 
 _MYSQL: Final = re.compile(r"(?:([^:@/]*)(?::([^@/]*))?@)?([^/]*)/([^?]*)(?:\?(.*))?")
 _HOST: Final = re.compile(r"(?:\[([^]]+)\]|([^:\[\]]+))(?::([0-9]{1,5}))?")
@@ -71,6 +72,9 @@ class Database:
             return self._mysql()
         if self.kind == "postgresql":
             return self._postgresql()
+        folder = os.path.dirname(self._path)
+        if folder and not os.path.isdir(folder):
+            raise StoreFault(f"{folder}: no such folder")  # of which SQLite names nothing
         conn = sqlite3.connect(self._path, timeout=20, isolation_level=None)
         conn.execute("PRAGMA synchronous = FULL")
         return conn
