@@ -130,7 +130,7 @@ def _check_people(rest: str) -> None:
     them for a host or a port, and show it."""
     front, _, path = rest.partition("?")[0].partition("/")
     people, _, hosts = front.rpartition("@")
-    is_port = not _NO_PORT.search(re.sub(r"\[[^]]*]", "", hosts))
+    is_port = not _NO_PORT.search(re.sub(r"\[[^]]*]?", "", hosts))
     if _NO_ESCAPE.search(people) or "@" in people + path or not is_port:
         text = "in the user's name and password of a URL"
         raise ValueError(f"{text} % is written %25, @ is %40, / is %2F, and @ ends them")

@@ -282,6 +282,8 @@ class Urls(unittest.TestCase):
                 Database(f"{kind}://{rest}").connect()
             self.assertNotRegex(str(raised.exception), "secret|123456")
         self.assertEqual(self.tried, [])
+        with self.assertRaisesRegex(ValueError, r"a host of MySQL is name:port or \[address"):
+            Database("mysql://[::1/d").connect()
 
     @each(
         *("/d?user=u&password=sec%ret", "/d?password=sec%zz", "db/d?secret", "db/d?password=x&sec"),

@@ -281,6 +281,7 @@ class Errors(Base):
             'invalid integer value *** for connection option "port"',
         ),
         ('invalid port number: "12345678"', "invalid port number: ***"),
+        ('connection is bad: "12345678"', "connection is bad: ***"),  # as psycopg cuts it
         ("x" * 5000, "xxx"),
     )
     def test_unavailable_says_why(self, text, said):
