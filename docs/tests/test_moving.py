@@ -69,7 +69,8 @@ class MovingTest(Case):
         moves = [f"a{it}:{{{it}}}$argon2x:{rest}" for it in ("ARGON2ID", "ARGON2I", "ARGON2")]
         moves += [f"ann:{{ARGON2ID}}$argon2x:{rest}x=nologins", "bare:{ARGON2ID}$argon2x"]
         shut = "nologin nologin=y noauthenticate allow_nets=10.0.0.0/8 allow_real_nets=::1".split()
-        out = [f"x:{{ARGON2ID}}$argon2x:{rest}{it}" for it in (*shut, *(f"y=1 {it}" for it in shut))]
+        shut += [f"y=1 {it}" for it in shut]
+        out = [f"x:{{ARGON2ID}}$argon2x:{rest}{it}" for it in shut]
         out += [f"#x:{{ARGON2ID}}$argon2x:{rest}", f"x:!{{ARGON2ID}}$argon2x:{rest}"]
         out += [f"x:{{PLAIN}}secret:{rest}", f"x:{{ARGON2ID.HEX}}24:{rest}", "", "x", "x:"]
         found = self.lines_of("Dovecot's passwd-file", "grep -vE", [*moves, *out])

@@ -210,8 +210,8 @@ class Postgres(Dialect):
 
     def lacks_key(self, raised: BaseException, key: Key) -> bool:
         if self.number(raised) == _NO_VALUE:
-            # Other types refuse no key, but what a row's policy reads, say, which may be an enum too:
-            # the words end with the text that is none of its names.
+            # Other types refuse no key, but what a row's policy reads, say. That may be an enum
+            # too: the words end with the text that is none of its names.
             diagnosis = getattr(raised, "diag", None)
             said = str(getattr(diagnosis, "message_primary", None)).rstrip(_QUOTES)
             is_key = isinstance(key, str) and said.endswith(key.rstrip(_QUOTES))
