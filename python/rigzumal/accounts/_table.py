@@ -253,7 +253,7 @@ class Table:
 
     async def _trial(self, session: Session, puts: Sequence[_Put]) -> Optional[str]:
         """The reason why one of these can't be put into a row."""
-        fault, (put, *_) = None, puts
+        fault, put = None, puts[0]
         try:
             await self.dialect.start(session)
             key = await self._row(session)
