@@ -66,7 +66,7 @@ class MovingTest(Case):
     def test_lines_of_dovecot(self):
         """Who may come in from everywhere moves, with the record alone."""
         rest = "1000:1000::/home/x::"
-        moves = [f"a{it}:{{{it}}}$argon2x:{rest}" for it in ("ARGON2ID", "ARGON2I", "ARGON2")]
+        moves = [f"a{it}:{{{it}}}$argon2x:{rest}" for it in ("ARGON2ID", "argon2i", "Argon2")]
         moves += [f"ann:{{ARGON2ID}}$argon2x:{rest}x=nologins", "bare:{ARGON2ID}$argon2x"]
         shut = "nologin nologin=y noauthenticate allow_nets=10.0.0.0/8 allow_real_nets=::1".split()
         shut += [f"y=1 {it}" for it in shut]
