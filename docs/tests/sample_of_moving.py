@@ -7,6 +7,9 @@ import re
 import sqlite3
 import subprocess
 import sys
+from collections.abc import Callable
+from typing import Any
+from unittest import mock
 
 import bcrypt
 import rigzumal
@@ -31,6 +34,7 @@ OPEN = {
     "cid": f"userPassword: {{ARGON2}}{LOW.hash(PASSWORD)}",
     "dan": f"shadowExpire: -1\nloginShell: /bin/sh\nuserPassword: {SSHA}",
     "due": f"shadowLastChange: 20000\nshadowMax: 99999\nuserPassword: {SSHA}",
+    "till": f"pwdStartTime: 20200101000000Z\npwdEndTime: 99991231000000Z\nuserPassword: {SSHA}",
     "{ARGON2}ann": f"userPassword: {SSHA}",  # no other's name is made of it
     "a" * 1100: f"userPassword: {SSHA}",
 }
@@ -40,6 +44,11 @@ OUT = {
     "reset": f"pwdReset: TRUE\nuserPassword: {SSHA}",
     "new": f"shadowLastChange: 0\nuserPassword: {SSHA}",
     "aged": f"shadowMax: 90\nuserPassword: {SSHA}\nshadowLastChange: 20000",
+    "ended": f"pwdEndTime: 20200101000000Z\nuserPassword: {SSHA}",
+    "soon": f"pwdStartTime: 99991231000000Z\nuserPassword: {SSHA}",
+    "must": f"passwordExpirationTime: 19700101000000Z\nuserPassword: {SSHA}",
+    "left": f"userPassword: {SSHA}\nkrbPrincipalExpiration: 20200101000000Z",
+    "due_before": f"userPassword: {SSHA}\nkrbPasswordExpiration: 20200101000000Z",
     "bell\a": f"userPassword: {SSHA}",
     "shell": f"userPassword: {SSHA}\nloginShell: /usr/sbin/nologin",
     "false": f"userPassword: {SSHA}\nLOGINSHELL: /bin/false",
@@ -79,21 +88,24 @@ def check_logins(accounts: Accounts, names: list[str], shut: list[str]) -> None:
             assert accounts.login(text_of(name), PASSWORD) is Reply.NO_ACCOUNT, what
 
 
+def strict(call: Callable[[bytes, bytes], Any]) -> Callable[[bytes, bytes], Any]:
+    """A call of bcrypt's, as bcrypt 5 has it."""
+
+    def called(password: bytes, other: bytes) -> Any:
+        if len(password) > 72:
+            raise ValueError("password cannot be longer than 72 bytes")
+        return call(password, other)
+
+    return called
+
+
 def check_table(page: str) -> None:
     """bcrypt in a table of one's own, of which one user is no longer active."""
     for name, code in files(part(page, "bcrypt in a table of your own")).items():
         pathlib.Path(name).write_text(code)
     import shop
 
-    checkpw = bcrypt.checkpw
-
-    def strict(password: bytes, record: bytes) -> bool:
-        """As bcrypt 5 has it."""
-        if len(password) > 72:
-            raise ValueError("password cannot be longer than 72 bytes")
-        return checkpw(password, record)
-
-    bcrypt.checkpw = strict
+    bcrypt.checkpw = strict(bcrypt.checkpw)
     with shop.connect() as conn:
         conn.execute("CREATE TABLE users (email TEXT PRIMARY KEY, password TEXT, active INT)")
         rows = [("ann", BCRYPT, 1), ("off", BCRYPT, 0), *((*it, 1) for it in SHUT.items())]
@@ -133,9 +145,22 @@ def check_ldif(page: str) -> None:
         conn.execute("CREATE TABLE accounts (name TEXT PRIMARY KEY, record TEXT)")
         conn.executemany("INSERT INTO accounts VALUES (?, ?)", lines)
         conn.executemany("INSERT INTO accounts VALUES (?, ?)", SHUT.items())
-    names: dict[str, object] = {}
+        conn.execute("INSERT INTO accounts VALUES ('bcr', ?)", [f"{{CRYPT}}{BCRYPT}"])
+    names: dict[str, Any] = {}
     exec(code, names)
-    check_logins(names["accounts"], [*OPEN], [*SHUT, *OUT, "eve"])
+    check_bcrypt_5(names["accounts"])
+    check_logins(names["accounts"], [*OPEN, "bcr"], [*SHUT, *OUT, "eve"])
+
+
+def check_bcrypt_5(accounts: Accounts) -> None:
+    """passlib 1.7 can't use it, which is an error of each login, and no wrong password."""
+    with mock.patch.object(bcrypt, "hashpw", strict(bcrypt.hashpw)):
+        try:
+            reply = accounts.login("bcr", PASSWORD)
+        except ValueError as raised:
+            assert "72 bytes" in str(raised)
+        else:
+            raise AssertionError(reply)
 
 
 def main() -> None:

@@ -7,14 +7,28 @@ import pathlib
 import re
 import sqlite3
 import sys
+import textwrap
 import unittest
 
 HERE = pathlib.Path(__file__).resolve().parent
 sys.path.insert(0, str(HERE.parent.parent))
-from tests.helpers import PYTHON, TOP, Case, need, need_module, run  # noqa: E402
+from tests.helpers import PYTHON, TOP, Case, ended, need, need_module, run  # noqa: E402
 from tests.hostile_fields import NAMES  # noqa: E402
 
 PAGE = TOP / "docs/MIGRATING.md"
+# Django's table in a database whose names differ in no case; and a project without a manage.py.
+FOLDED = """CREATE TABLE auth_user (id INTEGER PRIMARY KEY, password TEXT,
+last_login TEXT, is_superuser BOOL, username TEXT COLLATE NOCASE UNIQUE, first_name TEXT,
+last_name TEXT, email TEXT, is_staff BOOL, is_active BOOL, date_joined TEXT)"""
+PROJECT = """
+import django
+from django.conf import settings
+of_sqlite = {"ENGINE": "django.db.backends.sqlite3", "NAME": "db"}
+apps = ["django.contrib.auth", "django.contrib.contenttypes"]
+settings.configure(DATABASES={"default": of_sqlite}, INSTALLED_APPS=apps, USE_TZ=True)
+django.setup()
+exec(open("to_django.py").read())
+"""
 ENVIRONMENT = {"PYTHONPATH": os.pathsep.join(map(str, (PYTHON, TOP)))}
 
 
@@ -39,6 +53,36 @@ class MovingTest(Case):
         need_module("passlib", "bcrypt")
         self.run_sample("sample_of_moving.py", PAGE)
 
+    def lines_of(self, title, command, lines):
+        """What a command on the page, up to its file of records, makes of a file's lines."""
+        part = PAGE.read_text().split(f"\n## {title}\n", 1)[1].split("\n## ", 1)[0]
+        (found,) = re.findall(rf"^{command}.*> records$", part, re.M)
+        room = self.room()
+        for name in ("users", "users.htpasswd"):
+            (room / name).write_text("\n".join(lines) + "\n")
+        run("sh", "-c", found, at=room)
+        return (room / "records").read_text().splitlines()
+
+    def test_lines_of_dovecot(self):
+        """Who may come in from everywhere moves, with the record alone."""
+        rest = "1000:1000::/home/x::"
+        moves = [f"a{it}:{{{it}}}$argon2x:{rest}" for it in ("ARGON2ID", "argon2i", "Argon2")]
+        moves += [f"ann:{{ARGON2ID}}$argon2x:{rest}x=nologins", "bare:{ARGON2ID}$argon2x"]
+        shut = "nologin nologin=y noauthenticate allow_nets=10.0.0.0/8 allow_real_nets=::1".split()
+        shut += [f"y=1 {it}" for it in shut]
+        out = [f"x:{{ARGON2ID}}$argon2x:{rest}{it}" for it in shut]
+        out += [f"#x:{{ARGON2ID}}$argon2x:{rest}", f"x:!{{ARGON2ID}}$argon2x:{rest}"]
+        out += [f"x:{{PLAIN}}secret:{rest}", f"x:{{ARGON2ID.HEX}}24:{rest}", "", "x", "x:"]
+        found = self.lines_of("Dovecot's passwd-file", "grep -vE", [*moves, *out])
+        self.assertEqual(found, [f"{it.partition(':')[0]} $argon2x" for it in moves])
+
+    def test_lines_of_htpasswd(self):
+        """What stands behind a record and a colon is a comment, as to Apache and nginx."""
+        moves = ["ann:$apr1$x$y", "ben:$2y$05$z:his comment", "c d:{SHA}x=:a:b"]
+        out = ["#x:$apr1$x$y", "x:!$apr1$x$y", "x:*", "x:!"]
+        found = self.lines_of("htpasswd", "grep -vE", [*moves, *out])
+        self.assertEqual(found, ["ann $apr1$x$y", "ben $2y$05$z", "c d {SHA}x="])
+
     def test_names_in_a_table_of_django(self):
         """A name is no line of another user's, whatever a service let people sign up with."""
         need("sqlite3")
@@ -54,6 +98,31 @@ class MovingTest(Case):
         moved = [it for it in names if re.fullmatch("[a-zA-Z0-9@._+-]*", it)]
         self.assertEqual(lines, [f"{it}:argon2$argon2id$x" for it in moved])
         self.assertEqual(moved[-2:], ["Ann.B+c@x.org", "b_c-d"])
+
+    def test_names_that_are_one_to_a_database_of_django(self):
+        """Nobody gets the user of another name, where the database can't tell them apart."""
+        need_module("django")
+        form = r"^    # to_django.py\n((?:    .*\n)+)"
+        (code,) = re.findall(form, PAGE.read_text(), re.M)
+        room = self.room()
+        (room / "to_django.py").write_text(textwrap.dedent(code))
+        with contextlib.closing(sqlite3.connect(room / "db")) as conn:
+            conn.execute(FOLDED)
+        for lines, said, stands in (
+            ("ann:$argon2id$one\nben:\n", "", "argon2$argon2id$one"),
+            ("Ann:$argon2id$two\n", "ann and Ann are one user here", "argon2$argon2id$one"),
+            ("ann:$argon2id$two\n", "", "argon2$argon2id$two"),
+        ):
+            with self.subTest(lines=lines):
+                (room / "passwd").write_text(lines)
+                done = ended([sys.executable, "-c", PROJECT], cwd=room)
+                self.assertEqual((done.faults.strip(), bool(done.status)), (said, bool(said)))
+                with contextlib.closing(sqlite3.connect(room / "db")) as conn:
+                    rows = conn.execute("SELECT username, password, is_active FROM auth_user")
+                    found = {name: more for name, *more in rows}
+                self.assertEqual(found["ann"], [stands, 1])
+                self.assertFalse(found["ben"][1])
+                self.assertEqual(len(found), 2)
 
 
 if __name__ == "__main__":

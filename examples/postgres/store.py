@@ -34,8 +34,9 @@ class Store:
 
         ValueError if no new account may have the address or the password.
         """
-        if not self.columns.can_stand(email):
-            raise ValueError("no text of PostgreSQL has a NUL byte or a lone surrogate")
+        self.columns.check_key(email)  # a TypeError of None, say
+        if len(email) > 254 or not self.columns.can_stand(email):
+            raise ValueError("an address has up to 254 letters, no NUL and no lone surrogate")
         self.columns.check_new_key(email)
         record = self.accounts.new_record(password)
         with self.pool.connection() as conn:

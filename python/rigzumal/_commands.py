@@ -10,7 +10,7 @@ import re
 import sys
 import warnings
 from collections.abc import Callable, Iterator, Sequence
-from typing import NoReturn, Optional, Union
+from typing import Any, NoReturn, Optional, Union
 
 from rigzumal._hashers import LOW_MEMORY, LowMemoryWarning, PasswordHasher, ScryptHasher
 from rigzumal._library import NoRandomError, OutOfMemoryError
@@ -59,7 +59,13 @@ _SYNONYMS = {
 
 
 class Words(argparse.ArgumentParser):
-    """A parser that exits with status 1 if it refuses a word."""
+    """A parser that exits with status 1 if it refuses a word.
+
+    It takes no abbreviation: `--pass` would be `--passes`, whose value an error shows.
+    """
+
+    def __init__(self, **given: Any) -> None:
+        super().__init__(allow_abbrev=False, **given)
 
     def parse_args(  # type: ignore[override]
         self,

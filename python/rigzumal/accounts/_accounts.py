@@ -157,7 +157,8 @@ class Accounts(Operations[Pool]):
 
         It writes a record into a new row, or into one of the table's if a new one is
         impossible, in a transaction that it rolls back. Name Kind.REMOVE if the service
-        removes records: then a column that is NOT NULL is an error. Of a full disk it warns
+        removes records: then a column that is NOT NULL is an error, and the trial removes
+        one too. Of a full disk it warns
         on SQLite, as far as the filesystem tells; no quota of a user's is seen.
 
         Raises:

@@ -22,7 +22,8 @@ _AT_ONCE: Final = 0.5  # seconds in which a pool's dead connections are worked t
 _LONGEST: Final = 400  # letters of a reason
 _AWAY: Final = 5.0  # seconds for which a replica that failed isn't asked
 _DSN_PASSWORD: Final = re.compile(
-    r"""((?:password|passwd|pwd)\s*=\s*|//[^/@\s:]*:)('[^']*'|"[^"]*"|[^\s@;,]+)""",
+    r"""((?:password|passwd|pwd)\s*=\s*|//[^/@\s:]*:|invalid integer value |: (?="))"""
+    r"""('[^']*'|"[^"]*"|[^\s@;,]+)""",
     re.I,
 )
 

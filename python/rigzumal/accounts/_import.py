@@ -287,8 +287,8 @@ def _read_twice(file: pathlib.Path) -> Iterator[IO[str]]:
 def line_of(name: object, record: Optional[str]) -> str:
     """The line of an import; empty of an account without a record, or if it fits none."""
     text, line = str(name), f"{name} {record}"
-    fits = record and line.isprintable() and " " not in record and text == text.strip()
-    return line if fits else ""
+    fits = text and record and line.isprintable() and " " not in record
+    return line if fits and text == text.strip() else ""
 
 
 def shown(name: object) -> str:

@@ -136,8 +136,9 @@ class Judge:
         self._secret = self._secrets[0]
         self.sample = f"{self._setting()}${encoded(os.urandom(_TAG_SIZE))}"
         self._parts = parts(self.sample)
-        rest = f"${'A' * 22}${encoded(bytes(_TAG_SIZE))}"
-        self._old = frozenset(parts(costs + rest).costs for costs in upgrade_from)
+        if isinstance(upgrade_from, str):
+            raise TypeError("upgrade_from is a list of costs, not a str")
+        self._old = frozenset(map(_numbers_of, upgrade_from))
         if self._parts.costs in self._old:
             raise ValueError("upgrade_from has the hasher's own costs")
 
@@ -279,6 +280,15 @@ def verdict_of(answer: object) -> Optional[bool]:
         return answer
     kind = type(answer).__name__
     raise TypeError(f"`foreign` must return True, False or None, not a {kind}")
+
+
+def _numbers_of(costs: str) -> tuple[str, int, int, int, int]:
+    """The numbers of costs; raises InvalidRecordError of another text, such as a record."""
+    try:
+        return parts(f"{costs}${'A' * 22}${encoded(bytes(_TAG_SIZE))}").costs
+    except InvalidRecordError as fault:
+        wanted = 'upgrade_from has costs such as "$argon2i$v=19$m=65536,t=3,p=4"'
+        raise InvalidRecordError(fault.number, f"{wanted}, and one isn't: {fault}") from None
 
 
 def _wrong(request: Request) -> Reply:

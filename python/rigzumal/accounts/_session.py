@@ -148,6 +148,8 @@ class Runtime:
         self, options: Mapping[str, Any], executor: Optional[ThreadPoolExecutor] = None
     ) -> None:
         if executor is not None and not isinstance(executor, self._executors):
+            if not self._executors:
+                raise TypeError("an executor is for AsyncAccounts alone")
             kind = type(executor).__name__
             raise TypeError(f"AsyncAccounts needs a ThreadPoolExecutor, not {kind}")
         self._options, self._executor = options, executor

@@ -9,9 +9,9 @@ from __future__ import annotations
 
 import secrets
 import uuid
-from collections.abc import Callable, Container
+from collections.abc import Callable, Container, Sequence
 from dataclasses import dataclass
-from typing import Any, Final, NoReturn, Optional, Union
+from typing import Any, Final, NamedTuple, NoReturn, Optional, Union
 
 from rigzumal.accounts._running import RUNNING, Also, runs_on
 from rigzumal.accounts._session import Hook, HookFailed, Session
@@ -46,6 +46,14 @@ class Undone:
 
     cause: Optional[BaseException]
     reason: str = ""  # why there is no connection, in words that have no row
+
+
+class _Put(NamedTuple):
+    """A change of a trial."""
+
+    reply: Reply
+    after: Copy
+    what: str  # is done to a record, in a word
 
 
 @dataclass
@@ -83,7 +91,7 @@ class Table:
         try:
             return _record((await session.execute(sql, key)).rows)
         except Exception as error:
-            if not self.dialect.lacks_key(error):
+            if not self.dialect.lacks_key(error, key):
                 raise
         return NO_ROW
 
@@ -138,6 +146,10 @@ class Table:
             await dialect.prepare(session)
             await dialect.start(session)
             answer = await self._answer(session, worked, also)
+            if answer.reply is Reply.CHANGED:
+                # What a trigger has written in the place of a row that isn't counted, say.
+                await dialect.undo(session)
+                return answer
             if answer.reply.makes_change:
                 self.before_commit(worked)
             is_sent = True
@@ -233,37 +245,45 @@ class Table:
         for place, fault in enumerate(faults):
             if fault.code == NOT_NULL and Kind.REMOVE in used:
                 faults[place] = Fault(Severity.ERROR, fault.code, fault.text)
-        text = await self._trial(session, record) if found.is_usable else None
+        puts = [_Put(Reply.REPLACED, record, "written")]
+        if Kind.REMOVE in used and all(it.code != NOT_NULL for it in faults):
+            puts.append(_Put(Reply.REMOVED, None, "removed"))
+        text = await self._trial(session, puts) if found.is_usable else None
         return faults + ([Fault(Severity.ERROR, "no-update", text)] if text else [])
 
-    async def _trial(self, session: Session, record: str) -> Optional[str]:
-        """The reason why no record can be written."""
-        fault = None
+    async def _trial(self, session: Session, puts: Sequence[_Put]) -> Optional[str]:
+        """The reason why one of these can't be put into a row."""
+        fault, put = None, puts[0]
         try:
             await self.dialect.start(session)
             key = await self._row(session)
             if key is None:
-                await self._put_nowhere(session, record)
+                await self._put_nowhere(session, put.after)
             else:
                 # With a lock, so that nobody else's change comes between.
                 copy = await self.one(session, self.dialect.locked, key)
-                ticket = Ticket(Request(Kind.RESET, key), copy)
-                await self.compare(session, Worked(ticket, Reply.REPLACED, record))
-                await self.dialect.settle(session)
+                for put in puts:
+                    ticket = Ticket(Request(Kind.RESET, key), copy)
+                    answer = await self.compare(session, Worked(ticket, put.reply, put.after))
+                    if answer.reply is not put.reply:
+                        raise StoreFault("the server doesn't count the row that it has written")
+                    await self.dialect.settle(session)
+                    copy = put.after
         except StoreFault as raised:
             fault = str(raised)
         except Exception as raised:
-            fault = f"no record can be written: {self.name(raised)}"
+            fault = f"no record can be {put.what}: {self.name(raised)}"
         await self._is_undone(session)
         return fault
 
-    async def _put_nowhere(self, session: Session, record: str) -> None:
+    async def _put_nowhere(self, session: Session, record: Copy) -> None:
         """An UPDATE of no row, which the server refuses if the role may not update."""
+        key = unused_key(self.dialect.key_type)
         try:
-            await self.dialect.put(session, record, unused_key(self.dialect.key_type), None)
+            await self.dialect.put(session, record, key, None)
         except Exception as raised:
             # An enum has no name that no row has, so an empty table of one shows nothing.
-            if not self.dialect.lacks_key(raised):
+            if not self.dialect.lacks_key(raised, key):
                 raise
 
     async def _row(self, session: Session) -> Optional[Key]:

@@ -216,12 +216,14 @@ class _Command:
         key = self.name
         copy = self.copy(key)
         while isinstance(copy, str):
+            line = line_of(key, copy)
+            if self.args.show and not (line or self.args.json):
+                raise Refusal("the name or the record fits no line: add --json")
             ticket = Ticket(Request(Kind.REMOVE, key), copy)
             answer = self.accounts.commit(Worked(ticket, Reply.REMOVED, None))
             if answer.reply is Reply.REMOVED:
                 shown = {"record": copy} if self.args.show else {}
-                text = f"{self.args.name} {copy}" if shown else "disabled"
-                return self.write(text, reply="disabled", **shown)
+                return self.write(line if shown else "disabled", reply="disabled", **shown)
             copy = answer.after
         return self.say(Reply.NO_ACCOUNT if copy is NO_ROW else Reply.ABSENT)
 

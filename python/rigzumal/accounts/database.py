@@ -21,10 +21,12 @@ from typing import Any, Final
 from urllib.parse import parse_qsl, unquote
 
 from rigzumal.accounts.dialects import Dialect, MariaDB, MySQL, Postgres, Sqlite
+from rigzumal.accounts.types import StoreFault
 
 _MYSQL: Final = re.compile(r"(?:([^:@/]*)(?::([^@/]*))?@)?([^/]*)/([^?]*)(?:\?(.*))?")
 _HOST: Final = re.compile(r"(?:\[([^]]+)\]|([^:\[\]]+))(?::([0-9]{1,5}))?")
 _NO_ESCAPE: Final = re.compile("%(?![0-9A-Fa-f]{2})")
+_NO_PORT: Final = re.compile(r":(?![0-9]{0,5}(?:,|$))")
 _OPTIONS: Final = ("charset", "unix_socket", "ssl_ca", "ssl_cert", "ssl_key")
 
 
@@ -70,6 +72,9 @@ class Database:
             return self._mysql()
         if self.kind == "postgresql":
             return self._postgresql()
+        folder = os.path.dirname(self._path)
+        if folder and not os.path.isdir(folder):
+            raise StoreFault(f"{folder}: no such folder")  # of which SQLite names nothing
         conn = sqlite3.connect(self._path, timeout=20, isolation_level=None)
         conn.execute("PRAGMA synchronous = FULL")
         return conn
@@ -122,12 +127,13 @@ class Database:
 
 def _check_people(rest: str) -> None:
     """Refuses a user's name and password that are no part of a URL: a driver would take the rest of
-    them for a host, and show it."""
+    them for a host or a port, and show it."""
     front, _, path = rest.partition("?")[0].partition("/")
-    people = front.rpartition("@")[0]
-    if _NO_ESCAPE.search(people) or "@" in people + path:
+    people, _, hosts = front.rpartition("@")
+    is_port = not _NO_PORT.search(re.sub(r"\[[^]]*]?", "", hosts))
+    if _NO_ESCAPE.search(people) or "@" in people + path or not is_port:
         text = "in the user's name and password of a URL"
-        raise ValueError(f"{text} % is written %25, @ is %40, / is %2F")
+        raise ValueError(f"{text} % is written %25, @ is %40, / is %2F, and @ ends them")
 
 
 def _place(text: str) -> tuple[str, int]:

@@ -42,11 +42,21 @@ _MAKERS: Final = {
 
 
 def check_pool(pool: object, enter: str) -> None:
-    """Raises TypeError for a connection or an engine in place of a pool, and for a PerThread or a
-    PerUse of the other kind of accounts."""
+    """Raises TypeError for a connection, an engine or one use in place of a pool, and for a
+    PerThread or a PerUse of the other kind of accounts."""
     is_other = isinstance(pool, PerThread if enter == "__aenter__" else PerUse)
-    if not callable(pool) or hasattr(type(pool), "cursor") or is_other:
+    # A context manager of contextlib's may be called too, as a decorator.
+    is_use = isinstance(pool, (AbstractContextManager, AbstractAsyncContextManager))
+    is_use = is_use and type(pool).__module__ == "contextlib"
+    if not callable(pool) or hasattr(type(pool), "cursor") or is_other or is_use:
         raise TypeError(f"pass a pool, not a {type(pool).__name__}: {_MAKERS[enter]}")
+
+
+def check_connect(connect: object, of: str) -> None:
+    """Raises TypeError for a connection or a DSN in place of what opens one."""
+    if not callable(connect) or hasattr(type(connect), "cursor"):
+        kind = type(connect).__name__
+        raise TypeError(f"{of} needs a function that opens a connection, not a {kind}")
 
 
 def lent(pool: Any, enter: str) -> Any:
@@ -90,6 +100,7 @@ class PerThread:
     """
 
     def __init__(self, connect: Callable[[], Any]) -> None:
+        check_connect(connect, "PerThread")
         self._connect = connect
         self._local = threading.local()
         self._parents: list[_Held] = []
@@ -170,6 +181,7 @@ class PerUse:
     """
 
     def __init__(self, connect: Callable[[], Awaitable[Any]]) -> None:
+        check_connect(connect, "PerUse")
         self._connect = connect
         self._turns: weakref.WeakKeyDictionary[Any, asyncio.Semaphore]
         self._turns = weakref.WeakKeyDictionary()
@@ -189,7 +201,12 @@ class PerUse:
 
         loop = asyncio.get_running_loop()
         async with self._turns.setdefault(loop, asyncio.Semaphore(_CONNECTING)):
-            opening = asyncio.ensure_future(self._connect())
+            connecting = self._connect()
+            if not inspect.isawaitable(connecting):
+                with suppress(Exception):
+                    connecting.close()  # type: ignore[attr-defined]
+                raise TypeError("`connect` returned no awaitable: use Accounts and PerThread")
+            opening = asyncio.ensure_future(connecting)
             try:
                 return await asyncio.shield(opening)
             except asyncio.CancelledError:
@@ -213,6 +230,8 @@ def of_engine(engine: Any) -> Any:
     `engine.execution_options(isolation_level="AUTOCOMMIT")`. If its pool has no free
     connection in time, an operation is Unavailable.
     """
+    if not hasattr(engine, "connect"):
+        raise TypeError(f"of_engine needs an engine of SQLAlchemy, not a {type(engine).__name__}")
 
     @contextmanager
     def pool() -> Iterator[Any]:

@@ -274,6 +274,17 @@ class Urls(unittest.TestCase):
         self.assertEqual(Database(url).connect()["password"], password)
         self.tried.clear()
 
+    @each("ada:secret", "ada:secret/d", "one:5432,ada:secret/d", "[::1]:secret/d", "ada:123456/d")
+    def test_a_password_without_a_host(self, rest):
+        """It stands where a port does, which a driver's error shows."""
+        for kind in ("mysql", "postgresql"):
+            with self.assertRaisesRegex(ValueError, "and @ ends them") as raised:
+                Database(f"{kind}://{rest}").connect()
+            self.assertNotRegex(str(raised.exception), "secret|123456")
+        self.assertEqual(self.tried, [])
+        with self.assertRaisesRegex(ValueError, r"a host of MySQL is name:port or \[address"):
+            Database("mysql://[::1/d").connect()
+
     @each(
         *("/d?user=u&password=sec%ret", "/d?password=sec%zz", "db/d?secret", "db/d?password=x&sec"),
         *("u:secret@[::1/d", "u:x@[::1]secret/d"),

@@ -174,11 +174,21 @@ class Exports(Commands):
         self.run_command("import", "--foreign", self.file(*said.splitlines()))
         self.assertEqual(self.rows(), rows)
         odd = {"a\nroot": RECORD, " x": RECORD, "x ": RECORD, "dan": "a b", "eve": "a\nb"}
+        odd[""] = RECORD
         self.insert(odd)
         found, error = self.streams("export", status=5)
         self.assertEqual((found, error.split()[1]), (said, str(len(odd))))
         found = [json.loads(it) for it in self.run_command("--json", "export").splitlines()]
         self.assertEqual({it["name"]: it["record"] for it in found}, {**rows, **odd})
+
+    def test_a_name_that_is_another_line(self):
+        """It keeps its record where only a line would have it."""
+        self.insert({"a\nroot": RECORD})
+        _, error = self.streams("disable", "--show", "a\nroot", status=6)
+        self.assertIn("add --json", error)
+        self.assertEqual(self.rows(), {"a\nroot": RECORD})
+        said = self.run_command("--json", "disable", "--show", "a\nroot")
+        self.assertEqual(json.loads(said)["record"], RECORD)
 
     def test_what_was_disabled_comes_back(self):
         self.assert_answers(("add ann", "one", "enrolled"))

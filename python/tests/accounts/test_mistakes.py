@@ -2,17 +2,20 @@
 reads it alone knows what to type."""
 
 import asyncio
+import concurrent.futures
+import contextlib
 import os
+import sqlite3
 import sys
 import warnings
 from unittest import mock
 
 import support
-from support import FOREIGN, LOW, RECORD, Base, each, module, streams
+from support import FOREIGN, HIGH, LOW, RECORD, Base, each, module, streams
 import rigzumal
 from rigzumal import InvalidNumbersError, InvalidRecordError, LowMemoryWarning, PasswordHasher
 from rigzumal import __main__, _hashers
-from rigzumal.accounts import Accounts, AsyncAccounts, PerThread, Postgres, StoreFault
+from rigzumal.accounts import Accounts, AsyncAccounts, PerThread, Postgres, StoreFault, of_engine
 from rigzumal.accounts.pools import PerUse
 
 HASHERS = (
@@ -41,6 +44,19 @@ HASHERS = (
 )
 # What a user of another library looks for, and hasn't: Python names the class.
 NOT_THERE = ("verify_and_update", "needs_rehash", "check")
+
+
+THREAD = concurrent.futures.ThreadPoolExecutor(1)  # which starts none before its first work
+
+
+@contextlib.contextmanager
+def use():
+    yield
+
+
+@contextlib.asynccontextmanager
+async def of_task():
+    yield
 
 
 async def awaited(hasher):
@@ -128,6 +144,40 @@ class InPython(Base):
             accounts.login("ann", "one")
 
     @each(
+        (lambda it: PerThread(it.conn), r"PerThread needs a function that .*, not a Connection"),
+        (lambda it: PerThread("sqlite:///users.db"), "opens a connection, not a str"),
+        (lambda it: PerUse(it.conn), r"PerUse needs a function that .*, not a Connection"),
+        (lambda it: of_engine("sqlite:///users.db"), "an engine of SQLAlchemy, not a str"),
+        (lambda it: it.over(use()), r"not a _GeneratorContextManager: PerThread\(connect\)"),
+        (lambda it: AsyncAccounts(of_task(), it.dialect, LOW), r"Manager: PerUse\(connect\)"),
+        (lambda it: it.accounts(patience="10"), "patience is a number of seconds, not a str"),
+        (lambda it: it.accounts(patience=None), "patience is a number of seconds, not a None"),
+        (lambda it: it.accounts(executor=THREAD), "an executor is for AsyncAccounts alone"),
+        (lambda it: it.accounts(upgrade_from=LOW.costs), "a list of costs, not a str"),
+    )
+    def test_what_stands_in_the_place_of_another(self, act, words):
+        self.assertRaisesRegex(TypeError, words, act, self)
+
+    def test_a_record_among_costs(self):
+        with self.assertRaisesRegex(InvalidRecordError, "upgrade_from has costs such as") as raised:
+            self.accounts(HIGH, upgrade_from=[RECORD])
+        self.assertNotIn(RECORD[-20:], str(raised.exception))
+
+    def test_a_blocking_driver_for_tasks(self):
+        """Its connection is closed, which no task would do."""
+        made = []
+
+        def connect():
+            made.append(self.connect())
+            return made[-1]
+
+        accounts = AsyncAccounts(PerUse(connect), self.dialect, LOW)
+        with self.assertRaisesRegex(TypeError, "no awaitable: use Accounts and PerThread"):
+            asyncio.run(accounts.login("ann", "one"))
+        (conn,) = made
+        self.assertRaises(sqlite3.ProgrammingError, conn.execute, "SELECT 1")
+
+    @each(
         ({"table": "user"}, "no such table: user"),
         ({"key": "mail"}, "no such column: mail"),
         ({"record": "recrod"}, "no such column: recrod"),
@@ -180,6 +230,9 @@ class AtAShell(support.Commands):
         *((f"hash {it} 12", "is --memory, --pass") for it in ("--cost", "--costs", "--setting")),
         *((f"hash --memory {it}", f"'{it}' is not a size") for it in ("M", "x", "6x", "\u0663M")),
         ("hash --memroy 64M", "is --memory meant?"),
+        ("hash --pass hunter2", "an unknown option, which isn't shown; is --passes meant?"),
+        ("hash --pass=hunter2", "an unknown option, which isn't shown; is --passes meant?"),
+        ("accounts --database sqlite:///x add ann --pass hunter2", "isn't shown; is --passes"),
         ("hash --hunter2", "an unknown option, which isn't shown\n"),
         # Options of other commands alone.
         ("calibrate --time 3", "an unknown option, which isn't shown\n"),
@@ -237,6 +290,7 @@ class AtAShell(support.Commands):
     @each(
         ("list", "no database: --database URL, or RIGZUMAL_DATABASE", 1),
         ("--database sqlite:///none.db list", "none.db: no such file; init makes one", 5),
+        ("--database sqlite:///nodir/u.db init", "nodir: no such folder", 5),
         ("--database postgresql://127.0.0.1:1/x init", "Connection refused", 5),
         ("--database mariadb://127.0.0.1:1/x init", "Can't connect to MySQL server on", 5),
     )

@@ -116,6 +116,16 @@ class Operations(Base):
         self.assert_replies(text, self.over(primary, replica=replica))
         self.assertEqual(uses.mock_calls, [mock.call("replica"), mock.call("primary")])
 
+    def test_a_late_replica_costs_one_hash(self):
+        """What stands at the primary is then judged, and not looked at again."""
+        stale = sqlite3.connect(":memory:", isolation_level=None)
+        self.addCleanup(stale.close)
+        stale.execute("CREATE TABLE users (name TEXT PRIMARY KEY, record TEXT)")
+        stale.execute("INSERT INTO users VALUES ('ann', ?)", [LOW.hash("old")])
+        replica = lambda: contextlib.nullcontext(stale)
+        with self.statements("SELECT SELECT"), self.hashes(2):
+            self.assert_replies("verify ann one yes", self.accounts(replica=replica))
+
     def test_a_replica_that_is_down(self):
         """Logins go on at the primary, and so do changes."""
         away = mock.Mock(side_effect=ConnectionRefusedError("nobody there"))

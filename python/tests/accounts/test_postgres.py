@@ -52,10 +52,39 @@ class OnPostgres(engines.OnPostgres, Base):
         self.assertEqual((fault.code, fault.is_error), ("no-update", True))
         self.assertIn(state, str(fault))
 
-    def test_a_policy_that_reads_no_row(self):
+    def test_row_security_without_a_policy(self):
+        """It shows a role no row, and each login would be one of no account."""
+        said = "row security shows this role no row"
+        self.execute("ALTER TABLE users ENABLE ROW LEVEL SECURITY")
+        role = self.of_role("SELECT, UPDATE")
+        accounts = self.accounts(connect=role)
+        with role() as conn:
+            ((name,),) = self.execute("SELECT current_user", conn=conn)
+        self.assertNotIn(said, self.said(self.accounts()))  # of the owner, whom it doesn't bind
+        for policy, is_shown in (
+            ("FOR UPDATE USING (true)", False),
+            ("AS RESTRICTIVE USING (true)", False),
+            ("TO pg_monitor USING (true)", False),
+            (f"TO {name} USING (true)", True),
+            ("FOR SELECT USING (true)", True),
+        ):
+            self.execute(f"CREATE POLICY one ON users {policy}")
+            with self.subTest(policy=policy):
+                reply = accounts.verify("ann", "one")
+                self.assertEqual(reply is Reply.YES, is_shown)
+                found = {it.text: it.is_error for it in accounts.examine() if said in it.text}
+                self.assertEqual([*found.values()], [True] * (not is_shown))
+            self.execute("DROP POLICY one ON users")
+
+    @each("uuid", "kinds")
+    def test_a_policy_that_reads_no_row(self, kind):
         """That it can't read its own setting is a fault, and no name that doesn't exist."""
-        self.execute("ALTER TABLE users ADD tenant uuid, ENABLE ROW LEVEL SECURITY")
-        self.execute("CREATE POLICY own ON users USING (tenant = current_setting('a.b')::uuid)")
+        self.execute("DROP TYPE IF EXISTS kinds CASCADE")
+        self.execute("CREATE TYPE kinds AS ENUM ('ann')")
+        self.create()
+        self.give("one")
+        self.execute(f"ALTER TABLE users ADD tenant {kind}, ENABLE ROW LEVEL SECURITY")
+        self.execute(f"CREATE POLICY own ON users USING (tenant = current_setting('a.b')::{kind})")
         role = self.of_role("SELECT, UPDATE")
 
         def unset():
@@ -205,6 +234,17 @@ class OnPostgres(engines.OnPostgres, Base):
             self.assertEqual(words.put([(key, RECORD), (key, TWO)]), ["added", "another"])
         self.assertTrue(words.copies)
         self.assertEqual(self.execute("SELECT name, record FROM users"), [(key, RECORD)])
+
+    @each("number", "name", "made", "came", "put")
+    def test_columns_of_any_name_are_copied(self, name):
+        """The table's own may have those of the tables that a copy passes through."""
+        self.dialect = self.another_dialect(key=name)
+        self.execute("DROP TABLE users")
+        self.execute(f"CREATE TABLE users ({name} text PRIMARY KEY, record text, more int)")
+        words = _import.Import(self.accounts(), self.dialect, PerThread(self.connect))
+        with mock.patch.object(_import, "SHARE", 1):
+            self.assertEqual(words.put([("ann", RECORD), ("ann", TWO)]), ["added", "another"])
+        self.assertTrue(words.copies)
 
     def test_what_can_not_be_copied(self):
         """By a role that makes no temporary table, or past a trigger that makes another record: it

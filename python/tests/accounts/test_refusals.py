@@ -276,6 +276,12 @@ class Errors(Base):
         ("host=x password=hunter2 port=1", "host=x password=*** port=1"),
         ("passwd = 'hunter2 hunter2' x", "passwd = *** x"),
         ("Password=hunter2;PWD=hunter2", "Password=***;PWD=***"),
+        (
+            'is bad: invalid integer value "hunter2" for connection option "port"',
+            'invalid integer value *** for connection option "port"',
+        ),
+        ('invalid port number: "12345678"', "invalid port number: ***"),
+        ('connection is bad: "12345678"', "connection is bad: ***"),  # as psycopg cuts it
         ("x" * 5000, "xxx"),
     )
     def test_unavailable_says_why(self, text, said):

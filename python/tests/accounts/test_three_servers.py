@@ -14,6 +14,8 @@ from tests.hostile_fields import NAMES, PASSWORDS, text_of
 EXAMPLE = pathlib.Path(__file__).resolve().parents[3] / "examples/postgres"
 ADA = "ada@example.org"
 NO_ADDRESSES = ("", " ", "\n", "ada@x.org ", " ada@x.org", "ada@x.org\n", "\u00a0ada@x.org")
+# An index of PostgreSQL holds 2,704 bytes of one.
+NO_ADDRESSES += ("a" * 255, "a" * 1100, "\U0001f600" * 700)
 NO_ADDRESSES += ("\ufeffada@x.org", "ada@x.org\0", "\0", "ada\ud800@x.org", "ada\udcff")
 
 
@@ -96,11 +98,14 @@ class ThreeServers(unittest.TestCase):
         for name in NO_ADDRESSES:
             with self.subTest(name=name):
                 self.assertRaises(ValueError, shop.sign_up, name, "secret")
+        for other in (None, 5, b"ada@x.org"):
+            with self.subTest(name=other):
+                self.assertRaises(TypeError, shop.sign_up, other, "secret")
         for password in ("x" * 257, "\ud800"):
             with self.subTest(password=password):
                 self.assertRaises(ValueError, shop.sign_up, ADA, password)
         self.assertEqual(self.rows(), {})
-        for name in (ADA, "ada\u00e4@x.org", "a" * 1100, "it's@x.org", "ada@x.org'); DROP"):
+        for name in (ADA, "ada\u00e4@x.org", "a" * 254, "it's@x.org", "ada@x.org'); DROP"):
             with self.subTest(name=name):
                 self.assertTrue(shop.sign_up(name, "secret\0"))
                 self.assertFalse(shop.sign_up(name, "evil"))

@@ -268,7 +268,7 @@ class Dialect:
             return is_of_driver(raised) and not isinstance(raised, OSError)
         return type(raised).__module__.partition(".")[0] in self.drivers
 
-    def lacks_key(self, raised: BaseException) -> bool:
+    def lacks_key(self, raised: BaseException, key: Key) -> bool:
         """Whether the column's character set lacks the key: no such account exists."""
         return isinstance(raised, UnicodeEncodeError)
 

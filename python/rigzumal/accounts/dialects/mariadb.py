@@ -168,8 +168,8 @@ class MariaDB(Dialect):
             return Verdict.LOST
         return Verdict.REFUSED
 
-    def lacks_key(self, raised: BaseException) -> bool:
-        return super().lacks_key(raised) or _number(raised) in _LACKS
+    def lacks_key(self, raised: BaseException, key: Key) -> bool:
+        return super().lacks_key(raised, key) or _number(raised) in _LACKS
 
     def gave_up(self, raised: BaseException) -> bool:
         # What the server answers to a COMMIT it has rolled back, but for these.

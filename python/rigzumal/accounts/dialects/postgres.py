@@ -25,6 +25,7 @@ _LACKS: Final = ("22P05", "22021")  # characters that the server's encoding does
 # A text that a type doesn't take; and the server's function that reads an enum's names.
 _NO_VALUE: Final = "22P02"
 _READS_ENUM: Final = "enum_in"
+_QUOTES: Final = "\"'\u00ab\u00bb\u201c\u201d\u201e\u00a0 "  # of translated words
 # The server's own function that warns of a wait that was cancelled; its words are translated.
 _WAIT_FOR_STANDBY: Final = "SyncRepWaitForLSN"
 _COPY: Final = "COPY rigzumal_came (number, name, made) FROM STDIN"
@@ -183,7 +184,7 @@ class Postgres(Dialect):
         same = f'kept.{self.record}::text COLLATE "C" = came.made'
         joined = "rigzumal_came AS came LEFT JOIN rigzumal_put AS put USING (number)"
         return self.alone(
-            f"SELECT number, put.number IS NOT NULL, {same} FROM {joined}"
+            f"SELECT came.number, put.number IS NOT NULL, {same} FROM {joined}"
             f" LEFT JOIN {self.table} AS kept ON kept.{self.key} = came.name"
             f" WHERE put.number IS NULL OR ({same}) IS NOT TRUE"
         )
@@ -207,12 +208,15 @@ class Postgres(Dialect):
         is_broken = not state and names & {"OperationalError", "InterfaceError"}
         return Verdict.LOST if is_broken else Verdict.REFUSED
 
-    def lacks_key(self, raised: BaseException) -> bool:
+    def lacks_key(self, raised: BaseException, key: Key) -> bool:
         if self.number(raised) == _NO_VALUE:
-            # Other types refuse no key, but what a row's policy reads, say.
+            # Other types refuse no key, but what a row's policy reads, say. That may be an enum
+            # too: the words end with the text that is none of its names.
             diagnosis = getattr(raised, "diag", None)
-            return getattr(diagnosis, "source_function", None) == _READS_ENUM
-        return super().lacks_key(raised) or self.number(raised) in _LACKS
+            said = str(getattr(diagnosis, "message_primary", None)).rstrip(_QUOTES)
+            is_key = isinstance(key, str) and said.endswith(key.rstrip(_QUOTES))
+            return is_key and getattr(diagnosis, "source_function", None) == _READS_ENUM
+        return super().lacks_key(raised, key) or self.number(raised) in _LACKS
 
     def gave_up(self, raised: BaseException) -> bool:
         # What the server answers as an ERROR it has rolled back. After FATAL and PANIC
@@ -248,7 +252,7 @@ class Postgres(Dialect):
         triggers = await session.execute(_TRIGGERS, t)
         faults += self.after_triggers(triggers.rows)
         kinds = await session.execute(_TABLE, t)
-        ((is_table, secured, is_logged, has_heirs),) = kinds.rows
+        ((is_table, secured, sees_none, is_logged, has_heirs),) = kinds.rows
         if has_heirs:
             text = f"no index of {self.table_name} holds the keys of its child tables"
             faults.append(error("key-not-unique", text))
@@ -257,7 +261,10 @@ class Postgres(Dialect):
         if not is_logged:
             text = f"{self.table_name} is unlogged: a crash empties it"
             faults.append(not_durable(text))
-        if secured:
+        if sees_none:
+            text = "row security shows this role no row: no policy is for it"
+            faults.append(error("row-security", text))
+        elif secured:
             text = "row security may show an UPDATE less than a SELECT"
             faults.append(warning("row-security", text))
         for name, good in _DURABLE:
@@ -302,6 +309,9 @@ _TRIGGERS: Final = (
 )
 _TABLE: Final = (
     "SELECT relkind IN ('r', 'p') AS is_table, relrowsecurity,"
+    " row_security_active(c.oid) AND NOT EXISTS (SELECT FROM pg_policy, unnest(polroles) AS whose"
+    " WHERE polrelid = c.oid AND polpermissive AND polcmd IN ('r', '*') AND"
+    " CASE whose WHEN 0 THEN true ELSE pg_has_role(whose, 'USAGE') END) AS sees_none,"
     " relpersistence = 'p' AS is_logged, relkind = 'r' AND EXISTS"
     " (SELECT 1 FROM pg_inherits WHERE inhparent = c.oid) AS has_heirs"
     " FROM pg_class AS c WHERE oid = to_regclass(%s)"

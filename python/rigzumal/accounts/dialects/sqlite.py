@@ -17,6 +17,7 @@ from rigzumal.accounts.dialects._faults import warning
 
 _BUSY: Final = (5, 6)  # SQLITE_BUSY, SQLITE_LOCKED
 _FULL: Final = (13,)  # SQLITE_FULL
+_LOOKED_AT: Final = 1000  # rows, for records that are no text
 _NEEDED: Final = 8 << 20  # bytes: the log grows to 1,000 pages of 4 KiB, and then the file
 
 
@@ -80,7 +81,7 @@ class Sqlite(Dialect):
     async def examine(self, session: Session) -> Findings:
         schema, _, t = self.table_name.rpartition(".")
         of = (t, schema) if schema else (t,)
-        info = f"pragma_table_info({', '.join('?' * len(of))})"
+        info = f"pragma_table_xinfo({', '.join('?' * len(of))})"  # with generated columns
         found = await session.execute(f'SELECT name, type, "notnull", pk FROM {info}', *of)
         # Names of columns are the same in any case.
         spelled = {name.lower(): name for name in (self.record_name, self.key_name)}
@@ -99,6 +100,11 @@ class Sqlite(Dialect):
             unique.append("")  # INTEGER PRIMARY KEY has no index
         faults = [*self._type_faults(kind)]
         faults += self.common_faults(nullable, unique)
+        view = f"SELECT 1 FROM {master} WHERE type = 'view' AND lower(name) = lower(?)"
+        if (await session.execute(view, t)).rows:
+            faults.append(error("not-a-table", f"{self.table_name} is no table"))
+        for (found_type,) in (await session.execute(self._others())).rows:
+            faults.append(self.record_fault(f"a {found_type} in some row, not text"))
         triggers = await session.execute(
             f"SELECT name FROM {master} WHERE type = 'trigger'"
             " AND lower(tbl_name) = lower(?) AND upper(sql) LIKE '%AFTER%'",
@@ -112,6 +118,11 @@ class Sqlite(Dialect):
         listed = (await session.execute("PRAGMA database_list")).rows
         paths = [path for _, name, path in listed if name.lower() == (schema or "main").lower()]
         return Findings(faults + [it for path in paths for it in of_disk(path)])
+
+    def _others(self) -> str:
+        """Finds records that are no text, in the first rows: a column of any type may have them."""
+        rows = f"SELECT typeof({self.record}) AS type FROM {self.table} LIMIT {_LOOKED_AT}"
+        return f"SELECT DISTINCT type FROM ({rows}) WHERE type NOT IN ('text', 'null')"
 
     def _type_faults(self, declared: str) -> Iterator[Fault]:
         """SQLite compares '07' as 7, or 7 as '7', by the column's type."""
