@@ -66,7 +66,7 @@ class Words(argparse.ArgumentParser):
         args: Optional[Sequence[str]] = None,
         namespace: Optional[argparse.Namespace] = None,
     ) -> argparse.Namespace:
-        """As ArgumentParser's, but that no word is shown that isn't taken: it may be a password."""
+        """Parses as ArgumentParser, but shows no word that it refuses: it may be a password."""
         given, others = self.parse_known_args(args, namespace)
         if others:
             options = [*_options_of(self, getattr(given, "command", ""))]
@@ -177,7 +177,7 @@ def hasher_of(given: argparse.Namespace) -> Union[PasswordHasher, ScryptHasher]:
 def read_password(prompt: str = "Password", *, is_new: bool = False) -> bytes:
     """All of standard input, or the password that is typed: a new one twice.
 
-    Two that differ, none, and what can't be read are a Refusal.
+    Raises Refusal if two differ, if there is none, or if it can't be read.
     """
     if sys.stdin is None:
         raise Refusal("standard input is closed", Status.STREAM)

@@ -198,8 +198,8 @@ class Operations(Generic[AnyPool]):
         written over itself: that COMMIT waits for both, where a SELECT wouldn't.
 
         If the row has the copy, the change wasn't stored so far, and is sent again: a replaced
-        record never returns. NULL may return: to enrol again might bring back a record that
-        another client has removed since.
+        record never returns. NULL may return, if another client has removed the record since:
+        a second enrolment would bring it back.
         """
         waits, why = Waits(self._connections.patience, time.monotonic(), 0.01), ""
         refusals = 0
@@ -225,7 +225,7 @@ class Operations(Generic[AnyPool]):
         return cause is not None and self._dialect.verdict(cause) is Verdict.REFUSED
 
     async def _put_again(self, worked: Worked, also: Hook) -> bool:
-        """Whether the change was made for good; False if another try may tell.
+        """Whether the change is stored for good; False if another try may tell.
 
         Raises:
             OutcomeUnknown: the row has neither the copy nor the new record.

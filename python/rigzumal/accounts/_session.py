@@ -176,7 +176,7 @@ class Runtime:
         time.sleep(seconds)
 
     async def call(self, work: Callable[..., T], *args: Any) -> T:
-        """Does work that needs a processor for a while."""
+        """Runs work that needs a processor for a while."""
         return work(*args)
 
     async def ask(self, name: str, hook: Callable[..., Any], *args: Any) -> Any:

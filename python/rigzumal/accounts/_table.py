@@ -300,7 +300,7 @@ class Table:
         raise Lost() from error
 
     async def _undone(self, session: Session, error: Exception) -> Undone:
-        """Rolls back after an error, which means another try or is raised."""
+        """Rolls back after an error; raises it, or returns Undone for another try."""
         verdict = self.dialect.verdict(error) if is_of_driver(error) else None
         is_kept = verdict is not Verdict.LOST and await self._is_undone(session)
         if verdict is Verdict.AGAIN and is_kept:
@@ -342,7 +342,7 @@ def judged(worked: Worked, now: Copy) -> Answer:
 
 
 def _record(rows: list[tuple[Any, ...]]) -> Copy:
-    """The record in the one row that was found, if one was."""
+    """The record of the row that was found; NO_ROW without one."""
     if len(rows) > 1:
         raise StoreFault("more than one row has the key")
     if not rows:

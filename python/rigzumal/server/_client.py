@@ -25,7 +25,7 @@ Listed = TypeVar("Listed")
 class Reply(enum.Enum):
     """The book's answer to an operation.
 
-    It is never true or false by itself, since NO would be true too: compare it, as in
+    A reply is no truth value, since NO would be true too: compare it, as in
     `reply is Reply.YES`.
     """
 
@@ -67,7 +67,7 @@ class Unavailable(ServerError):
 
 
 class Later(ServerError):
-    """Too many tries at this name, or of this user, failed: this one wasn't hashed."""
+    """Too many tries at this name, or by this user, failed: this one wasn't hashed."""
 
 
 class Denied(ServerError):
@@ -93,7 +93,7 @@ class Question:
 
     Attributes:
         no_name: the reply if no book can have the name; without it `Refused` is raised.
-        wrong: the same of the first password; without it a ValueError.
+        wrong: the reply if no record can have the first password; without it a ValueError.
     """
 
     operation: str
@@ -204,8 +204,8 @@ class Calls(Generic[Replied, Listed]):
     def change(self, name: str, password: Secret, new_password: Secret) -> Replied:
         """REPLACED, or WRONG for the old password; ABSENT; NO_ACCOUNT.
 
-        SHORT is a new password of fewer characters than the server demands; so it is of
-        `enrol` and `reset`. SAME is the old password again, where it must be changed.
+        SHORT: the new password has fewer characters than the server demands, here and in
+        `enrol` and `reset`. SAME: the password must be changed, and the new one is the old.
 
         Raises:
             ValueError: the new password has over 256 bytes, or is text with no UTF-8.
@@ -214,9 +214,9 @@ class Calls(Generic[Replied, Listed]):
         return self._reply(Question("change", (name,), both, *replies))
 
     def known(self, name: str) -> Replied:
-        """YES if the account has a record; ABSENT, EXPIRED, NO_ACCOUNT.
+        """YES if the account has a record; ABSENT if it has none or is locked; NO_ACCOUNT.
 
-        ABSENT is also a locked account, and EXPIRED one whose password must be changed.
+        EXPIRED if the password must be changed.
         """
         return self._reply(Question("known", (name,), no_name=Reply.NO_ACCOUNT))
 

@@ -98,7 +98,7 @@ async def open_doors(service: Service) -> None:
 
 
 def beat_seconds() -> float:
-    """How often systemd is told that the server goes on: in half of the time that it gives."""
+    """How often the server tells systemd that it goes on: twice in the time that systemd sets."""
     given = os.environ.get("WATCHDOG_USEC", "")
     microseconds = float(given) if given.isdecimal() else 0.0
     return microseconds / 2e6 if microseconds else UNWATCHED_SECONDS

@@ -17,7 +17,7 @@ MADE = {b"lock": (LOCKED, b"locked"), b"expire": (MUST_CHANGE, b"expired")}
 
 
 async def take_in(service: Service) -> None:
-    """Has the book take the marks of FILE-locks, which then goes.
+    """Puts the marks of FILE-locks into the book, and then removes the file.
 
     After a fault, or a kill at any moment, the file is still there, and the next start does it
     again: no socket is open before, so nobody has changed a mark.
@@ -40,7 +40,7 @@ async def take_in(service: Service) -> None:
 
 
 async def has_taken(service: Service, name: bytes, operation: bytes) -> bool:
-    """Has the book take a mark; false if there is nobody to have it."""
+    """Puts a mark into the book; false if no account of the book can have it."""
     if not NAME.fullmatch(name):  # such as one that is too long for a line
         return False
     mark, answer = MADE[operation]

@@ -89,7 +89,7 @@ class Foreign:
         return await self.moving(request, answer) if line.record else answer
 
     async def prepared(self, request: Request, line: Line, row: bytes) -> bytes:
-        """Does what has to be done before the book is asked; returns the answer if it isn't."""
+        """Takes the steps before the book is asked; returns an answer that ends the request."""
         operation, name = request.words[:2]
         if row == UNAVAILABLE or row.startswith(b"bad ") and row != NO_ACCOUNT:
             return row
@@ -140,7 +140,7 @@ class Foreign:
         return await self.moving(request, await self.service.ask(request))
 
     def known(self, name: bytes, line: Line) -> bytes:
-        """The answer to the right password of whom nothing shuts out."""
+        """The answer to the right password of a user whom nothing shuts out."""
         return b"expired" if self.file.must_change(name, line) else b"yes"
 
     async def is_locked(self, name: bytes) -> bool:
@@ -197,7 +197,7 @@ def locked(row: bytes) -> bytes:
 
 
 def barred(request: Request, answer: bytes) -> bytes:
-    """What is answered in place of this answer for a user whom the file bars."""
+    """The answer in the place of this one, for a user whom the file bars."""
     if request.words[0] == b"show":
         return locked(answer)
     if answer not in (b"yes", b"no", b"expired"):

@@ -96,7 +96,7 @@ class Journal(GrowingFile):
 
 
 class Writer:
-    """A process that writes a file, and the socket by which it gets what it writes."""
+    """A process that writes a file, and the socket through which it gets the texts."""
 
     def __init__(self, path: str) -> None:
         self.socket, other = socket.socketpair()
