@@ -193,7 +193,7 @@ def read_password(prompt: str = "Password", *, is_new: bool = False) -> bytes:
 
 
 def is_empty(password: bytes) -> bool:
-    """Whether a password is only a line's end, as an unset variable gives."""
+    """Whether a password is only a line's end, as an unset variable leaves it."""
     return not password.strip(b"\r\n")
 
 

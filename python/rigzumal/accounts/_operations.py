@@ -221,7 +221,7 @@ class Operations(Generic[AnyPool]):
         raise _unknown(worked, why)
 
     def _is_refusal(self, cause: Optional[BaseException]) -> bool:
-        """Whether the server answered a COMMIT, as it does each time while its disk is ill."""
+        """Whether the server answered a COMMIT, as it does each time while its disk fails."""
         return cause is not None and self._dialect.verdict(cause) is Verdict.REFUSED
 
     async def _put_again(self, worked: Worked, also: Hook) -> bool:

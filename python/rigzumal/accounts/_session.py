@@ -160,7 +160,7 @@ class Runtime:
         """Does a job on a connection of a pool, whatever the pool raises or swallows after it.
 
         A pool that rolls back a broken connection raises its own error instead of the
-        job's, and "COMMIT had no answer" would be taken for "nothing was done".
+        job's, and "COMMIT had no answer" would be read as "nothing was done".
         """
         ends: list[Union[T, BaseException]] = []
         try:

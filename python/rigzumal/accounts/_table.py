@@ -63,7 +63,7 @@ class Table:
             raise TypeError(NESTED)
 
     def writes(self, worked: Worked) -> bool:
-        """Whether the operation writes, be it only the copy over itself."""
+        """Whether the operation writes, if only the copy over itself."""
         if worked.reply.makes_change:
             return True
         return self.confirm and worked.ticket.copy is not NO_ROW
@@ -98,7 +98,7 @@ class Table:
         return done or await self._transaction(session, worked, also)
 
     def _is_of_one_statement(self, worked: Worked) -> bool:
-        """Whether one statement makes the change, if the engine has one.
+        """Whether one statement does the change, if the engine has one.
 
         From NULL to a record or back, the row doesn't show afterwards who wrote it: a
         connection that breaks before COMMIT has to be known there.
@@ -267,7 +267,7 @@ class Table:
                 raise
 
     async def _row(self, session: Session) -> Optional[Key]:
-        """The key of a new row, or of any; None if the table has none and refuses one."""
+        """The key of a new row, or of any; None if the table is empty and refuses a row."""
         dialect = self.dialect
         key = unused_key(dialect.key_type)
         try:

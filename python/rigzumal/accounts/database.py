@@ -54,7 +54,7 @@ class Database:
 
     @property
     def is_missing(self) -> bool:
-        """Whether the database is a file that doesn't exist: SQLite would make one."""
+        """Whether the database is a file that doesn't exist: SQLite would create one."""
         return self.kind == "sqlite" and not os.path.exists(self._path)
 
     def dialect_kind(self) -> type[Dialect]:
@@ -121,8 +121,8 @@ class Database:
 
 
 def _check_people(rest: str) -> None:
-    """Refuses a user's name and password that are no part of a URL: a driver would take the rest of
-    them for a host, and show it."""
+    """Refuses a user's name and password that aren't encoded for a URL: a driver would read the
+    rest as a host, and show it."""
     front, _, path = rest.partition("?")[0].partition("/")
     people = front.rpartition("@")[0]
     if _NO_ESCAPE.search(people) or "@" in people + path:

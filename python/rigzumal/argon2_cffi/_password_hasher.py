@@ -149,7 +149,7 @@ class PasswordHasher:
         return low_level.verify_secret(encoded, secret, kind)
 
     def check_needs_rehash(self, hash: _Text) -> bool:
-        """Whether the hash was made with other parameters than this hasher's.
+        """Whether the hash has other parameters than this hasher's.
 
         Raises:
             InvalidHashError: it is no hash of Argon2.

@@ -147,8 +147,10 @@ class Dialect:
         return (sql, *keys)
 
     async def add_all(self, session: Session, lines: Sequence[Line]) -> Optional[list[str]]:
-        """Adds many accounts in a way of the engine's own, in an open transaction: "added", "there"
-        or "another" for each; None if it has no such way."""
+        """Adds many accounts in the engine's own way, in an open transaction; None if it has none.
+
+        The answer for each is "added", "there" or "another".
+        """
         return None
 
     def rows_of(self, conn: Any, sql: str) -> Iterator[tuple[Any, ...]]:

@@ -62,7 +62,7 @@ class Line:
         return Days(*(int(it or b"-1") for it in fields))
 
     def is_of_dovecot(self) -> bool:
-        """Whether it has a home, or an extra field: a value's colon makes nine fields of it."""
+        """Whether it is Dovecot's, by its home or an extra field, though it has nine fields too."""
         home, extra = self.others[3], self.others[5]
         return b"/" in home or b"=" in extra
 

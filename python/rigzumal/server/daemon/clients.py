@@ -239,7 +239,7 @@ class Door:
         return is_at_most_half and (own == 0 or taken < CLIENTS - KEPT)
 
     def let_in(self, service: Service, sock: socket.socket) -> bool:
-        """Whether it stays, in a place that its user may have; it is told otherwise."""
+        """Whether a client stays, in a place that its user may have; otherwise it is told."""
         with suppress(OSError):  # if nothing has come
             if not sock.recv(1, socket.MSG_PEEK):
                 sock.close()

@@ -21,7 +21,7 @@ EXPIRED = b"expired"  # what `expire` is answered
 
 
 class Foreign:
-    """Who of them is judged by the file, and who by the book."""
+    """Decides which of them the file judges, and which the book."""
 
     def __init__(self, service: Service, path: str) -> None:
         self.service = service
@@ -190,7 +190,7 @@ def ends_record(operation: bytes, row: bytes) -> bool:
 
 
 def locked(row: bytes) -> bytes:
-    """A row with a lock, also where there was no record, or no account."""
+    """A row with a lock, also of an account without a record, or of none."""
     if row in (NO_ACCOUNT, NO_RECORD):
         return LOCKED
     return row if row.startswith((b"bad ", LOCKED)) or row == UNAVAILABLE else LOCKED + row

@@ -60,7 +60,7 @@ class Journal(GrowingFile):
         self.lacking = 0  # lines that it never got
 
     def is_full(self) -> bool:
-        """Whether so many lines wait for its disk that it takes no more."""
+        """Whether so many lines wait for its disk that it accepts no more."""
         return len(self.lines) >= MOST_LINES
 
     def add(self, line: bytes) -> asyncio.Future[bool]:

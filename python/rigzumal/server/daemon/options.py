@@ -85,7 +85,7 @@ LINE = f"a line's record may need; {TIMES} times --setting's if not given"
 
 @dataclass
 class Options:
-    """The given values, or else these."""
+    """The values of the command line, or else these."""
 
     file: str = ""
     doors: list[Door] = field(default_factory=list)
