@@ -32,7 +32,7 @@ _TYPES: Final = {
 
 
 def _bytes_of(text: _Text, encoding: str) -> bytes:
-    """The bytes of a text; an error has the place of a letter without any, and no letter."""
+    """The bytes of a text; an error tells the place of a letter without bytes, and no letter."""
     if isinstance(text, bytes):
         return text
     try:

@@ -58,7 +58,7 @@ async def has_taken(service: Service, name: bytes, operation: bytes) -> bool:
 
 
 async def mark_of_old_file(service: Service, name: bytes, operation: bytes) -> bytes:
-    """The answer to a mark of a user whom an old htpasswd file alone has; empty for others."""
+    """Marks a user who is in the old htpasswd file alone; the answer is empty for others."""
     if not service.foreign or not (await service.foreign.file.line(name)).record:
         return b""
     if operation == b"expire":
