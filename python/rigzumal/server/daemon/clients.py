@@ -232,8 +232,8 @@ class Door:
                     log_seldom((self.name, what), "%s: a fault: %s", self.path, what)
 
     def has_place(self, own: int) -> bool:
-        """Whether a user who has so many places may have one more: of those that the others leave
-        at most half, and of the last ones the first alone."""
+        """Whether a user who has so many places may have one more: at most half of those that the
+        others leave, and none of the last ones but the user's first."""
         taken = sum(self.counts.values())
         is_at_most_half = own + taken < CLIENTS - 1
         return is_at_most_half and (own == 0 or taken < CLIENTS - KEPT)
