@@ -90,8 +90,8 @@ def _range_of(text: Secret) -> str:
 def bytes_of(secret: Secret) -> bytes:
     """The bytes of a secret, or of anything else that may be text.
 
-    A TypeError says that it is neither, a ValueError that the text has no form in UTF-8: no
-    exception shows it.
+    Raises TypeError if it is neither, and ValueError if the text has no form in UTF-8: no
+    exception shows the secret.
     """
     if isinstance(secret, bytes):
         return secret
@@ -105,7 +105,7 @@ def bytes_of(secret: Secret) -> bytes:
 
 
 def data_of(data: object, wanted: str = "bytes") -> bytes:
-    """The bytes of a salt or the like; TypeError of text, and of whatever holds no bytes."""
+    """The bytes of a salt or the like; TypeError for text, and for whatever holds no bytes."""
     if isinstance(data, bytes):
         return data
     try:

@@ -135,7 +135,7 @@ class Row:
         return True
 
     def found(self, record: str) -> None:
-        """Gives the user the row's record."""
+        """Sets the user's record to the row's."""
         self.user.password = record
         copy = known_copy(self.user, self.database)
         if copy is None or copy.newest != record:

@@ -196,7 +196,7 @@ class Calls(Generic[Replied, Listed]):
         """YES or NO; ABSENT if the account has no record; NO_ACCOUNT.
 
         EXPIRED is a right password that must be changed, by `change`, before a login. A
-        name or a password that no book can have, such as a name with a space, is NO.
+        name or a password that no book can have, such as a name with a space, gets NO.
         """
         no = Reply.NO
         return self._reply(Question("verify", (name,), (password,), no, no))

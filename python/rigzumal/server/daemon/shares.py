@@ -22,7 +22,7 @@ def ranges_in(path: str, _version: tuple[int, ...]) -> list[tuple[range, str]]:
 
 
 def owner_of(uid: int) -> int:
-    """The person who has a subordinate uid; another uid itself."""
+    """The person who owns a subordinate uid; any other uid itself."""
     if uid < LEAST_SUBORDINATE:
         return uid
     try:
