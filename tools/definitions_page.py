@@ -156,7 +156,7 @@ def check() -> Iterator[str | None]:
     yield None if blocks else "docs/DEFINITIONS.md asks for no definitions"
     for found, block in zip(BLOCK.finditer(page), blocks):
         said = found[1].partition(" up to ")[0]
-        wrong_block = f"docs/DEFINITIONS.md: {said} isn't as in specs/: `{WRITE}` prints it anew"
+        wrong_block = f"docs/DEFINITIONS.md: {said} isn't as in specs/: `{WRITE}` corrects it"
         yield None if found[0] == block else wrong_block
 
 

@@ -157,7 +157,7 @@ def times() -> Facts:
     else:
         minutes = " and ".join(in_minutes(it[1]) for it in rows if it) + " minutes"
         for words in (minutes, processors[1]):
-            wrong = f"README.md doesn't say `{words}`, as docs/BUILDING.md has it of its commands"
+            wrong = f"README.md lacks `{words}`, which docs/BUILDING.md has"
             yield None if re.search(rf"(?<!to ){words}", readme) else wrong
 
 

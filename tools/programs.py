@@ -86,8 +86,8 @@ def link_packed(program, level, built):
     """Links the packed object of a program, unless it is of other sources than these."""
     if not has_object(program, level, PACKED):
         raise SystemExit(
-            f"{program}: there is no object for {level} in {PACKED.relative_to(TOP)}, and only "
-            "the toolchain's rt compiles one, which isn't published"
+            f"{program}: no object for {level} in {PACKED.relative_to(TOP)}; only the toolchain's "
+            "rt, which isn't published, compiles one"
         )
     if other := other_source(program, level, PACKED):
         raise SystemExit(

@@ -178,7 +178,7 @@ def trusted(text, crates):
     yield from (
         None
         if fnmatch.filter(crates, it)
-        else f"the list of what is trusted has `{it}`, on which no crate stands"
+        else f"the list of what is trusted has `{it}`, which no crate uses"
         for it in named
     )
 

@@ -16,9 +16,9 @@ once COMMAND has proved the crate. Without one the libraries below are those tha
 
 First the functions are proved as they stand, beginning with what `rt check` kept in the crate's
 out/, or an earlier run in .git/wrong-bodies. Then each wrong body is refused at a goal: the search
-doesn't prove it, or its written answer is no proof any more. It says less if an answer only names
-what the edit took away, or if a caller alone is refused, with nothing else planted. The status is 1
-if one isn't refused, or can't be judged.
+doesn't prove it, or its written answer is no proof any more. A refusal is weaker evidence if an
+answer only names what the edit removed, or if a caller alone is refused, with nothing else planted.
+The status is 1 if one isn't refused, or can't be judged.
 """
 
 import argparse
@@ -213,7 +213,7 @@ class Trial:
         """What is refused if a body is planted whose own function isn't, in the whole crate."""
         status, output = bench.check(planted, kept, [])
         found = re.search(r"^((?:fn|impl) \S+): (?:no|could)", output, re.M)
-        return status == 1 and found and f"not there, but {found[1]}, which says less"
+        return status == 1 and found and f"not there, but {found[1]}, which is weaker evidence"
 
     def try_crate(self, name):
         """Tries the wrong bodies of a crate whose turn it is."""

@@ -5,11 +5,11 @@ from typing import NamedTuple
 
 # Where a function begins, or an item ends.
 HEAD = re.compile(r"^\s*(?:pub(?:\(\w+\))? )?(?:const )?fn (\w+)|^\}", re.M)
-# Errors of a proof that names what the edit took away, or rests on what isn't proved.
+# Errors of a proof that names what the edit removed, or rests on what isn't proved.
 OF_NAMES = re.compile(r"has no field|is not in scope|has no `|was not admitted")
-# What says less than a goal that is false.
-LIMIT = "a limit of the prover, which says less"
-LOST_NAME = "a name that the edit took away, which says less"
+# Weaker evidence than a goal that is false.
+LIMIT = "a limit of the prover, which is weaker evidence"
+LOST_NAME = "a name that the edit removed, which is weaker evidence"
 
 
 class Change(NamedTuple):

@@ -23,12 +23,12 @@
  * the calls at the end: with those several threads may work the lanes of one tag. After a call only
  * cleared memory stays, for the next calls: as much as calls used at one time, and at most 64 MiB
  * or the bound of rigzumal_keep or of RIGZUMAL_KEEP in the environment. Tools count it as the
- * process's own until the system is short of memory and reclaims it; rigzumal_trim gives it back at
+ * process's own until the system is short of memory and reclaims it; rigzumal_trim returns it at
  * once.
  *
- * A call clears its memory before it gives it back, and at its end 22 KiB of the stack below it and
- * all vector registers of the processor. Blocks of 64 KiB and more are in no core dump, and read as
- * zero in a forked child. Large memory has huge pages.
+ * A call clears its memory before it frees or keeps it, and at its end 22 KiB of the stack below it
+ * and all vector registers of the processor. Blocks of 64 KiB and more are in no core dump, and
+ * read as zero in a forked child. Large memory has huge pages.
  *
  * The library for x86-64 runs on any such processor. The first call chooses a build for x86-64-v2,
  * x86-64-v3 or x86-64-v4 if the processor has all of its features and the system keeps its
@@ -131,7 +131,7 @@ enum rigzumal_fault {
     RIGZUMAL_COPY = 24,          /* the copy is not a record */
     RIGZUMAL_LONG_PASSWORD = 25, /* a password has over 256 bytes */
     /* Of a salt that is drawn. */
-    RIGZUMAL_NO_RANDOM = 26, /* the system gave no random bytes: see getrandom(2) */
+    RIGZUMAL_NO_RANDOM = 26, /* the system returned no random bytes: see getrandom(2) */
     /* Of rigzumal_needs_rehash. */
     RIGZUMAL_OTHER_COSTS = 27, /* the record has other costs, or another salt or tag size */
     /* Of an input that is null, though its size isn't 0. */
@@ -144,9 +144,9 @@ enum rigzumal_fault {
 /* The version of the library in use, such as "0.2.0". */
 const char *rigzumal_version(void);
 
-/* Gives the memory that is kept between calls back to the system, and returns its size. Running
- * calls keep theirs. Use it in a program that hashes seldom: the system maps and clears the memory
- * of the next call again, which needs longer. */
+/* Returns the memory that is kept between calls to the system, and answers its size. Running calls
+ * keep theirs. Use it in a program that hashes seldom: the system maps and clears the memory of the
+ * next call again, which takes longer. */
 size_t rigzumal_trim(void);
 
 /* Bounds the bytes that are kept from now on, in whole huge pages of 2 MiB: 0 keeps none, and
@@ -225,7 +225,7 @@ int rigzumal_needs_rehash(const char *record, const char *costs, size_t salt_siz
 
 /* The operations on the record of an account. */
 enum rigzumal_operation {
-    RIGZUMAL_ENROL = 1,   /* make the first record */
+    RIGZUMAL_ENROL = 1,   /* add the first record */
     RIGZUMAL_VERIFY = 2,  /* compare the password with the record */
     RIGZUMAL_CHANGE = 3,  /* replace the record by one of a new password */
     RIGZUMAL_UPGRADE = 4, /* rehash the same password under other costs */
@@ -315,18 +315,18 @@ int rigzumal_scrypt(void *key, size_t key_size, const struct rigzumal_scrypt *nu
                     const void *password, size_t password_size, const void *salt,
                     size_t salt_size) RIGZUMAL_CHECK_ANSWER;
 
-/* The calls below answer as those of the same names without _threads, but up to so many threads
- * work the lanes of Argon2, the caller's among them; 0 means 1. The call uses at most one thread a
- * lane and one for each processor that the caller may run on, and only one below 4 MiB of memory
- * and for scrypt. If the system refuses a thread, the others do its work. They end before the call
- * does; meanwhile they handle no signal, and the caller can't be cancelled. The call clears and
- * unmaps their stacks, of which a core dump has the highest page of each alone, and which read as
- * zero in a child forked meanwhile.
+/* The calls below answer as those of the same names without _threads, but several threads work the
+ * lanes of Argon2: up to so many, the caller's among them; 0 means 1. The call uses at most one
+ * thread a lane and one for each processor that the caller may run on, and only one below 4 MiB of
+ * memory and for scrypt. If the system refuses a thread, the others do its work. They end before
+ * the call does; meanwhile they handle no signal, and the caller can't be cancelled. The call
+ * clears and unmaps their stacks, of which a core dump has the highest page of each alone, and
+ * which read as zero in a child forked meanwhile.
  *
- * Use threads to make one login faster on an idle machine. Of 64 MiB, three passes and four lanes,
- * on four processors, a tag took 102 ms on one thread and 32 ms on four. Threads gain a service
- * little, since it has as many logins at once as processors: four callers made a tag every 30 ms
- * with one thread each, and every 28 ms with four; at 19 MiB and two passes every 6.0 ms either
+ * Use threads to speed up one login on an idle machine. Of 64 MiB, three passes and four lanes, on
+ * four processors, a tag took 102 ms on one thread and 32 ms on four. Threads gain a service
+ * little, since it has as many logins at once as processors: four callers computed a tag every 30
+ * ms with one thread each, and every 28 ms with four; at 19 MiB and two passes every 6.0 ms either
  * way. */
 int rigzumal_argon2_threads(void *tag, size_t tag_size, const struct rigzumal_argon2 *numbers,
                             const void *password, size_t password_size, const void *salt,
@@ -359,9 +359,9 @@ struct rigzumal_inputs {
     size_t password_size;
     const void *salt; /* null: a record with a salt_size over 0 gets a random one */
     size_t salt_size;
-    const void *secret; /* or null; K of RFC 9106, of records too */
+    const void *secret; /* or null; K of RFC 9106, which records use too */
     size_t secret_size;
-    const void *associated; /* or null; X of RFC 9106, of records too */
+    const void *associated; /* or null; X of RFC 9106, which records use too */
     size_t associated_size;
     uint32_t threads; /* as in the calls above; 0 means 1 */
 };
@@ -389,8 +389,8 @@ struct rigzumal_step_inputs {
     uint32_t threads; /* 0 means 1 */
 };
 
-/* rigzumal_step with a secret and threads. With either, C chooses the reply, which the proved code
- * does without: then only the hashing is proved. Scrypt has no secret: SCHEME, of the copy and of
+/* rigzumal_step with a secret and threads. With either, C chooses the reply, and only the hashing
+ * is proved; without both the proved code chooses. Scrypt has no secret: SCHEME, of the copy and of
  * the setting. */
 int rigzumal_step_from(char *text, size_t text_size, uint32_t *reply,
                        const struct rigzumal_step_inputs *inputs) RIGZUMAL_CHECK_ANSWER;

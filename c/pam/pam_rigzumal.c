@@ -27,10 +27,10 @@ enum {
     LONGEST_PAUSE = 640, /* .. up to these */
 };
 
-/* The answer to a connection for which the server has no room now: it took no line. */
+/* The answer to a connection for which the server has no room now: it read no line. */
 static const char NO_ROOM[] = "* unavailable";
 
-/* The options, and what is sent: a password that the operation doesn't take is NULL. */
+/* The options, and what is sent: a password that the operation doesn't need is NULL. */
 struct question {
     const char *socket;
     long seconds;
@@ -38,8 +38,8 @@ struct question {
     const char *name, *password, *fresh;
 };
 
-/* What may be asked, the one answer that is success, what an account without a record is, and one
- * whose password must be changed: pam_sm_acct_mgmt says so, and not pam_sm_authenticate. */
+/* An operation's word, the one answer that is success, and the results for an account without a
+ * record and for a password that must be changed, which only pam_sm_acct_mgmt reports. */
 struct operation {
     const char *word, *success;
     int absent, expired;
@@ -88,7 +88,7 @@ static int get_password(pam_handle_t *pamh, int item, const char **password) {
     return result == PAM_CONV_AGAIN ? PAM_INCOMPLETE : result;
 }
 
-/* Whether the book may have this password; an empty one is taken by nullok alone. */
+/* Whether the book may have this password; only nullok accepts an empty one. */
 static bool is_password(const struct question *question, const char *password, int flags) {
     if (*password == '\0')
         return question->nullok && !(flags & PAM_DISALLOW_NULL_AUTHTOK);
@@ -125,7 +125,7 @@ static long milliseconds(void) {
     return now.tv_sec * 1000 + now.tv_nsec / 1000000;
 }
 
-/* A connection, or -1. Where too many others wait to be taken in, it waits behind them. */
+/* A connection, or -1. If too many others wait for the server, it waits behind them. */
 static int connection(const char *path, long deadline) {
     struct sockaddr_un at = {.sun_family = AF_UNIX};
     memcpy(at.sun_path, path, strlen(path));
@@ -165,7 +165,7 @@ static bool send_line(int fd, const char *text, size_t size, long deadline) {
     return sent == size;
 }
 
-/* Reads a line, after which nothing may come; a zero byte takes the place of its end. */
+/* Reads a line, after which nothing may come; a zero byte replaces its end. */
 static bool read_answer(int fd, char answer[MOST_ANSWER], long deadline) {
     size_t size = 0;
     while (size < MOST_ANSWER && is_ready(fd, POLLIN, deadline)) {
@@ -242,7 +242,7 @@ static bool has_answer(int fd, const struct question *question, const struct ope
     return read_answer(fd, answer, deadline) && (is_sent || strcmp(answer, NO_ROOM) == 0);
 }
 
-/* What the answer to a question means, which is asked again while the server has no room. */
+/* Asks a question, again while the server has no room, and returns the meaning of its answer. */
 static int answer_to(pam_handle_t *pamh, const struct question *question,
                      const struct operation *operation) {
     char answer[MOST_ANSWER];
@@ -300,7 +300,7 @@ int pam_sm_acct_mgmt(pam_handle_t *pamh, int flags, int argc, const char **argv)
     return result == PAM_SUCCESS ? ask(pamh, &question, &KNOWN) : result;
 }
 
-/* Whether the book has the name; if nobody says so, nothing was asked for yet. */
+/* Whether the book has the name; PAM_TRY_AGAIN without an answer, since no change began yet. */
 static int known(pam_handle_t *pamh, const struct question *question) {
     int result = ask(pamh, question, &KNOWN);
     if (result == PAM_NEW_AUTHTOK_REQD)
@@ -318,8 +318,8 @@ static int begin_change(pam_handle_t *pamh, struct question *question) {
     return result == PAM_AUTHINFO_UNAVAIL ? PAM_TRY_AGAIN : result;
 }
 
-/* The second call changes the password. The new one is asked for also if the book lacks the name or
- * isn't there: a module behind this one that has use_authtok takes it. */
+/* The second call changes the password. It asks for the new one also if the book lacks the name or
+ * doesn't answer: a module behind this one that has use_authtok needs it. */
 static int finish_change(pam_handle_t *pamh, struct question *question) {
     int found = known(pamh, question), result = PAM_SUCCESS;
     if (found == PAM_SUCCESS)
@@ -335,7 +335,7 @@ static int finish_change(pam_handle_t *pamh, struct question *question) {
 }
 
 /* Another module's password must be changed. The second call asks for the new one: a module behind
- * this one that has use_authtok takes it, and can't ask itself. */
+ * this one that has use_authtok needs it, and can't ask itself. */
 static int pass_expired(pam_handle_t *pamh, int flags) {
     const char *fresh;
     if (flags & PAM_PRELIM_CHECK)

@@ -50,7 +50,7 @@ class Store:
         self._accounts = Accounts(self._pool, self._dialect, hasher)
         for fault in self._accounts.examine():
             if fault.is_error:
-                raise SystemExit(f"the database won't do: {fault}")
+                raise SystemExit(f"the database has a fault: {fault}")
 
     def sign_up(self, name: str, password: str, old: str) -> Optional[str]:
         """Adds an account with its record, if the name is free."""

@@ -40,7 +40,7 @@ def _target(text: str) -> float:
 def _words() -> argparse.ArgumentParser:
     words = Words(
         prog="python3 -m rigzumal",
-        description="Makes and verifies records of a password, which it asks for at a terminal"
+        description="Hashes and verifies a password, which it asks for at a terminal"
         " and otherwise reads from standard input.",
     )
     words.add_argument("--version", action="version", version=_library.version())

@@ -72,7 +72,7 @@ class Words(argparse.ArgumentParser):
         args: Optional[Sequence[str]] = None,
         namespace: Optional[argparse.Namespace] = None,
     ) -> argparse.Namespace:
-        """As ArgumentParser's, but that no word is shown that isn't taken: it may be a password."""
+        """Parses as ArgumentParser, but shows no word that it refuses: it may be a password."""
         given, others = self.parse_known_args(args, namespace)
         if others:
             options = [*_options_of(self, getattr(given, "command", ""))]
@@ -183,7 +183,7 @@ def hasher_of(given: argparse.Namespace) -> Union[PasswordHasher, ScryptHasher]:
 def read_password(prompt: str = "Password", *, is_new: bool = False) -> bytes:
     """All of standard input, or the password that is typed: a new one twice.
 
-    Two that differ, none, and what can't be read are a Refusal.
+    Raises Refusal if two differ, if there is none, or if it can't be read.
     """
     if sys.stdin is None:
         raise Refusal("standard input is closed", Status.STREAM)
@@ -199,7 +199,7 @@ def read_password(prompt: str = "Password", *, is_new: bool = False) -> bytes:
 
 
 def is_empty(password: bytes) -> bool:
-    """Whether a password is only a line's end, as an unset variable gives."""
+    """Whether a password is only a line's end, as an unset variable leaves it."""
     return not password.strip(b"\r\n")
 
 

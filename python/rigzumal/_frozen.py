@@ -14,7 +14,7 @@ class Frozen:
     """Values that are equal, and have one hash, if all of their attributes are."""
 
     def __init__(self, *values: object, **named: object) -> None:
-        """Of a class that refuses no value: all of its attributes, as it lists them."""
+        """Sets all attributes, in the order in which the class lists them."""
         given = dict(zip(self.__annotations__, values), **named)
         names, count = self.__annotations__, len(values) + len(named)
         if given.keys() != names.keys() or count != len(names):
@@ -22,7 +22,7 @@ class Frozen:
         self._set(**given)
 
     def _set(self, **values: object) -> None:
-        """Gives the attributes, in the order in which they are shown."""
+        """Sets the attributes, in the order in which they are shown."""
         vars(self).update(values)
 
     def _shown(self) -> dict[str, object]:

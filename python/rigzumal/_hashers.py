@@ -95,7 +95,7 @@ class _Hasher(Frozen):
 
         Args:
             password: the password, of any length below 2^32 bytes.
-            salt: 8 to 48 bytes (of scrypt 1 to 48); by default the system's getrandom makes one.
+            salt: 8 to 48 bytes (of scrypt 1 to 48); by default getrandom(2) generates one.
 
         Raises:
             InvalidNumbersError: the salt is too short or too long.
@@ -148,8 +148,8 @@ class _Hasher(Frozen):
     def check_needs_rehash(self, hash: Secret) -> bool:
         """Whether the record has another scheme, other costs or other sizes than a new one.
 
-        Which secret it was made with only `verify_and_rehash` can tell. A text that is no
-        record is an InvalidRecordError.
+        Only `verify_and_rehash` can tell which secret the record needs. A text that is no
+        record raises InvalidRecordError.
         """
         parts = _library.parts(hash)
         found = (parts.scheme, parts.version, parts.memory, parts.passes, parts.lanes)
@@ -158,7 +158,7 @@ class _Hasher(Frozen):
 
 
 def _is_record(password: Secret) -> bool:
-    """Whether what stands for a password is a record: other libraries have them the other way."""
+    """Whether a password is a record: other libraries have the two in the other order."""
     return isinstance(password, (str, bytes)) and _library.is_record(password)
 
 
@@ -180,10 +180,10 @@ class PasswordHasher(_Hasher):
             `parallelism` is right for a program that hashes one password at a time: 64 MiB and
             four lanes need a third of the time on four idle processors. At most one thread for
             each processor starts, and none below 4 MiB.
-        secrets: the new pepper and older ones, instead of `secret`, while peppers rotate. Records
-            are made with the first, which is then `secret`, and verified with any: a wrong
+        secrets: the new pepper and older ones, instead of `secret`, while peppers rotate. A new
+            record uses the first, which is then `secret`, and verifying tries them all: a wrong
             password costs a hash for each. `verify_and_rehash` replaces records of older ones.
-            b"" among the older ones stands for records that were made without a pepper.
+            b"" among the older ones stands for records without a pepper.
 
     Raises:
         InvalidNumbersError: a number is out of its range.

@@ -90,8 +90,8 @@ def _range_of(text: Secret) -> str:
 def bytes_of(secret: Secret) -> bytes:
     """The bytes of a secret, or of anything else that may be text.
 
-    A TypeError says that it is neither, a ValueError that the text has no form in UTF-8: no
-    exception shows it.
+    Raises TypeError if it is neither, and ValueError if the text has no form in UTF-8: no
+    exception shows the secret.
     """
     if isinstance(secret, bytes):
         return secret
@@ -105,7 +105,7 @@ def bytes_of(secret: Secret) -> bytes:
 
 
 def data_of(data: object, wanted: str = "bytes") -> bytes:
-    """The bytes of a salt or the like; TypeError of text, and of whatever holds no bytes."""
+    """The bytes of a salt or the like; TypeError for text, and for whatever holds no bytes."""
     if isinstance(data, bytes):
         return data
     try:
@@ -129,7 +129,7 @@ def _numbers(*names: str) -> list[tuple[str, Any]]:
 
 
 def _data(*names: str) -> list[tuple[str, Any]]:
-    """The fields of data in a structure: a pointer and its size of each."""
+    """The fields of data in a structure: a pointer and a size for each."""
     kinds = (("", ctypes.c_char_p), ("_size", ctypes.c_size_t))
     return [(name + end, kind) for name in names for end, kind in kinds]
 
@@ -234,8 +234,8 @@ def version() -> str:
 def trim() -> int:
     """Returns the memory that is kept for the next hashes to the system; answers how many bytes.
 
-    The library keeps as much as hashes used at one time, up to the bound of `keep`. The system
-    reclaims it when it is short of memory; this call is for a program that hashes seldom.
+    The library keeps as much as hashes used at one time, up to the bound of `keep`. A system
+    that is short of memory reclaims it; this call is for a program that hashes seldom.
     """
     return int(_library.rigzumal_trim())
 

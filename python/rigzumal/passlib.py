@@ -5,8 +5,8 @@
 >>> from passlib.context import CryptContext
 >>> context = CryptContext(["argon2", "scrypt"], argon2__memory_cost=65536)
 
-The settings, the strings and the errors are passlib's own: what its handlers of the
-same names have written is read here, and theirs read this. `max_threads` is how many threads
+The settings, the strings and the errors are passlib's own: each handler reads what passlib's
+of the same name wrote, and passlib's reads what ours wrote. `max_threads` is how many threads
 may work the lanes of a record of Argon2; as in passlib it is as many as there are lanes, and
 `argon2__max_threads=1` is right for a service with many logins at once.
 """

@@ -99,7 +99,7 @@ limit = 64
 ```
 """
 AS_THEY_ARE = ["docs/DEFINITIONS.md has the definitions as they are"]
-ANEW = "isn't as in specs/: `python3 tools/definitions_page.py --write` prints it anew"
+ANEW = "isn't as in specs/: `python3 tools/definitions_page.py --write` corrects it"
 
 
 class DefinitionsPage(Case):

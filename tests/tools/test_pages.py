@@ -18,7 +18,7 @@ BUILDING = """These are of virtual machines with four processors. Others are slo
 | `.ci/run` from nothing, nothing else running | 33 min 40 s to 1 h 19 min |
 | `.ci/run` from nothing on two processors | 52 min 9 s |
 """
-SAID = "README.md doesn't say `{}`, as docs/BUILDING.md has it of its commands"
+SAID = "README.md lacks `{}`, which docs/BUILDING.md has"
 CRATES = {"low": ("low", []), "other": ("other", ["std"]), "high": ("high", ["low", "other"])}
 ROW = "| [{0}](../crates/{0}) | what it gives |\n"
 TESTS = "| [high](../crates/high), [low](../crates/low) | both |\n"

@@ -90,7 +90,7 @@ class Trusted(Case):
             (whole.replace("`std`, ", ""), ["lacks `std`"]),
             (whole.replace(", `sqlite_*`", ""), ["lacks `sqlite_wal`"]),
             (whole.replace("`sha2`", "SHA-2"), ["lacks `sha2`"]),
-            (whole.replace("`sha2`", "`sha2`, `sha1`"), ["has `sha1`, on which no crate stands"]),
+            (whole.replace("`sha2`", "`sha2`, `sha1`"), ["has `sha1`, which no crate uses"]),
             ("", [f"lacks `{it}`" for it in sorted(CRATES)]),
         ):
             with self.subTest(text=text):

@@ -134,12 +134,12 @@ class WrongBodies(Case):
         self.write({"crates/high/wrong-bodies/two.edit": text})
         status, lines, _ = self.tried()
         name = text[4:].split()[0]
-        why = f"high/two: refused, in {name}: not there, but fn high::three, which says less"
-        self.assertEqual((status, lines[-1]), (0, why))
+        why = "not there, but fn high::three, which is weaker evidence"
+        self.assertEqual((status, lines[-1]), (0, f"high/two: refused, in {name}: {why}"))
 
     @each(
         ("expected type `T`", "`sum`, a lemma of its proof"),
-        ("`it` is not in scope", "a name that the edit took away, which says less"),
+        ("`it` is not in scope", "a name that the edit removed, which is weaker evidence"),
     )
     def test_lemmas(self, error, why):
         """A definition that makes a lemma of a proof false is refused there."""

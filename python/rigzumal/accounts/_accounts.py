@@ -50,9 +50,9 @@ class Accounts(Operations[Pool]):
         confirm: confirm an answer without a change, such as a verify's, by writing the
             record over itself. It is for servers that show a change before it is safe
             (MariaDB without a binary log), and makes a login cost as much as a change.
-        least_length: characters that a new password has at least; it ends no login.
+        least_length: the fewest characters of a new password; a login has no such bound.
         prepare: turns a password that is text, new or present, into the hashed one,
-            such as `rigzumal.opaque_string`. Give it from the table's first record on:
+            such as `rigzumal.opaque_string`. Use it from the table's first record on:
             a record of another form of the password is one of another password.
 
     Raises:
@@ -65,8 +65,8 @@ class Accounts(Operations[Pool]):
     its record is written. So your own rows, such as a session, are committed with the
     reply or not at all. If the server undoes the transaction, `also` is called again in
     the next; for CHANGED it isn't called. Its exceptions undo all and reach the caller,
-    but for its connection's errors that mean "again". It leaves the transaction open and
-    the record alone, and calls no operation on the same table.
+    but for its connection's errors that mean "again". `also` leaves the transaction open
+    and the record alone, and calls no operation on the same table.
 
     Every operation may raise:
         TypeError: the key is of another type than its column, or a password is neither
@@ -74,8 +74,8 @@ class Accounts(Operations[Pool]):
             or `also` has ended the transaction; no record was written.
         ValueError: a new password is too short, has over 256 bytes or no UTF-8, or is
             refused by `prepare`, or the name of an enrolment is empty or has a blank at
-            its ends; no row was read. As a present password it is a wrong one, after one
-            hash.
+            its ends; no row was read. A present password of such a form is wrong, after
+            one hash.
         StoreFault: the table, the server or the connection has a fault.
         InvalidRecordError: the record is of another scheme, and no hook judges it.
         Unavailable: no server did the operation in time, and nothing was stored.

@@ -181,9 +181,9 @@ class Import:
         return None
 
     def _by_shares(self, session: Session, batch: Sequence[Line]) -> list[str]:
-        """Puts a batch by large statements: as if all names were new, and then as they stand.
+        """Puts a batch by large statements: as if all names were new, and then without that.
 
-        Line by line it is done in the end, or shows at which account it isn't.
+        If both fail, it puts line by line, which shows the account at fault.
         """
         # In the order of the names, which is the index's: its pages are read once each.
         lines = sorted(batch, key=_KEY)
@@ -202,7 +202,7 @@ class Import:
         return words if len({*words}) == 1 else _as_they_came(batch, words)
 
     def _put_at_once(self, session: Session, share: Sequence[Line]) -> list[str]:
-        """Puts some lines by a few statements; StoreFault if other records stand then."""
+        """Puts some lines by a few statements; StoreFault if their rows have other records."""
         keys = [] if self.are_new else [key for key, _ in share]
         stands = dict(self._standing(session, keys))
         lines = [it for it in share if stands.get(it[0]) is None] if stands else share

@@ -200,8 +200,8 @@ class Operations(Generic[AnyPool]):
         written over itself: that COMMIT waits for both, where a SELECT wouldn't.
 
         If the row has the copy, the change wasn't stored so far, and is sent again: a replaced
-        record never returns. NULL may return: to enrol again might bring back a record that
-        another client has removed since.
+        record never returns. NULL may return, if another client has removed the record since:
+        a second enrolment would bring it back.
         """
         waits, why = Waits(self._connections.patience, time.monotonic(), 0.01), ""
         refusals = 0
@@ -223,11 +223,11 @@ class Operations(Generic[AnyPool]):
         raise _unknown(worked, why)
 
     def _is_refusal(self, cause: Optional[BaseException]) -> bool:
-        """Whether the server answered a COMMIT, as it does each time while its disk is ill."""
+        """Whether the server answered a COMMIT, as it does each time while its disk fails."""
         return cause is not None and self._dialect.verdict(cause) is Verdict.REFUSED
 
     async def _put_again(self, worked: Worked, also: Hook) -> bool:
-        """Whether the change was made for good; False if another try may tell.
+        """Whether the change is stored for good; False if another try may tell.
 
         Raises:
             OutcomeUnknown: the row has neither the copy nor the new record.

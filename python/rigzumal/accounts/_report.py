@@ -1,4 +1,4 @@
-"""A report on the records of a table, for the command: how many are alike, by what a login does."""
+"""A report on a table, for the command: groups of alike records, by what a login does to them."""
 
 from __future__ import annotations
 

@@ -1,7 +1,7 @@
 """The hooks that run, by which an operation within one is known.
 
-An `also` holds the row of its operation: another operation on the same table could wait for that
-row, which no server sees as a deadlock, and PerThread's one connection is in use.
+An `also` holds the row of its operation. Another operation on the same table could wait for that
+row, which no server sees as a deadlock; and PerThread's one connection is in use.
 """
 
 from __future__ import annotations
@@ -22,7 +22,7 @@ class Also:
 
 
 RUNNING: Final = contextvars.ContextVar[tuple[Also, ...]]("rigzumal.accounts.also", default=())
-"""Those within which the caller is, the innermost last."""
+"""The hooks within which the caller runs, the innermost last."""
 
 
 def runs_over(pool: Any) -> bool:

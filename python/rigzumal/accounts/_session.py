@@ -162,7 +162,7 @@ class Runtime:
         """Does a job on a connection of a pool, whatever the pool raises or swallows after it.
 
         A pool that rolls back a broken connection raises its own error instead of the
-        job's, and "COMMIT had no answer" would be taken for "nothing was done".
+        job's, and "COMMIT had no answer" would be read as "nothing was done".
         """
         ends: list[Union[T, BaseException]] = []
         try:
@@ -178,7 +178,7 @@ class Runtime:
         time.sleep(seconds)
 
     async def call(self, work: Callable[..., T], *args: Any) -> T:
-        """Does work that needs a processor for a while."""
+        """Runs work that needs a processor for a while."""
         return work(*args)
 
     async def ask(self, name: str, hook: Callable[..., Any], *args: Any) -> Any:

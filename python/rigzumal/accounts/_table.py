@@ -71,7 +71,7 @@ class Table:
             raise TypeError(NESTED)
 
     def writes(self, worked: Worked) -> bool:
-        """Whether the operation writes, be it only the copy over itself."""
+        """Whether the operation writes, if only the copy over itself."""
         if worked.reply.makes_change:
             return True
         return self.confirm and worked.ticket.copy is not NO_ROW
@@ -106,7 +106,7 @@ class Table:
         return done or await self._transaction(session, worked, also)
 
     def _is_of_one_statement(self, worked: Worked) -> bool:
-        """Whether one statement makes the change, if the engine has one.
+        """Whether one statement does the change, if the engine has one.
 
         From NULL to a record or back, the row doesn't show afterwards who wrote it: a
         connection that breaks before COMMIT has to be known there.
@@ -287,7 +287,7 @@ class Table:
                 raise
 
     async def _row(self, session: Session) -> Optional[Key]:
-        """The key of a new row, or of any; None if the table has none and refuses one."""
+        """The key of a new row, or of any; None if the table is empty and refuses a row."""
         dialect = self.dialect
         key = unused_key(dialect.key_type)
         try:
@@ -320,7 +320,7 @@ class Table:
         raise Lost() from error
 
     async def _undone(self, session: Session, error: Exception) -> Undone:
-        """Rolls back after an error, which means another try or is raised."""
+        """Rolls back after an error; raises it, or returns Undone for another try."""
         verdict = self.dialect.verdict(error) if is_of_driver(error) else None
         is_kept = verdict is not Verdict.LOST and await self._is_undone(session)
         if verdict is Verdict.AGAIN and is_kept:
@@ -362,7 +362,7 @@ def judged(worked: Worked, now: Copy) -> Answer:
 
 
 def _record(rows: list[tuple[Any, ...]]) -> Copy:
-    """The record in the one row that was found, if one was."""
+    """The record of the row that was found; NO_ROW without one."""
     if len(rows) > 1:
         raise StoreFault("more than one row has the key")
     if not rows:

@@ -62,7 +62,7 @@ def main(words: Optional[Sequence[str]] = None) -> int:
 
 @contextlib.contextmanager
 def _password_judged() -> Iterator[None]:
-    """A ValueError within is about the password, which is input."""
+    """Turns a ValueError within, which is about the password, into a Refusal."""
     try:
         yield
     except RigzumalError:

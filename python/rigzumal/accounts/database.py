@@ -56,7 +56,7 @@ class Database:
 
     @property
     def is_missing(self) -> bool:
-        """Whether the database is a file that doesn't exist: SQLite would make one."""
+        """Whether the database is a file that doesn't exist: SQLite would create one."""
         return self.kind == "sqlite" and not os.path.exists(self._path)
 
     def dialect_kind(self) -> type[Dialect]:

@@ -5,10 +5,10 @@
 >>> hasher.verify(hasher.hash("correct horse"), "correct horse")
 True
 
-Differences: it has no `core`, no `ffi` and none of the functions that argon2-cffi calls
-legacy; a number is no bool, and there are no versions but 16 and 19. As there,
-`parallelism` is the number of threads too, of which no more are started than there are
-processors, and none below 4 MiB. The exceptions are those of `rigzumal` too.
+Differences: this module has no `core`, no `ffi` and none of the functions that argon2-cffi
+calls legacy. A bool is no number, and versions are 16 and 19 alone. As in argon2-cffi,
+`parallelism` is the number of threads too. No more start than the machine has processors,
+and none below 4 MiB. Each exception is one of `rigzumal` too.
 """
 
 from rigzumal.argon2_cffi import exceptions, low_level, profiles

@@ -32,7 +32,7 @@ _TYPES: Final = {
 
 
 def _bytes_of(text: _Text, encoding: str) -> bytes:
-    """The bytes of a text; an error has the place of a letter without any, and no letter."""
+    """The bytes of a text; an error tells the place of a letter without bytes, and no letter."""
     if isinstance(text, bytes):
         return text
     try:
@@ -149,7 +149,7 @@ class PasswordHasher:
         return low_level.verify_secret(encoded, secret, kind)
 
     def check_needs_rehash(self, hash: _Text) -> bool:
-        """Whether the hash was made with other parameters than this hasher's.
+        """Whether the hash has other parameters than this hasher's.
 
         Raises:
             InvalidHashError: it is no hash of Argon2.

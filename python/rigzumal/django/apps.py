@@ -17,7 +17,7 @@ _MISSING = (
 
 
 class RigzumalConfig(AppConfig):
-    """The app, which comes before django.contrib.auth: its changepassword is ours."""
+    """The app. List it before django.contrib.auth, so that `changepassword` is ours."""
 
     name = "rigzumal.django"
     label = "rigzumal"

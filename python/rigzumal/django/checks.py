@@ -284,7 +284,7 @@ def unlisted_hashers(databases: Any = None, **_: Any) -> Messages:
 
 
 def _unlisted(holder: Any, alias: str) -> Optional[str]:
-    """The maker of a record that no listed hasher accepts; None if no record is such."""
+    """The algorithm of a record that no listed hasher accepts; None without such a record."""
     if holder._meta.db_table not in connections[alias].introspection.table_names():
         return None  # `migrate` asks, before it makes the table.
     others = holder._base_manager.using(alias).exclude(password="")

@@ -24,7 +24,7 @@ CHANGED = _("The password was changed meanwhile. Nothing was done; please begin 
 
 @contextlib.contextmanager
 def lost_as_error() -> Iterator[None]:
-    """Makes a ValidationError of RecordChanged, for a `with`."""
+    """Turns RecordChanged into a ValidationError, for a `with`."""
     try:
         yield
     except passwords.RecordChanged:

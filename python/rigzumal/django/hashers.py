@@ -69,7 +69,7 @@ class _RecordHasher(BasePasswordHasher):
 
     @hidden_below
     def verify(self, password: Password, encoded: str) -> bool:
-        """Whether the password is the record's; OutOfMemoryError if memory lacks.
+        """Whether the password is the record's; OutOfMemoryError if memory runs out.
 
         For a broken record, or numbers that the library refuses, every password is wrong,
         and costs a hash like any other.

@@ -48,8 +48,8 @@ def database_of(user: Any) -> str:
 class Copy:
     """The record that a user was read with, or that was written since.
 
-    Until the transaction that wrote it is committed, `records` has the older ones too,
-    the newest last: after a rollback the row has one of them.
+    `records` ends with the newest one. Until the transaction of that write is committed, it
+    has the older ones too: after a rollback the row has one of these.
     """
 
     def __init__(self, *records: str) -> None:
@@ -135,7 +135,7 @@ class Row:
         return True
 
     def found(self, record: str) -> None:
-        """Gives the user the row's record."""
+        """Sets the user's record to the row's."""
         self.user.password = record
         copy = known_copy(self.user, self.database)
         if copy is None or copy.newest != record:

@@ -25,7 +25,7 @@ Listed = TypeVar("Listed")
 class Reply(enum.Enum):
     """The book's answer to an operation.
 
-    It is never true or false by itself, since NO would be true too: compare it, as in
+    A reply is no truth value, since NO would be true too: compare it, as in
     `reply is Reply.YES`.
     """
 
@@ -69,7 +69,7 @@ class Unavailable(ServerError):
 
 
 class Later(ServerError):
-    """Too many tries at this name, or of this user, failed: this one wasn't hashed."""
+    """Too many tries at this name, or by this user, failed: this one wasn't hashed."""
 
 
 class Denied(ServerError):
@@ -95,7 +95,7 @@ class Question:
 
     Attributes:
         no_name: the reply if no book can have the name; without it `Refused` is raised.
-        wrong: the same of the first password; without it a ValueError.
+        wrong: the reply if no record can have the first password; without it a ValueError.
     """
 
     operation: str
@@ -198,7 +198,7 @@ class Calls(Generic[Replied, Listed]):
         """YES or NO; ABSENT if the account has no record; NO_ACCOUNT.
 
         EXPIRED is a right password that must be changed, by `change`, before a login. A
-        name or a password that no book can have, such as a name with a space, is NO.
+        name or a password that no book can have, such as a name with a space, gets NO.
         """
         no = Reply.NO
         return self._reply(Question("verify", (name,), (password,), no, no))
@@ -206,8 +206,8 @@ class Calls(Generic[Replied, Listed]):
     def change(self, name: str, password: Secret, new_password: Secret) -> Replied:
         """REPLACED, or WRONG for the old password; ABSENT; NO_ACCOUNT.
 
-        SHORT is a new password of fewer characters than the server demands; so it is of
-        `enrol` and `reset`. SAME is the old password again, where it must be changed.
+        SHORT: the new password has fewer characters than the server demands, here and in
+        `enrol` and `reset`. SAME: the password must be changed, and the new one is the old.
 
         Raises:
             ValueError: the new password has over 256 bytes, or is text with no UTF-8.
@@ -216,9 +216,9 @@ class Calls(Generic[Replied, Listed]):
         return self._reply(Question("change", (name,), both, *replies))
 
     def known(self, name: str) -> Replied:
-        """YES if the account has a record; ABSENT, EXPIRED, NO_ACCOUNT.
+        """YES if the account has a record; ABSENT if it has none or is locked; NO_ACCOUNT.
 
-        ABSENT is also a locked account, and EXPIRED one whose password must be changed.
+        EXPIRED if the password must be changed.
         """
         return self._reply(Question("known", (name,), no_name=Reply.NO_ACCOUNT))
 

@@ -47,7 +47,7 @@ def is_of_driver(raised: BaseException) -> bool:
 
 
 def other_driver(conn: Any, wanted: str) -> StoreFault:
-    """The fault of a connection of another driver."""
+    """The StoreFault for a connection that another driver opened."""
     found = type(conn).__module__.partition(".")[0]
     more = ": pass of_engine(engine)" if found == "sqlalchemy" else ""
     return StoreFault(f"the driver is {found} instead of {wanted}{more}")
@@ -147,8 +147,10 @@ class Dialect:
         return (sql, *keys)
 
     async def add_all(self, session: Session, lines: Sequence[Line]) -> Optional[list[str]]:
-        """Adds many accounts in a way of the engine's own, in an open transaction: "added", "there"
-        or "another" for each; None if it has no such way."""
+        """Adds many accounts in the engine's own way, in an open transaction; None if it has none.
+
+        The answer for each is "added", "there" or "another".
+        """
         return None
 
     def rows_of(self, conn: Any, sql: str) -> Iterator[tuple[Any, ...]]:
@@ -238,7 +240,7 @@ class Dialect:
         raise NotImplementedError
 
     async def commit(self, session: Session) -> None:
-        """Commits, and raises unless the change surely stays."""
+        """Commits, and raises if the change may be lost."""
         await session.execute(self.commit_sql)
 
     async def hold(self, session: Session) -> None:
@@ -250,7 +252,7 @@ class Dialect:
         return True
 
     async def settle(self, session: Session) -> None:
-        """Has the constraints judged that COMMIT would judge, in a trial that is rolled back."""
+        """Checks the constraints that COMMIT would check, in a trial that is rolled back."""
 
     async def undo(self, session: Session) -> None:
         """Rolls back an open transaction."""

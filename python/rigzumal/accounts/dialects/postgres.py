@@ -166,7 +166,7 @@ class Postgres(Dialect):
 
     @property
     def _put_all(self) -> str:
-        """Puts the first record of each name, in their order, where none stands."""
+        """Puts the first record of each name, in their order, where the row has none."""
         t, k, r = self.table, self.key, self.record
         came = "SELECT DISTINCT ON (name) * FROM rigzumal_came ORDER BY name, number"
         add = f"INSERT INTO {t} ({k}, {r}) SELECT name, made FROM came ON CONFLICT DO NOTHING"
@@ -180,7 +180,7 @@ class Postgres(Dialect):
 
     @property
     def _others(self) -> str:
-        """Finds lines that weren't put, and those of which another record stands."""
+        """Finds lines that weren't put, and those whose row has another record."""
         same = f'kept.{self.record}::text COLLATE "C" = came.made'
         joined = "rigzumal_came AS came LEFT JOIN rigzumal_put AS put USING (number)"
         return self.alone(

@@ -63,7 +63,7 @@ class Line:
         return Days(*(int(field) if field else -1 for field in fields))
 
     def is_of_dovecot(self) -> bool:
-        """Whether it has a home, or an extra field: a value's colon makes nine fields of it."""
+        """Whether it is Dovecot's, by its home or an extra field, though it has nine fields too."""
         home, extra = self.others[3], self.others[5]
         return b"/" in home or b"=" in extra
 

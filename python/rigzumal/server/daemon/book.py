@@ -37,7 +37,7 @@ def password_of(field: bytes) -> Optional[bytes]:
 
 
 def has_record(row: bytes) -> bool:
-    """Whether there is a record in a row, which marks may come before."""
+    """Whether a row has a record, perhaps behind marks."""
     return row.lstrip(LOCKED + MUST_CHANGE).startswith(b"$")
 
 

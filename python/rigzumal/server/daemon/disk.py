@@ -1,5 +1,5 @@
-"""The room on the disks that a change writes: if the book finds none, it ends, for all of its
-users."""
+"""The free space on the disks that a change writes to. A book that finds none ends, and so does the
+service of all its users."""
 
 import os
 

@@ -18,7 +18,7 @@ ANSWER_OF = {b"lock": b"locked", b"expire": b"expired"}
 
 
 async def take_in(service: Service) -> None:
-    """Has the book take the marks of FILE-locks, which then goes.
+    """Puts the marks of FILE-locks into the book, and then removes the file.
 
     After a fault, or a kill at any moment, the file is still there, and the next start does it
     again: no socket is open before, so nobody has changed a mark.

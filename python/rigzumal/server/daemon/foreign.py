@@ -24,7 +24,7 @@ EXPIRED = b"expired"  # the answer to `expire`
 
 
 class Foreign:
-    """Who of them is judged by the file, and who by the book."""
+    """Decides which of them the file judges, and which the book."""
 
     def __init__(self, service: Service, path: str) -> None:
         self.service = service

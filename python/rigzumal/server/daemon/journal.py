@@ -61,7 +61,7 @@ class Journal(GrowingFile):
         self.lacking = 0  # lines that it never got
 
     def is_full(self) -> bool:
-        """Whether so many lines wait for its disk that it takes no more."""
+        """Whether so many lines wait for its disk that it accepts no more."""
         return len(self.lines) >= MOST_LINES
 
     def add(self, line: bytes) -> asyncio.Future[bool]:
@@ -100,7 +100,7 @@ class Journal(GrowingFile):
 
 
 class Writer:
-    """A process that writes a file, and the socket by which it gets what it writes."""
+    """A process that writes a file, and the socket through which it gets the texts."""
 
     def __init__(self, path: str) -> None:
         self.socket, other = socket.socketpair()

@@ -18,8 +18,8 @@ MUST_CHANGE = b"expire"  # the mark in HTPASSWD.moved of who must change before 
 
 
 class OldFile:
-    """The file, read again once it has changed. HTPASSWD.moved has who has left it, and who of the
-    others must change the password."""
+    """The file, read again once it has changed. HTPASSWD.moved names who has left it, and who of
+    the others must change the password."""
 
     def __init__(self, path: str, names: Names) -> None:
         self.path = path

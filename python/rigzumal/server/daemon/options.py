@@ -39,7 +39,7 @@ LINE = f"a line's record may need; {TIMES} times --setting's if not given"
 
 @dataclass
 class Options:
-    """The given values, or else these."""
+    """The values of the command line, or else these."""
 
     file: str = ""
     doors: list[Door] = field(default_factory=list)
@@ -65,7 +65,7 @@ class Options:
     fold_local_part: bool = option("fold the part before the @ too")
 
     def bound(self) -> None:
-        """Bounds what a line may bring, where no option does: a dear record holds up everybody."""
+        """Bounds a line's costs where no option does: a costly record holds up everybody."""
         costs = costs_of(self.setting or USUAL)
         if costs:  # credkeep refuses what is no setting
             self.most_memory = self.most_memory or size_of(TIMES * costs.memory)
@@ -132,7 +132,7 @@ def parser() -> Parser:
 
 
 def parse(words: Sequence[str]) -> Options:
-    """The options of a command line; a Problem if they can't be meant."""
+    """The options of a command line; raises Problem for those that can't be meant."""
     options = parser().parse_args(words, Options())
     if options.metrics:
         return options
