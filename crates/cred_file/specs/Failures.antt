@@ -5,6 +5,7 @@ use Rattle.sqlite.specs.{State.Executes, State.HasCleanDisk, Store.Ghosts}
 use Rattle.sqlite_trees.specs.View.{doubt}
 use Rattle.cred_file.specs.Cells.{Cell, Cells}
 use Rattle.cred_book.specs.{declared.error.BookError.BookError}
+use Rattle.cred_book.specs.declared.error.BookError.TheVariants as error
 use Rattle.cred_file.specs.{declared.fault.Attempt.Attempt, declared.fault.Lost.Lost, declared.fault.OpenFault.OpenFault}
 use Rattle.cred_file.specs.declared.fault.OpenFault.TheVariants as fault
 use Rattle.cred_file.specs.{Edits.Becomes, Edits.after_attempt, Kept.Kept, Kept.cells, Schema.create_text, Schema.delete_text, Schema.insert_text, Schema.no_schema, Schema.rename_text, Schema.update_text}
@@ -72,3 +73,11 @@ pub record Remembers {S : Type 0} (attempt : Attempt) (Fails : Error → Type 0)
   pub made : Becomes (cells old) (cells new) (after_attempt (cells old) attempt) result
   pub written : OnOk result ((old.lost ≡ None) × (new.lost ≡ None))
   pub loses : Loses attempt Fails old new
+
+-- a disk that is clean after a call was clean before it
+abbrev pub WasClean : {S : Type 0} → Ghosts S → Kept S → Kept S → Type 0
+WasClean g old new = doubt (state g old.conn).is_clean ≤ doubt (state g new.conn).is_clean
+
+-- a change that is refused, but for want of memory, isn't lost
+abbrev pub LosesForMemory : {S : Type 0} → Kept S → Kept S → Result (Unit {0}) BookError → Type 0
+LosesForMemory old new result = IfErr result (λ e. e ≢ error.Memory → new.lost ≡ old.lost)

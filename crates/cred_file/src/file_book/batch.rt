@@ -3,7 +3,7 @@
 ghost use Rattle.std.specs.Prelude.{◌+◌, ◌≤◌, ◌<◌, MatchBool, OnErr, OnOk, ⊤, ◌≡◌};
 ghost use Rattle.std.specs.FinMap as fin;
 ghost use Rattle.cred_book.specs.Accounts.{register_capacity};
-ghost use Rattle.cred_file.specs.{Edits.AreApart, Edits.AreThere, Edits.Meet, Edits.Misses, Edits.TakesIn, Failures.Remembers};
+ghost use Rattle.cred_file.specs.{Edits.AreApart, Edits.AreThere, Edits.Meet, Edits.Misses, Edits.TakesIn, Failures.LosesForMemory, Failures.Remembers, Failures.WasClean};
 ghost use Rattle.cred_file.specs.{Cells.mark_at, Cells.renewed, Transactions.changed_marks, Transactions.taken_marks};
 ghost use Rattle.cred_file.specs.declared.fault.Attempt.TheVariants as Attempt;
 
@@ -34,6 +34,8 @@ impl<S: Alter> FileBook<S> {
         ensures unmarked { OnErr result (mark_at self.new.marks ≡ mark_at self.old.marks) }
         ensures remembers { Remembers (Attempt.TakeIn added changed marks) (λ _. ⊤)
             self.old self.new result }
+        ensures refusal { LosesForMemory self.old self.new result }
+        ensures clean { WasClean S.Store self.old self.new }
     {
         if meets(&self.book, &added) {
             return Err(BookError::Exists);
@@ -80,6 +82,8 @@ impl<S: Alter> FileBook<S> {
         ensures unmarked { OnErr result (mark_at self.new.marks ≡ mark_at self.old.marks) }
         ensures remembers { Remembers (Attempt.TakeIn fin.empty changed fin.empty) (λ _. ⊤)
             self.old self.new result }
+        ensures refusal { LosesForMemory self.old self.new result }
+        ensures clean { WasClean S.Store self.old self.new }
     {
         let none = Register::new(self.alloc);
         let unmarked = Marks::new(self.alloc);

@@ -7,7 +7,7 @@ ghost use Rattle.cred_book.specs.{Accounts.register_capacity, Calls.AdmitsWithin
 ghost use Rattle.cred_book.specs.Works.{name_of};
 ghost use Rattle.cred_file.specs.Edits.{Deletes, PutsEntry, Renames, SetsMark};
 ghost use Rattle.cred_file.specs.{Cells.blank, Cells.cell, Cells.mark_at, Cells.marked, Cells.marking, Cells.renewal, Cells.renewed, Cells.unmarked, Kept.cells, Kept.mark_of};
-ghost use Rattle.cred_file.specs.{Failures.FailsToDelete, Failures.FailsToPut, Failures.FailsToRename, Failures.Loses, Failures.Remembers};
+ghost use Rattle.cred_file.specs.{Failures.FailsToDelete, Failures.FailsToPut, Failures.FailsToRename, Failures.Loses, Failures.LosesForMemory, Failures.Remembers, Failures.WasClean};
 ghost use Rattle.cred_file.specs.declared.fault.Attempt.TheVariants as Attempt;
 
 use super::FileBook;
@@ -31,6 +31,8 @@ impl<S: Alter> FileBook<S> {
         ensures remembers { Remembers (Attempt.Put name None)
             (FailsToPut S.Store self.old.conn self.new.conn false name blank)
             self.old self.new result }
+        ensures refusal { LosesForMemory self.old self.new result }
+        ensures clean { WasClean S.Store self.old self.new }
     {
         self.enter(name, None)
     }
@@ -47,6 +49,8 @@ impl<S: Alter> FileBook<S> {
         ensures remembers { Remembers (Attempt.Put name.now (Some stored))
             (FailsToPut S.Store self.old.conn self.new.conn true name.now
             (renewal (cells self.old) name.now (Some stored))) self.old self.new result }
+        ensures refusal { LosesForMemory self.old self.new result }
+        ensures clean { WasClean S.Store self.old self.new }
     {
         if !self.book.contains(name) {
             return Err(BookError::NoAccount);
@@ -74,6 +78,7 @@ impl<S: Alter> FileBook<S> {
             (FailsToPut S.Store self.old.conn self.new.conn true (name_of worked.0)
             (renewal (cells self.old) (name_of worked.0) (judgement self.old.book worked).1))
             self.old self.new }
+        ensures clean { WasClean S.Store self.old self.new }
     {
         let (reply, after, changes) = self.book.judge(&worked);
         if !changes {
@@ -101,6 +106,8 @@ impl<S: Alter> FileBook<S> {
             (FailsToPut S.Store self.old.conn self.new.conn
             (fin.contains_key self.old.book name.now) name.now
             (renewal (cells self.old) name.now stored)) self.old self.new result }
+        ensures refusal { LosesForMemory self.old self.new result }
+        ensures clean { WasClean S.Store self.old self.new }
     {
         if self.book.contains(name) {
             self.replace(name, stored)
@@ -121,6 +128,8 @@ impl<S: Alter> FileBook<S> {
         ensures remembers { Remembers (Attempt.Delete name.now)
             (FailsToDelete S.Store self.old.conn self.new.conn name.now)
             self.old self.new result }
+        ensures refusal { LosesForMemory self.old self.new result }
+        ensures clean { WasClean S.Store self.old self.new }
     {
         if !self.book.contains(name) {
             return Err(BookError::NoAccount);
@@ -158,6 +167,8 @@ impl<S: Alter> FileBook<S> {
         ensures remembers { Remembers (Attempt.Rename name.now other.now)
             (FailsToRename S.Store self.old.conn self.new.conn name.now other.now)
             self.old self.new result }
+        ensures refusal { LosesForMemory self.old self.new result }
+        ensures clean { WasClean S.Store self.old self.new }
     {
         let Ok(stored) = self.book.show(name) else {
             return Err(BookError::NoAccount);
@@ -209,6 +220,8 @@ impl<S: Alter> FileBook<S> {
         ensures remembers { Remembers (Attempt.Put name stored)
             (FailsToPut S.Store self.old.conn self.new.conn false name (cell stored unmarked))
             self.old self.new result }
+        ensures refusal { LosesForMemory self.old self.new result }
+        ensures clean { WasClean S.Store self.old self.new }
     {
         if self.book.contains(&name) {
             return Err(BookError::Exists);
@@ -252,6 +265,8 @@ impl<S: Alter> FileBook<S> {
         ensures remembers { Remembers (Attempt.Put name.now stored)
             (FailsToPut S.Store self.old.conn self.new.conn true name.now
             (renewal (cells self.old) name.now stored)) self.old self.new result }
+        ensures refusal { LosesForMemory self.old self.new result }
+        ensures clean { WasClean S.Store self.old self.new }
     {
         if self.lost.is_some() {
             return Err(BookError::Memory);
@@ -282,6 +297,8 @@ impl<S: Alter> FileBook<S> {
         ensures remembers { Remembers (Attempt.Mark name.now mark)
             (FailsToPut S.Store self.old.conn self.new.conn true name.now
             (marking (cells self.old) name.now mark)) self.old self.new result }
+        ensures refusal { LosesForMemory self.old self.new result }
+        ensures clean { WasClean S.Store self.old self.new }
     {
         let Ok(stored) = self.book.show(name) else {
             return Err(BookError::NoAccount);
