@@ -1,116 +1,123 @@
-//! A run that stops at some call of its store, and the next run.
+//! A run over a store that may stop at any of its calls, and the next run.
 
-ghost use Rattle.std.specs.Prelude.{◌≡◌, ◌≤◌, IfErr, IfOk, IfSome, IsTrue, None, Some};
+ghost use Rattle.std.specs.Prelude.{◌≡◌, ◌≤◌, [], length, IfErr, IfOk};
 ghost use Rattle.std.specs.FinMap as fin;
+ghost use Rattle.std.specs.Vec.{vec_capacity, vec_len};
 ghost use Rattle.cred_book.specs.Accounts.{register_capacity};
-ghost use Rattle.cred_file.specs.{Cells.Cells, Kept.cells, Keeps.HoldsBook, Keeps.IsOrWith, Opening.IsForWant};
-ghost use Rattle.crash_laws.specs.Crashes.{IsHonest, IsLeft};
-ghost use Rattle.sqlite.specs.{Held.state, State.HasCleanDisk, Steps.IsFresh, Tree.Trees};
-ghost use Rattle.sqlite_trees.specs.View.{IsClean, doubt};
+ghost use Rattle.cred_file.specs.{Cells.Cells, Keeps.HoldsBook, Opening.IsForWant};
+ghost use Rattle.crash_laws.specs.Crashes.{AreMade, IsCall, IsRun, answers_in, asked_of};
+ghost use Rattle.sqlite.specs.{Steps.IsFresh};
+ghost use Rattle.sqlite_trees.specs.View.{IsClean};
 
-use crate::fail_stop::FailStop;
 use cred_book::BookError;
-use cred_file::{Attempt, FileBook, OpenFault, reopen};
+use cred_file::{Attempt, FileBook, OpenFault};
 use sqlite::{Alter, Connection};
-use sqlite_trees::store::Reopen;
 use std::alloc::Global;
 
-/// What the run before the crash answered, and what the next one opened.
+/// What a run told, and the store as the run left it.
 #[derive(Drop)]
-pub struct Restart<S: Alter> {
-    /// The answer to the change, if a book was open to make it.
-    pub answer: Option<Result<(), BookError>>,
-    pub opened: Result<FileBook<S>, (OpenFault, Connection<S>)>,
+pub struct Ended<M> {
+    /// The answers to the changes, in their order; or why no book was opened.
+    pub told: Result<Vec<Result<(), BookError>>, OpenFault>,
+    pub store: M,
 }
 
-/// Two runs, the first of which stops after so many calls of its store: while it opens the book,
-/// makes the change, or closes the book. The machine crashes there, and the next run opens the
-/// book: as it was, or with the change, and surely with it if the change was answered `Ok`. The
-/// marks of its accounts are as whole as their records.
+/// What a run told, and what came of the next one.
+#[derive(Drop)]
+pub struct Restart<R> {
+    pub told: Result<Vec<Result<(), BookError>>, OpenFault>,
+    pub next: R,
+}
+
+/// Two runs. The first opens the book that a store holds, asks it for each of the changes, in their
+/// order, and ends; from some call on the store may refuse each. The next run is handed the store
+/// as it is then, to crash its machine and open the book again.
 ///
-/// `None` if the disk failed, or memory was refused, before the database was open again.
-pub fn crash_amid<S: Alter + Reopen + Drop>(
+/// It finds the book with each change that was answered `Ok`. One more may be there, which was
+/// answered `Memory`, and after which none was answered `Ok`.
+pub fn crash_amid<M: Alter + Drop, R, N: FnOnce(M) -> R>(
     alloc: Global,
-    store: S,
-    calls: u64,
-    change: Attempt,
-) -> Option<Restart<S>>
-    requires fresh { IsClean (S.Store.view store) → IsFresh (S.Store.view store) }
-    ensures kept { IfSome result (λ r. IfOk r.opened (λ b. IsHonest S.Store → (book : Cells)
-        × HoldsBook (S.Store.view store).committed book
-        × IsLeft book None change r.answer (cells b))) }
-    ensures refused { IfSome result (λ r. IfErr r.opened (λ e.
-        HasCleanDisk (state S.Store e.1) → (book : Cells)
-        → HoldsBook (S.Store.view store).committed book → fin.len book ≤ register_capacity
-        → IsForWant e.0)) }
+    store: M,
+    changes: Vec<Attempt>,
+    next_run: N,
+) -> Restart<R>
+    requires fresh { IsClean (M.Store.view store) → IsFresh (M.Store.view store) }
+    requires next { N.IsAlwaysCallable next_run }
+    ensures asked { IfOk result.told (λ answers.
+        length answers.items ≡ length changes.items) }
+    ensures next { (left : _) × N.post next_run left result.next
+        × IsRun M.Store store left (asked_of (answers_in (λ v. v.items) result.told) changes.items) }
 {
-    match open_until(alloc, store, calls) {
-        Ok(book) => crash_in_change(alloc, book, change),
-        Err(store) => {
-            let opened = reopen(alloc, store)?;
-            Some(Restart {
-                answer: None,
-                opened,
-            })
-        }
+    let Ended { told, store } = run(alloc, store, changes);
+    Restart {
+        told,
+        next: next_run(store),
     }
 }
 
-/// The first run up to its change: opens the book over a store that stops after so many calls. If
-/// it stops first, or there is no book, the store comes back; a crash leaves what it could before.
-pub fn open_until<S: Alter + Drop>(
-    alloc: Global,
-    store: S,
-    calls: u64,
-) -> Result<FileBook<FailStop<S>>, S>
-    requires fresh { IsClean (S.Store.view store) → IsFresh (S.Store.view store) }
-    ensures whole { IfOk result (λ b. b.lost ≡ None) }
-    ensures found { IfOk result (λ b. IsClean (S.Store.view b.conn.store.store)
-        → HoldsBook (S.Store.view store).committed (cells b)) }
-    ensures numbered { IfErr result (λ s. IsClean (S.Store.view s)
-        → IsTrue (S.Store.view s).is_numbered) }
-    ensures clean { IfErr result (λ s.
-        doubt (S.Store.view store).is_clean ≤ doubt (S.Store.view s).is_clean) }
-    ensures left { IfErr result (λ s. IsClean (S.Store.view s)
-        → (db : Trees) → S.Store.recovers s db → S.Store.recovers store db) }
+/// The first of these runs. The store comes back as the run left it.
+pub fn run<M: Alter + Drop>(alloc: Global, store: M, changes: Vec<Attempt>) -> Ended<M>
+    requires fresh { IsClean (M.Store.view store) → IsFresh (M.Store.view store) }
+    ensures asked { IfOk result.told (λ answers.
+        length answers.items ≡ length changes.items) }
+    ensures refused { IfErr result.told (λ why. IsClean (M.Store.view result.store)
+        → (book : Cells) → HoldsBook (M.Store.view store).committed book
+        → fin.len book ≤ register_capacity → IsForWant why) }
+    ensures run { IsRun M.Store store result.store
+        (asked_of (answers_in (λ v. v.items) result.told) changes.items) }
 {
-    let conn = match Connection::over(alloc, FailStop::new(store, calls)) {
+    let Ok(answers) = Vec::with_capacity(alloc, changes.len()) else {
+        return Ended {
+            told: Err(OpenFault::Memory),
+            store,
+        };
+    };
+    let conn = match Connection::over(alloc, store) {
         Ok(conn) => conn,
-        Err((_, machine)) => return Err(machine.into_inner()),
+        Err((error, store)) => {
+            return Ended {
+                told: Err(OpenFault::Database(error)),
+                store,
+            };
+        }
     };
     match FileBook::open(alloc, conn) {
-        Ok(book) => Ok(book),
-        Err((_, conn)) => Err(conn.into_store().into_inner()),
+        Ok(mut book) => {
+            let answers = make_all(&mut book, changes, answers);
+            Ended {
+                told: Ok(answers),
+                store: book.close().into_store(),
+            }
+        }
+        Err((why, conn)) => Ended {
+            told: Err(why),
+            store: conn.into_store(),
+        },
     }
 }
 
-/// The runs from a book on that is open over a store which stops. What the book has, as its answers
-/// so far describe it, is there after the crash.
-///
-/// `None` as for `crash_amid`.
-pub fn crash_in_change<S: Alter + Reopen + Drop>(
-    alloc: Global,
-    mut book: FileBook<FailStop<S>>,
-    change: Attempt,
-) -> Option<Restart<S>>
-    ensures kept { IfSome result (λ r. IfOk r.opened (λ b. HasCleanDisk (state S.Store b.conn)
-        → IsLeft (cells book) book.lost change r.answer (cells b))) }
-    ensures refused { IfSome result (λ r. IfErr r.opened (λ e.
-        HasCleanDisk (state S.Store e.1) → IsForWant e.0)) }
+/// Asks for each change in turn, and returns the answers.
+fn make_all<S: Alter>(
+    book: &mut FileBook<S>,
+    changes: Vec<Attempt>,
+    mut answers: Vec<Result<(), BookError>>,
+) -> Vec<Result<(), BookError>>
+    requires none { answers.items ≡ [] }
+    requires unused { vec_len answers ≡ 0 }
+    requires room { vec_len changes ≤ vec_capacity answers }
+    ensures asked { length result.items ≡ length changes.items }
+    ensures made { AreMade S.Store book.old book.new (asked_of result.items changes.items) }
 {
-    let answer = make(&mut book, change);
-    let store = book.close().into_store().into_inner();
-    let opened = reopen(alloc, store)?;
-    Some(Restart {
-        answer: Some(answer),
-        opened,
-    })
+    for change in changes {
+        answers.push_reserved(make(book, change));
+    }
+    answers
 }
 
 /// Makes the change, with its answer.
+#[tactic(auto, using(crate::proofs::Made::called))]
 fn make<S: Alter>(book: &mut FileBook<S>, change: Attempt) -> Result<(), BookError>
-    ensures { (left : Cells) → IsOrWith (cells book.new) book.new.lost left
-        → IsLeft (cells book.old) book.old.lost change (Some result) left }
+    ensures { IsCall S.Store book.old book.new (record { change = change; answer = result }) }
 {
     match change {
         Attempt::Put { name, stored } => book.put(&name, stored),

@@ -18,6 +18,7 @@ pub struct FailStop<S: Store> {
     has_stopped: bool,
     // A failed open gives the store back, and doesn't say again that its trees have numbers.
     ghost numbered: { IsClean (S.Store.view store) → IsTrue (S.Store.view store).is_numbered },
+    ghost spent: { IsTrue has_stopped → calls_left ≡ 0 },
 }
 
 impl<S: Store> FailStop<S> {
@@ -35,6 +36,14 @@ impl<S: Store> FailStop<S> {
             calls_left: calls,
             has_stopped: false,
         }
+    }
+
+    /// Whether it has stopped: all its calls are spent, and one more was asked for.
+    pub fn has_stopped(&self) -> bool
+        ensures value { result ≡ self.now.has_stopped }
+        ensures spent { IsTrue result → self.now.calls_left ≡ 0 }
+    {
+        self.has_stopped
     }
 
     pub fn into_inner(self) -> S

@@ -7,6 +7,9 @@ mod laws;
 #[cfg(test)]
 mod tests;
 
-pub use crash::{Restart, crash_amid, crash_in_change, open_until};
+pub use crash::{Ended, Restart, crash_amid, run};
 pub use fail_stop::FailStop;
-pub use laws::memory_is_honest;
+pub use laws::{
+    a_crash_leaves_what_was_answered, a_stop_leaves_what_is_within,
+    the_next_open_finds_what_is_kept, the_next_open_finds_what_was_answered,
+};

@@ -1,12 +1,12 @@
-//! What no clause says: that a run gets as far as its change, and that a crash leaves the book both
-//! with the change and without.
+//! What no clause says: that a run gets as far as its changes, and stops at each of them; that the
+//! next run has memory and a disk; and that a crash leaves the book with a change and without.
 
 ghost use Rattle.sqlite.specs.Steps.{IsFresh};
 ghost use Rattle.sqlite_trees.specs.Memory.{memory_view};
 
-use crate::{Restart, crash_amid};
+use crate::{FailStop, Restart, crash_amid};
 use cred_book::{BookError, Name, Register};
-use cred_file::{Attempt, FileBook, Mark, Marks};
+use cred_file::{Attempt, FileBook, Mark, Marks, reopen};
 use cred_phc::{Record, parse_record};
 use sqlite::Connection;
 use sqlite_trees::memory::MemStore;
@@ -38,13 +38,28 @@ static CHANGES: [(&str, &str); 10] = [
     ("add c a, change a B", "B!a"),
 ];
 
+/// The changes of a longer run, their answers, and the accounts after each.
+static RUN: [(&str, Result<(), BookError>, &str); 9] = [
+    ("put c B", Ok(()), "A!B"),
+    ("lock a", Ok(()), "a!B"),
+    ("rename b c", Err(BookError::Exists), "a!B"),
+    ("delete b", Ok(()), "a B"),
+    ("delete b", Err(BookError::NoAccount), "a B"),
+    ("rename c b", Ok(()), "aB "),
+    ("put a B", Ok(()), "bB "),
+    ("add c a, change a B", Ok(()), "bBa"),
+    ("put b -", Ok(()), "b-a"),
+];
+
 /// More calls than a run takes.
 const MANY: u64 = 1000;
 
-/// The answer to a change, and the accounts that the next run finds.
-#[derive(Clone, Copy)]
+/// The answers to a run's changes, if it opened the book; whether its store stopped; and the
+/// accounts that the next run finds.
+#[derive(Drop)]
 struct Outcome {
-    answer: Option<Result<(), BookError>>,
+    answers: Option<Vec<Result<(), BookError>>>,
+    has_stopped: bool,
     accounts: [u8; 3],
 }
 
@@ -133,30 +148,48 @@ fn letter_of<R: Abort>(rt: &R, book: &Register, locked: bool, at: &str) -> u8 {
     }
 }
 
-fn crash<R: Abort>(rt: &R, alloc: Global, change: &str, calls: u64) -> Outcome {
-    let change = change_of(rt, alloc, change);
-    let Restart { answer, opened } = crash_amid(alloc, store(rt, alloc), calls, change).expect(
-        rt, "memory",
-    );
-    let book = opened.ok().expect(rt, "a book");
+fn crash<R: Abort>(rt: &R, alloc: Global, changes: Vec<Attempt>, calls: u64) -> Outcome {
+    let store = FailStop::new(store(rt, alloc), calls);
+    let Restart { told, next } = crash_amid(alloc, store, changes, |store: FailStop<MemStore>| {
+        (store.has_stopped(), reopen(alloc, store.into_inner()))
+    });
+    let (has_stopped, opened) = next;
+    let book = opened.expect(rt, "memory").ok().expect(rt, "a book");
     let accounts = ["a", "b", "c"].map(|at| {
         let locked = book.mark_of(&name(rt, at)).locked;
         letter_of(rt, book.book(), locked, at)
     });
-    Outcome { answer, accounts }
+    Outcome {
+        answers: told.ok(),
+        has_stopped,
+        accounts,
+    }
 }
 
-/// Holds what a crash after so many calls leaves against the accounts before and after the change.
-fn hold<R: Abort>(rt: &R, alloc: Global, calls: u64, change: &str, after: &str) -> Outcome {
-    let found = crash(rt, alloc, change, calls);
-    let wanted = match found.answer {
+/// Crashes a run of one change, holds what is left against the accounts before it and after it, and
+/// returns its answer, if it was asked for.
+fn hold<R: Abort>(
+    rt: &R,
+    alloc: Global,
+    calls: u64,
+    change: &str,
+    after: &str,
+) -> Option<Result<(), BookError>> {
+    let changes = Vec::from_array(alloc, [change_of(rt, alloc, change)]).expect(rt, "memory");
+    let found = crash(rt, alloc, changes, calls);
+    let answer = found.answers.and_then(|answers| answers.first().copied());
+    let wanted = match answer {
         None | Some(Err(BookError::Memory)) => BEFORE,
         Some(Ok(())) => after,
         Some(Err(error)) => panic!(rt; "{change} after {calls} calls: {error}"),
     };
     let accounts = found.accounts.as_slice();
     assert_eq!(rt; accounts, wanted.as_bytes(), "{change} after {calls} calls");
-    found
+    assert!(rt;
+        found.has_stopped || answer == Some(Ok(())),
+        "{change} after {calls} calls"
+    );
+    answer
 }
 
 #[test]
@@ -164,10 +197,10 @@ fn each_call_of_each_change(rt: HostRuntime) {
     for (change, after) in &CHANGES {
         let (mut unasked, mut refused, mut done) = (false, false, false);
         for calls in 0..MANY {
-            let found = hold(&rt, rt.alloc(), calls, change, after);
-            unasked |= found.answer.is_none();
-            refused |= found.answer.is_some_and(|answer| answer.is_err());
-            done = found.answer == Some(Ok(()));
+            let answer = hold(&rt, rt.alloc(), calls, change, after);
+            unasked |= answer.is_none();
+            refused |= answer.is_some_and(|answer| answer.is_err());
+            done = answer == Some(Ok(()));
             if done {
                 break;
             }
@@ -175,4 +208,53 @@ fn each_call_of_each_change(rt: HostRuntime) {
         assert!(rt; unasked && refused && done, "{change}");
         hold(&rt, rt.alloc(), MANY, change, after);
     }
+}
+
+/// The accounts after so many changes of the long run.
+fn after<R: Abort>(rt: &R, count: usize) -> &'static str {
+    if count == 0 {
+        return BEFORE;
+    }
+    RUN.get(count - 1).expect(rt, "a change").2
+}
+
+/// Crashes the long run, holds its answers and what is left against those of `RUN`, and returns how
+/// many changes were answered before its store stopped.
+fn hold_run<R: Abort>(rt: &R, alloc: Global, calls: u64) -> Option<usize> {
+    let mut changes = Vec::new(alloc);
+    for (change, _, _) in &RUN {
+        changes
+            .push(change_of(rt, alloc, change))
+            .expect(rt, "memory");
+    }
+    let found = crash(rt, alloc, changes, calls);
+    let mut answered = 0;
+    for (answer, (change, wanted, _)) in found.answers.iter().flatten().zip(&RUN) {
+        if *answer == Err(BookError::Memory) {
+            break;
+        }
+        assert_eq!(rt; answer, wanted, "{change} after {calls} calls");
+        answered += 1;
+    }
+    for answer in found.answers.iter().flatten().skip(answered) {
+        assert!(rt; answer.is_err(), "{calls} calls");
+    }
+    let accounts = found.accounts.as_slice();
+    assert_eq!(rt; accounts, after(rt, answered).as_bytes(), "{calls} calls");
+    assert!(rt; found.has_stopped || answered == RUN.len(), "{calls} calls");
+    found.answers.map(|_| answered)
+}
+
+#[test]
+fn each_call_of_a_run(rt: HostRuntime) {
+    let mut seen = [false; RUN.len() + 1];
+    for calls in 0..MANY {
+        if let Some(answered) = hold_run(&rt, rt.alloc(), calls) {
+            seen[answered] = true;
+        }
+    }
+    for (count, (change, answer, _)) in RUN.iter().enumerate() {
+        assert!(rt; answer.is_err() || seen[count], "stops at {change}");
+    }
+    assert!(rt; seen[RUN.len()], "a run to its end");
 }
