@@ -96,11 +96,14 @@ abbrev pub slices_before : List Block → List Block → List Block → SlicesBe
 slices_before oldest middle newest =
     record { oldest = oldest; middle = middle; newest = newest }
 
+abbrev pub AreSlices : Parameters → SlicesBefore → Type 0
+AreSlices a s = IsSlice a s.oldest × IsSlice a s.middle × IsSlice a s.newest
+
 -- there is such a segment, and the blocks are those of three slices and of a segment
 pub record IsSegment (a : Parameters) (i : SegmentIndex) (s : SlicesBefore) (own : List Block)
     : Type 0 where
   pub inside : (i.slice < 4) × (i.lane < a.lanes)
-  pub earlier : IsSlice a s.oldest × IsSlice a s.middle × IsSlice a s.newest
+  pub earlier : AreSlices a s
   pub blocks : length own ≡ segment_len a
 
 -- there is such a segment and one of the next lane, and the blocks are those of three slices and
@@ -108,7 +111,7 @@ pub record IsSegment (a : Parameters) (i : SegmentIndex) (s : SlicesBefore) (own
 pub record AreTwoSegments (a : Parameters) (i : SegmentIndex) (s : SlicesBefore) (own : List Block)
     : Type 0 where
   pub inside : (i.slice < 4) × (i.lane + 1 < a.lanes)
-  pub earlier : IsSlice a s.oldest × IsSlice a s.middle × IsSlice a s.newest
+  pub earlier : AreSlices a s
   pub blocks : length own ≡ 2 * segment_len a
 
 -- the blocks hold every cell of the memory's last slice, for these inputs

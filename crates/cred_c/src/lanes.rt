@@ -4,7 +4,7 @@
 //! all segments of slice g - 1.
 ghost use Rattle.std.specs.Prelude.{◌≡◌, ℕ, ◌+◌, ◌*◌, ◌<◌, ◌≤◌, ◌↔◌, ◌⊎◌, List, length, take, drop, IsTrue};
 ghost use Rattle.cred_argon.specs.{Argon.argon, Lanes.WorksSegment, Parameters.Parameters, Parameters.segment_len};
-ghost use Rattle.cred_c.specs.Lanes.{AreTwoSegments, IsBegun, IsFilled, IsNumbersFault, IsSegment, IsSlice, StandFor, TagInputs, part_fault_number, slices_before, tag_inputs};
+ghost use Rattle.cred_c.specs.Lanes.{AreSlices, AreTwoSegments, IsBegun, IsFilled, IsNumbersFault, IsSegment, IsSlice, StandFor, TagInputs, part_fault_number, slices_before, tag_inputs};
 ghost use Rattle.cred_c.specs.declared.part_fault.PartFault.{PartFault};
 
 use crate::numbers::{DONE, NO_PLACE, argon_number};
@@ -211,6 +211,16 @@ pub(crate) fn is_slice(params: &Params, blocks: &[Block]) -> bool
     blocks.len() == params.lanes() as usize * params.segment_len() as usize
 }
 
+/// Whether each of the three has as many blocks as a slice.
+fn are_slices(params: &Params, earlier: &EarlierSlices<'_>) -> bool
+    ensures { IsTrue result ↔ AreSlices params.now
+        (slices_before earlier.now.oldest.now earlier.now.middle.now earlier.now.newest.now) }
+{
+    is_slice(params, earlier.oldest)
+        && is_slice(params, earlier.middle)
+        && is_slice(params, earlier.newest)
+}
+
 /// Whether there is such a segment, and the blocks are those of three slices and of a segment.
 fn is_segment(
     params: &Params,
@@ -224,9 +234,7 @@ fn is_segment(
 {
     index.slice < 4
         && index.lane < params.lanes()
-        && is_slice(params, earlier.oldest)
-        && is_slice(params, earlier.middle)
-        && is_slice(params, earlier.newest)
+        && are_slices(params, earlier)
         && own.len() == params.segment_len() as usize
 }
 
@@ -245,8 +253,6 @@ fn are_two_segments(
     index.slice < 4
         && 2 <= params.lanes()
         && index.lane <= params.lanes() - 2
-        && is_slice(params, earlier.oldest)
-        && is_slice(params, earlier.middle)
-        && is_slice(params, earlier.newest)
+        && are_slices(params, earlier)
         && own.len() == 2 * params.segment_len() as usize
 }
