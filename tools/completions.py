@@ -4,8 +4,8 @@ install` runs it.
 
     python3 tools/completions.py [--remove] BASH_FOLDER ZSH_FOLDER FISH_FOLDER
 
-The commands and the options are those that the built programs show for --help. With --remove it
-removes the files that it writes.
+The commands and the options are those that the built programs show for --help, and credkeep-ask's
+own table of commands for a server. With --remove it removes the files that it writes.
 """
 
 import os
@@ -16,6 +16,9 @@ import sys
 from typing import NamedTuple
 
 TOP = pathlib.Path(__file__).resolve().parent.parent
+sys.path.insert(0, str(TOP / "python/rigzumal/server"))
+from daemon.ask.commands import COMMANDS  # noqa: E402
+
 PROGRAMS = {"credbook": "crates/credbook/out/credbook", "credkeep": "crates/credkeep/out/credkeep"}
 PROGRAMS |= {"credkeep-server": "bin/credkeep-server"}
 OPTION = re.compile(
@@ -86,12 +89,18 @@ class Program:
             "VALUED": " | ".join(sorted(valued)),
             "OPTIONS": "\n".join(f"        {it.word or '*'}) {it.offered()} ;;" for it in each),
             "COMMANDS": printed((it.word, it.text) for it in self.commands),
+            "SERVER": printed(server_commands() if self.name == "credkeep" else ()),
             "ACCOUNTS": self.after("NAME"),
             "FILES": self.after("TO", "FROM"),
         }
         fields["WORDS"] = words = written("words", fields)
         for_fish = words.replace("\\", "\\\\").replace("'", "\\'")
         return written(template, fields | {"QUOTED": f"'{for_fish}'"})
+
+
+def server_commands():
+    """credkeep-ask's commands for a server, by their words, with their texts."""
+    return [(word, command.text) for word, command in COMMANDS.items()]
 
 
 def printed(words):

@@ -12,7 +12,8 @@ from contextlib import suppress
 from dataclasses import dataclass, field
 from typing import Optional
 
-from served import CHEAP, FAST_BOOK, SECRET, Case, Client, Given, Service, chosen_book
+from served import CHEAP, FAST_BOOK, SECRET, Case, Client, Given, Service, chosen_book, need
+from served import real_book
 
 KILLS = int(os.environ.get("KILLS", "300"))
 SEED = int(os.environ.get("KILLS_SEED", "1"))
@@ -217,3 +218,89 @@ class ManyKills(Case):
         answered += sum(owner.answered for owner in owners)
         print(f"{KILLS} kills, {answered} answered changes, 0 lost")
         self.assertGreater(answered, KILLS)
+
+
+# A wrapper that has credkeep killed at its sync of a number.
+KILLED_AT = """#!/bin/sh
+exec strace -f -q -o /dev/null -e trace=fsync,fdatasync \\
+    -e inject=fsync,fdatasync:signal=SIGKILL:when={number} {program} "$@"
+"""
+# Lines, one behind another, and what `show` and `list` say behind each.
+CHANGES = (
+    ("lock ada", "ada:!$ bob:$"),
+    ("rename ada eve", "bob:$ eve:!$"),
+    ("unlock eve", "bob:$ eve:$"),
+    ("expire eve", "bob:$ eve:~$"),
+    ("delete bob", "eve:~$"),
+    ("account cid", "cid: eve:~$"),
+    ("lock cid", "cid:! eve:~$"),
+)
+STATES = ("ada:$ bob:$", *(state for _, state in CHANGES))
+IMPORTED = "dan:$ fay:$"  # behind the last state, if an import is done
+
+
+def state_of(admin: Client) -> str:
+    """The names with their rows."""
+    names = admin.ask("list - 100").split()[1:]
+    return " ".join(f"{name}:{row_of(admin.ask(f'show {name}'))}" for name in names)
+
+
+class EachSync(Case):
+    seconds = 1200
+
+    def test_kills(self) -> None:
+        """credkeep is killed at each of its syncs, amid locks, renames, deletions and an import:
+        what was answered is there, and nothing else but the change that was under way."""
+        need("strace")
+        program, folder = real_book(), self.room()
+        model = Given(folder, ("--setting", CHEAP), program=program).begun().wait_until_started()
+        model.enrol(ada="secret", bob="secret")
+        with Client(model.path("admin")) as admin:
+            record = admin.ask("show ada")
+        model.stop()
+        beginning = (folder / "users.db").read_bytes()
+        number, answered = 1, -1
+        while answered < len(CHANGES) + 1:
+            (folder / "users.db").write_bytes(beginning)
+            (folder / "users.db-wal").unlink(missing_ok=True)
+            answered = self.kill_at(number, program, folder, record)
+            with self.subTest(number=number, answered=answered):
+                self.check(Given(folder, ("--setting", CHEAP), program=program), answered)
+            number += 1
+        print(f"{number - 2} syncs at which it was killed")
+
+    def kill_at(self, number: int, program: pathlib.Path, folder: pathlib.Path, record: str) -> int:
+        """How many lines are answered, and the import behind them, if it is killed there."""
+        wrapper = folder / "killed"
+        wrapper.write_text(KILLED_AT.format(number=number, program=program))
+        wrapper.chmod(0o755)
+        service = Given(folder, ("--setting", CHEAP), program=wrapper).begun()
+        answered = 0
+        try:
+            with suppress(OSError, AssertionError):
+                service.wait_until_started()
+                with Client(service.path("admin")) as admin:
+                    for line, _ in CHANGES:
+                        if admin.ask(line) == "unavailable":
+                            return answered
+                        answered += 1
+                    text = f"dan:{record}\nfay:{record}\n"
+                    admin.ask(f"import {len(text)}")
+                    admin.send(text)
+                    answered += admin.line().startswith(f"t{admin.asked} ended 0 ".encode())
+        finally:
+            service.end()
+        return answered
+
+    def check(self, given: Given, answered: int) -> None:
+        service = given.begun().wait_until_started()
+        self.addCleanup(service.end)
+        with Client(service.path("admin")) as admin:
+            state = state_of(admin)
+        service.stop()
+        if answered < len(CHANGES):
+            self.assertIn(state, STATES[answered : answered + 2])
+        else:
+            with_import = " ".join(sorted(f"{STATES[-1]} {IMPORTED}".split()))
+            states = (with_import, STATES[-1])
+            self.assertIn(state, states if answered == len(CHANGES) else states[:1])

@@ -274,6 +274,17 @@ admin delete bob -> deleted | bob deleted
 
 
 class Audited(Case):
+    def test_keys(self) -> None:
+        """The manual names each key that a line has, and no other one."""
+        page = (TOP / "man/credkeep-server.8").read_text()
+        found = re.search(r"A line has the keys (.*?)\.\n", page, re.S)
+        assert found
+        path = self.room() / "audit"
+        service = self.serving("--audit", str(path))
+        service.talk("admin account ada -> ok\nadmin rename ada eve -> renamed")
+        keys = {key for entry in noted(path) for key in entry}
+        self.assertEqual(keys, {*re.findall(r"\\fB(\w+)\\fP", found[1])})
+
     def test_lines(self) -> None:
         """Each change is a line of JSON, with who asked for it and the answer; right logins are
         too."""

@@ -73,6 +73,8 @@ CASES = [
     ("credkeep --wait=5 users.db ch", {"check"}),
     ("credkeep --wait ", set()),
     ("credkeep-ask users.db ch", {"check"}),
+    ("credkeep-ask --server imp", {"import"}),
+    ("credkeep-ask --server mail ren", {"rename"}),
     ("credkeep users.db check a", {"ada", "ann"}),
     ("credkeep users.db check ada ", set()),
     ("credkeep users.db add a", set()),
