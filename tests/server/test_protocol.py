@@ -2,6 +2,7 @@
 them."""
 
 import importlib
+import pathlib
 import re
 import sys
 from unittest import mock
@@ -78,6 +79,14 @@ class Answers(Case):
                 self.assertEqual(may_set, operation.setting > 0)
                 self.assertEqual(fields, len(operation.fields.split()) - may_set)
                 self.assertEqual(passwords, operation.tries + (operation.new > 0))
+
+    def test_modules(self) -> None:
+        """The package names each of its modules."""
+        package = importlib.import_module("daemon")
+        assert package.__doc__ and package.__file__
+        named = set(re.findall(r"^    (\w+)  ", package.__doc__, re.M))
+        found = pathlib.Path(package.__file__).parent.iterdir()
+        self.assertEqual(named, {it.stem for it in found} - {"__init__", "__pycache__"})
 
     def test_calls_of_clients(self) -> None:
         """Each call of the clients for Python is an operation, and those of the login socket are

@@ -1,4 +1,34 @@
 """credkeep-server(8): lets many clients of Unix sockets ask one kept book.
 
-It imports nothing of the rest of rigzumal, so that bin/credkeep-server can run it alone.
+A request enters the modules in this order:
+
+    doors       the sockets: who is let in, and whose share of the book they use
+    clients     the lines of a client, and its answers
+    web         the same of a client that speaks HTTP
+    service     who may ask what, when the book is asked, and what is noted
+    names       names as they are typed, and as the book has them
+    tries       failed tries, and what is counted
+    book        the book's process, and the turns of those who ask it
+
+Beside these stand:
+
+    main        how the server begins, goes on and ends
+    options     the command line
+    protocol    the tables of operations and answers
+    costs       the memory and the work of a hash
+    disk        the room on the disks
+    journal     the log, systemd's notices, and the audit log
+    appending   files that only grow, and the process that writes the audit log
+    transfers   imports, exports and backups of the whole book
+    earlier     the marks that an earlier version kept beside the book
+    foreign     users of an htpasswd file, who move into the book
+    old_file    that file
+    aging       a user's line in it, with its dates
+    schemes     a user's record in it
+    ask         credkeep-ask(1)
+
+A function is called by what it returns, or by the verb of what it does; one that says whether
+something is so begins with is, are, has, have, may or must. What a client sends, and what it gets,
+is bytes. The package imports nothing of the rest of rigzumal, so that bin/credkeep-server and
+bin/credkeep-ask can run it alone.
 """
