@@ -9,7 +9,7 @@ import time
 from collections.abc import Iterator
 from typing import Any
 
-from served import FAST_BOOK, SECRET, Client, Service, until
+from served import FAST_BOOK, SECRET, Client, Service, need, until
 from tests.helpers import each
 from transfer_case import LINE, TransferCase
 
@@ -131,6 +131,42 @@ class Faults(TransferCase):
         self.assertIn(b"nothing was done", admin.line())
         self.assertEqual(self.names(service), ["ada"])
         self.serves(service)
+
+    def test_too_few_descriptors(self) -> None:
+        """Without a free one an import is refused, or fails; with one it is done."""
+        need("prlimit")
+        service = self.over(program=FAST_BOOK, before=("prlimit", "--nofile=40:40"))
+        admin, clients = service.client("admin"), [service.client() for _ in range(60)]
+        folder = f"/proc/{service.process.pid}/fd"
+        until(lambda: len(os.listdir(folder)) >= 40, "all are in use")
+        for _ in range(2):
+            if (said := admin.ask(f"import {len(LINE)}")) == f"send {len(LINE)}":
+                admin.send(LINE)
+                self.assertRegex(admin.line(), b"^t[0-9]+ (unavailable|ended 5 .*)$")
+            else:
+                self.assertEqual(said, "unavailable")
+        for client in clients:
+            client.close()
+        until(lambda: self.ask(service, "import", given=LINE.encode()).status == 0, "an import")
+        self.serves(service)
+        service.stop()
+
+    def test_a_program_that_is_gone(self) -> None:
+        """While credkeep isn't there an import fails, and no line is answered; then all goes on."""
+        program, away = self.room() / "credkeep", self.room() / "away"
+        program.write_text(f'#!/bin/sh\nexec {FAST_BOOK} "$@"\n')
+        program.chmod(0o755)
+        service = self.over(program=program)
+        admin, client = service.client("admin"), service.client()
+        program.rename(away)
+        admin.ask(f"import {len(LINE)}")
+        admin.send(LINE)
+        until(lambda: client.ask("known ada") == "unavailable", "it is refused")
+        away.rename(program)
+        self.assertRegex(admin.line(), b"^t1 ended 5 0 ")
+        self.assertRegex(admin.line(), b"^credkeep-server: .*: No such file or directory$")
+        self.serves(service)
+        service.stop()
 
     def test_a_watchdog(self) -> None:
         """systemd is told that the server goes on while an import has the book."""

@@ -126,8 +126,11 @@ class Transfers:
             return BUSY
         if not self.has_room(ROOM_FOR_TEXT * int(size)):
             return FULL
+        try:
+            request.client.incoming = Incoming(request, int(size))
+        except OSError:  # no descriptor is free
+            return UNAVAILABLE
         self.has_import = True
-        request.client.incoming = Incoming(request, int(size))
         return b"send %d" % int(size)
 
     def has_room(self, size: int) -> bool:
