@@ -53,13 +53,14 @@ class Line:
 
     def days(self) -> Optional[Days]:
         """The dates, none of which an htpasswd file has; None if one isn't a number."""
-        fields, count = self.others[: len(Days())], 2 + len(self.others)
+        fields = self.others[: len(Days())]
+        count = 2 + len(self.others)  # with the name and the record
         are_numbers = all(map(NUMBER.fullmatch, fields))
         if count == SHADOW and not are_numbers and not self.is_of_dovecot():
             return None
         if not are_numbers or not OLD_SHADOW <= count <= SHADOW:
             return Days()
-        return Days(*(int(it or b"-1") for it in fields))
+        return Days(*(int(field) if field else -1 for field in fields))
 
     def is_of_dovecot(self) -> bool:
         """Whether it has a home, or an extra field: a value's colon makes nine fields of it."""
@@ -71,9 +72,11 @@ class Line:
         days = self.days()
         if days and days.has_ended(day):
             return "the account has expired"
-        items = (it for field in self.others for it in field.split(b" "))
-        barring = next((it for it in items if it.startswith(BARS)), b"")
-        return re.sub(b"[^a-z_].*", b"", barring, flags=re.DOTALL).decode()
+        for field in self.others:
+            for item in field.split(b" "):
+                if item.startswith(BARS):
+                    return re.sub(b"[^a-z_].*", b"", item, flags=re.DOTALL).decode()
+        return ""
 
     def why_shut(self, day: int) -> str:
         """Why no password of this line lets the user in; empty if one may."""

@@ -168,8 +168,12 @@ class Door:
 def ranges_in(path: str, _version: tuple[int, ...]) -> list[tuple[range, str]]:
     """Ranges of uids with their owners, in a version of a file of subuid(5): names, or uids."""
     with open(path, encoding="utf-8", errors="replace") as file:
-        lines = map(RANGE.fullmatch, file)
-        return [(range(int(it[2]), int(it[2]) + int(it[3])), it[1]) for it in lines if it]
+        lines = [found for found in map(RANGE.fullmatch, file) if found]
+    ranges = list[tuple[range, str]]()
+    for line in lines:
+        owner, first, count = line[1], int(line[2]), int(line[3])
+        ranges.append((range(first, first + count), owner))
+    return ranges
 
 
 def owner_of(uid: int) -> int:
