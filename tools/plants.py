@@ -66,8 +66,8 @@ PLANTS = (
     ),
     Plant(
         "c/pam/pam_rigzumal.c",
-        'strcmp(answer, "later") == 0 ? PAM_MAXTRIES : PAM_AUTHINFO_UNAVAIL',
-        "PAM_AUTHINFO_UNAVAIL",
+        "return ANSWERS[i].result;",
+        "return PAM_AUTHINFO_UNAVAIL;",
         "c/pam/tests/test_answers",
     ),
     # The package for Python

@@ -3,14 +3,14 @@
 import json
 import os
 import pathlib
+import re
 import subprocess
 import threading
-import time
 
 from served import CHEAP, FAST_BOOK, SECRET, Client, Service, chosen_book, need_module, need_root
 from served import real_book, until
 from daemon import transfers
-from tests.helpers import Ended, Peer, ended
+from tests.helpers import Ended, Peer, ended, shim
 from transfer_case import ASK, LINE, RECORD, TransferCase, text_of
 
 # Lines at the socket that begin no import, and their answers.
@@ -63,8 +63,8 @@ ODD_TEXTS: dict[str, tuple[bytes, int, int]] = {
 
 class Imports(TransferCase):
     def test_ten_thousand(self) -> None:
-        """They come in by one import in seconds, beside users who log in; and are there after the
-        next start."""
+        """They come in by one import, beside users who log in; and are there after the next
+        start."""
         folder = self.room()
         service = self.over("--tries", "0", folder=folder)
         stopping, said = threading.Event(), list[str]()
@@ -77,17 +77,13 @@ class Imports(TransferCase):
         threads = [threading.Thread(target=log_in) for _ in range(3)]
         for thread in threads:
             thread.start()
-        begun = time.monotonic()
         done = self.ask(service, "import", given=text_of(10_000))
-        took = time.monotonic() - begun
         stopping.set()
         for thread in threads:
             thread.join()
         counts = "10000 added, 0 updated, 0 there already, 0 bad\n"
         self.assertEqual(done, Ended(0, counts))
         self.assertEqual({*said}, {"yes"})
-        self.assertLess(took, self.seconds / 3)
-        print(f"10,000 users: {took:.2f} s, {len(said)} logins beside them")
         self.assertEqual(len(self.names(service)), 10_001)
         service.stop()
         service = self.over_again(folder)
@@ -98,6 +94,21 @@ class Imports(TransferCase):
         program = chosen_book()
         costs = () if program == FAST_BOOK else ("--setting", CHEAP)
         return self.serving(*costs, program=program, folder=folder)
+
+    def test_syncs(self) -> None:
+        """An import syncs as often for 5,000 accounts as for ten."""
+        program = self.room() / "counted"
+        counted = f"env LD_PRELOAD={shim()} REFUSE_NTH=0 {real_book()}"
+        program.write_text(f'#!/bin/sh\nexec {counted} "$@"\n')
+        program.chmod(0o755)
+        service, lines = self.over(program=program), text_of(5_010).splitlines(keepends=True)
+        syncs = list[str]()
+        for text in (lines[:10], lines[10:]):
+            done = self.ask(service, "import", given=b"".join(text))
+            self.assertIn(f"{len(text)} added", done.written)
+            syncs += re.findall(r"SYNCS (\d+)", done.faults)
+        self.assertEqual(len(syncs), 2)
+        self.assertEqual(syncs[0], syncs[1])
 
     def test_options(self) -> None:
         """Each option of credkeep's import is passed on, and each line that is left out is
