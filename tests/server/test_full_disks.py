@@ -7,7 +7,9 @@ import pathlib
 from typing import Any
 
 from served import CHEAP, FAST_BOOK, TOP, Case, Service, chosen_book, need_module, need_root
+from served import real_book
 from tests.helpers import ended, small_disk
+from transfer_case import text_of
 
 SIZE = 24 << 20  # bytes
 # Each change of the book, of an account with the password `secret`.
@@ -72,6 +74,24 @@ class FullDisks(Case):
         self.assertEqual(ended([*ask, "disable", "ada"]), (5, "", refused))
         (folder / "filler").unlink()
         service.talk("login change ada {secret} {fresh} -> replaced")
+        service.stop()
+
+    def test_imports(self) -> None:
+        """One that may find no room isn't begun. One that finds none adds nobody, and the book is
+        open again on the full disk: logins go on."""
+        folder = self.disk()
+        service = self.over(folder, program=real_book()).enrol(ada="secret")
+        admin, text = service.client("admin"), text_of(20_000)
+        self.assertEqual(admin.ask(f"import {SIZE}"), "bad 19 disk")
+        self.assertEqual(admin.ask(f"import {len(text)}"), f"send {len(text)}")
+        fill(folder, 0)
+        admin.send(text)
+        self.assertRegex(admin.line(), rb"^t2 ended 5 0 \d+$")
+        self.assertIn(b"database or disk is full", admin.line())
+        service.talk(LOGINS)
+        self.assertEqual(admin.ask("export"), "bad 19 disk")
+        (folder / "filler").unlink()
+        service.talk("login change ada {secret} {fresh} -> replaced\nadmin list - 9 -> names ada")
         service.stop()
 
     def test_the_audit_log(self) -> None:
