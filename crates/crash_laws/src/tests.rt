@@ -218,9 +218,9 @@ fn after<R: Abort>(rt: &R, count: usize) -> &'static str {
     RUN.get(count - 1).expect(rt, "a change").2
 }
 
-/// Crashes the long run, holds its answers and what is left against those of `RUN`, and returns how
-/// many changes were answered before its store stopped.
-fn hold_run<R: Abort>(rt: &R, alloc: Global, calls: u64) -> Option<usize> {
+/// Crashes the long run, and holds its answers and what is left against those of `RUN`. Returns
+/// whether its store stopped, and how many changes were answered before, if it opened the book.
+fn hold_run<R: Abort>(rt: &R, alloc: Global, calls: u64) -> (bool, Option<usize>) {
     let mut changes = Vec::new(alloc);
     for (change, _, _) in &RUN {
         changes
@@ -228,13 +228,13 @@ fn hold_run<R: Abort>(rt: &R, alloc: Global, calls: u64) -> Option<usize> {
             .expect(rt, "memory");
     }
     let found = crash(rt, alloc, changes, calls);
-    let mut answered = 0;
+    let mut answered: usize = 0;
     for (answer, (change, wanted, _)) in found.answers.iter().flatten().zip(&RUN) {
         if *answer == Err(BookError::Memory) {
             break;
         }
         assert_eq!(rt; answer, wanted, "{change} after {calls} calls");
-        answered += 1;
+        answered = answered.saturating_add(1);
     }
     for answer in found.answers.iter().flatten().skip(answered) {
         assert!(rt; answer.is_err(), "{calls} calls");
@@ -242,19 +242,23 @@ fn hold_run<R: Abort>(rt: &R, alloc: Global, calls: u64) -> Option<usize> {
     let accounts = found.accounts.as_slice();
     assert_eq!(rt; accounts, after(rt, answered).as_bytes(), "{calls} calls");
     assert!(rt; found.has_stopped || answered == RUN.len(), "{calls} calls");
-    found.answers.map(|_| answered)
+    (found.has_stopped, found.answers.map(|_| answered))
 }
 
 #[test]
 fn each_call_of_a_run(rt: HostRuntime) {
     let mut seen = [false; RUN.len() + 1];
     for calls in 0..MANY {
-        if let Some(answered) = hold_run(&rt, rt.alloc(), calls) {
-            seen[answered] = true;
+        let (has_stopped, answered) = hold_run(&rt, rt.alloc(), calls);
+        if let Some(place) = answered.and_then(|count| seen.get_mut(count)) {
+            *place = true;
+        }
+        if !has_stopped {
+            break;
         }
     }
-    for (count, (change, answer, _)) in RUN.iter().enumerate() {
-        assert!(rt; answer.is_err() || seen[count], "stops at {change}");
+    for ((change, answer, _), stops) in RUN.iter().zip(&seen) {
+        assert!(rt; answer.is_err() || *stops, "stops at {change}");
     }
     assert!(rt; seen[RUN.len()], "a run to its end");
 }
