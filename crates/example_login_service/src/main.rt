@@ -11,10 +11,12 @@
 //! Without one the book is in memory, and is opened once more at the end, as after a crash.
 #![tactic(auto)]
 
-ghost use Rattle.std.specs.Prelude.{◌≡◌, IfOk};
+ghost use Rattle.std.specs.Prelude.{◌≡◌, IfOk, false};
 ghost use Rattle.cred_book.specs.Passwords.{IsPasswordAt};
+ghost use Rattle.cred_file.specs.Cells.{is_marked, mark_at};
 
 use anyhow::{Context, Result};
+use cred_admin::{Verdict, commit_try};
 use cred_book::{BookError, Name, Reply, Request, yes_is_the_password};
 use cred_file::{FileBook, OpenFault, crash_and_open};
 use cred_phc::{
@@ -49,6 +51,8 @@ enum Answer {
     SignedUp,
     Taken,
     LetIn,
+    /// The password is right, and must be changed before it lets in.
+    MustChange,
     TurnedAway,
     PasswordChanged,
 }
@@ -117,18 +121,24 @@ impl<S: Alter + Drop> Service<S> {
         }
         let setting = new_setting(&mut self.salts)?;
         match self.operate(Request::Enrol { name, pw, setting })? {
-            Reply::Enrolled => Ok(Answer::SignedUp),
+            Verdict::Told(Reply::Enrolled) => Ok(Answer::SignedUp),
             _ => Ok(Answer::Taken),
         }
     }
 
-    /// Whether the password is one of the name's record. A name without a record costs a hash too,
-    /// so that the time doesn't tell which names there are. Nothing is proved of that.
+    /// Whether the password is one of the name's record, and no mark keeps it out. A name without a
+    /// record costs a hash too, so that the time doesn't tell which names there are. Nothing is
+    /// proved of that.
     fn log_in(&mut self, name: Name, pw: Password) -> Result<Answer, ServiceError>
-        ensures { IfOk result (λ answer. answer ≡ Answer.LetIn
+        ensures password { IfOk result (λ answer. answer ≡ Answer.LetIn
             → IsPasswordAt self.old.book.book name pw) }
+        ensures mark { IfOk result (λ answer. answer ≡ Answer.LetIn
+            → is_marked (mark_at self.old.book.marks name) ≡ false) }
     {
+        let mark = self.book.marks().at(&name);
         match self.verify(name, pw)? {
+            Reply::Yes if mark.locked => Ok(Answer::TurnedAway),
+            Reply::Yes if mark.must_change => Ok(Answer::MustChange),
             Reply::Yes => Ok(Answer::LetIn),
             Reply::Absent | Reply::NoAccount => self.turn_away(&pw),
             _ => Ok(Answer::TurnedAway),
@@ -175,13 +185,14 @@ impl<S: Alter + Drop> Service<S> {
             setting,
         };
         match self.operate(request)? {
-            Reply::Replaced => Ok(Answer::PasswordChanged),
+            Verdict::Told(Reply::Replaced) => Ok(Answer::PasswordChanged),
             _ => Ok(Answer::TurnedAway),
         }
     }
 
-    /// Copies the record, hashes, and does the whole operation at the record that stands.
-    fn operate(&mut self, request: Request) -> Result<Reply, ServiceError> {
+    /// Copies the record, hashes, and does the whole operation at the record that stands, as far as
+    /// the marks of the account allow it.
+    fn operate(&mut self, request: Request) -> Result<Verdict, ServiceError> {
         if !request.is_for_current() {
             return Err(ServiceError::OldVersion);
         }
@@ -192,8 +203,8 @@ impl<S: Alter + Drop> Service<S> {
         let Ok(worked) = ticket.work_in(&mut self.scratch, self.alloc, &NoGate) else {
             return Err(TagError::Memory.into());
         };
-        match self.book.commit(worked) {
-            Ok(reply) => Ok(reply),
+        match commit_try(&mut self.book, worked) {
+            Ok(verdict) => Ok(verdict),
             Err((_, error)) => Err(self.cause_of(error)),
         }
     }
