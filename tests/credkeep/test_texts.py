@@ -160,7 +160,7 @@ class WordsTest(BookTest):
         book = self.file("none.db")
         for words, text in (
             ("--help", "Keeps "),
-            ("add --help", "Makes "),
+            ("add --help", "Gives "),
             ("--version", r"credkeep \d+\.\d+\.\d+\n"),
         ):
             with self.subTest(words=words):
