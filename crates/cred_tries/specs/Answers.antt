@@ -1,12 +1,13 @@
 -- How answers that tell of tries keep a limit, and what a limiter counts of them: each try begins and
 -- ends as it is answered.
-use Rattle.std.specs.Prelude.{◌≡◌, ⊤, ℕ, ◌+◌, ◌-◌, ◌<◌, ◌≤◌, List, [], ◌∷◌, All, Option, Some, None}
-use Rattle.cred_tries.specs.Clocks.{end_of_time}
+use Rattle.std.specs.Prelude.{◌≡◌, ◌⊎◌, ⊤, ℕ, ◌+◌, ◌-◌, ◌<◌, ◌≤◌, List, [], ◌∷◌, All, Option, Some, None}
+use Rattle.cred_tries.specs.Clocks.{after_reading, end_of_time, new_clock}
 use Rattle.cred_tries.specs.Counts.{most_tries, wait}
 use Rattle.cred_tries.specs.Histories.{Event, Begun, Sent, Right, Wrong, Unjudged, Forgiven, HasWaited, failures, last_failure}
 use Rattle.cred_tries.specs.Limits.{Limits, count_at}
 use Rattle.cred_tries.specs.Steps.{Step, events_at, limits_after}
 use Rattle.cred_tries.specs.Stretches.{FailsSeldom, judgements}
+use Rattle.cred_tries.specs.declared.clock.SteadyClock.{SteadyClock}
 
 -- what an answer tells, if anything, before which this was told; the latest comes first
 abbrev pub with_told : Option Event → List Event → List Event
@@ -45,6 +46,18 @@ pub record KeepLimit (limit passed : ℕ) (times : List ℕ) (told : List ℕ �
   pub until : All (λ t. t ≤ passed) times
   pub in_turn : (name : List ℕ) → AreInTurn limit (told name)
   pub seldom : (name : List ℕ) → FailsSeldom limit (judgements (told name))
+
+-- ---- the clock
+
+-- of a limiter, or one that is never read
+abbrev pub clock_of : Option Limits → SteadyClock
+clock_of None = new_clock
+clock_of (Some limits) = limits.clock
+
+-- the clock was read at this reading, or not at all
+abbrev pub IsReadBy : ℕ → Option Limits → Option Limits → Type 0
+IsReadBy now old new = (clock_of new ≡ clock_of old)
+    ⊎ (clock_of new ≡ after_reading (clock_of old) now)
 
 -- ---- what a limiter counts
 
