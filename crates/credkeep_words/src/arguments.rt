@@ -59,6 +59,9 @@ const TAGGED_HELP: &str = "Answers tagged lines: verify, login, enrol, change, r
 const AT_ONCE_HELP: &str = "With --tagged: how many lines are hashed at once, from 1 to 255\n\
     [default: as many as there are processors, and as --memory allows]";
 
+const TRIES_HELP: &str = "With --tagged: how many tries may fail at an account until the next\n\
+    has to wait, from 1 to 86 [default: no limit]";
+
 const MEMORY_HELP: &str = "With --tagged: how much memory all hashes may need at once, in KiB\n\
     or as 512M or 2G [default: 2G]";
 
@@ -119,6 +122,7 @@ pub(crate) enum Word {
     Workers,
     Tagged,
     AtOnce,
+    Tries,
     Memory,
     MostMemory,
     MostWork,
@@ -166,6 +170,7 @@ impl Word {
             Word::Workers => ("workers", Form::Defaulted("N", "1"), WORKERS_HELP),
             Word::Tagged => ("tagged", Form::Flag, TAGGED_HELP),
             Word::AtOnce => ("at-once", Form::Valued("N"), AT_ONCE_HELP),
+            Word::Tries => ("tries", Form::Valued("N"), TRIES_HELP),
             Word::Memory => ("memory", Form::Valued("SIZE"), MEMORY_HELP),
             Word::MostMemory => ("most-memory", Form::Valued("SIZE"), MOST_MEMORY_HELP),
             Word::MostWork => ("most-work", Form::Valued("SIZE"), MOST_WORK_HELP),

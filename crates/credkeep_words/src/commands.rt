@@ -97,6 +97,7 @@ pub(crate) static COMMANDS: [CommandText; 22] = [
             Word::Workers,
             Word::Tagged,
             Word::AtOnce,
+            Word::Tries,
             Word::Memory,
             Word::MostMemory,
             Word::MostWork,

@@ -2,7 +2,7 @@
 
 use crate::commands::Verb;
 use crate::options::{
-    either, importing_in, line_in, most_in, name_in, size_in, text_in, threads_in,
+    either, importing_in, line_in, most_in, name_in, size_in, text_in, threads_in, tries_in,
 };
 use crate::refusal::Refusal;
 use crate::request::{Act, Echo, Service};
@@ -127,6 +127,7 @@ fn service_in<'a, R: RandomSource + AllocGlobal>(
         memory,
         setting,
         most,
+        tries: tries_in(values)?,
     })
 }
 

@@ -7,7 +7,7 @@ use Rattle.cred_admin.specs.{Commands.reset_step, Marked.MarkedBook, Marked.barr
 use Rattle.cred_admin.specs.declared.edits.Edit.TheVariants.{Disable, Delete, Rename, Lock, Unlock, Expire}
 use Rattle.cred_many.specs.{Names.marked_page, Names.marks_line, Names.names_line, Names.page, Served.disabled_line, Served.done, Served.login_verdict, declared.ask.Ask.Ask}
 use Rattle.cred_many.specs.Telling.{AreAlikeAt, AreAlikeFor}
-use Rattle.cred_many.specs.declared.ask.Ask.TheVariants.{Quick, Whole, Login, Reset}
+use Rattle.cred_many.specs.declared.ask.Ask.TheVariants.{Quick, Whole, Login, Reset, Later}
 use Rattle.cred_many.specs.declared.ask.QuickAsk.TheVariants.{Account, Load, Show, DisableShown, Bad, Edit as Change, List as Names, ListMarks}
 use Rattle.cred_many.proofs.{Beside.done_stays, Listed.marks_told}
 use Rattle.std.specs.FinMap as map
@@ -105,6 +105,7 @@ module _ (capacity : ℕ) (one other : MarkedBook) where
   done_told (Whole r) (same, beside) = ap verdict_line (tried_told r (same 0 [] (omega arith)))
   done_told (Login name pw setting) (same, beside) = ap (λ v. verdict_line (login_verdict v)) (tried_told (request.Upgrade name pw setting) (same 0 [] (omega arith)))
   done_told (Reset name pw setting) (same, beside) = ap reply_line (reset_told name (new_record setting pw) (map.get other.accounts name) (same 0 [] (omega arith)).0 refl)
+  done_told (Later name) (same, beside) = refl
 
 pub returns : goal.returns
 returns c = record { tells = done_told; keeps = λ capacity book ask name. done_stays capacity book name ask }

@@ -20,7 +20,7 @@ returns-then-is_reset-clause-turns g c =
 
 pub invariant_of-self : goal.invariant_of-self
 invariant_of-self g c = record {
-  history = still _ _ _ _ _ _ _ _ (search rules) c.args.self.now.history;
+  history = still _ _ _ _ _ _ _ _ _ (search rules) c.args.self.now.history;
   cause = λ source. ∣ inl (some_pending _ _ _ c.in_ok-place.ensures.there) ∣₁;
 }
 
