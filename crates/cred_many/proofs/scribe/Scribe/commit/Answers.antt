@@ -33,3 +33,6 @@ pub returns-clause-turns : goal.returns-clause-turns
 returns-clause-turns g c =
     let there : slice_get (numbers c.args.self.now.output.pending) c.in_ok-place.place ≡ Some c.args.hashed.0.number = search rules in
     either_turn _ _ c.in_ok-place.place _ _ there c.commit_whole.result c.commit_whole.ensures.closed (rw c.into_parts-line.ensures.line at c.commit_whole.ensures.turns)
+
+pub returns-then-is_reset-clause-clock : goal.returns-then-is_reset-clause-clock
+returns-then-is_reset-clause-clock g c = c.reset.ensures.clock c.args.now

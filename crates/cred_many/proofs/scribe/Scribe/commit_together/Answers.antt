@@ -51,3 +51,9 @@ returns-clause-turns g c =
             | else-is_none-via-else-is_none w' ↦ absurd (search rules)
           ])
     ])
+
+pub returns-clause-clock : goal.returns-clause-clock
+returns-clause-clock g c = elim c.if-is_none.branch [
+  | then-is_none+then-not-is_empty w ↦ rw w.self-is (w.commit_group.ensures.same_tries ∙ c.loop-hashed.invariant.1.0)
+  | else-is_none w ↦ rw w.self-is c.loop-hashed.invariant.1.0
+]
