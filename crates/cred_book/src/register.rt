@@ -168,10 +168,8 @@ impl Register {
         requires { is_for_current request ≡ true }
         ensures { Begins self.now request result }
     {
-        match self.show(&request.name()) {
-            Ok(stored) => Ok(Ticket::new(request, stored)),
-            Err(_) => Err((request, BookError::NoAccount)),
-        }
+        let shown = self.show(&request.name());
+        Ticket::begin(request, shown)
     }
 
     /// Does the whole operation if the record still equals the copy, and otherwise nothing.
@@ -194,10 +192,7 @@ impl Register {
     pub fn judge(&self, worked: &Worked) -> (Reply, Option<Record>, bool)
         ensures { result ≡ judgement self.now worked.now }
     {
-        match self.show(&worked.request().name()) {
-            Ok(now) => worked.judgement_at(now),
-            Err(_) => (Reply::NoAccount, None, false),
-        }
+        worked.judgement(self.show(&worked.request().name()))
     }
 
     /// Gives the account this record, or none.

@@ -2,9 +2,10 @@
 //! and then its effect at the copy.
 
 ghost use Rattle.std.specs.Prelude.{◌≡◌, IfErr, IfOk, true, false};
-ghost use Rattle.cred_book.specs.{Changes.change_of, Commits.judgement_at, Works.is_verify, Works.whole};
+ghost use Rattle.cred_book.specs.{Accounts.Accounts, Calls.Shows, Changes.change_of, Commits.Begins, Commits.judgement, Commits.judgement_at, Works.is_verify, Works.name_of, Works.whole};
 
 use crate::change::Change;
+use crate::error::BookError;
 use crate::outcome::{Hashing, HashingIn, Operations, Outcome};
 use crate::reply::Reply;
 use crate::request::Request;
@@ -39,6 +40,22 @@ impl Ticket {
         ensures { result ≡ (request, copy) }
     {
         Ticket { request, copy }
+    }
+
+    /// The ticket of a request, by the answer to `show` at its account.
+    ///
+    /// Errors: `NoAccount` if that is the answer; the request comes back.
+    pub(crate) fn begin(
+        request: Request,
+        shown: Result<Option<Record>, BookError>,
+    ) -> Result<Ticket, (Request, BookError)>
+        ensures { (book : Accounts) → Shows book (name_of request) shown
+            → Begins book request result }
+    {
+        match shown {
+            Ok(copy) => Ok(Ticket::new(request, copy)),
+            Err(_) => Err((request, BookError::NoAccount)),
+        }
     }
 
     /// The request.
@@ -78,7 +95,7 @@ impl Ticket {
         self.worked(outcome)
     }
 
-    /// Hashes on the caller's thread, without a runtime, in memory that is kept from hash to
+    /// Hashes on the caller's thread, without a runtime, in memory that is kept from
     /// hash to hash.
     ///
     /// Errors: the ticket comes back if memory runs out. The scratch can still serve the next
@@ -179,6 +196,20 @@ impl Worked {
         }
         let reply = self.reply();
         (reply, self.after(), reply.makes_change())
+    }
+
+    /// The same, by the answer to `show` at the account.
+    pub(crate) fn judgement(
+        &self,
+        shown: Result<Option<Record>, BookError>,
+    ) -> (Reply, Option<Record>, bool)
+        ensures { (book : Accounts) → Shows book (name_of self.now.0) shown
+            → result ≡ judgement book self.now }
+    {
+        match shown {
+            Ok(now) => self.judgement_at(now),
+            Err(_) => (Reply::NoAccount, None, false),
+        }
     }
 
     /// The change that a commit of this work makes, or `None` if it makes none even at the copied

@@ -20,6 +20,12 @@ use sqlite::types::ValueRef;
 use sqlite::{Alter, Connection, Error};
 use std::alloc::{AllocError, Global};
 
+/// Adds the row of a name (?1) with its text (?2).
+pub(crate) const INSERT: &str = "INSERT INTO account (name, record) VALUES (?1, ?2)";
+
+/// Writes a text (?2) in the row of a name (?1).
+pub(crate) const UPDATE: &str = "UPDATE account SET record = ?2 WHERE name = ?1";
+
 /// The text of an account, for its row: its marks, and its record; empty without any of them.
 pub(crate) fn text_of(
     alloc: Global,
@@ -77,7 +83,7 @@ pub(crate) fn insert_row<S: Alter>(
         (FailsToPut S.Store conn.old conn.new false name.now (cell stored.now mark)) result }
 {
     conn.execute(
-        "INSERT INTO account (name, record) VALUES (?1, ?2)",
+        INSERT,
         &[ValueRef::Text(name.bytes()), value_of(text, stored, mark)],
     )
 }
@@ -96,7 +102,7 @@ pub(crate) fn update_row<S: Alter>(
         (FailsToPut S.Store conn.old conn.new true name.now (cell stored.now mark)) result }
 {
     conn.execute(
-        "UPDATE account SET record = ?2 WHERE name = ?1",
+        UPDATE,
         &[ValueRef::Text(name.bytes()), value_of(text, stored, mark)],
     )
 }

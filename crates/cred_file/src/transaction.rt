@@ -11,7 +11,7 @@ ghost use Rattle.sqlite_trees.specs.View.{doubt};
 
 use crate::mark::Mark;
 use crate::marks::Marks;
-use crate::statements::{text_of, value_of};
+use crate::statements::{INSERT, UPDATE, text_of, value_of};
 use cred_book::{Name, Register};
 use cred_phc::Record;
 use sqlite::types::ValueRef;
@@ -165,7 +165,7 @@ fn insert_stored<S: Alter>(
         return Err(out_of_memory());
     };
     tx.execute(
-        "INSERT INTO account (name, record) VALUES (?1, ?2)",
+        INSERT,
         &[ValueRef::Text(name.bytes()), value_of(&text, stored, mark)],
     )?;
     Ok(())
@@ -216,7 +216,7 @@ fn update_stored<S: Alter>(
         return Err(out_of_memory());
     };
     tx.execute(
-        "UPDATE account SET record = ?2 WHERE name = ?1",
+        UPDATE,
         &[ValueRef::Text(name.bytes()), value_of(&text, stored, mark)],
     )?;
     Ok(())

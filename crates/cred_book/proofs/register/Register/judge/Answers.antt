@@ -1,10 +1,6 @@
-use Rattle.std.proofs.Common.{ap, ◌∙◌}
-use Rattle.cred_book.specs.Works.{name_of}
-use Rattle.cred_book.proofs.Commitments.{judged_found, not_shown}
+use Rattle.std.proofs.Common.{ap, ◌∙◌, subst}
+use Rattle.cred_book.specs.{Calls.Shows, Works.name_of}
 use Rattle.cred_book.proofs.register.Register.judge.Goals as goal
 
-pub returns-in-Ok : goal.returns-in-Ok
-returns-in-Ok c = c.judgement_at.ensures ∙ judged_found c.args.self.now c.args.worked.now _ (c.name.ensures ∙ ap name_of c.request.ensures) _ c.in-Ok.ensures
-
-pub returns-in-Err : goal.returns-in-Err
-returns-in-Err c = judged_found c.args.self.now c.args.worked.now _ (c.name.ensures ∙ ap name_of c.request.ensures) _ (not_shown _ _ _ c.in-Err.ensures)
+pub returns : goal.returns
+returns c = c.judgement.ensures _ (subst (λ n. Shows c.args.self.now n c.show.result) (c.name.ensures ∙ ap name_of c.request.ensures) c.show.ensures)
