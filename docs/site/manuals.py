@@ -48,6 +48,8 @@ class Manual(Directive):
         self.section = self.at = self.top
         self.text = self.code = self.term = None
         for line in file.read_text().splitlines():
+            if line.startswith('.\\"'):
+                continue  # a comment
             macro, _, words = line.partition(" ") if line.startswith(".") else ("", "", line)
             if macro in self.FONTED:
                 self.add(self.FONTED[macro](arguments(words)))
