@@ -29,23 +29,38 @@ static void add_letters(const char *record) {
 
 static const struct job *job;
 
-/* The build's own, in whose place look_first stands. */
-static __typeof__(cred_argon2_segment) *work_segment;
+/* The build's own, in whose places look_first and look_first_of_two stand. */
+static __typeof__(cred_argon2_segment) *work_segment, *work_two_segments;
 static int looks, found_begun;
 
-static uint8_t look_first(const struct tag_numbers *numbers, const struct segment_index *index,
-                          const struct argon2_block *oldest, size_t oldest_count,
-                          const struct argon2_block *middle, size_t middle_count,
-                          const struct argon2_block *newest, size_t newest_count,
-                          struct argon2_block *own, size_t own_count) {
+static void look_before(const struct segment_index *index) {
     if (strstr(job->name, "clears") != NULL && index->slice == 0 && index->lane == 0) {
         looks++;
         found_begun += found_in_process(job->name, vault);
         CHECK(is_all(vault->given_password, 0, sizeof vault->given_password));
         CHECK(is_all(vault->given_secret, 0, sizeof vault->given_secret));
     }
+}
+
+static uint8_t look_first(const struct tag_numbers *numbers, const struct segment_index *index,
+                          const struct argon2_block *oldest, size_t oldest_count,
+                          const struct argon2_block *middle, size_t middle_count,
+                          const struct argon2_block *newest, size_t newest_count,
+                          struct argon2_block *own, size_t own_count) {
+    look_before(index);
     return work_segment(numbers, index, oldest, oldest_count, middle, middle_count, newest,
                         newest_count, own, own_count);
+}
+
+static uint8_t look_first_of_two(const struct tag_numbers *numbers,
+                                 const struct segment_index *index,
+                                 const struct argon2_block *oldest, size_t oldest_count,
+                                 const struct argon2_block *middle, size_t middle_count,
+                                 const struct argon2_block *newest, size_t newest_count,
+                                 struct argon2_block *own, size_t own_count) {
+    look_before(index);
+    return work_two_segments(numbers, index, oldest, oldest_count, middle, middle_count, newest,
+                             newest_count, own, own_count);
 }
 
 static _Atomic(int) is_done, may_end;
@@ -127,6 +142,8 @@ int main(int count, char **words) {
     make_vault(words[1]);
     work_segment = given_build.cred_argon2_segment;
     given_build.cred_argon2_segment = look_first;
+    work_two_segments = given_build.cred_argon2_two_segments;
+    given_build.cred_argon2_two_segments = look_first_of_two;
     int found = 0;
     for (int i = 0; i < job_count; i++) {
         int here = found_after(&jobs[i]);
