@@ -1,5 +1,6 @@
-"""What the benchmarks share: what is compared takes turns, so that the machine's other work meets
-all of it, and the best turn of each counts, or the median of their ratios."""
+"""The shared part of the benchmarks: the programs under comparison take turns, so that the
+machine's other work slows all of them. The best turn of each counts, or the median of the
+ratios."""
 
 import os
 import random
@@ -10,14 +11,14 @@ from concurrent.futures import ThreadPoolExecutor
 
 
 def timed(work, *given):
-    """The wall time and the processor time of a call in milliseconds, and what it made."""
+    """The wall time and the processor time of a call in milliseconds, and its result."""
     wall, cpu = time.perf_counter(), time.process_time()
     made = work(*given)
     return (1000 * (time.perf_counter() - wall), 1000 * (time.process_time() - cpu)), made
 
 
 def rate(work, seconds, at_once):
-    """Calls a second, of so many threads that each make one after another."""
+    """Calls a second, of so many threads, each with one call after another."""
     start = time.perf_counter()
 
     def works(_):
@@ -34,8 +35,8 @@ def rate(work, seconds, at_once):
 def take_turns(rows, times, warm=1):
     """The figures of each way of each row, turn by turn.
 
-    A way of a row is a call that gives its figures and what it made, which all of a row make the
-    same. The rows take turns, and their ways in any order. The first turns load and warm up.
+    A way of a row is a call that returns its figures and its result; all ways of a row have the
+    same result. The rows take turns, and their ways in any order. The first turns load and warm up.
     """
     found = {row: {name: [] for name in ways} for row, ways in rows.items()}
     for turn in range(warm + times):

@@ -1,6 +1,6 @@
 #!/usr/bin/env python3
-"""What compiled code of others is in what is packed, with licences: for `make dist`, the wheel and
-Debian's packages.
+"""Lists the compiled code of others in our packages, with its licences: for `make dist`, the wheel
+and Debian's packages.
 
     python3 components.py copyright PACKED       a package's file copyright, with their notices
     python3 components.py spdx PACKED [FILE..]   an SPDX document, which lists these files too

@@ -34,7 +34,7 @@ def version() -> str:
 
 
 def field(name: str) -> str:
-    """What pyproject.toml says of the project under this name."""
+    """The value of this name in pyproject.toml's table of the project."""
     found = re.search(rf'^{name} = "(.*)"', (HERE / "pyproject.toml").read_text(), re.MULTILINE)
     if found is None:
         sys.exit(f"pyproject.toml has no {name}")
@@ -76,7 +76,7 @@ Tag: {tag()}
 
 
 def need_library() -> None:
-    """Builds the library if it isn't there. If it can't, the last line says why."""
+    """Builds the library if c/out lacks it. If it can't, the last line says why."""
     if LIBRARY.exists():
         return
     c = HERE.parent / "c"
@@ -126,7 +126,7 @@ def write_wheel(directory: str, held: dict[str, bytes], about: dict[str, bytes])
 
 
 def about_components() -> dict[str, bytes]:
-    """The files of the folder dist-info that say whose compiled code is in the library."""
+    """The files of the folder dist-info that list the owners of the library's compiled code."""
     import components  # of the folder packaging, which a copy of this folder alone lacks
 
     files = {f"rigzumal/{LIBRARY.name}": LIBRARY.read_bytes()}

@@ -1,4 +1,4 @@
-"""What all tests share: how a program is run and how it ended, and the shim that stands before the
+"""What all tests share: how a program is run and how it ended, and the shims that stand before the
 C library. What a test needs of the machine is in needs.py.
 
 RIGZUMAL_TIMES=N makes N times as many kills and random operations as the gate does. ARCH=arm64 runs
@@ -332,7 +332,7 @@ def at_a_terminal(
     return Shown(status, shown, echoes)
 
 
-# ---- the shim before the C library, tests/shims/calls.c
+# ---- the shims before the C library, tests/shims
 
 BUILDING = threading.Lock()
 TOLD = r"(REFUSED|SYNCS|THREADS|PEAK|ASKED) (\d+)\n"
@@ -350,9 +350,9 @@ def shim_compiler() -> list[str]:
     return [str(clang), "-nostdlib", "-fuse-ld=lld"] if clang.exists() else ["cc"]
 
 
-def shim() -> str:
-    """The shim as a library, which is built once."""
-    library, source = common_folder() / "calls.so", TOP / "tests/shims/calls.c"
+def shim(name: str = "calls") -> str:
+    """A shim of tests/shims as a library, which is built once."""
+    library, source = common_folder() / f"{name}.so", TOP / f"tests/shims/{name}.c"
     flags = ["-shared", "-fPIC", "-fno-builtin", "-O2", "-w", "-o", str(library), str(source)]
     with BUILDING:
         if not library.exists():
@@ -360,13 +360,19 @@ def shim() -> str:
     return str(library)
 
 
+def before_libc(library: str) -> dict[str, str]:
+    """The environment of a program that has this library before the C library. An emulator hands
+    the library on, and has none itself."""
+    preload = {"LD_PRELOAD": library} if IS_NATIVE else {"QEMU_SET_ENV": f"LD_PRELOAD={library}"}
+    return {**os.environ, **preload}
+
+
 def shimmed(
     command: list[str], given: str, refused: int, **options: Any
 ) -> tuple[Ended, dict[str, int]]:
-    """How a run ended whose request for memory of this number is refused, and what the shim told.
-    An emulator hands the shim on, and has none itself."""
-    preload = {"LD_PRELOAD": shim()} if IS_NATIVE else {"QEMU_SET_ENV": f"LD_PRELOAD={shim()}"}
-    env = {**os.environ, **preload, "REFUSE_NTH": str(refused)}
+    """How a run ended whose request for memory of this number is refused, and what the shim
+    told."""
+    env = {**before_libc(shim()), "REFUSE_NTH": str(refused)}
     done = ended(command, given, env=env, **options)
     found = {word: int(count) for word, count in re.findall(TOLD, done.faults)}
     return done._replace(faults=re.sub(TOLD, "", done.faults)), found

@@ -1,12 +1,13 @@
 #!/usr/bin/env python3
-"""Says what a change costs: the proofs, the wrong bodies, the tests and the pages that it touches.
+"""Prints the cost of a change: the proofs, the wrong bodies, the tests and the pages that it
+touches.
 
     python3 tools/affected.py [COMMIT]
 
-The change is all that differs from COMMIT, or from the last commit, with the files that aren't
-committed yet. Each part is printed with the command that runs it, and about how many minutes that
-takes on this machine's processors, by tools/build_seconds.json and tools/job_seconds.json. The
-gate, `.ci/run`, does all of it.
+The change is the difference to COMMIT, or to the last commit, with the files that aren't committed
+yet. Each part is printed with the command that runs it, and about how many minutes that takes on
+this machine's processors, by tools/build_seconds.json and tools/job_seconds.json. The gate,
+`.ci/run`, runs all of these.
 """
 
 from __future__ import annotations
@@ -176,7 +177,7 @@ def of_tests(chosen: Collection[Job]) -> str:
 
 
 def report(files: Collection[str]) -> Iterable[str]:
-    """The lines that say what these changed files cost."""
+    """The lines with the costs of these changed files."""
     again = proved_again(changed_crates(files, "src|specs|proofs"))
     if again:
         yield of_proofs(again)

@@ -10,15 +10,15 @@ highest of them whose features this processor has. With the level arm64 it is on
 processor, linked by Debian's gcc-aarch64-linux-gnu, in the crate's out/arm64. Where rt is missing,
 a C compiler links the program's object in c/proved/programs, which a tarball of `make dist` has. On
 standard error it says every half minute, and as each library is proved, how many are, and about how
-long the rest will take. What the program prints is all that comes on standard output, and its
-status is this script's. What is built already is taken as it is, if its sources are unchanged; with
---built nothing else is done, and the status is 1 if the program isn't built for LEVEL. With
---object it is built again unless its object was kept (crates/NAME/out/objects), for `make dist`.
-What each crate took is what it is expected to take the next time (crates/NAME/out/seconds), and
-with --note by those who build it first, too: tools/build_seconds.json, of four idle processors. `rt
-run` alone does the same in more time: one rt at a time may work above a library, so libraries that
-don't use each other are worked here in two copies of the sources, and what was proved is copied
-back. The variable RT names another rt.
+long the rest will take. Standard output has the program's output alone, and the script's status is
+the program's. The script reuses earlier builds of unchanged sources; with --built it does nothing
+else, and the status is 1 if the program isn't built for LEVEL. With --object it is built again
+unless its object was kept (crates/NAME/out/objects), for `make dist`. What each crate took is what
+it is expected to take the next time (crates/NAME/out/seconds), and with --note by those who build
+it first, too: tools/build_seconds.json, of four idle processors. `rt run` alone does the same in
+more time: one rt at a time may work above a library, so libraries that don't use each other are
+worked here in two copies of the sources, and what was proved is copied back. The variable RT names
+another rt.
 """
 
 import argparse
@@ -71,14 +71,14 @@ def expected(name):
 
 
 def bring(name, source, target):
-    """Copies what was proved of a library from one folder to another, unless it is there."""
+    """Copies a proved library from one folder to another that lacks it."""
     proved = pathlib.Path("crates") / name / "out"
     if source != target and not (target / proved).exists():
         subprocess.run(["cp", "-a", source / proved, target / proved], check=True)
 
 
 class Progress:
-    """How far a build is, on standard error."""
+    """The progress of a build, on standard error."""
 
     def __init__(self, names):
         self.names, self.running, self.done, self.counting = names, {}, {}, threading.Lock()
@@ -91,7 +91,7 @@ class Progress:
 
     @contextlib.contextmanager
     def of(self, name, what):
-        """Tells when one of the names is begun and done, and notes how long it took."""
+        """Prints the begin and the end of each name, and notes its time."""
         began = self.running[name] = time.monotonic()
         try:
             yield
@@ -104,7 +104,7 @@ class Progress:
             self.say(f"{name}: {what}, {seconds:.0f} s")
 
     def pace(self, done):
-        """How many times as long as expected a crate takes here. The last ones count most, since a
+        """The ratio of a crate's time here to the expected one. The last ones count most, since a
         build's first ones also prepare what all need; a minute as expected stands before them."""
         taken = foreseen = 60
         weight = 1
@@ -136,7 +136,7 @@ class Progress:
         return at
 
     def say(self, what, end="\n"):
-        """What happened, how much is done, and how long the rest takes."""
+        """The last event, the progress, and the time of the rest."""
         minutes = max(round(self.rest() / 60), 1)
         rest = (
             f", about {minutes} minute{'s' if minutes > 1 else ''} left"
@@ -150,7 +150,7 @@ class Progress:
 
 
 def build(name, free, alone, progress):
-    """Proves one library in a folder that is free, and brings what was proved to the repository."""
+    """Proves one library in a free folder, and copies the proved library to the repository."""
     place = free.get()
     at = place[1]
     try:
@@ -207,7 +207,7 @@ def sum_of(program, level, by=""):
 
 
 def files_of(program, level):
-    """Where a built program lies, and what it was built of and for."""
+    """The place of a built program, its sources, and its level."""
     out = CRATES / program / "out" / (ARM64 if level == ARM64 else "")
     return out / program, out / f"{program}.level"
 
@@ -217,7 +217,7 @@ LINKED = "cc"
 
 
 def is_built(program, level):
-    """Whether the program is there as rt built it, or where rt is missing, as its packed object was
+    """Whether the program is up to date, as rt built it; without rt, as its packed object was
     linked."""
     built, seal = files_of(program, level)
     if not (built.is_file() and seal.is_file()):

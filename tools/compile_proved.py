@@ -5,7 +5,7 @@
 
 LEVEL is x86-64, x86-64-v2, x86-64-v3, x86-64-v4 or arm64. The libraries below have to be built by
 rt lib. rattle is called as rt lib calls it, but with a folder of links to the toolchain whose clang
-is this script. It changes the proved module, and hands all else on to the toolchain's clang:
+is this script. The script changes the proved module, and passes all else to the toolchain's clang:
 
 - Rattle has no prefetch, so cred_argon calls a function with an empty body where it would prefetch
   a block. Its body becomes LLVM's prefetches, which change no value.
@@ -14,8 +14,8 @@ is this script. It changes the proved module, and hands all else on to the toolc
 - rt takes x86-64-v4 with Rattle's own compiler alone, whose code is slower. So the module is that
   for x86-64-v3, of which the level is changed.
 
-A change that doesn't find its place in the module ends it. If the toolchain doesn't allow all this
-the status is 1, and the reason is the last line.
+If the place of a change is missing in the module, the script ends. If the toolchain doesn't allow
+all this the status is 1, and the reason is the last line.
 """
 
 import os
@@ -116,7 +116,7 @@ def make_toolchain(kit, room, level):
 
 
 def words_of(kit):
-    """What rt lib hands to rattle of the crate and of those below it, which have to be built."""
+    """The words of rt lib for rattle, of the crate and of the built ones below it."""
     words = ["--crate-name", CRATE, "src/lib.rt", "--crate-type", "staticlib"]
     words += ["--extern", f"std={kit}/rlibs/std.rlib", "-L", f"dependency={kit}/rlibs"]
     for name in below(CRATE):
@@ -128,7 +128,7 @@ def words_of(kit):
 
 
 def build(level, target):
-    """Has rattle write the library, and answers why it didn't, or nothing."""
+    """Runs rattle, which writes the library; returns the reason of a failure, or nothing."""
     page = subprocess.run([os.environ.get("RT", "rt"), "doc"], capture_output=True, text=True)
     kit = pathlib.Path(page.stdout.strip()).parent
     if page.returncode or not (kit / "toolchain/bin/clang").is_file():

@@ -27,8 +27,8 @@ OPTION = re.compile(
 
 
 class Command(NamedTuple):
-    """What help says of a program, or of one of its commands: an option is its name, its value's
-    name and its text."""
+    """The options in the help of a program, or of one of its commands: each is its name, its
+    value's name and its text."""
 
     word: str
     text: str
@@ -78,7 +78,7 @@ class Program:
         return " | ".join(f"*/2/{word}" for word in words or ["-"])
 
     def filled(self, template):
-        """A template with what the program takes."""
+        """A template, filled with the program's words."""
         each = [*self.commands, self.top]
         valued = {f"--{name}" for command in each for name, value, _ in command.options if value}
         fields = {
@@ -104,7 +104,7 @@ def server_commands():
 
 
 def printed(words):
-    """What prints these words with their descriptions."""
+    """The shell code that prints these words with their descriptions."""
     shown = [quoted(f"{word}:{short(text)}") for word, text in words]
     return " ".join(["printf '%s\\n'", *shown]) if shown else ":"
 

@@ -1,5 +1,5 @@
 #!/usr/bin/env python3
-"""Installs what the tests need and this machine lacks: the packages of tools/debian-packages.txt.
+"""Installs the packages of tools/debian-packages.txt that this machine lacks, for the tests.
 
     python3 tools/debian_packages.py
 
@@ -38,7 +38,7 @@ def listed() -> list[str]:
 
 
 def missing() -> list[str]:
-    """Which of the listed packages aren't installed."""
+    """The listed packages that aren't installed."""
     words = ["dpkg-query", "--show", "--showformat", "${Package} ${db:Status-Status}\n"]
     done = subprocess.run([*words, *listed()], capture_output=True, text=True)
     installed = {
@@ -49,7 +49,7 @@ def missing() -> list[str]:
 
 @contextlib.contextmanager
 def no_services() -> Iterator[None]:
-    """Has no package start its service meanwhile; a signal takes that back, too."""
+    """Keeps packages from starting their services meanwhile; a signal ends this too."""
     for number in (signal.SIGTERM, signal.SIGHUP):
         signal.signal(number, lambda *_: sys.exit(1))
     is_ours = not POLICY.exists()
@@ -64,7 +64,7 @@ def no_services() -> Iterator[None]:
 
 
 def get(*words: str) -> str:
-    """What apt-get says if it fails, or nothing."""
+    """The output of apt-get if it fails, or nothing."""
     given = {**os.environ, "DEBIAN_FRONTEND": "noninteractive"}
     pipes: dict[str, Any] = {
         "stdin": subprocess.DEVNULL,
@@ -85,8 +85,8 @@ def known(names: list[str]) -> list[str]:
 
 
 def install(names: list[str]) -> str:
-    """Why they can't be installed, or nothing. The lists are fetched if they are too old for
-    them."""
+    """The reason why they can't be installed, or nothing. The lists are fetched if they are too old
+    for them."""
     with no_services():
         if known(names) == names and not get("install", *names):
             return ""

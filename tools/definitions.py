@@ -1,9 +1,8 @@
 """The definitions of the crates' `specs/`, and which of them a text of antt rests on.
 
 A definition is known by its place, ("cred_many", "Served", "HasCause"): its crate, its module, its
-name. What is compared of it are its words, and where it has those names from that aren't
-definitions of ours. So a comment, the layout, the order of imports, and the file that it stands in
-change nothing.
+name. The sum is over its words, and over the sources of its names that aren't definitions of ours.
+So a comment, the layout, the order of imports, and the file that it stands in change nothing.
 """
 
 from __future__ import annotations
@@ -39,7 +38,7 @@ def words(text: str) -> list[str]:
 
 
 def closing(found: list[str], start: int) -> int:
-    """Where the brace closes that opens at a word."""
+    """The place of the brace that closes the one at a word."""
     depth = 0
     for at in range(start, len(found)):
         depth += (found[at] == "{") - (found[at] == "}")
@@ -49,7 +48,7 @@ def closing(found: list[str], start: int) -> int:
 
 
 def entries(found: list[str]) -> Iterator[list[str]]:
-    """What stands between the commas outside of braces."""
+    """The parts between the commas outside of braces."""
     entry: list[str] = []
     at = 0
     while at < len(found):
@@ -119,14 +118,14 @@ class Text:
 
 @dataclasses.dataclass
 class Meaning:
-    """What a text says by itself, and the definitions that it names."""
+    """The words of a text, and the definitions that it names."""
 
     said: str
     below: set[Place]
 
 
 class Definitions:
-    """All definitions of a tree, and what a text rests on."""
+    """All definitions of a tree, and those that a text rests on."""
 
     def __init__(self, crates: pathlib.Path = CRATES) -> None:
         self.crates = {it.name for it in crates.iterdir()}

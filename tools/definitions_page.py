@@ -9,12 +9,12 @@ A line of the page asks for the block of text behind it:
 
 A block has the definitions that are named first, and all of ours that they rest on, each with the
 comment above it, in the order in which they are first named. Those behind `up to` are its chapters:
-they stand last, without what they rest on. What a block further up has isn't printed again. A block
-ends with the names of the code and of the toolchain's libraries that it has, but for those of
-Rattle.std.specs.Prelude.
+they stand last, without what they rest on. A block doesn't repeat the definitions of earlier
+blocks. A block ends with the names of the code and of the toolchain's libraries that it has, but
+for those of Rattle.std.specs.Prelude.
 
---write prints the blocks anew. Without, the blocks are told that aren't as the tree is, and the
-status is 1 if there are some.
+--write prints the blocks anew. Without it the tool names the blocks that differ from the tree, and
+the status is 1 if any does.
 """
 
 from __future__ import annotations
@@ -108,7 +108,7 @@ class Printer:
         return [*found]
 
     def others(self, places: list[Place]) -> list[str]:
-        """What some definitions name that isn't defined in `specs/`."""
+        """The names in some definitions that `specs/` doesn't define."""
         paths = {it for place in places for it in self.named_in(place) if it[:4] != KNOWN}
         ours = {it for it in paths if self.found.is_ours(it)}
         items = {item_of(it) for it in ours if it[3] in MADE}
@@ -145,7 +145,7 @@ def printed(page: str) -> str:
 
 
 def check() -> Iterator[str | None]:
-    """What is wrong with each block of the page."""
+    """The fault of each block of the page."""
     page = source(PAGE)
     try:
         wanted = printed(page)

@@ -28,7 +28,7 @@ OUT = TOP / "out"
 
 
 def git(*words):
-    """What git writes, whatever its configuration says of line ends and owners."""
+    """The output of git, without its configuration of line ends and owners."""
     words = ["git", "-c", f"safe.directory={TOP}", "-c", "core.autocrlf=false", *words]
     return subprocess.run(words, cwd=TOP, stdout=subprocess.PIPE, check=True).stdout
 

@@ -1,4 +1,4 @@
-"""Which tests there are, and how those of each folder are run: what tools/run_tests.py goes by."""
+"""The tests of the tree, and the command of each folder's, for tools/run_tests.py."""
 
 from __future__ import annotations
 
@@ -16,7 +16,7 @@ TOLD = TOP / "tests/told.py"
 
 @dataclasses.dataclass(frozen=True)
 class Folder:
-    """A folder with modules of tests, which are named by what is between `test_` and `.py`."""
+    """A folder with modules of tests, each named by the part between `test_` and `.py`."""
 
     path: str
     # Whether its modules are of the package `tests`, and not found from their own folder.
@@ -72,7 +72,7 @@ PROGRAMS = {"refuse_memory": (), "peak_memory": (), "readme": ("README.md",)}
 
 @dataclasses.dataclass(frozen=True)
 class Job:
-    """What is run as one process."""
+    """The tests or the tool of one process."""
 
     name: str
     folder: str
@@ -85,7 +85,7 @@ class Job:
 
     @property
     def is_told(self) -> bool:
-        """Whether it writes down what comes of each test."""
+        """Whether the job writes the outcome of each test into a file."""
         return str(TOLD) in self.command
 
 
@@ -116,7 +116,7 @@ def programs() -> Iterator[Job]:
 
 
 def seconds() -> dict[str, float]:
-    """How long each job took when the file was written, by its name."""
+    """The seconds of each job when the file was written, by its name."""
     known: dict[str, float] = json.loads(SECONDS.read_text()) if SECONDS.exists() else {}
     return known
 

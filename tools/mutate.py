@@ -89,7 +89,7 @@ class Copy:
                     os.killpg(running.pid, signal.SIGKILL)
 
     def verdict(self, data, asked, limit):
-        """What becomes of the file with this text."""
+        """The outcome of the file with this text."""
         self.file.unlink()
         self.file.write_bytes(data)
         shutil.rmtree(self.file.parent / "__pycache__", ignore_errors=True)
@@ -122,7 +122,7 @@ def builder(top, file):
 
 
 def verdicts(top, file, mutants, asked):
-    """Each mutant with what became of it, in the order of their places."""
+    """Each mutant with its outcome, in the order of their places."""
     with tempfile.TemporaryDirectory(
         prefix="mutate-"
     ) as room, concurrent.futures.ThreadPoolExecutor(asked.jobs) as pool:

@@ -1,5 +1,5 @@
 #!/usr/bin/env python3
-"""Compares what the pages say of the tree with the tree.
+"""Compares the pages' claims about the tree with the tree.
 
     python3 tools/pages.py
 
@@ -8,8 +8,8 @@ they have from files, the names that docs/PROMISES.md and docs/PLANTED.md give, 
 that docs/STATEMENTS.txt has: each check below says what it compares. Each link leads to a file, and
 each picture has a text for those who can't see it.
 
-What only the toolchain tells is left out, with a line, where rt isn't there. The last line is `N
-passed, M failed`, with `, K left out` then, and the status is 1 if anything failed.
+Without rt the tool leaves out the checks that need the toolchain, and says so in a line. The last
+line is `N passed, M failed`, with `, K left out` then, and the status is 1 if anything failed.
 """
 
 from __future__ import annotations
@@ -75,7 +75,7 @@ Facts = Iterable["str | None"]
 
 
 def git(*words: str) -> str:
-    """What git prints; its status is 1 if it found nothing."""
+    """The output of git, whose status is 1 if it found nothing."""
     done = subprocess.run(["git", *words], cwd=TOP, capture_output=True, text=True)
     if done.returncode > 1:
         raise SystemExit(f"git {words[0]}: {done.stderr.strip()}")
@@ -87,7 +87,7 @@ def name_of(page: pathlib.Path) -> str:
 
 
 def versions() -> Facts:
-    """What is wrong with each file that says the version."""
+    """The fault of each file that has the version."""
     there = (TOP / "VERSION").read_text().strip()
     for file, form in VERSIONED.items():
         said = re.search(form, (TOP / file).read_text(), re.M)
@@ -96,14 +96,15 @@ def versions() -> Facts:
 
 
 def found_in_english() -> int:
-    """How many lines of the pages and manuals, outside of code, tools/english.txt finds."""
+    """The number of lines of the pages and manuals, outside of code, that tools/english.txt
+    finds."""
     forms = re.compile("|".join(source(TOP / "tools/english.txt").splitlines()))
     pages = [source(TOP / it) for it in git("ls-files", "*.md", "man").splitlines()]
     return sum(bool(forms.search(it)) for page in pages for it in without_code(page).splitlines())
 
 
 def house() -> Facts:
-    """What is to grow no more: README's words and bytes, long lines of code, and places that
+    """The bounded counts: README's words and bytes, long lines of code, and lines that
     tools/english.txt finds."""
     readme, lines = README.read_text(), 0
     for file in [*CRATES.glob("*/src/**/*.rt"), *CRATES.glob("*/specs/**/*.antt")]:

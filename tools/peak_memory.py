@@ -1,5 +1,5 @@
 #!/usr/bin/env python3
-"""Looks how much memory hashes ask for, which no contract says.
+"""Measures the memory of hashes, which no contract bounds.
 
     python3 tools/peak_memory.py
 
@@ -35,7 +35,7 @@ SOME_KIB = 64
 
 
 def looked_at(ending, word, kib):
-    """Says what a test takes: a line for it if that is too much, or too little."""
+    """Measures a test: a line for it if its memory is too much, or too little."""
     [test] = tests_of("hash_tests", ending)
     done, counted = counts(test)
     found = counted.get(word, 0)

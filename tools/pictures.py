@@ -240,12 +240,12 @@ DRAWN = {
 
 
 def drawn(name):
-    """The text of a picture: one line, since nobody reads it."""
+    """The text of a picture: one line, which has no readers."""
     return " ".join(DRAWN[name]().split("\n")).strip() + "\n"
 
 
 def check():
-    """What is wrong with each picture that Python alone draws."""
+    """The fault of each picture that Python alone draws."""
     for name in DRAWN.keys() - {"crates.svg"}:
         is_new = (PICTURES / name).read_text() == drawn(name)
         old = f"docs/pictures/{name} is of another text: run tools/pictures.py {name}"

@@ -181,7 +181,7 @@ def failures(top: pathlib.Path, words: Iterable[str]) -> list[str]:
 
 
 def refusal(top: pathlib.Path, plant: Plant, failing: Collection[str]) -> str:
-    """What refuses a plant, which isn't among those that fail with nothing planted, or nothing."""
+    """The test that refuses a plant, of those that pass with nothing planted; or nothing."""
     path = top / plant.file
     text = path.read_text()
     if plant.old not in text:

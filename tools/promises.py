@@ -1,5 +1,5 @@
 #!/usr/bin/env python3
-"""Compares what docs/PROMISES.md names with the tree; tools/pages.py runs it.
+"""Compares the names in docs/PROMISES.md with the tree; tools/pages.py runs it.
 
     python3 tools/promises.py
 
@@ -84,7 +84,7 @@ def has_clause(contract, name):
 
 
 def calls(text):
-    """What is wrong with each call that a text names, and with the clauses in brackets after it."""
+    """The faults of the calls that a text names, and of the clauses in brackets after each."""
     for path, clauses in re.findall(r"`(\w+(?:::\w+)+)`(?:\s*\(((?:`\w+`(?:,\s*)?)+)\))?", text):
         crate, *middle = path.split("::")
         if crate not in listed():
@@ -100,8 +100,8 @@ def calls(text):
 
 
 def words(text):
-    """What is wrong with each bare name in what carries a promise: it belongs to the crate that was
-    named before it."""
+    """The faults of the bare names that carry a promise: each belongs to the crate that was named
+    before it."""
     for item in re.findall(r"^- \*Carried by\*.*?(?=^- |^#|^$|\Z)", text, re.S | re.M):
         crate = None
         for named, word in re.findall(
@@ -120,8 +120,7 @@ def words(text):
 
 
 def files(text):
-    """What is wrong with each file that a text names, and with the definitions that it is said to
-    have."""
+    """The faults of the files that a text names, and of the definitions that it says they have."""
     for name in FILES.findall(text):
         yield None if (TOP / name).is_file() else f"the file {name} isn't there"
     for name, words in re.findall(
@@ -163,7 +162,7 @@ def reached(libraries):
 
 
 def trusted(text, crates):
-    """What is wrong with the list of what is trusted: a line that begins with names of crates, or
+    """The faults of the list of what is trusted: a line that begins with names of crates, or
     `NAME_*` for several, trusts these."""
     heads = re.findall(
         r"^- ((?:`[^`]+`(?:, )?)+):", text.partition("\n## What is trusted\n")[2], re.M
@@ -184,7 +183,7 @@ def trusted(text, crates):
 
 
 def check():
-    """What is wrong with each name of the page."""
+    """The faults of the page's names."""
     text = PAGE.read_text()
     return [
         it and f"docs/PROMISES.md: {it}"
@@ -193,7 +192,7 @@ def check():
 
 
 def check_trusted():
-    """What is wrong with the list of what is trusted, which the toolchain tells."""
+    """The faults of the list of what is trusted, by the toolchain."""
     return [
         it and f"docs/PROMISES.md: {it}"
         for it in trusted(PAGE.read_text(), reached(kit() / "rlibs"))

@@ -1,5 +1,5 @@
 #!/usr/bin/env python3
-"""Writes what other files have of the server's table of answers.
+"""Writes the parts of other files that come from the server's table of answers.
 
     python3 tools/protocol.py [--write]
 
@@ -106,7 +106,7 @@ PARTS = {
 
 
 def written(text, made, begin, end):
-    """A file's text, with what is made between two of its lines."""
+    """A file's text, with the generated part between two of its lines."""
     before, found, rest = text.partition(f"{begin}\n")
     _, found_end, after = rest.partition(f"{end}\n")
     if not found or not found_end:

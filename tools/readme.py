@@ -1,16 +1,16 @@
 #!/usr/bin/env python3
-"""Runs the shell sessions of the pages and compares what they print with the text that stands below
-them.
+"""Runs the shell sessions of the pages and compares their output with the text below
+each.
 
     python3 tools/readme.py [FILE..]          (README.md, docs/*.md and crates/*/README.md)
 
-A session is a block marked `sh`; the block marked `text` right below is what it has to print. All
-sessions of a page run in one bash and one folder, in their order, with the built programs of
-crates/*/out (`rt run` builds them) and this Python as `python3` in their path, and the Python
-package beside them. The folder holds links to crates/, c/ and python/ and nothing else. A session
-with no text below it, or that installs something, is named and not run. One that needs a program
-that isn't there is named and skipped. The last line is `N passed, M failed`, and the status is 1 if
-anything failed or nothing passed.
+A session is a block marked `sh`; the block marked `text` right below is its output. All sessions of
+a page run in one bash and one folder, in their order, with the built programs of crates/*/out (`rt
+run` builds them) and this Python as `python3` in their path, and the Python package beside them.
+The folder holds links to crates/, c/ and python/ and nothing else. A session with no text below it,
+or that installs something, is named and not run. A session whose program is missing is named and
+skipped. The last line is `N passed, M failed`, and the status is 1 if anything failed or nothing
+passed.
 """
 
 import difflib
@@ -56,7 +56,8 @@ def sessions_of(page):
 
 
 def missing(script, path):
-    """Why a session isn't run: it installs something, or needs what this machine doesn't have."""
+    """The reason to skip a session: it installs something, or needs a program that this machine
+    lacks."""
     if INSTALLS.search(script):
         return "it installs something"
     for name in PROGRAMS:
@@ -76,7 +77,7 @@ def missing(script, path):
 
 
 def printed(scripts, path, folder):
-    """What each of these scripts prints, in one bash and one folder."""
+    """The output of each of these scripts, in one bash and one folder."""
     for name in ("crates", "c", "python"):
         (folder / name).symlink_to(TOP / name)
     whole = "".join(f"{script}\nprintf '%s\\n' '{MARK}'\n" for script in scripts)
@@ -88,7 +89,7 @@ def printed(scripts, path, folder):
 
 
 def run(name):
-    """How many sessions of a page print what they have to, and how many don't."""
+    """The numbers of a page's sessions that print the expected output, and of those that don't."""
     with tempfile.TemporaryDirectory(prefix="readme-") as own, tempfile.TemporaryDirectory(
         prefix="readme-"
     ) as folder:

@@ -23,8 +23,8 @@ from tests.helpers import Ended, ended, in_turn, without_request  # noqa: E402
 
 
 def sweep(test):
-    """How many requests were refused, and at which numbers the test failed: the last refuses
-    nothing."""
+    """The number of refused requests, and the numbers at which the test failed; the last run
+    refuses nothing."""
 
     def attempt(nth):
         try:

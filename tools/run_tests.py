@@ -6,10 +6,10 @@
 The jobs of tools/jobs.py run, those with one of the words in their names: each module of tests is a
 process of its own, and so are some tools. Meanwhile `make` builds the library and the PAM module
 from what was proved, or of c/proved where rt is missing, and the jobs that need them wait for that.
-What a failed one printed is printed. Each half minute a line says what is at work. A test may be
-skipped only if tests/needs.py finds that what it names is missing. The last line is `tests: N
-passed, M failed, K skipped`, and the status is 1 if one failed. A signal ends the run with all that
-its jobs started; its last line is `tests: interrupted` then.
+The run prints the output of failed jobs. Each half minute a line names the running jobs. A test may
+be skipped only if tests/needs.py finds that the thing it names is missing. The last line is `tests:
+N passed, M failed, K skipped`, and the status is 1 if one failed. A signal ends the run with all
+that its jobs started; its last line is `tests: interrupted` then.
 
 --long runs the modules that every run leaves out. --note keeps how long each job took in
 tools/job_seconds.json, by which the longest begin first.
@@ -64,7 +64,7 @@ def end_all(mark: str) -> None:
 
 
 def interrupt(number: int, _: Any) -> None:
-    """Ends the run with all that its jobs have started; what those print then is lost."""
+    """Ends the run with all processes of its jobs, whose further output is lost."""
     INTERRUPTED.set()
     os.write(sys.stdout.fileno(), b"tests: interrupted\n")
     os.dup2(os.open(os.devnull, os.O_WRONLY), sys.stdout.fileno())
@@ -74,7 +74,7 @@ def interrupt(number: int, _: Any) -> None:
 
 
 class Done:
-    """What came of a job: its tests by their words, its output, and what it took."""
+    """The outcome of a job: its tests by their words, its output, and its time."""
 
     def __init__(self, job: Job) -> None:
         self.job = job
@@ -114,7 +114,7 @@ class Done:
         self.status = process.returncode = os.waitstatus_to_exitcode(status)
 
     def note(self, word: str, name: str, reason: str) -> None:
-        """What is known of a test by one line more: that it failed is never forgotten."""
+        """The outcome of a test after one more line: a failure is never forgotten."""
         if word == "all":
             self.is_whole = True
             return
@@ -125,8 +125,8 @@ class Done:
             self.tests[name] = f"{word} {reason}".strip()
 
     def judge(self) -> None:
-        """A test that has begun must have ended, and a module must have told of all its tests. What
-        is no module of tests is one test itself."""
+        """A test that has begun must have ended, and a module must have told of all its tests. A
+        job that is no module of tests is itself one test."""
         for name, word in self.tests.items():
             if word == "begun":
                 self.output += f"{name}: has not ended after {self.seconds:.0f} s\n"
@@ -140,7 +140,7 @@ class Done:
 
 
 def fault_of_build() -> str:
-    """What a build of the library that fails says, or nothing."""
+    """The output of a failed build of the library, or nothing."""
     for command in BUILDS if helpers.IS_NATIVE else []:
         pipes: dict[str, Any] = {"stdout": subprocess.PIPE, "stderr": subprocess.STDOUT}
         done = subprocess.run(command, cwd=TOP, stdin=subprocess.DEVNULL, text=True, **pipes)
@@ -150,7 +150,7 @@ def fault_of_build() -> str:
 
 
 class Progress:
-    """What is at work, told each half minute, and what came of the jobs that are done."""
+    """The running jobs, printed each half minute, and the outcomes of those that ended."""
 
     def __init__(self, count: int) -> None:
         self.count, self.done = count, list[Done]()
@@ -193,19 +193,20 @@ class Progress:
                 print(f"{done.output}\n{job.name}: FAILED, {done.seconds:.0f} s", flush=True)
 
     def note(self) -> None:
-        """Keeps how long each job took."""
+        """Stores the time of each job."""
         known = seconds() | {it.job.name: round(it.seconds) for it in self.done}
         SECONDS.write_text(json.dumps(known, indent=1, sort_keys=True) + "\n")
 
     def tell_folders(self) -> None:
-        """A line for each folder: its tests, and what they took."""
+        """A line for each folder: its tests, and their time."""
         for folder in sorted({it.job.folder for it in self.done}):
             of_it = [it for it in self.done if it.job.folder == folder]
             tests, used = sum(len(it.tests) for it in of_it), sum(it.processor for it in of_it)
             print(f"{folder}: {tests} tests, {used:.0f} processor seconds")
 
     def end(self) -> int:
-        """Says what was skipped, what failed, and the last line; the status of the program."""
+        """Prints the skipped tests, the failures, and the last line; returns the status of the
+        program."""
         words = [word for done in self.done for word in done.tests.values()]
         skips = collections.Counter(it for it in words if it.startswith("skipped"))
         for reason, count in sorted(skips.items()):

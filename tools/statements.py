@@ -1,5 +1,5 @@
 #!/usr/bin/env python3
-"""Compares what the crates promise with docs/STATEMENTS.txt, which has a line for each promise.
+"""Compares the crates' promises with docs/STATEMENTS.txt, which has a line for each.
 
     python3 tools/statements.py [--write]
 
@@ -71,7 +71,7 @@ def without_generics(words: list[str]) -> list[str]:
 
 
 def header_of(impl: Item) -> list[str]:
-    """What an impl is for, without its parameters and their bounds."""
+    """The type of an impl, without its parameters and their bounds."""
     words = without_generics(impl.head[impl.head.index("impl") + 1 :])
     return words[: words.index("where")] if "where" in words else words
 
@@ -132,7 +132,7 @@ def sources_of(crate: str, crates: pathlib.Path) -> Iterator[Source]:
 
 
 def imports_of(item: Item) -> list[tuple[str, Place]]:
-    """What a `use` of code imports: each local name, with its path."""
+    """The imports of a `use` of code: each local name, with its path."""
     path = item.head[item.head.index("use") + 1 :]
     return [*definitions.imported(["." if it == "::" else it for it in path])]
 
@@ -266,7 +266,7 @@ def promises() -> list[tuple[str, str]]:
 
 
 def differences(text: str, lines: list[tuple[str, str]]) -> list[str]:
-    """What became of each promise whose line a text doesn't have."""
+    """The change of each promise whose line a text lacks."""
     was, now = collections.defaultdict(list), collections.defaultdict(list)
     for line in text.splitlines():
         if not line.startswith("#"):
@@ -281,7 +281,7 @@ def differences(text: str, lines: list[tuple[str, str]]) -> list[str]:
 
 
 def check() -> list[str | None]:
-    """What is wrong with docs/STATEMENTS.txt."""
+    """The faults of docs/STATEMENTS.txt."""
     try:
         found = differences(source(STATEMENTS), promises())
     except (LookupError, ValueError) as wrong:

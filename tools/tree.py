@@ -1,4 +1,4 @@
-"""What the tools read of the tree and of the toolchain, and how they tell.
+"""The tools' views of the tree and of the toolchain, and their reports.
 
 `python3 tools/tree.py run the gate` ends with status 1, and says why, where rt isn't there.
 """
@@ -48,7 +48,7 @@ def kit() -> pathlib.Path:
 
 @functools.cache
 def listed() -> dict[str, tuple[str, list[str]]]:
-    """Each crate of crates.txt: what stands before the colon of its line, and what behind it."""
+    """Each crate of crates.txt, with the rest of its line behind the colon."""
     lines = [it.split("#")[0].partition(":") for it in source(TOP / "crates.txt").splitlines()]
     return {head.split()[0]: (head, rest.split()) for head, _, rest in lines if head.strip()}
 
@@ -80,12 +80,12 @@ def has_test(crate: str, test: str) -> bool:
 
 
 def has_edit(crate: str, name: str) -> bool:
-    """Whether a wrong body stands in the gate."""
+    """Whether the gate has a wrong body of this name."""
     return (CRATES / crate / "wrong-bodies" / f"{name}.edit").is_file()
 
 
 def tell_each(seconds: float, tell: Callable[[], None]) -> None:
-    """Has something told each time that so many seconds are over, beside the program's work."""
+    """Prints a report every so many seconds, beside the program's work."""
 
     def work() -> None:
         while True:

@@ -11,8 +11,9 @@ once in one file of the crate, or in the file that a line `file: PATH` before th
 Tried are those that the first table of docs/PLANTED.md names, and all of each crate that isn't as
 tools/wrong_bodies.sums has it: its files, its wrong bodies, and what can be cited of the crates
 below. With --all or a CRATE: all, or all of that crate. The sums file gets the line of each crate
-whose wrong bodies were all tried and refused. COMMAND, `rt ci`, runs beside: a crate's turn comes
-once COMMAND has proved the crate. Without one the libraries below are those that `rt lib` builds.
+whose wrong bodies were all tried and refused. COMMAND, `rt ci`, runs meanwhile: a crate's turn
+comes once COMMAND has proved the crate. Without one the libraries below are those that `rt lib`
+builds.
 
 First the functions are proved as they stand, beginning with what `rt check` kept in the crate's
 out/, or an earlier run in .git/wrong-bodies. Then each wrong body is refused at a goal: the search
@@ -45,13 +46,13 @@ PROVED = re.compile(r"rt: (\w+) (?:proved|is kept)\b")
 
 
 def say(line):
-    """Prints a line in one piece, since several threads tell."""
+    """Prints a line in one piece, since several threads print."""
     sys.stdout.write(f"{line}\n")
     sys.stdout.flush()
 
 
 def checked(path):
-    """What a check reads of a file: a comment of Rattle changes no verdict."""
+    """The part of a file that a check reads: a comment of Rattle changes no verdict."""
     text = path.read_bytes()
     return re.sub(rb"(?m)^[ \t]*//.*\n", b"", text) if path.suffix == ".rt" else text
 
@@ -63,8 +64,8 @@ def sum_of(files):
 
 
 class Bench:
-    """Where the wrong bodies of one crate are tried: a copy of its files, over libraries that are
-    built."""
+    """The place where one crate's wrong bodies are tried: a copy of its files, over built
+    libraries."""
 
     def __init__(self, crate, libraries, places):
         self.crate, self.libraries, self.places = crate, libraries, places
@@ -112,7 +113,8 @@ class Bench:
             yield from ("--crate-type", "staticlib")
 
     def check(self, texts, kept, functions):
-        """What a check of these functions says of a copy with these texts, over what is kept."""
+        """The verdict of a check of these functions over a copy with these texts, beginning with
+        kept proofs."""
         with self.places, tempfile.TemporaryDirectory(prefix="wrong-bodies-") as room:
             for name, text in texts.items():
                 path = pathlib.Path(room) / name
@@ -148,15 +150,14 @@ def named_in_page():
 
 
 def checks_at_once():
-    """How many checks the processors and the memory allow."""
+    """The number of checks that the processors and the memory allow."""
     memory = pathlib.Path("/proc/meminfo").read_text()
     free = int(re.search(r"MemAvailable:\s+(\d+)", memory)[1]) << 10
     return max(1, min(len(os.sched_getaffinity(0)), free // BYTES_OF_A_CHECK))
 
 
 class Trial:
-    """Which wrong bodies are tried, each crate's once its libraries are built, and what came of
-    them."""
+    """The wrong bodies of a run, each crate's once its libraries are built, and their outcomes."""
 
     def __init__(self, asked, libraries, kept):
         self.asked, self.libraries, self.kept = asked, libraries, kept
@@ -183,7 +184,7 @@ class Trial:
             self.crates[name] = self.pool.submit(self.try_crate, name)
 
     def settle(self, edit, verdict, output):
-        """Says what came of an edit."""
+        """Prints the outcome of an edit."""
         (self.refused if verdict else self.failed).append(str(edit))
         self.left[edit.crate] -= 1
         if verdict:
@@ -194,7 +195,7 @@ class Trial:
             say(f"{edit}: NOT REFUSED, in {edit.function}: {why}")
 
     def try_group(self, bench, seed, group, planted):
-        """Judges the edits of a group; one of whom nothing is known then is tried alone."""
+        """Judges the edits of a group, and tries each undecided one alone."""
         with tempfile.TemporaryDirectory(prefix="wrong-bodies-") as room:
             kept = f"{room}/kept"
             link(seed, kept)
@@ -210,7 +211,7 @@ class Trial:
                     self.settle(it, self.refused_elsewhere(bench, planted, kept), output)
 
     def refused_elsewhere(self, bench, planted, kept):
-        """What is refused if a body is planted whose own function isn't, in the whole crate."""
+        """The refused functions of the whole crate, for a body whose own function isn't refused."""
         status, output = bench.check(planted, kept, [])
         found = re.search(r"^((?:fn|impl) \S+): (?:no|could)", output, re.M)
         return status == 1 and found and f"not there, but {found[1]}, which is weaker evidence"
@@ -289,7 +290,7 @@ class Trial:
         say(f"{proved}{len(self.refused)} wrong bodies refused{waiting}")
 
     def end(self, status):
-        """Says the last words; the status of the program."""
+        """Prints the last lines; returns the status of the program."""
         self.pool.shutdown()
         for name, it in self.crates.items():
             if it.exception():

@@ -1,4 +1,4 @@
-"""A wrong body: how it is planted in its crate, beside others, and what a check says of it."""
+"""A wrong body: its place in its crate, beside others, and the verdict of a check."""
 
 import re
 from typing import NamedTuple
@@ -13,7 +13,7 @@ LOST_NAME = "a name that the edit removed, which is weaker evidence"
 
 
 class Change(NamedTuple):
-    """A text, the file that has it once, and what takes its place. An empty file is the only one of
+    """A text, the file that has it once, and its replacement. An empty file is the only one of
     the crate that has the text."""
 
     file: str

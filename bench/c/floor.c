@@ -1,11 +1,11 @@
-/* What Argon2's bare traffic takes: each block is the XOR of the one before, of its reference and
- * of what stood there on the pass before, in the order of one lane. No address waits for a block,
- * so nothing but the memory is waited for.
+/* Times Argon2's bare memory traffic: each block is the XOR of the block before, of its reference
+ * and of its own content on the pass before, in the order of one lane. No address depends on a
+ * block, so the program waits for the memory alone.
  *
  *     cc -O3 -march=native bench/c/floor.c -o floor && ./floor KIB PASSES TIMES [none]
  *
- * It prints the median and the best processor time in milliseconds, and that of clearing the memory
- * once. With `none` there are no huge pages. */
+ * The program prints the median and the best processor time in milliseconds, and the time that
+ * clears the memory once. With `none` there are no huge pages. */
 #define _GNU_SOURCE
 #include <stdint.h>
 #include <stdio.h>
@@ -47,7 +47,7 @@ static uint32_t next_random(void) {
     return (uint32_t)state;
 }
 
-/* The reference is picked as RFC 9106, section 3.4.2, does: the later blocks more often. */
+/* The reference is chosen by RFC 9106, section 3.4.2: later blocks more often. */
 static size_t reference(size_t at, size_t count, int pass) {
     size_t ready = pass == 0 ? at : count - count / 4;
     uint64_t word = next_random(), square = word * word >> 32;

@@ -1,4 +1,5 @@
-"""The libraries that are timed, and what each does: a call of costs that gives a tag or a key."""
+"""The libraries under test, and the calls of each: a call computes a tag or a key under its
+costs."""
 
 import ctypes
 import hashlib
@@ -21,7 +22,7 @@ class Numbers(ctypes.Structure):
 
 
 def library(path):
-    """A library, or None if it isn't there."""
+    """A library, or None if this machine lacks it."""
     try:
         return ctypes.CDLL(str(path))
     except OSError:
@@ -30,8 +31,8 @@ def library(path):
 
 
 def libsodium():
-    """libsodium, which chooses its code for this processor in sodium_init: until then it takes slow
-    code for any."""
+    """libsodium, which chooses its code for this processor in sodium_init, and until then runs slow
+    code for any processor."""
     found = library("libsodium.so.23")
     if found is not None and found.sodium_init() < 0:
         sys.exit("libsodium can't be initialised")
@@ -39,13 +40,13 @@ def libsodium():
 
 
 def need_initialised(sodium):
-    """sodium_init answers 1 where it was called before."""
+    """sodium_init answers 1 if it was called before."""
     if sodium.sodium_init() != 1:
         sys.exit("libsodium isn't initialised")
 
 
 def made(call, *given):
-    """What a call writes into its ROOM."""
+    """The bytes that a call writes into its ROOM."""
     room = ctypes.create_string_buffer(SIZE)
     if call(*(room if it is ROOM else it for it in given)) != 0:
         sys.exit(f"{call.__name__} refuses")

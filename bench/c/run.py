@@ -7,14 +7,14 @@ settings.
 
 All are called from this one process in turn, N times over; the best wall time of each is printed,
 and the least processor time where libargon2 has threads. libargon2 gets as many threads as lanes;
-libsodium has one lane only; ours works on the caller's thread. All give the same tags, which is
-looked at. What isn't installed has no column's values. Ours clears its memory as it gives it back,
-and its stack. --other names another librigzumal.so.1, as one that was built before a change: what
-ours takes over it, by the best times and by the median of the turns' ratios.
+libsodium has one lane only; ours works on the caller's thread. The run compares their tags, which
+must be equal. A library that isn't installed has an empty column. Ours clears its stack, and its
+memory before it frees it. --other names another librigzumal.so.1, such as one that was built before
+a change: the run prints the ratio of both, by the best times and by the median of the turns.
 
 WHOSE huge pages there are: `own`, where a library asks for them, as ours does; `none`, as where the
-system allows none; or for `all`, with a shim before mmap and malloc's own setting. How much memory
-is in huge pages at the end is printed.
+system allows none; or for `all`, with a shim before mmap and malloc's own setting. At the end the
+run prints the amount of memory in huge pages.
 
 With --callers Argon2 alone is timed, ours also with a thread a lane, by so many callers at once:
 threads that begin at the same moment, and make two tags one after another. A cell has the best and
@@ -78,12 +78,12 @@ TAGS_A_CALLER = 2
 
 
 def ms(name):
-    """A column: the best time of one of them, or nothing where its library isn't there."""
+    """A column: the best time of a library, or nothing if this machine lacks the library."""
     return lambda row: f"{best(row[name]):.1f}" if name in row else ""
 
 
 def over(name, figure, part=WALL):
-    """A column: what ours takes over another by a figure."""
+    """A column: the ratio of ours to another, by one figure."""
     return lambda row: f"{figure(row['ours'], row[name], part):.2f}" if name in row else ""
 
 
@@ -144,7 +144,7 @@ CALLERS_COLUMNS = {
 
 
 def print_table(what, columns, rows, times):
-    """Rows are named by what stands in their first columns, and have a call for each way."""
+    """Rows are named by their first columns, and have a call for each library."""
     found = take_turns(rows, times)
     print_head([*what, *columns])
     for names, row in found.items():
@@ -153,7 +153,7 @@ def print_table(what, columns, rows, times):
 
 
 def at_once(callers, way, *setting):
-    """Wall and processor milliseconds a tag, and the tag that all callers made."""
+    """Wall and processor milliseconds a tag, and the tag that all callers computed."""
     tags, start = set(), threading.Barrier(callers + 1)
 
     def work():
@@ -212,8 +212,7 @@ def without_least_memory(room):
 
 
 def have_pages(whose):
-    """Has this process go on with such pages: where they are for all in a new program, over the
-    shim."""
+    """Runs this process with such pages; those for all need a new process, over the shim."""
     if whose == "none" and ctypes.CDLL(None).prctl(PR_SET_THP_DISABLE, 1, 0, 0, 0) != 0:
         sys.exit("the system doesn't let a process do without huge pages")
     shim = os.environ.get("LD_PRELOAD", "")
@@ -241,7 +240,7 @@ def have_pages(whose):
 
 
 def huge_pages():
-    """How many MiB of this process's memory are in huge pages."""
+    """The MiB of this process's memory that are in huge pages."""
     return (
         int(
             re.search(

@@ -4,12 +4,12 @@
 
     bench/keep/run.py [--turns N] [--accounts N [N ..]] [--program PROGRAM]
 
-PROGRAM is the built credkeep, by default crates/credkeep/out/credkeep; htpasswd is that of
-Debian's apache2-utils. Names come in random order. The hashes are as cheap as each takes
-(Argon2id with 8 KiB and one pass, bcrypt with cost 4), so that what is timed is the keeping. Each
+PROGRAM is the built credkeep, by default crates/credkeep/out/credkeep; htpasswd is that of Debian's
+apache2-utils. Names come in random order. The hashes are the cheapest of each program (Argon2id
+with 8 KiB and one pass, bcrypt with cost 4), so that the times are those of the storage. Each
 figure is the best of the turns. credkeep syncs twice at each change, Python's sqlite3 once here
-(WAL, synchronous = FULL), and htpasswd never does. The files stand in TMPDIR, whose disk's syncs
-are in what a change takes.
+(WAL, synchronous = FULL), and htpasswd never does. The files are in TMPDIR: the time of a change
+includes the syncs of that disk.
 """
 
 import argparse
@@ -43,7 +43,7 @@ SHOWN = 200_000
 
 
 def run(*words: str | pathlib.Path, given: str = "", status: int = 0) -> float:
-    """The seconds of a program with this input. It has to end with this status."""
+    """The seconds of a program with this input. The program must end with this status."""
     nothing = subprocess.DEVNULL
     with tempfile.TemporaryFile() as text:
         text.write(given.encode())

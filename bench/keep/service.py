@@ -1,4 +1,4 @@
-"""A credkeep that serves lines, and what it takes to answer them."""
+"""A credkeep that serves lines, and its times and memory."""
 
 import os
 import pathlib
@@ -12,7 +12,7 @@ from tests.credkeep import books
 
 
 class Service(books.Service):
-    """It may run for as long as a benchmark does."""
+    """The process may run for as long as a benchmark does."""
 
     def __init__(self, *command: str | pathlib.Path) -> None:
         super().__init__([*map(str, command)])
@@ -36,7 +36,8 @@ class Service(books.Service):
         return seconds
 
     def rate(self, lines: list[str], after: Callable[[str, str], str], seconds: float) -> float:
-        """Answers a second: these tagged lines are open, and each answer has a line after it."""
+        """Answers a second: these tagged lines are open, and each answer is followed by a new
+        line."""
         self.send(books.lined(lines))
         start, count = time.perf_counter(), 0
         while time.perf_counter() - start < seconds:

@@ -1,5 +1,5 @@
 #!/usr/bin/python3
-"""Times changes at `credkeep serve --tagged`, which makes those that wait together.
+"""Times changes at `credkeep serve --tagged`, which commits waiting changes together.
 
     bench/keep/tagged.py [--seconds S] [--sync MS] [PROGRAM]
 
@@ -26,7 +26,7 @@ CLIENTS = (1, 4, 16, 64)
 
 
 class Book:
-    """A new book, and what is timed on it."""
+    """A new book, and the measurements on it."""
 
     def __init__(self, program: pathlib.Path, path: pathlib.Path, seconds: float) -> None:
         self.words, self.seconds = (program, path), seconds

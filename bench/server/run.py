@@ -6,8 +6,8 @@
 For 64 MiB and 4 MiB (Argon2id, t=1, p=1) and 1, 4 and 16 clients: verifies a second at the socket,
 each client with a connection that it keeps; through pam_rigzumal, each login with a connection of
 its own; and through pam_unix with yescrypt at its default costs. It needs root, the built credkeep,
-libpam0g-dev and pamtester, and runs in namespaces of its own. `--fast` takes the tests' book, whose
-hashes cost nothing: what is left is the path. Run it on a machine that does nothing else.
+libpam0g-dev and pamtester, and runs in namespaces of its own. `--fast` uses the tests' book, whose
+hashes cost nothing: the rest is the time of the path. Run it on a machine that does nothing else.
 """
 
 import argparse

@@ -213,7 +213,8 @@ struct rigzumal_parts {
 };
 
 /* Reads the numbers of a record, or of costs, with or without a salt after them: a text without a
- * tag is no record. Faults: SHAPE to TOO_LONG. */
+ * tag is no record. By these numbers you can refuse a record that needs too much memory, before
+ * rigzumal_check. Faults: SHAPE to TOO_LONG. */
 int rigzumal_parts(struct rigzumal_parts *parts, const char *text) RIGZUMAL_CHECK_ANSWER;
 
 /* Whether a record needs a rehash: OTHER_COSTS if its scheme, its costs, or the sizes of its salt
@@ -324,10 +325,9 @@ int rigzumal_scrypt(void *key, size_t key_size, const struct rigzumal_scrypt *nu
  * which read as zero in a child forked meanwhile.
  *
  * Use threads to speed up one login on an idle machine. Of 64 MiB, three passes and four lanes, on
- * four processors, a tag took 102 ms on one thread and 32 ms on four. Threads gain a service
- * little, since it has as many logins at once as processors: four callers computed a tag every 30
- * ms with one thread each, and every 28 ms with four; at 19 MiB and two passes every 6.0 ms either
- * way. */
+ * four processors, a tag took 64 ms on one thread and 23 ms on four (bench/RESULTS.md). A service
+ * that has as many logins at once as processors gains nothing: four callers computed a tag every 22
+ * ms with one thread each, and every 23 ms with four; at 19 MiB and two passes every 3 and 4 ms. */
 int rigzumal_argon2_threads(void *tag, size_t tag_size, const struct rigzumal_argon2 *numbers,
                             const void *password, size_t password_size, const void *salt,
                             size_t salt_size, const void *secret, size_t secret_size,

@@ -30,7 +30,7 @@ enum {
 /* The answer to a connection for which the server has no room now: it read no line. */
 static const char NO_ROOM[] = "* unavailable";
 
-/* The options, and what is sent: a password that the operation doesn't need is NULL. */
+/* The options, and the fields of the line: a password that the operation doesn't need is NULL. */
 struct question {
     const char *socket;
     long seconds;
@@ -181,7 +181,7 @@ static bool read_answer(int fd, char answer[MOST_ANSWER], long deadline) {
     return false;
 }
 
-/* What a line of the server means, by its answer. A word that no operation gets is no answer. */
+/* The meaning of the server's line, by its answer. A word that no operation gets is no answer. */
 static int result_of(pam_handle_t *pamh, const struct operation *operation, const char *line) {
     if (strncmp(line, "1 ", 2) != 0)
         return PAM_AUTHINFO_UNAVAIL;

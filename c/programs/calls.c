@@ -1,5 +1,5 @@
-/* What the proved programs call of C, for those that a C compiler links: the toolchain's part in C
- * is there for x86-64 alone, and isn't published. No proof says that these meet their contracts, in
+/* The calls of C for proved programs that a C compiler links: the toolchain has its own for x86-64
+ * alone, and isn't published. No proof says that these calls meet their contracts, which are in
  * rattle/libc/src/heap.rt and rattle/os/src/c.rt beside the page that `rt doc` names. */
 #define _GNU_SOURCE
 #include <errno.h>

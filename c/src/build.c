@@ -1,4 +1,4 @@
-/* The table of the exports of a build: all that is seen of the build's object. */
+/* The table of the exports of a build: the only symbol of the build's object. */
 #include "builds.h"
 
 #define NAMED(export) .export = export,

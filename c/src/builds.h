@@ -1,5 +1,5 @@
-/* What the crate cred_c exports, which is compiled for several levels of a processor: a build for
- * each. The contracts stand in the crate. Its structures are rigzumal_argon2 (Argon2Numbers),
+/* The exports of the crate cred_c, which is compiled for several levels of a processor: a build for
+ * each. The crate has the contracts. Its structures are rigzumal_argon2 (Argon2Numbers),
  * rigzumal_scrypt (ScryptNumbers), rigzumal_parts (Parts), those of tag_parts.h, and those below.
  */
 #pragma once

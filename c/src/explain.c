@@ -22,7 +22,7 @@ static uint64_t number_of(const char *text, const char *label) {
     return 0;
 }
 
-/* Whether a number that begins at 1 is out of its range, which is said then. */
+/* Whether a number that begins at 1 is out of its range; if so, writes the range. */
 static bool is_out(char *text, size_t text_size, char name, uint64_t number, uint64_t most) {
     if (number >= 1 && number <= most)
         return false;

@@ -1,15 +1,15 @@
 /* The memory of the proved code, which calls the three functions named rattle_ and no others, and
  * that of lanes.c.
  *
- * Every block is cleared as it is given back. Small blocks come from the C library. Large ones are
- * cut one behind another from areas of huge pages, so that many lanes get huge pages too; what is
- * larger than such an area has one of its own. Cleared areas, of 64 MiB in all or what the program
- * says, are kept for the next call of any thread: it maps nothing, and the system has no page to
- * clear for it.
+ * The heap clears every block that a call frees. Small blocks come from the C library. Large ones
+ * are cut one behind another from areas of huge pages, so that many lanes get huge pages too; what
+ * is larger than such an area has one of its own. The heap keeps cleared areas, of 64 MiB in all or
+ * the program's bound, for the next call of any thread: that call maps nothing, and the system
+ * clears no page for it.
  *
- * What is given back was taken on the same thread, in the same call: the table of blocks is the
- * thread's own, and is gone when the call is over. Sizes stand in that table and not before the
- * blocks, where they would touch a page that may never be used. */
+ * A block is freed on the thread that allocated it, in the same call: the table of blocks is the
+ * thread's own, and ends with the call. That table has the sizes: in front of the blocks they would
+ * touch pages that may never be used. */
 #define _GNU_SOURCE
 #include "heap.h"
 
@@ -33,7 +33,7 @@ static size_t rounded_up(size_t size, size_t unit) {
 }
 
 /* Areas: mappings of whole huge pages. One number stands for an area: its start, which is a
- * multiple of a huge page, and in the bits below how many huge pages it has. No area is 0. */
+ * multiple of a huge page, and in the bits below the number of its huge pages. No area is 0. */
 
 typedef uintptr_t area;
 
@@ -71,8 +71,8 @@ static void unmap_area(area it) {
 }
 
 /* The areas that are kept, and how many bytes they have: never more than the most, but for a moment
- * after it is lowered. An area's bytes are counted before it is put into its place, and until it is
- * taken out. */
+ * after it is lowered. The sum counts an area's bytes before the area gets its place, and until it
+ * has left. */
 
 enum { PLACES = 128 }; /* for 2 GiB in areas that blocks are cut from */
 static _Atomic(area) kept_areas[PLACES];
@@ -153,9 +153,9 @@ static void give_area(area it) {
         heap_trim();
 }
 
-/* Has the pages of a kept area be the first of a new one, which is larger. Where that fails the
- * system may have unmapped those that they were to replace, and another thread may have mapped
- * there since: so much is left as it is, and another area is mapped. */
+/* Has the pages of a kept area be the first of a new one, which is larger. If that fails, the
+ * system may have unmapped the pages that they were to replace, and another thread may have mapped
+ * there since: the heap leaves that range as it is, and maps another area. */
 static area grown_area(area it, area kept_one) {
     unsigned char *start = start_of(it);
     size_t size = size_of(it), moved = size_of(kept_one);
@@ -195,7 +195,7 @@ size_t heap_keep(size_t size) {
     return before;
 }
 
-/* The environment's bound, in bytes; what is no number of 64 bits is passed over. */
+/* The environment's bound, in bytes; a text that is no number of 64 bits is ignored. */
 __attribute__((constructor)) static void read_bound(void) {
     const char *text = secure_getenv("RIGZUMAL_KEEP");
     if (text == NULL || *text < '0' || *text > '9')
@@ -211,7 +211,7 @@ __attribute__((destructor)) static void leave_nothing(void) {
     heap_trim();
 }
 
-/* The blocks that this thread has taken, the newest last. */
+/* The blocks that this thread has allocated, the newest last. */
 
 struct block {
     unsigned char *start;
@@ -224,7 +224,7 @@ static _Thread_local struct {
     size_t count, room;
     uint64_t process; /* that took the first of them */
     area area;        /* the one that blocks are cut from, or 0 */
-    size_t used;      /* how many of its bytes are cut off */
+    size_t used;      /* the bytes that are cut off from it */
 } taken;
 
 static bool has_room_for_block(void) {
@@ -254,8 +254,8 @@ static struct block library_block(size_t size) {
     return (struct block){start, size, 0};
 }
 
-/* A block of an area that others are cut from too. Where there is no room for such an area it is as
- * small as it can be. */
+/* A block of an area that others are cut from too. If there is no memory for such an area, it is as
+ * small as possible. */
 static struct block cut_block(size_t size) {
     if (taken.area == 0 || size > size_of(taken.area) - taken.used) {
         area it = take_area(AREA);
@@ -287,7 +287,7 @@ static bool is_area_in_use(area it) {
     return false;
 }
 
-/* Gives back a block of an area, which is no longer in the table. */
+/* Frees a block of an area, which is no longer in the table. */
 static void give_area_block(struct block block) {
     size_t at = (size_t)(block.start - start_of(block.area));
     if (block.area == taken.area && at + rounded_up(block.size, LEAST_ALIGN) == taken.used)
@@ -325,7 +325,7 @@ static struct block struck_out(const void *start) {
     return block;
 }
 
-/* Gives back a block that is cleared, and no longer in the table. One of an area was zero all along
+/* Frees a block that is cleared, and no longer in the table. One of an area was zero all along
  * in a child, whose call would end with a wrong answer. */
 static void give_back(struct block block) {
     if (block.area == 0) {

@@ -1,11 +1,11 @@
-/* Memory for the proved code and for those who clear it themselves, and what is kept between calls.
- */
+/* Memory for the proved code and for callers that clear it themselves, and the memory that is kept
+ * between calls. */
 #pragma once
 
 #include <stdbool.h>
 #include <stddef.h>
 
-/* What the proved code calls. An answer that isn't ok has a pointer that isn't null all the same.
+/* The calls of the proved code. An answer that isn't ok has a pointer that isn't null all the same.
  */
 struct tried {
     bool ok;
@@ -20,12 +20,12 @@ void rattle_dealloc(void *start);
  * no core dump, and zero in a forked child. */
 void *heap_take_zeros(size_t size);
 
-/* Gives them back, on the thread that took them, when all are zero again. */
+/* Frees such bytes, on the thread that allocated them, once all are zero again. */
 void heap_give_zeros(void *start);
 
-/* Gives the kept areas back to the system: how many bytes they have. */
+/* Returns the kept areas to the system, and answers the number of their bytes. */
 size_t heap_trim(void);
 
-/* Has at most so many bytes kept from now on, and gives all that is kept back: how many could be
- * kept before. */
+/* Bounds the bytes that are kept from now on, returns all kept areas to the system, and answers the
+ * old bound. */
 size_t heap_keep(size_t size);

@@ -1,4 +1,4 @@
-/* What is looked at of a call's inputs before any of them is read. */
+/* The checks of a call's inputs before any of them is read. */
 #pragma once
 
 #include "rigzumal.h"

@@ -3,9 +3,9 @@
  * The segments of a slice are worked in groups: each alone, or by twos of neighbouring lanes if
  * there are fewer threads than lanes, since two at once take less time than one after the other.
  * Groups have numbers, slice by slice and pass by pass. A thread draws the next number, waits until
- * all groups of the slices before are worked, works its own, and draws again. So each is worked
- * once, by whoever is there. The tag is made by the caller's thread, and then all clear the memory
- * in the same way, segment by segment. */
+ * all groups of the slices before are worked, works its own, and draws again. So each group is
+ * worked once, by any free thread. The caller's thread computes the tag, and then all threads clear
+ * the memory in the same way, segment by segment. */
 #define _GNU_SOURCE
 #include "lanes.h"
 
@@ -26,11 +26,11 @@ enum { SLICES = 4, MOST_HELPERS = 254, LEAST_STACK = 1024 * 1024 };
 /* The largest page that a system has, as some for ARM64: smaller ones divide it. */
 enum { PAGE = 64 * 1024 };
 
-/* What a child doesn't get of a helper's stack: the pages of what is cleared, and one for the gap
- * above that. */
+/* The part of a helper's stack that a child doesn't get: the pages that are cleared, and one for
+ * the gap above them. */
 enum { HIDDEN_STACK = (CLEARED_STACK + PAGE - 1) / PAGE * PAGE + PAGE };
 
-/* In KiB: where four lanes begin to gain by threads on an idle machine. */
+/* In KiB: from here on four lanes gain by threads on an idle machine. */
 #ifndef LEAST_SHARED_MEMORY
 #define LEAST_SHARED_MEMORY 4096
 #endif
@@ -42,7 +42,7 @@ struct run {
     size_t segment_size, slice_size; /* in blocks */
     uint32_t lanes_of_group;         /* one or two, but one for the last of an odd number */
     uint32_t groups_of_slice;
-    uint64_t groups; /* how many there are to be worked */
+    uint64_t groups; /* the number of all groups */
     _Atomic(uint64_t) next_group, next_cleared;
     _Atomic(uint64_t) done; /* groups, and at last the tag */
     _Atomic(uint8_t) fault;
@@ -50,8 +50,9 @@ struct run {
     pthread_cond_t more_done;
 };
 
-/* Blocks all signals, and answers which were blocked. A thread that waits for others handles none:
- * a handler may fork, and in the child nobody would end the wait. A child of before ends here. */
+/* Blocks all signals, and answers which were blocked. A thread that waits for others handles no
+ * signal: a handler may fork, and in the child no thread would end the wait. A child of before ends
+ * here. */
 static sigset_t block_signals(const struct run *run) {
     sigset_t all, before;
     sigfillset(&all);
@@ -72,7 +73,8 @@ static void await(struct run *run, uint64_t done) {
     pthread_sigmask(SIG_SETMASK, &before, NULL);
 }
 
-/* Counts one more, and wakes those who may wait for it: for the end of a slice, or for the tag. */
+/* Counts one more group, and wakes threads that may wait for it: for the end of a slice, or for the
+ * tag. */
 static void count_done(struct run *run) {
     uint64_t done = atomic_fetch_add(&run->done, 1) + 1;
     if (done <= run->groups && done % run->groups_of_slice != 0)
@@ -125,7 +127,7 @@ static void make_tag(struct run *run) {
     count_done(run);
 }
 
-/* Clears the memory, a segment at a time, when the tag is made. */
+/* Clears the memory after the tag, a segment at a time. */
 static void clear_segments(struct run *run) {
     uint32_t lanes = run->task->numbers.argon2.lanes;
     await(run, run->groups + 1);
@@ -150,9 +152,9 @@ static void *help(void *run) {
     return NULL;
 }
 
-/* The helpers' stacks, one above another in a mapping of their own, each over a page that nobody
- * may touch. The C library would keep its own for later threads, and a child would run on what it
- * may not see. */
+/* The helpers' stacks, one above another in a mapping of their own, each over a page without
+ * access. The C library would keep its own for later threads, and a child would run on what it may
+ * not see. */
 struct stacks {
     unsigned char *start;
     size_t size; /* of each, with its page below */
@@ -283,7 +285,7 @@ uint8_t lanes_work(const struct task *task, uint32_t threads) {
     return fault;
 }
 
-/* How many processors this thread may run on. */
+/* The number of processors that this thread may run on. */
 static uint32_t allowed_processors(void) {
     cpu_set_t set;
     if (sched_getaffinity(0, sizeof set, &set) == 0)

@@ -3,9 +3,9 @@
 
 #include "builds.h"
 
-/* What is worked: a tag's numbers, and how its memory begins and what is made of it at the end.
- * Both are called on the caller's thread, once, with all blocks of the first slice and of the last.
- * Each answers 0 or a fault, and with a fault it has written nothing. */
+/* A task: a tag's numbers, the function that begins its memory, and the one that computes the
+ * result at the end. Both are called on the caller's thread, once, with all blocks of the first
+ * slice and of the last. Each answers 0 or a fault, and with a fault it has written nothing. */
 struct task {
     struct tag_numbers numbers;
     uint8_t (*begin)(const void *inputs, struct argon2_block *first, size_t count);
@@ -14,15 +14,15 @@ struct task {
     struct argon2_block *memory; /* the caller's, for all four slices; or null for the heap's */
 };
 
-/* How many bytes the four slices have, or a fault of the numbers. */
+/* The bytes of the four slices, or a fault of the numbers. */
 uint8_t lanes_size(const struct tag_numbers *numbers, size_t *size);
 
-/* How many threads are to work the lanes, if the program allows so many: no more than there are
- * lanes, and processors that it may run on. One, if the memory is so small that the start of
- * threads would take longer. */
+/* The number of threads for the lanes, up to the program's: at most one for each lane, and for each
+ * processor that the program may run on. One, if the memory is so small that the start of threads
+ * would take longer. */
 uint32_t lanes_useful_threads(const struct tag_numbers *numbers, uint32_t allowed);
 
-/* Works a task with so many threads, 1 to 255, the caller's among them. Where one can't be started
- * the others work its lanes. All have ended when the call is over, and memory of the caller's,
- * which was zero, is zero again. */
+/* Works a task with so many threads, 1 to 255, the caller's among them. If a thread can't be
+ * started, the others work its lanes. All have ended when the call is over, and memory of the
+ * caller's, which was zero, is zero again. */
 uint8_t lanes_work(const struct task *task, uint32_t threads);

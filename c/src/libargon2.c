@@ -1,15 +1,15 @@
 /* The calls of argon2.h, as Debian's libargon2.so.1 has them, over those of rigzumal.h.
  *
- * Inputs are tried in the original's order and refused with its numbers and messages. What it takes
- * and the proved code doesn't is refused after that, by the nearest of them: over 255 lanes, over 2
+ * Inputs are tried in the original's order and refused with its numbers and messages. Inputs that
+ * only the original accepts are refused after that, by its nearest number: over 255 lanes, over 2
  * GiB of memory, and a version that isn't 0x10 or 0x13. Strings that are no records here, for a
  * salt of over 48 bytes or a tag of over 64, are read and written in libargon2_strings.c; their
  * tags are proved all the same. Lanes are worked by as many threads as the context has, as the
  * original does, or as are of use; one that can't be started is no fault. A context's callbacks
- * give the memory and get it back cleared; without them up to 64 MiB, cleared, are kept for the
- * next call, as rigzumal.h says. What flags have cleared is cleared before the memory is filled, as
- * in the original, and what was hashed of it too. The inputs may overlap what is written, but not
- * one another where flags have one of them cleared. */
+ * allocate the memory and free it cleared; without callbacks up to 64 MiB, cleared, are kept for
+ * the next call, as rigzumal.h says. What flags have cleared is cleared before the memory is
+ * filled, as in the original, and what was hashed of it too. The inputs may overlap what is
+ * written, but not one another where flags have one of them cleared. */
 #define _GNU_SOURCE
 #include "libargon2.h"
 
@@ -43,7 +43,7 @@ static int number_of(int fault) {
     }
 }
 
-/* Clears what the caller wants to have cleared. */
+/* Clears the inputs that the caller's flags name. */
 static void clear_inputs(const argon2_context *context) {
     if (context->flags & FLAG_CLEAR_PASSWORD)
         explicit_bzero(context->pwd, context->pwdlen);
@@ -51,7 +51,7 @@ static void clear_inputs(const argon2_context *context) {
         explicit_bzero(context->secret, context->secretlen);
 }
 
-/* What is cleared has no size any more. After a refusal it has no place: so a second try is refused
+/* A cleared input has the size 0. After a refusal it has no place: so a second try is refused
  * too, and isn't of an empty password. */
 static void forget_inputs(argon2_context *context, bool is_done) {
     if (context->flags & FLAG_CLEAR_PASSWORD) {
@@ -95,7 +95,7 @@ static struct rigzumal_argon2 numbers_of(const argon2_context *context, argon2_t
                                     context->t_cost, context->lanes};
 }
 
-/* As the original does: what allocate answers is passed over, and null is a refusal. */
+/* As the original does: the answer of allocate is ignored, and a null pointer is a refusal. */
 static uint8_t *memory_of(const argon2_context *context, size_t size) {
     uint8_t *memory = NULL;
     context->allocate_cbk(&memory, size);
@@ -106,7 +106,7 @@ static uint8_t *memory_of(const argon2_context *context, size_t size) {
     return memory;
 }
 
-/* Works a task in memory that the caller's functions give and get back. */
+/* Works a task in memory that the caller's functions allocate and free. */
 static int work_by_callbacks(struct task *task, const argon2_context *context) {
     size_t size;
     int fault = lanes_size(&task->numbers, &size);
@@ -173,8 +173,8 @@ PUBLIC int argon2_verify_ctx(argon2_context *context, const char *hash, argon2_t
     return is_right ? ARGON2_OK : ARGON2_VERIFY_MISMATCH;
 }
 
-/* Writes the encoded string, or zeros all of its room where it doesn't fit. What is a record here
- * is written by the proved code. */
+/* Writes the encoded string, or zeros all of its room where it doesn't fit. The proved code writes
+ * strings that are records. */
 static int encode(char *encoded, size_t size, const argon2_context *context, argon2_type type) {
     struct rigzumal_argon2 numbers = numbers_of(context, type);
     int fault = rigzumal_argon2_write(encoded, size, &numbers, context->salt, context->saltlen,
@@ -258,7 +258,7 @@ static int verify_string(const char *text, const void *pwd, size_t pwdlen, argon
     return number;
 }
 
-/* Whatever looks at the password or makes a tag has cleared its traces. */
+/* Each call that reads the password or computes a tag has cleared its traces. */
 PUBLIC int argon2_verify(const char *encoded, const void *pwd, size_t pwdlen, argon2_type type) {
     if (pwdlen > UINT32_MAX)
         return ARGON2_PWD_TOO_LONG;

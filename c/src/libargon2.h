@@ -1,5 +1,5 @@
-/* The declarations of argon2.h, whose names and numbers these are, and what the files of the
- * drop-in library share. */
+/* The declarations of argon2.h, with its names and numbers, and the declarations that the files of
+ * the drop-in library share. */
 #pragma once
 
 #include <stdbool.h>
@@ -67,7 +67,7 @@ int argon2_hash(uint32_t t_cost, uint32_t m_cost, uint32_t parallelism, const vo
                 char *encoded, size_t encodedlen, argon2_type type, uint32_t version);
 int argon2_verify(const char *encoded, const void *pwd, size_t pwdlen, argon2_type type);
 
-/* What the original finds wrong with its inputs, in its order. */
+/* The original's fault of the inputs: the first in its order. */
 int fault_of_context(const argon2_context *context);
 
 /* Reads a string behind its type's name, by the original's rules: the numbers, and salt and tag

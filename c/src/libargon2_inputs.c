@@ -1,4 +1,4 @@
-/* What the original says of inputs: their faults in its order, its messages, and names. */
+/* The original's faults of inputs, in its order, with its messages and names. */
 #include "libargon2.h"
 
 PUBLIC const char *argon2_type2string(argon2_type type, int uppercase) {

@@ -1,4 +1,4 @@
-/* Which process this is: a child that goes on with its parent's call is told by it. */
+/* The number of this process, which differs in a child that goes on with its parent's call. */
 #pragma once
 
 #include <stdint.h>

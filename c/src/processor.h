@@ -1,5 +1,5 @@
-/* What each processor has a file of its own for, as x86_64.c, which has processor_build of builds.h
- * too. */
+/* The part that each processor has in a file of its own, such as x86_64.c, which has
+ * processor_build of builds.h too. */
 #pragma once
 
 #include <stddef.h>
@@ -8,7 +8,7 @@
 void processor_clear_bytes(void *start, size_t size);
 
 /* Clears the general registers that a call need not preserve, and every vector and mask register
- * that the processor has and the system keeps. What is left in one stands on the stack as soon as
+ * that the processor has and the system keeps. The rest in a register reaches the stack as soon as
  * the program binds a function lazily. */
 void processor_clear_registers(void);
 

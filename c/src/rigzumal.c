@@ -1,4 +1,4 @@
-/* The calls of rigzumal.h, over what the crate cred_c exports. */
+/* The calls of rigzumal.h, over the exports of the crate cred_c. */
 #include "rigzumal.h"
 
 #include "builds.h"

@@ -4,15 +4,15 @@
 #include <stdbool.h>
 #include <stddef.h>
 
-/* How much of the stack is cleared: a fifth more than the deepest call uses, with lazy binding
- * too, which tests/stacks.c measures. It fits into RIGZUMAL_STACK_SIZE. */
+/* The bytes of the stack that a call clears: a fifth more than the deepest call uses, with lazy
+ * binding too, which tests/stacks.c measures. It fits into RIGZUMAL_STACK_SIZE. */
 enum { CLEARED_STACK = 22 * 1024 };
 
 /* Clears the stack below the caller's frame, and the registers: to be called after all that a call
  * did with secrets. */
 void secrets_clear_traces(void);
 
-/* Clears what a call left, and hands its answer on. */
+/* Clears the traces of a call, and returns its answer. */
 static inline int cleared(int answer) {
     secrets_clear_traces();
     return answer;

@@ -18,7 +18,7 @@ struct setting {
  * Faults: TOO_LONG, NO_RANDOM. */
 int setting_make(struct setting *setting, const char *costs, const void *salt, size_t salt_size);
 
-/* As the proved code takes the size of a tag: one that doesn't fit is refused as 0 is. */
+/* The size of a tag for the proved code, which refuses one that doesn't fit as it refuses 0. */
 static inline uint32_t narrow_tag_size(size_t size) {
     return size > UINT32_MAX ? 0 : (uint32_t)size;
 }

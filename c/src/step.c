@@ -1,5 +1,5 @@
-/* A step with a secret or with threads: what the proved step does without, by the calls that check
- * a record and make one. */
+/* A step with a secret or with threads: the work of the proved step, by the calls that check a
+ * record and write one. */
 #include "builds.h"
 #include "inputs.h"
 #include "secrets.h"
@@ -26,7 +26,7 @@ static struct rigzumal_inputs inputs_of(const struct rigzumal_step_inputs *step,
                                     .threads = step->threads};
 }
 
-/* What is wrong with a step before anything is hashed. */
+/* The fault of a step before any hash. */
 static int fault_of_step(const struct rigzumal_step_inputs *inputs) {
     uint32_t operation = inputs->operation;
     struct rigzumal_inputs judged = inputs_of(inputs, false), made = inputs_of(inputs, true);
@@ -46,7 +46,7 @@ static int fault_of_step(const struct rigzumal_step_inputs *inputs) {
     return has_setting ? setting_fault(inputs) : RIGZUMAL_OK;
 }
 
-/* Whether the costs of the copy are those of the setting: an upgrade has nothing to do then. */
+/* Whether the costs of the copy are those of the setting, so that an upgrade changes nothing. */
 static bool has_costs_of_setting(const struct rigzumal_step_inputs *inputs) {
     struct rigzumal_parts copy, setting;
     return rigzumal_parts(&copy, inputs->copy) == RIGZUMAL_OK &&
@@ -54,7 +54,7 @@ static bool has_costs_of_setting(const struct rigzumal_step_inputs *inputs) {
            has_same_costs(&copy, &setting);
 }
 
-/* Makes the record that is to stand, and replies if it fits. */
+/* Writes the new record, and sets the reply if the record fits. */
 static int make(char *text, size_t text_size, uint32_t *reply, uint32_t replied,
                 const struct rigzumal_step_inputs *step) {
     struct rigzumal_inputs inputs = inputs_of(step, step->operation == RIGZUMAL_CHANGE);

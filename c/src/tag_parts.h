@@ -1,5 +1,5 @@
 /* Argon2 in parts, for lanes that are worked by several threads. Each part is proved in the crate.
- * What nobody proves is that the parts are called as they have to be:
+ * No proof says that the parts are called in this order:
  *
  * - All calls for a tag have the same numbers. All calls for a record have what the text's reading
  *   wrote, unchanged, and its numbers.
@@ -32,13 +32,13 @@ struct tag_numbers {
     uint32_t tag_size;
 };
 
-/* Which segment it is: all are counted from 0. */
+/* The place of a segment; all numbers are counted from 0. */
 struct segment_index {
     uint32_t pass, slice, lane;
 };
 
-/* What a text of Argon2 says, as the crate's reading.rt lays it out: a setting with the length of
- * its tag, and a record. */
+/* The numbers in a text of Argon2, as the crate's reading.rt lays them out: a setting with the
+ * length of its tag, and a record. */
 struct setting_reading {
     struct tag_numbers numbers;
     uint32_t salt_size;

@@ -1,5 +1,5 @@
 /* Records whose tags have a secret or associated data (K and X of RFC 9106) beside the password.
- * The proved code reads and writes the texts and makes the tags; here two tags are compared. */
+ * The proved code reads and writes the texts and computes the tags; this file compares two tags. */
 #define _GNU_SOURCE
 #include "builds.h"
 #include "inputs.h"

@@ -1,13 +1,13 @@
 /* The calls of rigzumal.h with threads. A task's begin and end are the crate's, and its lanes are
- * worked by lanes.c. Where one thread is enough, and for a text that has a fault or is scrypt's,
- * one export does it all. */
+ * worked by lanes.c. If one thread is enough, or if a text has a fault or is scrypt's, one export
+ * does all of the work. */
 #define _GNU_SOURCE
 #include "inputs.h"
 #include "lanes.h"
 #include "secrets.h"
 #include "setting.h"
 
-/* What a tag is made of, and where to. */
+/* The inputs of a tag, and the place where it is written. */
 struct tag_inputs {
     const struct tag_numbers *numbers;
     const struct rigzumal_inputs *inputs;
@@ -56,7 +56,7 @@ int rigzumal_argon2_threads(void *tag, size_t tag_size, const struct rigzumal_ar
     return rigzumal_argon2_from(tag, tag_size, numbers, &inputs);
 }
 
-/* What a record is checked by, or made of. */
+/* The inputs of a record's check, or of a new record. */
 struct text_inputs {
     const struct setting_reading *setting;
     const struct record_reading *record;

@@ -17,9 +17,9 @@ struct features {
     uint32_t kept;                   /* of XCR0: the registers that the system keeps */
 };
 
-/* The levels that a processor may have, each with the features that the one before lacks. They are
- * asked for one by one, as compilers know the levels' names only since gcc 12 and clang 16. A level
- * that lacks one is not taken: what compilers make of a build may use any of them. */
+/* The levels that a processor may have, each with the features that the one before lacks. The code
+ * asks for each feature, as compilers know the levels' names only since gcc 12 and clang 16. A
+ * level that lacks one is not chosen: a compiled build may use any of its features. */
 static const struct level {
     struct features added;
     const struct build *build;
@@ -74,8 +74,8 @@ static bool has(const struct features *found, const struct features *wanted) {
            (found->kept & wanted->kept) == wanted->kept;
 }
 
-/* What a question answers, never 0, that is asked once, since a virtual machine answers slowly;
- * threads that ask at once find the same. */
+/* The answer to a question, never 0; the code asks once, since a virtual machine answers slowly,
+ * and threads that ask at once get the same answer. */
 static int asked_once(_Atomic(int) *known, int (*ask)(const struct features *found)) {
     int answer = atomic_load_explicit(known, memory_order_relaxed);
     if (answer == 0) {

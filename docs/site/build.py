@@ -3,7 +3,7 @@
 
     /usr/bin/python3 docs/site/build.py [FOLDER]                 (FOLDER: out)
 
-FOLDER/site gets what Sphinx reads: the pages in their folders, with README.md as index.md; a page
+FOLDER/site gets the input of Sphinx: the pages in their folders, with README.md as index.md; a page
 for each manual; and the references of C, from its header, and of Python, from docstrings. The last
 line is the first page's path. A warning is an error.
 """
@@ -32,7 +32,7 @@ LINK = re.compile(r"(\]\()([^)\s#:]+)((?:#[^)\s]*)?\))")
 
 
 def place(path):
-    """Where a file stands on the site, or None if it is no page."""
+    """A file's place on the site, or None if it is no page."""
     return PLACES.get(path) or (str(path.relative_to(TOP)) if path in PAGES else None)
 
 

@@ -1,5 +1,5 @@
-"""Makes each name of docs/PROMISES.md a link to where it stands: a call, a clause, a test, a file
-or a definition. tools/promises.py checks that they are there."""
+"""Makes each name of docs/PROMISES.md a link to its place: a call, a clause, a test, a file or a
+definition. tools/promises.py checks that each exists."""
 
 import re
 
@@ -11,6 +11,8 @@ CARRIED = re.compile(r"^- \*Carried by\*.*?(?=^- |^#|^$|\Z)", re.S | re.M)
 # A name in code, outside of a link; or what says to which crate the next names belong.
 NAMED = re.compile(r"crates/(\w+)/|\[`(\w+)::[^`]*`\]|`([\w:]+)`(?!\])")
 HELD = re.compile(rf"{FILES.pattern}(\s+has\s+)((?:`\w+`(?:,|\s+and)?\s*)+)")
+# A file that no link has yet, in code or not.
+LEFT = re.compile(rf"(?<!source:)(`?){FILES.pattern}\1")
 
 
 def link(words, file, at=None):
@@ -20,7 +22,7 @@ def link(words, file, at=None):
 
 
 def place(crate, name):
-    """Where a crate has a function or a definition of this name, as a file and a place."""
+    """The file and the place of a crate's function or definition of this name."""
     kinds = {"src/**/*.rt": rf"\bfn {name}\b", "specs/**/*.antt": rf"^(?:\w+ )*{name}\b.*:"}
     for files, form in kinds.items():
         for file in sorted((CRATES / crate).glob(files)):
@@ -49,7 +51,7 @@ def call(found):
 
 
 def carried(item):
-    """What carries a promise: a bare name belongs to the crate that was named before it."""
+    """The names that carry a promise: a bare one belongs to the crate that was named before it."""
     crate = None
 
     def name(found):
@@ -79,5 +81,4 @@ def linked(text):
     text = HELD.sub(held, text)
     text = CALL.sub(call, text)
     text = CARRIED.sub(carried, text)
-    # those that no link has yet
-    return re.sub(rf"(?<!source:){FILES.pattern}", lambda it: link(it[1], TOP / it[1]), text)
+    return LEFT.sub(lambda it: link(it[0], TOP / it[2]), text)

@@ -1,4 +1,4 @@
-"""Has the samples of docstrings read as code: what is set in by four behind an empty line. A
+"""Marks the samples of docstrings as code: lines that are indented by four behind an empty line. A
 parameter's name has a colon behind it."""
 
 from docutils import nodes

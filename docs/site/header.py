@@ -14,7 +14,7 @@ def indented(text):
 
 
 def words_of(comment):
-    """The words of a comment: what is set in by four is code, and names are code too."""
+    """The words of a comment: lines that are indented by four are code, and names are code too."""
     text = re.sub(r"^ \* ?", "", comment, flags=re.M).strip()
     return "\n\n".join(map(paragraph, re.split(r"\n\s*\n", text)))
 

@@ -30,7 +30,7 @@ def inline(text):
 
 
 def arguments(text):
-    """The words of a macro; what is in quotes is one."""
+    """The words of a macro; a text in quotes is one word."""
     return [quoted or word for quoted, word in re.findall(r'"([^"]*)"|(\S+)', text)]
 
 

@@ -83,6 +83,7 @@ class Site(Case):
         line = re.search(rf'argon.rt.html#L-(\d+)">{code}cred_argon::argon::argon2<', page)[1]
         source = (TOP / "crates/cred_argon/src/argon.rt").read_text().splitlines()
         self.assertIn("pub fn argon2<", source[int(line) - 1])
+        self.assertNotIn("](source:", page)
 
     def check_links(self):
         """Each link to a page, a place on it, a picture or a style."""

@@ -1,4 +1,5 @@
-"""What the environment sets: each value is looked at first, and refused by its name."""
+"""The variables of the environment: the program checks each value first, and refuses a wrong one by
+its name."""
 
 from __future__ import annotations
 
@@ -35,8 +36,8 @@ def database() -> str:
 
 
 def refused(name: str, fault: Exception) -> SystemExit:
-    """A value with which the page can't start. What a driver says of an address may show its
-    password, as of a slash in it, but for a connection that failed."""
+    """A value with which the page can't start. A driver's text about an address may show its
+    password, for instance if that has a slash; the text about a failed connection doesn't."""
     is_shown = isinstance(fault, (OSError, ImportError, sqlite3.Error))
     if is_shown or str(fault).startswith("connection failed"):
         return SystemExit(f"{name}: {fault}".strip())

@@ -48,7 +48,8 @@ def application(store: Store, secret: bytes) -> Flask:
 
 @pages.before_request
 def arrive() -> Any:
-    """Whose browser it is, by its cookie; that its form is one of ours; where it may go."""
+    """Finds the user by the browser's cookie, refuses a form that isn't ours, and sends strangers
+    to the login."""
     g.store = current_app.config["STORE"]
     # Behind https no other host, and no page without https, can set this cookie.
     g.cookie = "__Host-login" if request.is_secure else "login"
@@ -94,7 +95,8 @@ def home() -> str:
 @pages.get("/login")
 @pages.get("/change")
 def form(errors: Optional[dict[str, str]] = None) -> str:
-    """The form of this page; what is amiss stands at its field, where one goes on typing."""
+    """The form of this page; each error is beside its field, and the first of these fields has the
+    focus."""
     return render_template(f"{request.path[1:]}.html", errors=errors or {})
 
 
@@ -145,7 +147,8 @@ def log_out() -> Any:
 def entered(
     session: Optional[str], ticket: str, account: Optional[str], errors: dict[str, str]
 ) -> Any:
-    """The way home with the new session, whose try is forgiven; without one the form again."""
+    """Redirects home with the new session, and forgives the try; without a session shows the form
+    again."""
     if session is None:
         return form(errors)
     g.token = session

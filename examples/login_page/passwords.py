@@ -1,4 +1,4 @@
-"""Which names and passwords there may be."""
+"""The rules for names and passwords."""
 
 from __future__ import annotations
 
@@ -20,7 +20,7 @@ def name_of(form: Mapping[str, str]) -> str:
 
 
 def password_of(form: Mapping[str, str], field: str) -> str:
-    """A password that was typed; one that nobody can have is as wrong as none."""
+    """A password that was typed; an impossible one is as wrong as none."""
     password = opaque(form.get(field, ""))
     return password if len(password.encode()) <= LONGEST else ""
 
@@ -33,7 +33,7 @@ def opaque(typed: str) -> str:
 
 
 def faults(form: Mapping[str, str], name: str) -> dict[str, str]:
-    """What is amiss with a new password that was typed twice, by its field."""
+    """The error of a new password that was typed twice, by its field."""
     new, again = (opaque(form.get(field, "")) for field in ("new", "again"))
     size, plain = len(new.encode()), new.strip().lower()
     if size > LONGEST:
@@ -42,7 +42,7 @@ def faults(form: Mapping[str, str], name: str) -> dict[str, str]:
     if len(new) < SHORTEST:
         return {"new": f"A password has at least {SHORTEST} characters."}
     if len(set(plain)) < 3 or plain in COMMON or plain == name:
-        return {"new": "This password is one of the first that are guessed."}
+        return {"new": "This password is among the first that attackers guess."}
     if new != again:
         return {"again": "The two passwords are not the same."}
     return {}

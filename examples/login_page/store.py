@@ -1,4 +1,4 @@
-"""What the login page keeps: accounts, sessions and tries, in SQLite or PostgreSQL."""
+"""The data of the login page: accounts, sessions and tries, in SQLite or PostgreSQL."""
 
 from __future__ import annotations
 
@@ -26,7 +26,7 @@ TRIES = {"account": 10, "session": 10, "address": 50, "signup": 50}
 
 
 class Store:
-    """The tables, and what is done with them.
+    """The tables, and the operations on them.
 
     `sign_up`, `log_in` and `change` answer with a new session's token, or None. Its row is
     committed with the reply: both stand, or neither.
@@ -67,7 +67,7 @@ class Store:
         return self._enter(partial(self._accounts.login, name, password), name, old)
 
     def change(self, name: str, password: str, new: str, old: str) -> Optional[str]:
-        """Puts a new password and ends all sessions of the old one, if that is right."""
+        """Stores a new password and ends all sessions of the old one, if the old one is right."""
         return self._enter(partial(self._accounts.change, name, password, new), name, old)
 
     def _enter(self, act: Callable[..., Reply], name: str, old: str) -> Optional[str]:
@@ -98,7 +98,7 @@ class Store:
         return found[0][0] if found else None
 
     def take_note(self, token: str) -> bool:
-        """Whether the session is to be told, once, that the password was changed."""
+        """Whether the page must tell the session, once, that the password was changed."""
         query = "UPDATE session SET has_note = 0 WHERE token = ? AND has_note = 1 RETURNING 1"
         return bool(self._do(query, _hash(token)))
 
@@ -109,8 +109,8 @@ class Store:
     def count(self, **tried: str) -> str:
         """Counts a try before its password is hashed, so that many at once count too.
 
-        What is refused, by TooManyRequests, isn't counted. The answer is a ticket, by which
-        a try that was right is forgiven.
+        A try that TooManyRequests refuses isn't counted. Returns a ticket, by which a right try is
+        forgiven.
         """
         ticket, now = secrets.token_urlsafe(), time.time()
         limits = {_hash(f"{kind} {what}"): TRIES[kind] for kind, what in tried.items()}
@@ -156,13 +156,14 @@ class Store:
 
 
 def _hash(text: str) -> str:
-    """What stands for a token or a try in the tables, so that who reads them has neither a
-    session nor what was typed into the wrong field."""
+    """The hash of a token or of a try's name: a reader of the tables gets neither a session nor a
+    password that was typed as a name."""
     return hashlib.sha256(text.encode()).hexdigest()
 
 
 def _sqlite(database: str) -> sqlite3.Connection:
-    """A connection. The file, its folder, and what SQLite adds, are for their owner alone."""
+    """A connection. Only their owner may read the file, its folder, and the files that SQLite
+    adds."""
     file = pathlib.Path(database)
     file.parent.mkdir(mode=0o700, exist_ok=True)
     file.touch(mode=0o600)

@@ -95,7 +95,7 @@ def _verify(given: argparse.Namespace) -> int:
 
 
 def _calibrate(given: argparse.Namespace) -> int:
-    """Writes the costs that were tried, with their times, and then the best of them."""
+    """Prints the costs that were tried, with their times, and then the best of them."""
     if given.memory < LEAST_SAFE_MEMORY and not given.below:
         least = f"--memory is below {LEAST_SAFE_MEMORY} KiB; --below allows it"
         raise Refusal(least, Status.WORDS)

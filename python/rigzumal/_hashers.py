@@ -65,7 +65,7 @@ class Type(enum.IntEnum):
 
 
 class _Hasher(Frozen):
-    """The part that the hashers share: making and verifying records, and rehashing."""
+    """The shared part of the hashers: new records, verification, and rehashing."""
 
     hash_len: int
     salt_len: int

@@ -39,7 +39,7 @@ class Parts(Frozen):
 
 
 def parts(record: Secret) -> Parts:
-    """Reads the numbers of a record, to decide about a rehash.
+    """Reads the numbers of a record, to decide about a rehash, or to refuse high costs.
 
     Raises:
         InvalidRecordError: the text is no record; the exception has its first fault.
@@ -55,7 +55,7 @@ def encoded(data: bytes) -> str:
 
 
 def decoded(letters: str) -> bytes:
-    """The bytes of letters; raises ValueError if no bytes have these."""
+    """The bytes of letters; raises ValueError if they encode no bytes."""
     data = a2b_base64(letters + "=" * (-len(letters) % 4))
     if encoded(data) != letters:
         raise ValueError("a salt or a tag is not base64")

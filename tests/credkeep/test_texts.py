@@ -110,7 +110,7 @@ EARLY = [
 ]
 
 # An option of numbers, with the least and the most.
-NUMBERS = [("serve --tagged --at-once", 1, 255)]
+NUMBERS = [("serve --tagged --at-once", 1, 255), ("serve --tagged --tries", 1, 86)]
 # Options of sizes, and what isn't one.
 SIZES = [f"{it} --most-" for it in ("serve --tagged", "import")]
 SIZES = ["serve --tagged --memory", *(f"{it}{end}" for it in SIZES for end in ("memory", "work"))]

@@ -5,7 +5,8 @@
     fast_book.py [--wait SECONDS] FILE import|export|backup ..          fast_files.py has these
 
 It answers the tagged lines of docs/SERVING.md from N threads, and keeps its accounts in FILE, which
-it only appends to, a line for each change. In the environment BOOK_FAULTS has words:
+it only appends to, a line for each change. In the environment CLOCK names a file with the seconds
+by which failed tries wait, and BOOK_FAULTS has words:
 
     late            each answer comes after 0 to 0.05 s, so in any order
     slow=S          each answer that would cost a hash comes after S seconds
@@ -32,6 +33,7 @@ import hashlib
 import importlib
 import itertools
 import os
+import pathlib
 import random
 import re
 import signal
@@ -45,12 +47,14 @@ NAME = re.compile(r"[a-z0-9._-]{1,32}")
 COSTS = "$fast$c=1"
 LOCKED, MUST_CHANGE = "!", "~"  # before the record of an account
 # How many fields operations have, how many of them are passwords, and whether a setting may follow.
-SHAPES = {"account show disable delete lock unlock expire": (1, 0, False)}
+SHAPES = {"account show disable delete lock unlock expire forgive": (1, 0, False)}
 SHAPES |= {"load rename list marks": (2, 0, False)}
 SHAPES |= {"verify login remove": (2, 1, False), "enrol reset upgrade": (2, 1, True)}
 SHAPES |= {"change": (3, 2, True)}
 SHAPE_OF = {word: it for words, it in SHAPES.items() for word in words.split()}
-QUICK = ("show", "account", "list", "marks", "lock", "unlock", "expire")
+TRIES = ("verify", "login", "change", "upgrade", "remove")
+QUICK = ("show", "account", "list", "marks", "lock", "unlock", "expire", "forgive")
+DAY, LONGEST_WAIT = 86400, 900  # seconds
 NOISE = [b"\n", b"yes\n", b"* yes\n", b"0 yes\n", b"-1 yes\n", b"99999999 yes\n", b"\xff\x00 yes\n"]
 
 
@@ -72,6 +76,40 @@ def tag_of(password: bytes, salt: str) -> str:
     return hashlib.blake2b(password, key=salt.encode()[:64], digest_size=12).hexdigest()
 
 
+def seconds() -> float:
+    """The reading of the clock."""
+    path = os.environ.get("CLOCK")
+    return float(pathlib.Path(path).read_text()) if path else time.monotonic()
+
+
+class Tries:
+    """Tries that failed in a row at each name, and when the last did."""
+
+    def __init__(self, limit: int) -> None:
+        self.limit = limit
+        self.failed = dict[str, tuple[int, float]]()
+
+    def is_too_early(self, name: str) -> bool:
+        """Whether the next has to wait."""
+        count, last = self.failed.get(name, (0, 0.0))
+        wait = min(2 ** (count - self.limit), LONGEST_WAIT) if count >= self.limit > 0 else 0
+        return seconds() < last + wait
+
+    def count(self, name: str, said: str) -> str:
+        """Counts what is answered to a try, and returns it."""
+        if said not in ("no", "wrong"):
+            self.forgive(name)
+        elif self.limit:
+            now = seconds()
+            count, last = self.failed.get(name, (0, now))
+            before = count if now < last + DAY else 0
+            self.failed[name] = (min(before, self.limit + 9) + 1, now)
+        return said
+
+    def forgive(self, name: str) -> None:
+        self.failed.pop(name, None)
+
+
 def marks_of(row: str) -> str:
     return row[: len(row) - len(row.lstrip(LOCKED + MUST_CHANGE))]
 
@@ -79,8 +117,9 @@ def marks_of(row: str) -> str:
 class Accounts:
     """Names, and a row at each: marks, and a record if it has one."""
 
-    def __init__(self, costs: str) -> None:
+    def __init__(self, costs: str, limit: int = 0) -> None:
         self.costs, self.rows = costs, dict[str, str]()
+        self.tries = Tries(limit)
 
     def set(self, name: str, row: str) -> None:
         self.rows[name] = row
@@ -141,6 +180,9 @@ class Accounts:
         if row is None:
             return "bad 5 noaccount" if operation in ("show", "load") else "noaccount"
         match operation:
+            case "forgive":
+                self.tries.forgive(name)
+                return "forgiven"
             case "show":
                 return row or "none"
             case "delete":
@@ -161,10 +203,12 @@ class Accounts:
                 return self.put(name, row[1:], "unlocked") if lock else "none"
             case "reset":
                 made = lock + self.made(plain[0], setting)
+                self.tries.forgive(name)
                 return self.put(name, made, "replaced" if record else "enrolled")
             case "enrol" if record or lock:
                 return "exists"
             case "enrol":
+                self.tries.forgive(name)
                 return self.put(name, self.made(plain[0], setting), "enrolled")
             case _ if not record:
                 return "absent"
@@ -172,7 +216,9 @@ class Accounts:
                 return self.put(name, lock, "disabled")
             case "expire":
                 return self.put(name, lock + MUST_CHANGE + record, "expired")
-        return self.judged(operation, name, row, plain, setting)
+        if self.tries.is_too_early(name):
+            return "later"
+        return self.tries.count(name, self.judged(operation, name, row, plain, setting))
 
     def judged(self, operation: str, name: str, row: str, plain: list[bytes], setting: str) -> str:
         """The answer to a try at a row with a record."""
@@ -201,8 +247,8 @@ class Accounts:
 class Book(Accounts):
     """The same in a file, which has a change before it is answered."""
 
-    def __init__(self, path: str, costs: str) -> None:
-        super().__init__(costs)
+    def __init__(self, path: str, costs: str, limit: int) -> None:
+        super().__init__(costs, limit)
         self.loses, self.puts = int(FAULTS.get("loses", "0")), itertools.count(1)
         self.file = open(path, "a+b", buffering=0)
         fcntl.flock(self.file, fcntl.LOCK_EX)
@@ -253,7 +299,9 @@ def work(book: Book, output: threading.Lock, line: str) -> None:
     words = rest.split(" ")
     if "late" in FAULTS:
         time.sleep(random.random() * 0.05)
-    if "slow" in FAULTS and words[0] not in QUICK:
+    with output:
+        is_early = words[0] in TRIES and book.tries.is_too_early("".join(words[1:2]))
+    if "slow" in FAULTS and words[0] not in QUICK and not is_early:
         time.sleep(float(FAULTS["slow"]))
     if FAULTS.get("mute") == words[0]:
         return
@@ -267,7 +315,8 @@ def work(book: Book, output: threading.Lock, line: str) -> None:
 def serve(path: str, options: dict[str, str]) -> None:
     if os.path.exists(FAULTS.get("shut", "")):
         sys.exit(5)
-    book, output = Book(path, options.get("--setting", COSTS)), threading.Lock()
+    costs, limit = options.get("--setting", COSTS), int(options.get("--tries", "0"))
+    book, output = Book(path, costs, limit), threading.Lock()
     time.sleep(float(FAULTS.get("opens", "0")))
     log, any_bytes = os.environ.get("BOOK_LOG", os.devnull), "surrogateescape"
     sys.stdin.reconfigure(errors=any_bytes)  # type: ignore[attr-defined]
@@ -279,6 +328,9 @@ def serve(path: str, options: dict[str, str]) -> None:
 
 
 if __name__ == "__main__":
+    if "--help" in sys.argv:
+        print("--tries N")
+        sys.exit()
     if "serve" not in sys.argv:
         fast_files = importlib.import_module("fast_files")
         sys.exit(fast_files.main(sys.argv[1:], FAULTS.get("import", "")))

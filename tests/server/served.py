@@ -65,6 +65,17 @@ class Case(helpers.Case):
         service.talk("login verify ada {secret} -> yes")
 
 
+class BesideCase(Case):
+    """Lines that come at once, over credkeep itself where it is built."""
+
+    def over(self, **passwords: str) -> "Service":
+        program = chosen_book()
+        costs = () if program == FAST_BOOK else ("--setting", CHEAP)
+        faults = {"faults": "late"} if program == FAST_BOOK else {}
+        service = self.serving("--tries", "0", *costs, program=program, **faults)
+        return service.enrol(**passwords)
+
+
 def same(is_: object, ought: object, said: str = "") -> None:
     if is_ != ought:
         raise AssertionError(f"{said}: {is_!r} instead of {ought!r}")
@@ -219,7 +230,9 @@ class Given:
         (self.folder / "clock").write_text("0.0")
         (self.folder / "asked").touch()
         own = {"BOOK_FAULTS": self.faults, "BOOK_LOG": f"{self.folder}/asked"}
-        environment = {**os.environ, **own, "CLOCK": f"{self.folder}/clock", **self.environment}
+        if self.clocked:
+            own["CLOCK"] = f"{self.folder}/clock"
+        environment = {**os.environ, **own, **self.environment}
         with open(self.folder / "log", "w") as log:
             process = subprocess.Popen(self.command(), stderr=log, env=environment)
         return Service(self.folder, process)
@@ -279,6 +292,12 @@ class Service:
             typed = field_of(password.encode())
             self.talk(f"admin account {name} -> ok\nadmin enrol {name} {typed} -> enrolled")
         return self
+
+    def guess(self, name: str, count: int) -> None:
+        """Has so many tries at a name fail, each once it isn't too early any more."""
+        with Client(self.path()) as client:
+            for _ in range(count):
+                until(lambda: client.ask(f"verify {name} {WRONG}") == "no", "a failed try")
 
     def set_clock(self, seconds: float) -> None:
         """The time by which failed tries wait, of a server that is clocked."""

@@ -59,7 +59,8 @@ show bob | | absent 4
 check bob | | locked 4
 marks | | bob:locked 0
 unlock bob | | unlocked 0
-forgive bob | | none 4
+forgive bob | | forgiven 0
+forgive zoe | | noaccount 4
 last cid | | none 4
 waits | | 0
 delete cid | | deleted 0
@@ -129,6 +130,18 @@ class AskServer(Case):
             done = subprocess.run(words, input=given, capture_output=True)
             self.assertEqual((done.returncode, done.stdout), (6, b""))
             self.assertEqual(done.stderr, b"credkeep-ask: standard input has no record\n")
+
+    def test_failed_tries(self) -> None:
+        """`check` is too early for a right password too, until the name is forgiven."""
+        service = self.serving("--tries", "1", clocked=True).enrol(ada="secret")
+        service.client().talk("verify ada {wrong} -> no")
+        for words, typed, ought in (
+            (["check", "ada"], [b"secret\n"], ("later", 4)),
+            (["waits"], [], ("ada", 0)),
+            (["forgive", "ada"], [], ("forgiven", 0)),
+            (["check", "ada"], [b"secret\n"], ("yes", 0)),
+        ):
+            self.assertEqual(self.asked([str(service.path("admin")), *words], typed), ought)
 
     def test_many_names(self) -> None:
         """A list has all names once, whatever its parts are."""

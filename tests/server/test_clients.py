@@ -15,7 +15,7 @@ from typing import Any
 from unittest import mock
 
 from client_case import ClientCase
-from served import until
+from served import SECRET, until
 
 
 class Clients(ClientCase):
@@ -89,7 +89,8 @@ class Clients(ClientCase):
         with self.assertRaises(self.server.Refused) as refused:
             self.server.Client(admin).account("a b")
         self.assertEqual((refused.exception.number, refused.exception.word), (3, "name"))
-        self.assertEqual(service.asked()[asked:], ["account Ada"] * 2, "what isn't sent")
+        sent = ["account Ada", f"verify ada {SECRET}"]
+        self.assertEqual(sorted(service.asked()[asked:]), sorted(sent * 2), "what isn't sent")
         for path in ("/nonexistent/socket", login):
             service.stop() if path == login else None
             for call in self.calls(path):

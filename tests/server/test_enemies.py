@@ -1,22 +1,18 @@
-"""Tests of bin/credkeep-server: many guesses at once beside a clock that jumps, locks beside other
-changes, and files of earlier versions."""
+"""Tests of bin/credkeep-server: many guesses at once, locks beside other changes, and files of
+earlier versions."""
 
 import itertools
-import random
+import math
 import sqlite3
-import threading
+import time
 from contextlib import closing
 from typing import Any
 
-from served import CHEAP, FAST_BOOK, SECRET, WRONG, Case, Client, Service, chosen_book, real_book
+from served import CHEAP, SECRET, WRONG, BesideCase, Case, Client, Service, chosen_book, real_book
 from tests.helpers import each, run
 
 CONNECTIONS, GUESSES = 200, 10  # of each connection
 TRIES = 10  # before a wait
-RANGE = 100.0  # seconds between which the clock jumps
-# A wait is 1 s after so many tries, and twice as long after each more, so that the eighth is beyond
-# the range.
-MOST_JUDGED = TRIES + 7
 ROUNDS, AT_ONCE = 2, 40
 # Lines that an administrator sends beside `lock NAME`, whose answers they may have in both orders;
 # and what both leave of the account in any order, if both were done: whether it is locked.
@@ -33,46 +29,28 @@ BESIDE: dict[str, tuple[set[str], bool]] = {
 
 
 class Guesses(Case):
-    def test_beside_a_clock(self) -> None:
-        """Two thousand guesses come from 200 connections at one name, while the clock is set back
-        and forth: as many are judged as waits leave room for, and the owner gets in behind."""
-        service = self.serving("--tries", str(TRIES), "--at-once", "20", clocked=True)
+    def test_at_one_name(self) -> None:
+        """Two thousand guesses come from 200 connections at one name: as many are judged as may
+        fail until a wait, and behind each wait one. The owner gets in once that is forgiven."""
+        program = chosen_book()
+        service = self.serving("--tries", str(TRIES), "--setting", CHEAP, program=program)
         service.enrol(ada="secret")
-        chance, is_over = random.Random(7), threading.Event()
-
-        def jump() -> None:
-            while not is_over.wait(0.002):
-                service.set_clock(chance.choice([0.0, RANGE, RANGE * chance.random()]))
-
-        jumping = threading.Thread(target=jump)
-        jumping.start()
-        try:
-            clients = [service.client() for _ in range(CONNECTIONS)]
-            for client in clients:
-                client.send(f"a verify ada {WRONG}\n" * GUESSES)
-            said = [line for client in clients for line in client.lines(GUESSES)]
-        finally:
-            is_over.set()
-            jumping.join()
+        begun = time.monotonic()
+        clients = [service.client() for _ in range(CONNECTIONS)]
+        for client in clients:
+            client.send(f"a verify ada {WRONG}\n" * GUESSES)
+        said = [line for client in clients for line in client.lines(GUESSES)]
+        seconds = time.monotonic() - begun
         self.assertEqual(len(said), CONNECTIONS * GUESSES)
         self.assertLessEqual({*said}, {b"a no", b"a later"})
         self.assertGreaterEqual(said.count(b"a no"), TRIES)
-        self.assertLessEqual(said.count(b"a no"), MOST_JUDGED)
-        asked = [line for line in service.asked() if line.startswith("verify ada")]
-        self.assertEqual(len(asked), said.count(b"a no"), "no other guess was hashed")
-        service.set_clock(0.0)
-        service.talk("login verify ada {secret} -> later\nadmin forgive ada -> forgiven")
-        service.talk("login verify ada {secret} -> yes")
+        # A wait is 1 s after so many tries, and twice as long after each more. Each may be a second
+        # shorter, by a clock that counts whole seconds.
+        self.assertLessEqual(said.count(b"a no"), TRIES + 2 + math.log2(seconds + 2))
+        service.talk("admin forgive ada -> forgiven\nlogin verify ada {secret} -> yes")
 
 
-class BesideLocks(Case):
-    def over(self, **passwords: str) -> Service:
-        program = chosen_book()
-        costs = () if program == FAST_BOOK else ("--setting", CHEAP)
-        faults = {"faults": "late"} if program == FAST_BOOK else {}
-        service = self.serving("--tries", "0", *costs, program=program, **faults)
-        return service.enrol(**passwords)
-
+class BesideLocks(BesideCase):
     @each(*BESIDE)
     def test_changes(self, beside: str) -> None:
         """Of 40 connections half lock an account each, beside a change of it by another: whoever is

@@ -262,12 +262,6 @@ class Foreign(ForeignCase):
         service.talk("login verify ada b2xk -> no\nadmin delete ada -> deleted")
         service.talk("login verify ada b2xk -> noaccount\nlogin verify bob b2xk -> yes")
 
-    def test_tries(self) -> None:
-        """Wrong passwords at a user of the file count."""
-        self.add("ada", "-s")
-        client = self.over("--tries", "2").client()
-        client.talk("verify ada {wrong} -> no\n" * 2 + "verify ada {secret} -> later")
-
     def test_two_lines_of_a_name(self) -> None:
         """The first one decides, as for nginx and Apache."""
         self.add("ada", "-s")

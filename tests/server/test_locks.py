@@ -4,9 +4,7 @@ import concurrent.futures
 import threading
 import time
 
-from served import CHEAP, FAST_BOOK, SECRET, TOP, WRONG, Case, Client, Service, chosen_book
-from daemon.options import Options
-from daemon.tries import Tally
+from served import SECRET, TOP, WRONG, BesideCase, Case, Client, Service
 from tests.helpers import ended
 
 ASK = str(TOP / "bin/credkeep-ask")
@@ -192,24 +190,9 @@ class Locks(Case):
             with self.subTest(name):
                 self.assertEqual(ended([ASK, "--server", path, "marks", name]), (status, text, ""))
 
-    def test_many_waits(self) -> None:
-        """They have the same bound."""
-        tally = Tally(Options(tries=1))
-        for number in range(MANY):
-            tally.names.fail(f"n{number}")
-        waits = tally.answer(b"waits", "").split()
-        self.assertEqual((len(waits), waits[-1]), (1 + SHOWN + 1, "more=3"))
 
-
-class Beside(Case):
-    """Locks beside other lines, over credkeep itself where it is built."""
-
-    def over(self, **passwords: str) -> Service:
-        program = chosen_book()
-        costs = () if program == FAST_BOOK else ("--setting", CHEAP)
-        faults = {"faults": "late"} if program == FAST_BOOK else {}
-        service = self.serving("--tries", "0", *costs, program=program, **faults)
-        return service.enrol(**passwords)
+class Beside(BesideCase):
+    """Locks beside other lines."""
 
     def test_beside_a_rename(self) -> None:
         """Of 40 connections each locks an account beside the rename of another's: whoever is told

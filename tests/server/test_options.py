@@ -12,8 +12,13 @@ from served import FAST_BOOK, TOP, Case, Service, ran, until
 
 from daemon.options import parse
 
-# In place of credkeep: notes its words, and ends.
-NOTES = '#!/bin/sh\nprintf "%s\\n" "$@" > "$NOTED"\nexit 3\n'
+# In place of credkeep: notes its words, and ends. It has the options of this version, or lacks one.
+NOTES = """#!/bin/sh
+case "$*" in *" serve --help") echo " --tries N"; exit;; esac
+printf "%s\\n" "$@" > "$NOTED"
+exit 3
+"""
+OLDER = NOTES.replace("--tries", "--at-once")
 # A socket's words but its operations, and what is said of words that can't be meant.
 SOCKET = "--socket a /tmp/never-made 0660 -"
 MISTAKES = {
@@ -24,6 +29,8 @@ MISTAKES = {
     "--at-once=-3 x.db": "'-3' is not a number",
     "--idle=-1 x.db": "'-1' is not a number",
     "--tries ten x.db": "'ten' is not a number",
+    "--tries 87 x.db": "'87' is not a number from 0 to 86",
+    "--uid-tries 4 x.db": "unrecognized arguments: --uid-tries",
     "--wait 3601 x.db": "'3601' is not a number from 0 to 3600",
     "--at-once 255 x.db": "'255' is not a number from 0 to 254",
     "--upgrade $argon2id$v=19$m=8,t=1,p=1$c29tZXNhbHQ x.db": "without a salt",
@@ -122,18 +129,19 @@ class Mistakes(Case):
         book.write_text(NOTES)
         book.chmod(0o755)
         (room / "users.db").touch()
-        usual = "--most-memory 1048576 --most-work 3145728"
+        usual = "--tries 10 --most-memory 1048576 --most-work 3145728"
         for options, wait, at_once, handed in (
             ("", 30, own, usual),
             ("--wait 7 --at-once 3", 7, 4, usual),
             ("--at-once 254", 30, 255, usual),
-            (limits, 30, own, limits),
-            ("--memory 64M", 30, own, f"--memory 64M {usual}"),
-            ("--memory none", 30, own, f"--memory none {usual}"),
-            ("--setting $one", 30, own, "--setting $one"),
-            ("--upgrade $two$c=2", 30, own, "--setting $two$c=2"),
-            ("--upgrade $two$c=2 --setting $one", 30, own, "--setting $two$c=2"),
-            ("--idle 5 --tries 4 --uid-tries 3 --mail-names --fold-local-part", 30, own, usual),
+            (f"{limits} --tries 86", 30, own, f"--tries 86 {limits}"),
+            ("--memory 64M", 30, own, usual.replace("10 ", "10 --memory 64M ")),
+            ("--memory none", 30, own, usual.replace("10 ", "10 --memory none ")),
+            ("--setting $one", 30, own, "--tries 10 --setting $one"),
+            ("--upgrade $two$c=2", 30, own, "--tries 10 --setting $two$c=2"),
+            ("--upgrade $two$c=2 --setting $one", 30, own, "--tries 10 --setting $two$c=2"),
+            ("--tries 0 --setting $one", 30, own, "--setting $one"),
+            ("--idle 5 --mail-names --fold-local-part", 30, own, usual),
         ):
             given = {"program": book, "folder": room, "environment": {"NOTED": str(noted)}}
             status, log = self.serving(*options.split(), waits=False, **given).ended()
@@ -142,6 +150,19 @@ class Mistakes(Case):
             ought = f"--wait {wait} {room}/users.db serve --tagged --at-once {at_once} {handed}"
             self.assertEqual(noted.read_text().splitlines(), ought.split(), options)
             noted.unlink()
+
+    def test_an_older_credkeep(self) -> None:
+        """One that knows no failed tries is refused before it has the file, by a line."""
+        room = self.room()
+        book, noted = room / "credkeep", room / "noted"
+        book.write_text(OLDER)
+        book.chmod(0o755)
+        for options in ((), ("--tries", "0")):
+            given = {"program": book, "folder": room, "environment": {"NOTED": str(noted)}}
+            said = f"credkeep-server: {book} is older than this server: it has no --tries\n"
+            (room / "users.db").touch()
+            self.assertEqual(self.serving(*options, waits=False, **given).ended(), (1, said))
+            self.assertFalse(noted.exists())
 
     def test_bounds(self) -> None:
         """A line's record may need sixteen times the memory and the work of new ones, or what an

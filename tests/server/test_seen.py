@@ -12,7 +12,7 @@ from unittest import mock
 
 from machine import is_open, shell
 from served import SECRET, TOP, WRONG, Case, Client, Service, field_of, need, ran, until
-from daemon import tries
+from daemon import tally
 from daemon.options import Options
 from daemon.protocol import OPERATIONS
 from tests.helpers import Peer, run
@@ -123,37 +123,6 @@ class Seen(Case):
         self.assertEqual(service.stats()["memory"], 3)
         self.assertEqual(service.log().count("no memory for a hash"), 1)
 
-    def test_waits(self) -> None:
-        """Who has to wait is listed and logged, and can be forgiven; a wait's begin and end are a
-        line each."""
-        service = self.serving("--tries", "2", clocked=True)
-        service.enrol(ada="secret", bob="secret", cid="secret")
-        for name, count in (("ada", 2), ("bob", 2), ("cid", 1)):
-            service.talk(f"admin verify {name} {{wrong}} -> no\n" * count)
-        service.talk(
-            """
-            login verify ada {secret} -> later
-            admin waits -> waits ada:2:1 bob:2:1
-            admin forgive ada -> forgiven
-            admin forgive ada -> none
-            admin forgive zoe -> none
-            admin forgive cid -> forgiven
-            admin forgive cid -> none
-            admin waits -> waits bob:2:1
-            login verify ada {secret} -> yes
-            login verify bob {secret} -> later
-            admin reset bob {secret} -> replaced
-            login verify bob {secret} -> yes
-            admin waits -> waits
-            login waits -> denied
-            login forgive ada -> denied
-            """
-        )
-        lines = [it.partition(": ")[2] for it in service.log().splitlines() if "to wait" in it]
-        begun = [f"{name} has to wait after 2 failed tries" for name in ("ada", "bob")]
-        ended = ["ada has to wait no more: an administrator forgave it"]
-        self.assertEqual(lines, [*begun, *ended, "bob has to wait no more: a new password"])
-
     def test_last(self) -> None:
         """When a name's password was right last."""
         service = self.serving().enrol(ada="secret")
@@ -168,10 +137,10 @@ class Seen(Case):
     def test_last_logins_are_bounded(self) -> None:
         """Of too many right logins the oldest is forgotten."""
         verify = OPERATIONS[b"verify"]
-        with mock.patch.object(tries, "REMEMBERED", 2):
-            counted = tries.Tally(Options())
+        with mock.patch.object(tally, "REMEMBERED", 2):
+            counted = tally.Tally(Options())
             for name in "abac":
-                counted.count(verify, name, "", "yes")
+                counted.count(verify, name, "yes")
         self.assertEqual(
             [counted.answer(b"last", it)[:4] for it in "abc"], ["last", "none", "last"]
         )

@@ -62,6 +62,14 @@ ODD_TEXTS: dict[str, tuple[bytes, int, int]] = {
 
 
 class Imports(TransferCase):
+    def test_failed_tries(self) -> None:
+        """What was counted before ends with the book's process: as many may fail again."""
+        service = self.over("--tries", "2")
+        service.guess("ada", 4)
+        service.talk("login verify ada {secret} -> later")
+        self.assertEqual(self.ask(service, "import", given=LINE.encode()).status, 0)
+        service.talk("login verify ada {wrong} -> no\n" * 2)
+
     def test_ten_thousand(self) -> None:
         """They come in by one import, beside users who log in; and are there after the next
         start."""

@@ -1,13 +1,13 @@
 """Tests of bin/credkeep-server: failed tries."""
 
-import asyncio
 import time
 from unittest import mock
 
-from served import SECRET, WRONG, Case, as_user, need_root
-from daemon import tries
-from daemon.tries import Limiter
-from daemon.journal import log
+from served import CHEAP, SECRET, WRONG, Case, chosen_book, until
+from daemon import journal, tally
+from daemon.options import Options
+from daemon.protocol import OPERATIONS
+from daemon.tries import Tries as OldTries
 
 
 class Tries(Case):
@@ -22,9 +22,7 @@ class Tries(Case):
             *((7, SECRET, "yes"), (7, WRONG, "no"), (7, WRONG, "no"), (7, WRONG, "later")),
         ):
             service.set_clock(now)
-            asked = len(service.asked())
             self.assertEqual(client.ask(f"verify ada {password}"), ought, f"at {now} s")
-            self.assertEqual(len(service.asked()) - asked, ought != "later", "at the book")
             self.assertEqual(client.ask(f"verify bob {SECRET}"), "yes")
 
     def test_later_for_each_operation(self) -> None:
@@ -66,9 +64,25 @@ class Tries(Case):
             right, wrong = "verify ada {secret} -> yes", "verify ada {wrong} -> no"
             admin.talk("\n".join([wrong, row, wrong, right]))
         admin.talk("verify ada {wrong} -> no\nremove ada {secret} -> removed")
-        admin.talk("verify ada {secret} -> absent\n" * 2)
-        admin.talk("verify ada {secret} -> later\nenrol ada {secret} -> enrolled")
-        admin.talk("verify ada {secret} -> yes")
+        admin.talk("verify ada {secret} -> absent\n" * 3)  # no guess is right there
+        admin.talk("enrol ada {secret} -> enrolled\nverify ada {secret} -> yes")
+
+    def test_what_forgives_nothing(self) -> None:
+        """A wait goes on behind a lock, and at a name that is deleted, renamed or disabled, and
+        gets a record again; and while another name is forgiven."""
+        service = self.serving("--tries", "2", clocked=True).enrol(ada="secret", bob="secret")
+        record = service.client("admin").ask("show ada")
+        for between in (
+            ("forgive bob -> forgiven", "reset bob {fresh} -> replaced"),
+            ("lock ada -> locked", "unlock ada -> unlocked"),
+            ("disable ada -> disabled", f"load ada {record} -> ok"),
+            ("delete ada -> deleted", "account ada -> ok", f"load ada {record} -> ok"),
+            ("rename ada eve -> renamed", "rename eve ada -> renamed"),
+        ):
+            admin = service.client("admin")
+            admin.talk("verify ada {wrong} -> no\n" * 2 + "verify ada {secret} -> later")
+            admin.talk("\n".join([*between, "verify ada {secret} -> later"]))
+            admin.talk("forgive ada -> forgiven\nverify ada {secret} -> yes")
 
     def test_guesses_at_once(self) -> None:
         """Of guesses that are sent together as many are judged as may fail, and one after each
@@ -80,13 +94,11 @@ class Tries(Case):
             clients = [service.client("admin") for _ in range(4)]
             for now, ought in ((0, 10), (1, 1), (3, 1)):
                 service.set_clock(now)
-                asked = len(service.asked())
                 for client in clients:
                     more = f" {WRONG}" if operation == "change" else ""
                     client.send(f"a {operation} ada {WRONG}{more}\n" * 32)
                 said = [line for client in clients for line in client.lines(32)]
                 self.assertEqual(said.count(b"a later"), 128 - ought, operation)
-                self.assertEqual(len(service.asked()) - asked, ought, "at the book")
 
     def test_right_passwords_at_once(self) -> None:
         """However many are sent together, none of them is too early."""
@@ -107,31 +119,6 @@ class Tries(Case):
             client.talk(f"verify {name} {{wrong}} -> {ought}")
             seconds[ought] = time.monotonic() - begun
         self.assertGreater(seconds["later"], 0.29)
-        self.assertEqual(len(service.asked()), 5)
-
-    def test_later_by_uid(self) -> None:
-        """A person's failed tries at many names count together; those of a service don't."""
-        need_root()
-        path = self.room() / "s"
-        socket = f"--socket a {path} 0666 - verify --uid-tries 4".split()
-        service = self.serving(*socket, clocked=True)
-        admin = service.client("admin")
-        service.enrol(ada="secret")
-        guesses, right = [f"verify n{at} {SECRET}" for at in range(6)], f"verify ada {SECRET}"
-        said = as_user(4711, 4712, path, *guesses[:4], right)
-        self.assertEqual(said, "noaccount " * 4 + "later")
-        self.assertEqual(as_user(33, 33, path, *guesses, right), "noaccount " * 6 + "yes")
-        for now in (1, 3):
-            service.set_clock(now)
-            self.assertEqual(as_user(4711, 4712, path, guesses[0], right), "noaccount later")
-        self.assertEqual(as_user(4712, 4712, path, right), "yes")
-        admin.talk("account uid-4711 -> ok\nforgive uid-4711 -> none\nwaits -> waits uid=4711:6:4")
-        admin.talk("forgive uid=4711 -> forgiven\nwaits -> waits")
-        self.assertEqual(as_user(4711, 4712, path, right), "yes")
-        people = {999: "yes", 1000: "later", 60000: "later", 60001: "yes", 65534: "yes"}
-        for uid, last in people.items():
-            said = as_user(uid, uid, path, *guesses[:5], right)
-            self.assertEqual(said.split()[-1], last, f"uid {uid}")
 
     def test_later_by_the_books_name(self) -> None:
         """Failed tries count by the name in the book, however its address is typed."""
@@ -144,9 +131,113 @@ class Tries(Case):
             self.assertEqual(client.ask(f"verify {name} {SECRET}"), "later", name)
         client.talk("verify Ada@example.org {secret} -> noaccount")
 
+    def test_listed_and_logged(self) -> None:
+        """Who has to wait is listed and logged, and can be forgiven; a wait's begin and end are a
+        line each."""
+        service = self.serving("--tries", "2", clocked=True)
+        service.enrol(ada="secret", bob="secret", cid="secret")
+        for name, count in (("ada", 2), ("bob", 2), ("cid", 1)):
+            service.talk(f"admin verify {name} {{wrong}} -> no\n" * count)
+        service.talk(
+            """
+            admin waits -> waits
+            login verify ada {secret} -> later
+            admin waits -> waits ada
+            admin forgive ada -> forgiven
+            admin forgive ada -> forgiven
+            admin forgive zoe -> noaccount
+            admin forgive cid -> forgiven
+            login verify ada {secret} -> yes
+            login verify bob {secret} -> later
+            admin waits -> waits bob
+            admin reset bob {secret} -> replaced
+            login verify bob {secret} -> yes
+            admin waits -> waits
+            login waits -> denied
+            login forgive ada -> denied
+            admin verify bob {wrong} -> no
+            admin verify bob {wrong} -> no
+            login verify bob {secret} -> later
+            """
+        )
+        service.set_clock(1)
+        service.talk("login verify bob {secret} -> yes\nlogin verify bob {secret} -> yes")
+        lines = [it.partition(": ")[2] for it in service.log().splitlines() if "to wait" in it]
+        said = [
+            "ada has to wait after 2 failed tries",
+            "ada has to wait no more: an administrator forgave it",
+            "bob has to wait after 2 failed tries",
+            "bob has to wait no more: a new password",
+            "bob has to wait after 2 failed tries",
+            "bob has to wait no more: a right password",
+        ]
+        self.assertEqual(lines, said)
 
-class Limiters(Case):
-    """The limiter by itself; `clock` is its time."""
+    def test_logged_once_an_hour(self) -> None:
+        """However many tries at a name are too early, its wait is a line an hour."""
+        service = self.serving("--tries", "1", clocked=True).enrol(ada="secret")
+        service.client().talk("verify ada {wrong} -> no\n" + "verify ada {wrong} -> later\n" * 20)
+        self.assertEqual(service.log().count("ada has to wait"), 1)
+        self.enterContext(mock.patch.object(journal, "MOST_KEYS", 2))
+        self.enterContext(mock.patch.object(journal, "logged_at", {}))
+        with self.assertLogs(journal.log) as logged:
+            for key in "abacab":  # `a` is forgotten as `c` comes, and `b` as `a` does
+                journal.log_seldom(key, key)
+        self.assertEqual([it.getMessage() for it in logged.records], list("abcab"))
+
+    def test_many_listed(self) -> None:
+        """A list is bounded, and so is its memory; a quarter of an hour ends an entry."""
+        verify, counted = OPERATIONS[b"verify"], tally.Tally(Options())
+        self.enterContext(mock.patch.object(tally, "REMEMBERED", 4))
+        self.enterContext(mock.patch.object(tally, "MOST_SHOWN", 2))
+        for name in "abcabde":
+            counted.count(verify, name, "later")
+        self.assertEqual(counted.answer(b"waits", ""), "waits a b more=2")
+        late = time.monotonic() + 900
+        with mock.patch.object(tally.time, "monotonic", return_value=late):
+            self.assertEqual(counted.answer(b"waits", ""), "waits")
+
+
+class OverABook(Case):
+    """Over credkeep itself where it is built, by its own clock."""
+
+    def test_a_wait(self) -> None:
+        """A right password is too early too, at this name alone, and an administrator ends the
+        wait."""
+        service = self.serving("--setting", CHEAP, "--tries", "2", program=chosen_book())
+        service.enrol(ada="secret", bob="other")
+        service.guess("ada", 5)
+        service.talk("login verify ada {secret} -> later\nlogin verify bob b3RoZXI -> yes")
+        service.talk(
+            """
+            admin forgive zoe -> noaccount
+            admin forgive Ada -> bad 3 name
+            admin forgive ada -> forgiven
+            admin forgive ada -> forgiven
+            login verify ada {secret} -> yes
+            """
+        )
+
+    def test_a_wait_that_ends(self) -> None:
+        """Behind it the right password is right, and ends all of it."""
+        service = self.serving("--setting", CHEAP, "--tries", "2", program=chosen_book())
+        service.enrol(ada="secret")
+        service.guess("ada", 3)
+        client = service.client()
+        client.talk("verify ada {secret} -> later")
+        until(lambda: client.ask(f"verify ada {SECRET}") == "yes", "the end of the wait")
+        client.talk("verify ada {wrong} -> no\nverify ada {secret} -> yes")
+
+    def test_no_limit(self) -> None:
+        """By --tries 0 nobody has to wait."""
+        service = self.serving("--setting", CHEAP, "--tries", "0", program=chosen_book())
+        service.enrol(ada="secret")
+        service.talk("login verify ada {wrong} -> no\n" * 30 + "login verify ada {secret} -> yes")
+        service.talk("admin forgive ada -> forgiven")
+
+
+class OfAnOldFile(Case):
+    """Failed tries at users of an old file, by themselves; `clock` is the time."""
 
     clock = 0.0
 
@@ -154,116 +245,42 @@ class Limiters(Case):
         super().setUp()
         self.enterContext(mock.patch.object(time, "monotonic", lambda: self.clock))
 
-    def remembering(self, count: int) -> None:
-        self.enterContext(mock.patch.object(tries, "REMEMBERED", count))
-        self.enterContext(mock.patch.object(log, "info"))
+    def at(self, tries: OldTries, *moments: float) -> list[bool]:
+        """Whether a try is too early at each of these moments."""
+        said = list[bool]()
+        for self.clock in moments:
+            said.append(tries.is_too_early(b"x"))
+        return said
 
-    def tried(self, limiter: Limiter, *keys: str) -> None:
-        for key in keys:
-            limiter.fail(key)
+    def test_waits(self) -> None:
+        """A wait is doubled by each failure, from the last one on, and has a bound; a day behind
+        the last all are forgotten, and not before."""
+        tries = OldTries(3)
+        self.clock = 1000.0
+        for wait in (0, 0, 1, 2, 4, 8, 16, 32, 64, 128, 256, 512, *[900] * 3000):
+            failed = self.clock
+            tries.fail(b"x")
+            moments = (failed, failed + wait - 0.1) if wait else (failed,)
+            self.assertEqual(self.at(tries, *moments), [wait > 0] * len(moments))
+            self.assertEqual(self.at(tries, failed + wait), [False])
+        for pause, is_early in ((86399.0, True), (86400.0, False)):
+            self.clock = failed = failed + pause
+            tries.fail(b"x")
+            self.assertEqual(tries.is_too_early(b"x"), is_early)
 
-    def parts(self, limiter: Limiter) -> tuple[list[str], list[str]]:
-        """Who failed fewer than so many times, and who has to wait."""
-        few, many = list[str](), list[str]()
-        for key, it in limiter.tries.items():
-            (few if it.count < limiter.most else many).append(key)
-        return few, many
+    def test_forgiven(self) -> None:
+        """At one name alone."""
+        tries = OldTries(1)
+        for name in (b"x", b"y"):
+            tries.fail(name)
+        tries.forgive(b"x")
+        tries.forgive(b"z")
+        self.assertEqual(
+            [tries.is_too_early(it) for it in (b"x", b"y", b"z")], [False, True, False]
+        )
 
-    def test_others_dont_free_a_victim(self) -> None:
-        """What is remembered has a bound: those who needn't wait are forgotten first, the oldest
-        first."""
-        limiter, last = Limiter(10), tries.REMEMBERED + 999
-        self.tried(limiter, *["victim"] * 12, *(f"n{at}" for at in range(last + 1)))
-        self.assertTrue(limiter.rest("victim"))
-        self.assertEqual(len(limiter.tries), tries.REMEMBERED)
-        self.assertTrue(f"n{last}" in limiter.tries and "n0" not in limiter.tries)
-
-    def test_all_may_wait(self) -> None:
-        """If all who are remembered wait, the oldest goes."""
-        self.remembering(3)
-        limiter = Limiter(1)
-        self.tried(limiter, *"abcd")
-        self.assertEqual(list(limiter.tries), ["b", "c", "d"])
-
-    def test_expired_go_first(self) -> None:
-        """What is an hour old goes before what isn't, though it had more tries."""
-        self.remembering(2)
-        limiter = Limiter(2)
-        self.tried(limiter, "old", "old")
-        self.clock = 4000.0
-        self.tried(limiter, "one", "two")
-        self.assertEqual(self.parts(limiter), (["one", "two"], []))
-
-    def test_swept(self) -> None:
-        """A sweep forgets what is an hour old, and nothing else; the end of a wait is logged."""
-        limiter = Limiter(2)
-        with self.assertLogs(log, "INFO") as logged:
-            for self.clock, keys in ((0.0, "aww"), (1800.0, "b"), (3000.0, "vv")):
-                self.tried(limiter, *keys)
-            for self.clock, waiting in ((3600.5, ["w", "v"]), (3601.5, ["v"])):
-                limiter.drop_expired()
-                self.assertEqual(self.parts(limiter), (["b"], waiting))
-        said = [it.getMessage() for it in logged.records]
-        begun = [f"{name} has to wait after 2 failed tries" for name in "wv"]
-        self.assertEqual(said, [*begun, "w has to wait no more: no failed try for an hour"])
-
-    def test_tries_are_forgotten(self) -> None:
-        """An hour after a wait was over its tries are forgotten, and not before; a wait has a
-        bound."""
-        limiter = Limiter(3)
-        for self.clock, count, wait in (
-            *((1000.0, 1, 0), (1000.0, 2, 0), (1000.0, 3, 1), (1000.0, 4, 2)),
-            *((1002.0 + 3599, 5, 4), (4605.0 + 3600, 1, 0), (8205.0 + 3599, 2, 0)),
-        ):
-            limiter.fail("x")
-            found = limiter.tries["x"]
-            self.assertEqual((found.count, found.until), (count, self.clock + wait))
-        self.tried(limiter, *["x"] * 3000)
-        self.assertEqual(limiter.tries["x"].until, self.clock + 900)
-
-    def test_tries_at_once(self) -> None:
-        """A try runs once fewer run at its key than may fail there; without a key it runs at
-        once."""
-        limiter, begun = Limiter(2), list[str]()
-        ends = {name: asyncio.Semaphore(0) for name in ("a", "b", "")}
-
-        async def judge(name: str) -> None:
-            async def answer() -> bytes:
-                begun.append(name or "-")
-                await ends[name].acquire()
-                return b"no"
-
-            self.assertEqual(await limiter.judge(name, answer), b"no")
-
-        async def run() -> None:
-            tasks = [asyncio.ensure_future(judge(it)) for it in ("a", "a", "a", "b", "", "", "")]
-            for ended, ought in (("", "aab---"), ("b", "aab---"), ("a", "aab---a")):
-                if ended:
-                    ends[ended].release()
-                for _ in range(6):
-                    await asyncio.sleep(0)
-                self.assertEqual("".join(begun), ought)
-            self.assertEqual(limiter.running, {"a": 2, "": 3})
-            self.tried(limiter, "a", "a")
-            self.assertEqual(await limiter.judge("a", mock.Mock()), b"later")
-            for name in ("a", "a", "", "", ""):
-                ends[name].release()
-            await asyncio.gather(*tasks)
-            self.assertFalse(limiter.running)
-
-        asyncio.run(run())
-
-    def test_lowered(self) -> None:
-        """A right password takes one try back, and ends a wait that is due to it."""
-        limiter = Limiter(2)
-        self.tried(limiter, "x", "x", "x")
-        for is_early in (True, False):
-            limiter.lower("x")
-            self.assertEqual(limiter.rest("x") > 0, is_early)
-            self.assertEqual(self.parts(limiter), ([], ["x"]) if is_early else (["x"], []))
-        limiter.fail("x")
-        self.assertTrue(limiter.rest("x"), "the other try was forgotten")
-        for _ in range(5):
-            limiter.lower("x")
-        limiter.fail("x")
-        self.assertFalse(limiter.rest("x"), "tries are below none")
+    def test_no_limit(self) -> None:
+        tries = OldTries(0)
+        for _ in range(3000):
+            tries.fail(b"x")
+        self.assertFalse(tries.is_too_early(b"x"))

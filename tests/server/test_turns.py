@@ -82,7 +82,7 @@ class Waiting(IsolatedAsyncioTestCase):
         door, replies = SimpleNamespace(operations=OPERATIONS, name="login"), mock.AsyncMock()
         with mock.patch.object(service, "answer", judge):
             for name, uid, count in asked:
-                client: Any = SimpleNamespace(door=door, uid=uid, owner=uid, user=uid)
+                client: Any = SimpleNamespace(door=door, uid=uid, user=uid)
                 client.reply = replies
                 client.running, client.answered = 0, asyncio.Event()
                 client.has_gone = lambda: False
@@ -99,15 +99,6 @@ class Waiting(IsolatedAsyncioTestCase):
         service.hashes = Places(2)
         said = await self.judged(service, b"yes", ("ann", 33, 9), ("bob", 33, 3), ("cat", 33, 1))
         self.assertEqual(said, "ann ann bob cat ann bob ann bob" + " ann" * 5)
-
-    async def test_guesses_of_a_person(self) -> None:
-        """Of a person's guesses that come at once as many are judged as may fail, over all
-        names."""
-        service = Service(Options(uid_tries=2))
-        service.hash_seconds = 0.0
-        asked = [(name, uid, 1) for uid in (1000, 33) for name in "abcdef"]
-        said = await self.judged(service, b"noaccount", *asked)
-        self.assertEqual(sorted(said.split()), sorted("ab" + "abcdef"))
 
 
 class Changes(Case):

@@ -26,7 +26,7 @@ extern size_t malloc_usable_size(void *held);
 
 static long syncs, threads, most_threads, held, most_held, asked, requests;
 
-/* Raises the most to what there is now. */
+/* Raises the maximum to the present amount. */
 static void raise_to(long *most, long now) {
     long seen = __atomic_load_n(most, __ATOMIC_SEQ_CST);
 

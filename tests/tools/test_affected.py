@@ -84,11 +84,11 @@ class Affected(Case):
 
     def test_report(self) -> None:
         """A line for each part, with its minutes and its command."""
-        lines = affected.report(["crates/cred_tries/src/limiter.rt", "rust/src/ffi.rs"])
+        lines = affected.report(["crates/crash_laws/src/laws.rt", "rust/src/ffi.rs"])
         proofs, bodies, tests, pages = lines
         minutes = r", (about \d+ min|under a minute)"
-        self.assertRegex(proofs, rf"^proofs: cred_tries, tries_tests{minutes}: rt ci tries_tests$")
-        command = "python3 tools/wrong_bodies.py cred_tries"
+        self.assertRegex(proofs, rf"^proofs: crash_laws{minutes}: rt ci crash_laws$")
+        command = "python3 tools/wrong_bodies.py crash_laws"
         self.assertRegex(bodies, rf"^wrong bodies: \d+{minutes}: {command}$")
         command = "/usr/bin/python3 tools/run_tests.py rust/tests"
         self.assertRegex(tests, rf"^tests: 1 of \d+ jobs{minutes}: {command}$")

@@ -11,7 +11,7 @@ use Rattle.cred_admin.specs.Marked.{MarkedBook, barred, marks_after, tried, trie
 use Rattle.cred_admin.specs.declared.edits.Edit.TheVariants.{Disable, Delete, Rename, Lock, Unlock, Expire}
 use Rattle.cred_admin.specs.declared.verdict.Verdict.{Verdict}
 use Rattle.cred_many.specs.{Served.done, Telling.AreAlikeAt, Telling.names_in, declared.ask.Ask.Ask}
-use Rattle.cred_many.specs.declared.ask.Ask.TheVariants.{Quick, Whole, Login, Reset}
+use Rattle.cred_many.specs.declared.ask.Ask.TheVariants.{Quick, Whole, Login, Reset, Forgive, Later}
 use Rattle.cred_many.specs.declared.ask.QuickAsk.TheVariants.{Account, Load, Show, DisableShown, Bad, Edit as Change, List as Names, ListMarks}
 use Rattle.cred_book.specs.declared.request.Request.TheVariants as request
 use Rattle.std.specs.FinMap as map
@@ -121,3 +121,5 @@ module _ (capacity : ℕ) (book : MarkedBook) (name : List ℕ) where
   done_stays (Whole r) ne = tried_stays r (ne 0 [] (omega arith))
   done_stays (Login key pw setting) ne = tried_stays (request.Upgrade key pw setting) (ne 0 [] (omega arith))
   done_stays (Reset key pw setting) ne = reset_stays key (new_record setting pw) (map.get book.accounts key) (ne 0 [] (omega arith))
+  done_stays (Forgive key) ne = (refl, refl)
+  done_stays (Later key) ne = (refl, refl)

@@ -1,16 +1,20 @@
 -- A commit that doesn't find the record changed is the whole operation.
-use Rattle.std.proofs.Common.{◌≡◌, ℕ, Option, Some, None, IfSome, Bool, true, false, if◌then◌else◌, unwrap_or, inl, inr, refl, ap, ◌∙◌}
+use Rattle.std.proofs.Common.{◌≡◌, ℕ, List, sym, subst, Option, Some, None, IfSome, Bool, true, false, if◌then◌else◌, unwrap_or, inl, inr, refl, ap, ◌∙◌}
 use Rattle.cred_phc.specs.Values.{RecordValue}
-use Rattle.cred_book.specs.{Works.Task, Works.name_of, Works.new_record, Works.same, Works.whole, declared.reply.Reply.Reply, declared.request.Request.Request}
+use Rattle.cred_book.specs.{Works.Task, Works.is_for_current, Works.makes_change, Works.name_of, Works.new_record, Works.same, Works.whole, declared.reply.Reply.Reply, declared.request.Request.Request}
 use Rattle.cred_book.specs.declared.request.Request.TheVariants.{Enrol, Verify, Change, Upgrade, Remove}
 use Rattle.cred_book.specs.declared.reply.Reply.TheVariants as reply
 use Rattle.cred_cli.specs.{History.Answer, History.Changed, Steps.reply_answer, Texts.reply_line}
 use Rattle.cred_cli.proofs.Simulation.{whole_replies}
-use Rattle.cred_many.specs.{Asks.IsJobOf, Asks.hashed_for, Asks.is_reset, declared.ask.Ask.TheVariants.Whole, declared.ask.Ask.TheVariants.Login, declared.ask.Ask.TheVariants.Reset, Served.done, Served.login_verdict, Served.record_at, Served.told_verdict, declared.ask.Ask.Ask}
-use Rattle.cred_admin.specs.{Commands.reset_step, Marked.HeedsMarks, Marked.MarkedBook, Marked.barred, Marked.due, Marked.is_outdated, Marked.keeps_password, Marked.shut, Marked.tried, Marked.tried_at, Marked.tried_if, Statuses.verdict_line}
+use Rattle.cred_many.specs.{Asks.IsJobOf, Asks.IsSound, Asks.hashed_for, Asks.is_reset, declared.ask.Ask.TheVariants.Whole, declared.ask.Ask.TheVariants.Login, declared.ask.Ask.TheVariants.Reset, declared.ask.Ask.TheVariants.Quick, declared.ask.Ask.TheVariants.Forgive, declared.ask.Ask.TheVariants.Later, Served.done, Served.effect_of, Served.login_verdict, Served.record_at, Served.told_verdict, declared.ask.Ask.Ask}
+use Rattle.cred_admin.specs.{Commands.reset_step, Marked.HeedsMarks, Marked.MarkedBook, Marked.barred, Marked.due, Marked.is_outdated, Marked.keeps_password, Marked.marked_book, Marked.marks_after, Marked.shut, Marked.tried, Marked.tried_at, Marked.tried_if, Statuses.verdict_line}
 use Rattle.cred_admin.specs.declared.verdict.Verdict.{Verdict}
 use Rattle.cred_admin.specs.declared.verdict.Verdict.TheVariants.{Told, Expired, Same}
 use Rattle.cred_book.specs.declared.request.Request.TheVariants as request
+use Rattle.cred_book.proofs.{Changes.whole_stays, Rows.row_again}
+use Rattle.cred_tries.specs.Limits.{Limits}
+use Rattle.cred_many.specs.{Scribe.HasEffect, Scribe.HasPlace, Scribe.IsCounted, Scribe.IsOpenTo, Tries.effect_by, Tries.is_try, Tries.is_try_request, Tries.reset_effect, Tries.verdict_effect, declared.tries.Effect.Effect}
+use Rattle.cred_many.specs.declared.tries.Effect.TheVariants as effect
 use Rattle.std.specs.FinMap as map
 
 -- ---- no operation is answered that the record is another
@@ -126,3 +130,116 @@ done_reset (Reset name pw setting) capacity book later work stored found job res
     let stored_is : stored ≡ new_record setting pw = cc in
     ap (λ o. (reply_line o.0, o.1)) (put ∙ ap (λ r. reset_step book (name_of r) stored) same ∙ ap (reset_step book name) stored_is)
 done_reset _ capacity book later work stored found job reset made put = absurd cc
+
+-- ---- a wrong password
+
+-- it makes no change
+wrong_reply : (b : Bool) (r : Reply) → effect_by b (Told r) ≡ effect.Wrong → makes_change r ≡ false
+wrong_reply true reply.No is = refl
+wrong_reply true reply.Wrong is = refl
+wrong_reply true reply.Enrolled is = absurd cc
+wrong_reply true reply.Replaced is = absurd cc
+wrong_reply true reply.Upgraded is = absurd cc
+wrong_reply true reply.Removed is = absurd cc
+wrong_reply false reply.Enrolled is = absurd cc
+wrong_reply false reply.Replaced is = absurd cc
+wrong_reply false reply.Upgraded is = absurd cc
+wrong_reply false reply.Removed is = absurd cc
+wrong_reply _ _ is = refl
+
+module _ (b : Bool) (book : MarkedBook) (r : Request) where
+  stays_if : (now : Option RecordValue) (o : Option Verdict) → map.get book.accounts (name_of r) ≡ Some now → effect_by b (tried_if book r now o).0 ≡ effect.Wrong → (tried_if book r now o).1 ≡ book
+  stays_if now (Some v) there is = refl
+  stays_if now None there is =
+      let stays = wrong_reply b (whole r now).0 is in
+      ap (λ change. marked_book (map.insert book.accounts (name_of r) (whole r now).1) (marks_after book (name_of r) change)) stays
+      ∙ ap (λ stored. marked_book (map.insert book.accounts (name_of r) stored) book.marks) (whole_stays r now stays)
+      ∙ ap (λ accounts. marked_book accounts book.marks) (row_again book.accounts (name_of r) (Some now) there)
+
+  stays_at : (o : Option (Option RecordValue)) → map.get book.accounts (name_of r) ≡ o → effect_by b (tried_at book r o).0 ≡ effect.Wrong → (tried_at book r o).1 ≡ book
+  stays_at None there is = refl
+  stays_at (Some now) there is = stays_if now (barred (book.marks (name_of r)) r now) there is
+
+  stays_tried : effect_by b (tried book r).0 ≡ effect.Wrong → (tried book r).1 ≡ book
+  unfolding tried
+  stays_tried is = stays_at (map.get book.accounts (name_of r)) refl is
+
+pub wrong_stays : (b : Bool) (book new : MarkedBook) (work : Task) (v : Verdict) → HeedsMarks book new work v → is_outdated v ≡ false → effect_by b v ≡ effect.Wrong → new ≡ book
+wrong_stays b book new work v is current wrong =
+    let whole = commits_whole book new work v is current in
+    ap (λ o. o.1) whole ∙ stays_tried b book work.0 (ap (λ o. effect_by b o.0) (sym whole) ∙ wrong)
+
+-- ---- what an answer tells of the password
+
+pub told_effect : (ask : Ask) (book new : MarkedBook) (work : Task) (v : Verdict) → hashed_for ask ≡ Some work.0 → is_reset ask ≡ false → HeedsMarks book new work v → is_outdated v ≡ false → effect_by (is_try ask) v ≡ effect_of book ask
+told_effect (Whole q) book new work v is kept commits current =
+    let same : work.0 ≡ q = cc in
+    ap (effect_by (is_try_request q)) (ap (λ o. o.0) (commits_whole book new work v commits current ∙ ap (tried book) same))
+told_effect (Login name pw setting) book new work v is kept commits current =
+    let same : work.0 ≡ request.Upgrade name pw setting = cc in
+    ap (effect_by true) (ap (λ o. o.0) (commits_whole book new work v commits current ∙ ap (tried book) same))
+told_effect _ book new work v is kept commits current = absurd cc
+
+-- it is counted under the name that is asked about
+pub commit_counted : (ask : Ask) (book new : MarkedBook) (work : Task) (v : Verdict) (old later : Option Limits) (now : ℕ) → hashed_for ask ≡ Some work.0 → is_reset ask ≡ false → HeedsMarks book new work v → is_outdated v ≡ false
+    → HasEffect now old later (name_of work.0) (effect_by (is_try ask) v) → IsCounted old later book ask
+commit_counted ask book new work v old later now is kept commits current has = of ask is (told_effect ask book new work v is kept commits current) has
+  where
+    of : (ask : Ask) → hashed_for ask ≡ Some work.0 → effect_by (is_try ask) v ≡ effect_of book ask → HasEffect now old later (name_of work.0) (effect_by (is_try ask) v) → IsCounted old later book ask
+    of (Whole q) is same has = let name : name_of work.0 ≡ name_of q = ap name_of (let r : work.0 ≡ q = cc in r) in (now, subst (λ e. HasEffect now old later (name_of q) e) same (subst (λ n. HasEffect now old later n (effect_by (is_try (Whole q)) v)) name has))
+    of (Login name pw setting) is same has =
+        let named : name_of work.0 ≡ name = ap name_of (let r : work.0 ≡ request.Upgrade name pw setting = cc in r) in
+        (now, subst (λ e. HasEffect now old later name e) same (subst (λ n. HasEffect now old later n (effect_by (is_try (Login name pw setting)) v)) named has))
+    of (Reset name pw setting) is same has =
+        let named : name_of work.0 ≡ name = ap name_of (let r : work.0 ≡ request.Enrol name pw setting = cc in r) in
+        (now, subst (λ e. HasEffect now old later name e) same (subst (λ n. HasEffect now old later n (effect_by (is_try (Reset name pw setting)) v)) named has))
+    of (Quick a) is same has = absurd cc
+    of (Forgive name) is same has = absurd cc
+    of (Later name) is same has = absurd cc
+
+-- a try may be judged where its password is told
+pub has_place : (ask : Ask) (v : Verdict) (limits : Option Limits) (name : List ℕ) (now : ℕ) → (is_try ask ≡ true → IsOpenTo limits name now) → HasPlace (effect_by (is_try ask) v) limits name now
+has_place ask v limits name now opens = by_try (is_try ask) v opens
+  where
+    first : (r : Reply) → HasPlace (reset_effect r) limits name now
+    first reply.Enrolled = tt
+    first reply.Replaced = tt
+    first _ = tt
+
+    any : (e : Effect) → IsOpenTo limits name now → HasPlace e limits name now
+    any effect.Right opens = opens
+    any effect.Wrong opens = opens
+    any effect.Forgiven opens = tt
+    any effect.Nothing opens = tt
+
+    by_try : (b : Bool) (v : Verdict) → (b ≡ true → IsOpenTo limits name now) → HasPlace (effect_by b v) limits name now
+    by_try true v opens = any (verdict_effect v) (opens refl)
+    by_try false (Told r) opens = first r
+    by_try false Expired opens = tt
+    by_try false Same opens = tt
+
+pub has_place_at : (ask : Ask) (v : Verdict) (old limits : Option Limits) (named name : List ℕ) (e : Effect) (now : ℕ) → limits ≡ old → named ≡ name → e ≡ effect_by (is_try ask) v → (is_try ask ≡ true → IsOpenTo old name now) → HasPlace e limits named now
+has_place_at ask v old limits named name e now same is told opens =
+    subst (λ l. HasPlace e l named now) (sym same) (subst (λ n. HasPlace e old n now) (sym is) (subst (λ f. HasPlace f old name now) (sym told) (has_place ask v old name now opens)))
+
+-- what is hashed for a line is of the version of today
+pub sound_current : (ask : Ask) (r : Request) → IsSound ask → hashed_for ask ≡ Some r → is_for_current r ≡ true
+sound_current (Whole q) r sound is = let same : q ≡ r = cc in ap is_for_current (sym same) ∙ sound
+sound_current (Login name pw setting) r sound is = let same : request.Upgrade name pw setting ≡ r = cc in ap is_for_current (sym same) ∙ sound
+sound_current (Reset name pw setting) r sound is = let same : request.Enrol name pw setting ≡ r = cc in ap is_for_current (sym same) ∙ sound
+sound_current (Quick a) r sound is = absurd cc
+sound_current (Forgive name) r sound is = absurd cc
+sound_current (Later name) r sound is = absurd sound
+
+-- ---- a reset
+
+pub reset_counted : (ask : Ask) (book : MarkedBook) (work : Task) (stored : RecordValue) (found : Reply) (later : MarkedBook) (old new : Option Limits) (now : ℕ) → IsJobOf ask work → is_reset ask ≡ true → Some stored ≡ (whole work.0 work.1).1
+    → (found, later) ≡ reset_step book (name_of work.0) stored → HasEffect now old new (name_of work.0) (reset_effect found) → IsCounted old new book ask
+reset_counted (Reset name pw setting) book work stored found later old new now job reset made put has =
+    let same : work.0 ≡ request.Enrol name pw setting = cc (job.0) in
+    let named : name_of work.0 ≡ name = ap name_of same in
+    let record_is : Some stored ≡ Some (new_record setting pw) = made ∙ ap (λ r. (whole r work.1).1) same ∙ ap (λ copy. (whole (request.Enrol name pw setting) copy).1) (job.1 refl) in
+    let stored_is : stored ≡ new_record setting pw = cc in
+    let told : found ≡ (reset_step book name (new_record setting pw)).0 = ap (λ o. o.0) (put ∙ ap (λ n. reset_step book n stored) named ∙ ap (reset_step book name) stored_is) in
+    (now, subst (λ r. HasEffect now old new name (reset_effect r)) told (subst (λ n. HasEffect now old new n (reset_effect found)) named has))
+reset_counted _ book work stored found later old new now job reset made put has = absurd cc

@@ -12,7 +12,7 @@ use Rattle.cred_admin.specs.declared.edits.Edit.TheVariants.{Disable, Delete, Re
 use Rattle.cred_admin.specs.declared.edit_reply.EditReply.{EditReply}
 use Rattle.cred_admin.specs.declared.verdict.Verdict.{Verdict}
 use Rattle.cred_many.specs.{Asks.Entry, Locks.IsApart, Locks.ListsMarks, Served.answers, Served.book_after, Served.disabled_line, Served.done, Served.login_verdict, Served.shown_line, Telling.names_in, declared.ask.Ask.Ask}
-use Rattle.cred_many.specs.declared.ask.Ask.TheVariants.{Quick, Whole, Login, Reset}
+use Rattle.cred_many.specs.declared.ask.Ask.TheVariants.{Quick, Whole, Login, Reset, Forgive, Later}
 use Rattle.cred_many.specs.declared.ask.QuickAsk.TheVariants.{Account, Load, Show, DisableShown, Bad, Edit as Change, List as Names, ListMarks}
 use Rattle.cred_many.proofs.Beside.{mark_beside}
 use Rattle.cred_book.specs.declared.error.BookError.TheVariants as error
@@ -158,6 +158,8 @@ module _ (capacity : ℕ) (book : MarkedBook) (name : List ℕ) (m : Mark) where
   done_same (Whole r) ne plain = ap (λ (o : Verdict × MarkedBook). (verdict_line o.0, o.1)) (tried_same r (ne 0 [] (omega arith)))
   done_same (Login key pw setting) ne plain = ap (λ (o : Verdict × MarkedBook). (verdict_line (login_verdict o.0), o.1)) (tried_same (request.Upgrade key pw setting) (ne 0 [] (omega arith)))
   done_same (Reset key pw setting) ne plain = ap (λ (o : Reply × MarkedBook). (reply_line o.0, o.1)) (reset_same key (ne 0 [] (omega arith)) (new_record setting pw) (map.get book.accounts key))
+  done_same (Forgive key) ne plain = refl
+  done_same (Later key) ne plain = refl
 
 -- lines one after another
 pub book_same : (capacity : ℕ) (book : MarkedBook) (name : List ℕ) (m : Mark) (lines : List Entry) → All (λ e. IsApart name e.ask) lines

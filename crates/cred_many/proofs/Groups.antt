@@ -1,5 +1,5 @@
 -- Changes of different accounts that are made together.
-use Rattle.std.proofs.Common.{◌≡◌, ℕ, ◌<◌, List, [], ◌∷◌, ◌++◌, length, get_or, Option, Some, None, IfSome, Result, Ok, Err, OnErr, OnOk, Bool, true, false, cond, is_some, refl, sym, ap, ◌∙◌, append_assoc, append-nil, arith, inl}
+use Rattle.std.proofs.Common.{◌≡◌, ℕ, ◌<◌, List, [], ◌∷◌, ◌++◌, length, get_or, Option, Some, None, IfSome, subst, Result, Ok, Err, OnErr, OnOk, Bool, true, false, cond, is_some, refl, sym, ap, ◌∙◌, append_assoc, append-nil, arith, inl}
 use Rattle.std.proofs.{Math.Logic.∥∥₁_map, lemmas.List.length-append, lemmas.List.length-map, lemmas.List.map-append, lemmas.Option.IfSome_then, lemmas.List.Elements.All-get_or, lemmas.List.Elements.All-nil, lemmas.List.Elements.All-push}
 use Rattle.std.specs.{Cmp.Lexicographic.nat_list_cmp_total, List.All, Option.option_or, Ordering.eq_by_cmp, FinMap.get-empty, FinMap.get-insert, FinMap.same_map}
 use Rattle.cred_phc.specs.Values.{RecordValue}
@@ -14,6 +14,10 @@ use Rattle.cred_admin.specs.declared.verdict.Verdict.TheVariants.{Told}
 use Rattle.cred_admin.proofs.Heeding.{book_is}
 use Rattle.cred_many.specs.{Asks.Entry, Asks.hashed_for, Asks.is_reset, declared.fault.ServiceFault.ServiceFault, declared.open.Open.Open}
 use Rattle.cred_many.specs.{Scribe.AreClosed, Scribe.AreReplaced, Scribe.History, Scribe.IsConcluded, Scribe.IsGroup, Scribe.entries_of, Served.answers, Served.book_after, Served.done, Served.line_at, Served.most_together, Served.told_reply, Service.IsLine, Service.Service, Transcript.Written}
+use Rattle.cred_tries.specs.{Answers.IsSettled, Limits.Limits}
+use Rattle.cred_many.proofs.Limiting.{settled}
+use Rattle.cred_many.specs.Scribe.{AreCounted, is_clear}
+use Rattle.cred_many.proofs.{Clear.are_counted_push, Clear.change_counted, Telling.counts_all, Telling.length-now_of, Telling.now_of}
 use Rattle.cred_many.proofs.{Commits.done_whole, Commits.tried_current, Seen.answers-append, Seen.book_after-append, Serving.served_on}
 use Rattle.std.specs.FinMap as fin
 
@@ -59,20 +63,21 @@ replaced book changed later is q =
 
 -- ---- one change more
 
-pub none_together : (capacity : ℕ) (s : Service) (book : MarkedBook) → IsGroup capacity s book fin.empty [] []
+pub none_together : (capacity : ℕ) (s : Service) (limits : Option Limits) (book : MarkedBook) → IsGroup capacity s limits book fin.empty [] []
 unfolding answers book_after
-none_together capacity s book = record {
+none_together capacity s limits book = record {
   came = if_known s.input _ (λ bytes known. All-nil (IsLine s bytes));
   few = omega arith;
   after = λ q. ap (λ o. option_or o (fin.get book.accounts q)) (sym (get-empty name_cmp q));
   marks = refl;
   plain = λ q there. let never : false ≡ true = sym (ap is_some (get-empty name_cmp q)) ∙ there in absurd cc;
   text_is = refl;
+  counted = λ settled. tt;
 }
 
-module _ (capacity : ℕ) (s : Service) (book : MarkedBook) (changed : Accounts) (list : List Entry) (text : List ℕ) (e : Entry) (work : Task) (found : Reply) (stored : Option RecordValue)
-    (g : IsGroup capacity s book changed list text) (job : hashed_for e.ask ≡ Some work.0) (kept : is_reset e.ask ≡ false) (is : judgement book.accounts work ≡ (found, stored, true))
-    (first : fin.get changed (name_of work.0) ≡ None) (plain : book.marks (name_of work.0) ≡ unmarked) where
+module _ (capacity : ℕ) (s : Service) (limits : Option Limits) (book : MarkedBook) (changed : Accounts) (list : List Entry) (text : List ℕ) (e : Entry) (work : Task) (found : Reply) (stored : Option RecordValue)
+    (g : IsGroup capacity s limits book changed list text) (job : hashed_for e.ask ≡ Some work.0) (kept : is_reset e.ask ≡ false) (is : judgement book.accounts work ≡ (found, stored, true))
+    (first : fin.get changed (name_of work.0) ≡ None) (plain : book.marks (name_of work.0) ≡ unmarked) (clear : is_clear limits (name_of work.0) ≡ true) where
   abbrev here : MarkedBook
   here = book_after capacity book list
 
@@ -117,9 +122,14 @@ module _ (capacity : ℕ) (s : Service) (book : MarkedBook) (changed : Accounts)
   came_more None all one = tt
   came_more (Some bytes) all one = All-push (IsLine s bytes) list e all one
 
+  -- nothing is counted of it, since nothing was counted at its name
+  counted_more : IfSome limits IsSettled → AreCounted capacity limits book (list ++ e ∷ [])
+  counted_more settled = are_counted_push capacity limits book list e (g.counted settled)
+      (change_counted limits here e.ask work found stored settled job kept (ap (λ o. o.0) (sym tries)) book.accounts is clear)
+
   -- a line more, which changes an account that the others don't
   pub one_together : length list < most_together → IfSome s.input (λ bytes. IsLine s bytes e)
-      → IsGroup capacity s book (fin.insert changed (name_of work.0) stored) (list ++ e ∷ []) (text ++ (e.tag ++ 32 ∷ reply_line (told_reply e.ask found)))
+      → IsGroup capacity s limits book (fin.insert changed (name_of work.0) stored) (list ++ e ∷ []) (text ++ (e.tag ++ 32 ∷ reply_line (told_reply e.ask found)))
   one_together short came = record {
     came = came_more s.input g.came came;
     few = omega (arith, short, length-append list (e ∷ []));
@@ -127,6 +137,7 @@ module _ (capacity : ℕ) (s : Service) (book : MarkedBook) (changed : Accounts)
     marks = ap (λ (b : MarkedBook). b.marks) more_is ∙ g.marks;
     plain = plain_more;
     text_is = text_more;
+    counted = counted_more;
   }
 
 -- a record that is replaced changes no mark where none was
@@ -140,10 +151,10 @@ marks_kept marks changed plain =
     by_there q false there = refl
 
 -- all lines of a group are answered, once the records stand
-pub answered_together : (capacity : ℕ) (s : Service) (old now : Written) (book later : MarkedBook) (changed : Accounts) (es lines : List Entry) (left rest : List Open) (came : ℕ) (text written : List ℕ) (failed : Bool) (was f : Option ServiceFault)
-    → was ≡ None → IsGroup capacity s book changed es text → later ≡ with_replaced book changed → AreClosed lines left rest → lines ≡ es → IsConcluded written old now failed f → written ≡ text
-    → ∥ History capacity s old book was left came ∥₁ → ∥ History capacity s now later f rest came ∥₁
-answered_together capacity s old now book later changed es lines left rest came text written failed was f none g whole closed same told is served = ∥∥₁_map served (λ h. on (rw none at h))
+pub answered_together : (capacity : ℕ) (s : Service) (old now : Written) (book later : MarkedBook) (changed : Accounts) (es lines : List Entry) (left rest : List Open) (came : ℕ) (limits : Option Limits) (text written : List ℕ) (failed : Bool) (was f : Option ServiceFault)
+    → was ≡ None → IsGroup capacity s limits book changed es text → later ≡ with_replaced book changed → AreClosed lines left rest → lines ≡ es → IsConcluded written old now failed f → written ≡ text
+    → ∥ History capacity s old book was left came limits ∥₁ → ∥ History capacity s now later f rest came limits ∥₁
+answered_together capacity s old now book later changed es lines left rest came limits text written failed was f none g whole closed same told is served = ∥∥₁_map served (λ h. on (rw none at h))
   where
     accounts_are : later.accounts ≡ (book_after capacity book es).accounts
     accounts_are = same_map nat_list_cmp_total (fin.slice_cmp-IsAntisymmetric fin.nat_cmp-IsAntisymmetric) _ _
@@ -152,21 +163,22 @@ answered_together capacity s old now book later changed es lines left rest came 
     is_after : later ≡ book_after capacity book es
     is_after = book_is later _ _ accounts_are (ap (λ (b : MarkedBook). b.marks) whole ∙ marks_kept book.marks changed g.plain ∙ sym g.marks)
 
-    on : History capacity s old book None left came → History capacity s now later f rest came
+    on : History capacity s old book None left came limits → History capacity s now later f rest came limits
     on h =
-        served_on capacity s old now book later es left rest came failed f h
+        served_on capacity s old now book later es (now_of capacity s.tries limits s.opening es) left rest came limits limits failed f h
         (IfSome_then s.input g.came (λ bytes all i d within. record { line = get_or es i d; came = All-get_or (IsLine s bytes) es i d within all; tag = refl; ask = inl refl })) g.few (rw same at closed)
-        is_after (rw (is, g.text_is) at told)
+        is_after (rw (is, g.text_is) at told) (length-now_of capacity s.tries limits s.opening es)
+        (counts_all capacity s.tries limits s.opening h.list es h.times h.timed h.counted (subst (λ b. AreCounted capacity limits b es) h.book_is (g.counted (settled s.tries limits h.times _ h.counted))))
 
 -- a line is taken into a group, or not
-pub pushed_together : {E : Type 0} (capacity : ℕ) (s : Service) (book : MarkedBook) (changed now : Accounts) (works more : List (Entry × Task)) (text longer : List ℕ) (w : Entry × Task) (found : Reply) (stored : Option RecordValue) (name : List ℕ) (r : Result (Unit {0}) E)
-    → IsGroup capacity s book changed (entries_of works) text → hashed_for w.0.ask ≡ Some w.1.0 → is_reset w.0.ask ≡ false → judgement book.accounts w.1 ≡ (found, stored, true)
+pub pushed_together : {E : Type 0} (capacity : ℕ) (s : Service) (limits : Option Limits) (book : MarkedBook) (changed now : Accounts) (works more : List (Entry × Task)) (text longer : List ℕ) (w : Entry × Task) (found : Reply) (stored : Option RecordValue) (name : List ℕ) (r : Result (Unit {0}) E)
+    → IsGroup capacity s limits book changed (entries_of works) text → is_clear limits name ≡ true → hashed_for w.0.ask ≡ Some w.1.0 → is_reset w.0.ask ≡ false → judgement book.accounts w.1 ≡ (found, stored, true)
     → name ≡ name_of w.1.0 → book.marks name ≡ unmarked → length works < most_together → IfSome s.input (λ bytes. IsLine s bytes w.0)
     → OnOk r (more ≡ works ++ w ∷ []) → OnOk r (fin.get changed name ≡ None) → OnOk r (now ≡ fin.insert changed name stored) → OnOk r (longer ≡ (text ++ w.0.tag) ++ (32 ∷ reply_line (told_reply w.0.ask found)))
     → OnErr r (more ≡ works) → OnErr r (now ≡ changed) → OnErr r (longer ≡ text)
-    → IsGroup capacity s book now (entries_of more) longer
-pushed_together capacity s book changed now works more text longer w found stored name (Ok x) g job kept is name_is plain short came more_is first now_is longer_is a b c =
+    → IsGroup capacity s limits book now (entries_of more) longer
+pushed_together capacity s limits book changed now works more text longer w found stored name (Ok x) g clear job kept is name_is plain short came more_is first now_is longer_is a b c =
     let few = length-map works (λ (v : Entry × Task). v.0) in
-    let one = one_together capacity s book changed (entries_of works) text w.0 w.1 found stored g job kept is (rw name_is at first) (rw name_is at plain) (omega (arith, short, few)) came in
+    let one = one_together capacity s limits book changed (entries_of works) text w.0 w.1 found stored g job kept is (rw name_is at first) (rw name_is at plain) (rw name_is at clear) (omega (arith, short, few)) came in
     rw (now_is, more_is, longer_is, name_is, map-append (λ (v : Entry × Task). v.0) works (w ∷ []), append_assoc text w.0.tag (32 ∷ reply_line (told_reply w.0.ask found))) one
-pushed_together capacity s book changed now works more text longer w found stored name (Err e) g job kept is name_is plain short came h i j k more_is now_is longer_is = rw (now_is, more_is, longer_is) g
+pushed_together capacity s limits book changed now works more text longer w found stored name (Err e) g clear job kept is name_is plain short came h i j k more_is now_is longer_is = rw (now_is, more_is, longer_is) g

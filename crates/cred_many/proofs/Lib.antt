@@ -1,15 +1,18 @@
 -- Lemmas: lines that came, what was seen of records, commits, changes together, names in a row, what is told, what a lock bars, what a writer takes, and a history
 -- that goes on.
 pub mod Beside
+pub mod Clear
 pub mod Concerns
 pub mod Locked
 pub mod Commits
+pub mod Limiting
 pub mod Lines
 pub mod Listed
 pub mod Seen
 pub mod Serving
 pub mod Groups
 pub mod Shares
+pub mod Telling
 pub mod Transcripts
 pub mod Turns
 pub mod Uses

@@ -12,7 +12,7 @@ use Rattle.cred_admin.specs.Marked.{MarkedBook, expired, locked, shut, tried, tr
 use Rattle.cred_admin.specs.declared.edits.Edit.TheVariants.{Disable, Delete, Rename, Lock, Unlock, Expire}
 use Rattle.cred_admin.specs.declared.verdict.Verdict.TheVariants.{Told}
 use Rattle.cred_many.specs.{Asks.Entry, Locks.EndsLock, Locks.IsLocked, Locks.IsNo, Locks.IsTryAt, Locks.PutsRecord, Served.book_after, Served.done, Served.login_verdict, Served.record_at, Telling.AreAlikeAt, Telling.names_in, declared.ask.Ask.Ask}
-use Rattle.cred_many.specs.declared.ask.Ask.TheVariants.{Quick, Whole, Login, Reset}
+use Rattle.cred_many.specs.declared.ask.Ask.TheVariants.{Quick, Whole, Login, Reset, Forgive, Later}
 use Rattle.cred_many.specs.declared.ask.QuickAsk.TheVariants.{Account, Load, Show, DisableShown, Bad, Edit as Change, List as Names, ListMarks}
 use Rattle.cred_many.proofs.Beside.{done_stays}
 use Rattle.std.specs.FinMap as map
@@ -205,6 +205,8 @@ module _ (capacity : ℕ) (book : MarkedBook) (name : List ℕ) (is : IsLocked b
   step (Login key pw setting) ends = of_one (Login key pw setting) key refl (λ same. kept (Login key pw setting) (at_try (Login key pw setting) same))
   step (Reset key pw setting) ends =
       put_at (Reset key pw setting) key refl (λ same. same) (λ same. subst (λ k. IsLocked (done capacity book (Reset k pw setting)).1 name) same (reset_locked (new_record setting pw) (map.get book.accounts name)))
+  step (Forgive key) ends = kept (Forgive key) holds
+  step (Later key) ends = kept (Later key) holds
 
 -- whatever lines come
 pub stays_locked : (capacity : ℕ) (book : MarkedBook) (name : List ℕ) (lines : List Entry) → IsLocked book name → All (λ e. EndsLock name e.ask → ⊥) lines → IsLocked (book_after capacity book lines) name

@@ -1,5 +1,5 @@
 -- A history that goes on: what is written, what may stand in it, why nothing more is answered, and what is told of it.
-use Rattle.std.proofs.Common.{◌≡◌, ◌≢◌, ◌⊎◌, inl, inr, ℕ, suc, ◌+◌, ◌-◌, ◌<◌, ◌≤◌, List, [], ◌∷◌, ◌++◌, Bool, Option, Some, None, IfSome, get_or, subst, refl, sym, ap, ◌∙◌, append_assoc, append-nil, arith, take, drop, slice_get, length, take-append-drop}
+use Rattle.std.proofs.Common.{◌≡◌, ◌≢◌, ◌⊎◌, inl, inr, true, codes, ℕ, suc, ◌+◌, ◌-◌, ◌<◌, ◌≤◌, List, [], ◌∷◌, ◌++◌, Bool, Option, Some, None, IfSome, get_or, subst, refl, sym, ap, ◌∙◌, append_assoc, append-nil, arith, take, drop, slice_get, length, take-append-drop}
 use Rattle.std.proofs.{Math.Logic.∥∥₁_map, Math.Seq.take-append-add, lemmas.Bool.cases_lt, lemmas.Option.IfSome_then, lemmas.Option.get_or_from_slice_get, lemmas.Option.slice_get_within, lemmas.List.Elements.All-nil, lemmas.List.Elements.All-push, lemmas.List.Elements.All-same}
 use Rattle.std.proofs.{lemmas.List.drop-map, lemmas.List.get_or-append-add, lemmas.List.get_or_append_left, lemmas.List.length-append, lemmas.List.map-append, lemmas.List.map-id, lemmas.List.take-append-le, lemmas.List.take-map, lemmas.List.take_all, lemmas.List.FromFn.map-range_with_len_more}
 use Rattle.std.proofs.lemmas.List.Sorted.{IsPermutation-append_left, IsPermutation-append_right, IsPermutation-cons, IsPermutation-refl, IsPermutation-remove, IsPermutation-sym, IsPermutation-trans}
@@ -12,6 +12,10 @@ use Rattle.cred_many.specs.{Asks.Entry, Asks.entry, Asks.refused, Served.AreFor,
 use Rattle.cred_many.specs.{declared.ask.Ask.Ask, declared.fault.ServiceFault.ServiceFault, declared.open.Open.Open, Scribe.AreClosed, Scribe.History, Scribe.IsAnswered, Scribe.IsBusy, Scribe.IsConcluded, Scribe.IsReady, Scribe.Notes, Scribe.SightHolds, Scribe.numbers, Scribe.unseen, Transcript.TakesMore, Transcript.Written}
 use Rattle.cred_many.specs.Service.{IsLine, Service, asked, asked_from, cut_line}
 use Rattle.cred_many.proofs.{Seen.answers-append, Seen.book_after-append, Seen.looked_numbers, Seen.watched_looked, Seen.watched_on, Seen.watched_rest, Seen.worn, Transcripts.takes_both, Transcripts.takes_none}
+use Rattle.cred_tries.specs.Limits.{Limits}
+use Rattle.cred_many.specs.{Scribe.IsCounted, Scribe.IsSentAway, Scribe.KeepsCount, Scribe.passed_of, Served.name_asked, Served.told_at, Tries.is_try, declared.ask.Ask.TheVariants.Later}
+use Rattle.cred_many.proofs.{Limiting.limit_kept, Telling.counts_one, Telling.has_limit, Telling.nothing_counted, Telling.told_more}
+use Rattle.cred_cli.specs.declared.refusal.Refusal.{Refusal}
 use Rattle.cred_book.specs.declared.error.BookError.TheVariants as error
 use Rattle.cred_cli.specs.declared.refusal.Refusal.TheVariants as refusal
 use Rattle.cred_many.specs.declared.fault.ServiceFault.TheVariants as fault
@@ -102,31 +106,38 @@ once_opened ns left came once =
 
 -- ---- a history that goes on
 
-pub served_first : (capacity : ℕ) (s : Service) (now : Written) (book : MarkedBook) (left : List Open) → left ≡ [] → book ≡ s.opening → now ≡ s.before
-    → History capacity s now book None left 0
+pub served_first : (capacity : ℕ) (s : Service) (now : Written) (book : MarkedBook) (left : List Open) (limits : Option Limits) → left ≡ [] → book ≡ s.opening → now ≡ s.before → KeepsCount s.tries limits [] (told_at capacity s.opening [] [])
+    → History capacity s now book None left 0 limits
 unfolding answers book_after
-served_first capacity s now book left none is same = rw none (record {
+served_first capacity s now book left limits none is same counted = rw none (record {
   list = [];
+  times = [];
   each = if_known s.input _ (λ bytes known i d within. absurd (omega (arith, within)));
   once = IsPermutation-refl [];
   seen = All-nil (SightHolds capacity s.opening []);
   book_is = is;
   text = record { bytes = 0; front = rw same (takes_none s.before); whole = λ _. refl; most = omega arith };
+  timed = refl;
+  counted = counted;
 })
 
-module _ (capacity : ℕ) (s : Service) (old now : Written) (book later : MarkedBook) (es : List Entry) (left rest : List Open) (came : ℕ) (failed : Bool) (f : Option ServiceFault) where
+module _ (capacity : ℕ) (s : Service) (old now : Written) (book later : MarkedBook) (es : List Entry) (us : List ℕ) (left rest : List Open) (came : ℕ) (limits later_limits : Option Limits) (failed : Bool) (f : Option ServiceFault) where
   -- by a few lines, whether their answers were written whole or the writer failed
-  pub served_on : (h : History capacity s old book None left came)
+  pub served_on : (h : History capacity s old book None left came limits)
       → IfSome s.input (λ bytes. (i : ℕ) (d : Entry) → i < length es → IsFor capacity s bytes (h.list ++ take i es) (get_or es i d))
       → length es ≤ most_together → AreClosed es left rest → later ≡ book_after capacity book es → IsConcluded (answers capacity book es) old now failed f
-      → History capacity s now later f rest came
-  served_on h owed few closed later_is told = record {
+      → length us ≡ length es → KeepsCount s.tries later_limits (h.times ++ us) (told_at capacity s.opening (h.list ++ es) (h.times ++ us))
+      → History capacity s now later f rest came later_limits
+  served_on h owed few closed later_is told timed counted = record {
     list = h.list ++ es;
+    times = h.times ++ us;
     each = each s.input h.each owed;
     once = once_closed h.list es left rest _ closed h.once;
     seen = watched_rest capacity s.opening (h.list ++ es) es left rest closed (watched_on capacity s.opening h.list es left h.seen);
     book_is = later_is ∙ ap (λ b. book_after capacity b es) h.book_is ∙ sym (book_after-append capacity s.opening h.list es);
     text = written_on capacity s old h.list h.text es few now failed f (rw h.book_is at told);
+    timed = length-append h.times us ∙ ap (λ n. n + length us) h.timed ∙ ap (λ n. length h.list + n) timed ∙ sym (length-append h.list es);
+    counted = counted;
   }
     where
       each : (input : Option (List ℕ)) → IfSome input (λ bytes. AreFor capacity s bytes h.list)
@@ -137,57 +148,72 @@ module _ (capacity : ℕ) (s : Service) (old now : Written) (book later : Marked
 
 -- ---- a step
 
-module _ (capacity : ℕ) (s : Service) (old now : Written) (book later : MarkedBook) (line : Entry) (left rest : List Open) (place came : ℕ) (answer : List ℕ) (failed : Bool) (was f : Option ServiceFault)
+module _ (capacity : ℕ) (s : Service) (old now : Written) (book later : MarkedBook) (line : Entry) (left rest : List Open) (place came : ℕ) (limits later_limits : Option Limits) (answer : List ℕ) (failed : Bool) (was f : Option ServiceFault)
     (ready : IsReady was left place line.number) (came_is : IfSome s.input (λ bytes. IsLine s bytes line))
-    (closed : rest ≡ remove left place) (told : IsConcluded (line.tag ++ 32 ∷ answer) old now failed f) (served : ∥ History capacity s old book was left came ∥₁) where
+    (closed : rest ≡ remove left place) (told : IsConcluded (line.tag ++ 32 ∷ answer) old now failed f) (served : ∥ History capacity s old book was left came limits ∥₁) where
+  not_counted : (why : Refusal) → later_limits ≡ limits → IsCounted limits later_limits book (refused why)
+  not_counted why idle = subst (λ l. IsCounted limits l book (refused why)) (sym idle) (nothing_counted limits [])
+
   -- the line is answered as what it asks for, or as it is given up
-  answered_as : (ask : Ask) → later ≡ (done capacity book ask).1 → answer ≡ (done capacity book ask).0 → ((h : History capacity s old book None left came) → (ask ≡ line.ask) ⊎ IsGivenUp capacity s h.list line.ask ask)
-      → ∥ History capacity s now later f rest came ∥₁
+  answered_as : (ask : Ask) → later ≡ (done capacity book ask).1 → answer ≡ (done capacity book ask).0 → ((h : History capacity s old book None left came limits) → (ask ≡ line.ask) ⊎ IsGivenUp capacity s h.list line.ask ask)
+      → IsCounted limits later_limits book ask → ∥ History capacity s now later f rest came later_limits ∥₁
   unfolding answers book_after
-  answered_as ask later_is answer_is owed = ∥∥₁_map served (λ h. on (rw ready.going at h))
+  answered_as ask later_is answer_is owed counts = ∥∥₁_map served (λ h. on (rw ready.going at h))
     where
-      on : History capacity s old book None left came → History capacity s now later f rest came
+      on : History capacity s old book None left came limits → History capacity s now later f rest came later_limits
       on h =
           let e = entry line.number line.tag ask in
           let text : line.tag ++ 32 ∷ answer ≡ answers capacity book (e ∷ []) = ap (λ text. line.tag ++ 32 ∷ text) answer_is ∙ sym (append-nil (line_at capacity book e)) in
-          served_on capacity s old now book later (e ∷ []) left rest came failed f h
+          served_on capacity s old now book later (e ∷ []) (passed_of later_limits ∷ []) left rest came limits later_limits failed f h
           (IfSome_then s.input came_is (λ bytes is i d within. one bytes is h i (omega (arith, within)) d)) (omega arith) (place, ready.there, closed) later_is (rw text at told)
+          refl (counted_one h)
         where
-          one : (bytes : List ℕ) → IsLine s bytes line → (h : History capacity s old book None left came) → (i : ℕ) → i ≡ 0 → (d : Entry)
+          counted_one : (h : History capacity s old book None left came limits)
+              → KeepsCount s.tries later_limits (h.times ++ passed_of later_limits ∷ []) (told_at capacity s.opening (h.list ++ entry line.number line.tag ask ∷ []) (h.times ++ passed_of later_limits ∷ []))
+          counted_one h =
+              subst (KeepsCount s.tries later_limits (h.times ++ passed_of later_limits ∷ [])) (sym (told_more capacity s.opening h.list h.times (entry line.number line.tag ask) (passed_of later_limits) h.timed))
+              (counts_one s.tries h.times (told_at capacity s.opening h.list h.times) limits later_limits (book_after capacity s.opening h.list) ask h.counted (subst (λ b. IsCounted limits later_limits b ask) h.book_is counts))
+
+          one : (bytes : List ℕ) → IsLine s bytes line → (h : History capacity s old book None left came limits) → (i : ℕ) → i ≡ 0 → (d : Entry)
               → IsFor capacity s bytes (h.list ++ take i (entry line.number line.tag ask ∷ [])) (get_or (entry line.number line.tag ask ∷ []) i d)
           one bytes here h i first d = rw (first, append-nil h.list) (record { line = line; came = here; tag = refl; ask = owed h })
 
-  pub answered : later ≡ (done capacity book line.ask).1 → answer ≡ (done capacity book line.ask).0 → ∥ History capacity s now later f rest came ∥₁
-  answered later_is answer_is = answered_as line.ask later_is answer_is (λ h. inl refl)
+  pub answered : later ≡ (done capacity book line.ask).1 → answer ≡ (done capacity book line.ask).0 → IsCounted limits later_limits book line.ask → ∥ History capacity s now later f rest came later_limits ∥₁
+  answered later_is answer_is counts = answered_as line.ask later_is answer_is (λ h. inl refl) counts
 
   -- the line is given up for want of memory
-  pub starved : later ≡ book → answer ≡ line_of (Refused (refusal.Book error.Memory)) → NeedsMemory capacity book line.ask → ∥ History capacity s now later f rest came ∥₁
-  starved same is needs = answered_as (refused (refusal.Book error.Memory)) same is (λ h. inr (inl (refl, subst (λ b. NeedsMemory capacity b line.ask) h.book_is needs)))
+  pub starved : later ≡ book → answer ≡ line_of (Refused (refusal.Book error.Memory)) → NeedsMemory capacity book line.ask → later_limits ≡ limits → ∥ History capacity s now later f rest came later_limits ∥₁
+  starved same is needs idle = answered_as (refused (refusal.Book error.Memory)) same is (λ h. inr (inl (refl, subst (λ b. NeedsMemory capacity b line.ask) h.book_is needs))) (not_counted (refusal.Book error.Memory) idle)
 
   -- or since others were always faster
-  pub given_up : later ≡ book → answer ≡ line_of (Refused refusal.Busy) → IsBusy left place line.ask → ∥ History capacity s now later f rest came ∥₁
-  given_up same is busy = answered_as (refused refusal.Busy) same is (λ h. inr (inr (refl, worn capacity s.opening h.list left place line.ask h.seen busy)))
+  pub given_up : later ≡ book → answer ≡ line_of (Refused refusal.Busy) → IsBusy left place line.ask → later_limits ≡ limits → ∥ History capacity s now later f rest came later_limits ∥₁
+  given_up same is busy idle = answered_as (refused refusal.Busy) same is (λ h. inr (inr (inl (refl, worn capacity s.opening h.list left place line.ask h.seen busy)))) (not_counted refusal.Busy idle)
 
-module _ (capacity : ℕ) (s : Service) (now : Written) (book : MarkedBook) (left : List Open) (came : ℕ) (was : Option ServiceFault) where
+  -- or since its try is too early
+  pub sent_away : (clock : ℕ) → later ≡ book → answer ≡ codes "later\n" → is_try line.ask ≡ true → IsSentAway clock limits later_limits (name_asked line.ask) → ∥ History capacity s now later f rest came later_limits ∥₁
+  sent_away clock same is tries early = answered_as (Later (name_asked line.ask)) same is
+      (λ h. inr (inr (inr (refl, tries, has_limit s.tries limits later_limits h.times (told_at capacity s.opening h.list h.times) (name_asked line.ask) clock h.counted early)))) (clock, early)
+
+module _ (capacity : ℕ) (s : Service) (now : Written) (book : MarkedBook) (left : List Open) (came : ℕ) (limits : Option Limits) (was : Option ServiceFault) where
   -- the lines stay
-  on_same : (h : History capacity s now book was left came) (why : Option ServiceFault) (rest : List Open) (next : ℕ) → IsPermutation (entry_numbers h.list ++ numbers rest) (range_with_len 0 next)
-      → All (SightHolds capacity s.opening h.list) rest → IsWritten capacity s now h.list why → History capacity s now book why rest next
-  on_same h why rest next once seen text = record { list = h.list; each = h.each; once = once; seen = seen; book_is = h.book_is; text = text }
+  on_same : (h : History capacity s now book was left came limits) (why : Option ServiceFault) (rest : List Open) (next : ℕ) → IsPermutation (entry_numbers h.list ++ numbers rest) (range_with_len 0 next)
+      → All (SightHolds capacity s.opening h.list) rest → IsWritten capacity s now h.list why → History capacity s now book why rest next limits
+  on_same h why rest next once seen text = record { list = h.list; times = h.times; each = h.each; once = once; seen = seen; book_is = h.book_is; text = text; timed = h.timed; counted = h.counted }
 
   -- nothing was done, and perhaps nothing more is answered
-  pub still : (f : Option ServiceFault) → was ≡ None → ∥ History capacity s now book was left came ∥₁ → ∥ History capacity s now book f left came ∥₁
+  pub still : (f : Option ServiceFault) → was ≡ None → ∥ History capacity s now book was left came limits ∥₁ → ∥ History capacity s now book f left came limits ∥₁
   still f none served = ∥∥₁_map served (λ h. on_same h f left came h.once h.seen (written_still capacity s now h.list (rw none at h.text) f))
 
   -- a line comes
   pub opened : (rest : List Open) (n next : ℕ) → rest ≡ left ++ unseen n ∷ [] → n ≡ came → next ≡ came + 1
-      → ∥ History capacity s now book was left came ∥₁ → ∥ History capacity s now book was rest next ∥₁
+      → ∥ History capacity s now book was left came limits ∥₁ → ∥ History capacity s now book was rest next limits ∥₁
   opened rest n next more is next_is served = ∥∥₁_map served (λ h. on_same h was rest next
       (rw (more, next_is, is, map-append (λ (o : Open). o.number) left (unseen came ∷ [])) (once_opened (entry_numbers h.list) (numbers left) came h.once))
       (All-same (SightHolds capacity s.opening h.list) rest _ more (All-push (SightHolds capacity s.opening h.list) left (unseen n) h.seen tt)) h.text)
 
   -- a record is copied
   pub looked : (rest : List Open) (place : ℕ) (name : List ℕ) (stored : Option RecordValue) (count : ℕ) → Notes left place name stored rest count → stored ≡ record_at book name
-      → ∥ History capacity s now book was left came ∥₁ → ∥ History capacity s now book was rest came ∥₁
+      → ∥ History capacity s now book was left came limits ∥₁ → ∥ History capacity s now book was rest came limits ∥₁
   looked rest place name stored count l is served = ∥∥₁_map served (λ h. on_same h was rest came
       (rw (looked_numbers left rest place name stored count l) h.once)
       (watched_looked capacity s.opening h.list left rest place name stored count l (is ∙ ap (λ b. record_at b name) h.book_is) h.seen) h.text)
@@ -209,24 +235,24 @@ line_missing s input e came h behind = IfSome_then input h (λ bytes is all.
 
 -- ---- the whole
 
-module _ (capacity : ℕ) (s : Service) (now : Written) (book : MarkedBook) (left : List Open) (came : ℕ) (source writer keeper : Bool) where
-  abbrev told_at : Option ServiceFault → Moment
-  told_at f = record { book = book; written = now; source_failed = source; writer_failed = writer; keeper_failed = keeper; fault = f; pending = numbers left; came = came }
+module _ (capacity : ℕ) (s : Service) (now : Written) (book : MarkedBook) (left : List Open) (came : ℕ) (limits : Option Limits) (source writer keeper : Bool) where
+  abbrev moment_of : Option ServiceFault → Moment
+  moment_of f = record { book = book; written = now; source_failed = source; writer_failed = writer; keeper_failed = keeper; fault = f; pending = numbers left; came = came; passed = passed_of limits }
 
-  pub stands : (why : Option ServiceFault) → History capacity s now book why left came → HasCause s.input (told_at why) why → Stands capacity s (told_at why)
-  stands why h cause = record { list = h.list; each = h.each; once = h.once; book = h.book_is; text = h.text; cause = cause }
+  pub stands : (why : Option ServiceFault) → History capacity s now book why left came limits → HasCause s.input (moment_of why) why → Stands capacity s (moment_of why)
+  stands why h cause = record { list = h.list; times = h.times; each = h.each; once = h.once; book = h.book_is; text = h.text; timed = h.timed; limited = limit_kept s.tries limits h.times (told_at capacity s.opening h.list h.times) h.counted; cause = cause }
 
   -- what ends the reading has its cause once it is told
-  is_told : (why : Option ServiceFault) → HasCause s.input (told_at None) why → HasCause s.input (told_at why) why
+  is_told : (why : Option ServiceFault) → HasCause s.input (moment_of None) why → HasCause s.input (moment_of why) why
   is_told (Some fault.Read) cause = cause
   is_told _ cause = cause
 
   -- what is told at the end is told already, or it ends the reading
-  pub ended : (told why : Option ServiceFault) → (told ≡ None → numbers left ≡ []) → History capacity s now book told left came → HasCause s.input (told_at told) told → HasCause s.input (told_at told) why
-      → StandsAtEnd capacity s (λ pending. record { book = book; written = now; source_failed = source; writer_failed = writer; keeper_failed = keeper; fault = option_or told why; pending = pending; came = came })
+  pub ended : (told why : Option ServiceFault) → (told ≡ None → numbers left ≡ []) → History capacity s now book told left came limits → HasCause s.input (moment_of told) told → HasCause s.input (moment_of told) why
+      → StandsAtEnd capacity s (λ pending. record { book = book; written = now; source_failed = source; writer_failed = writer; keeper_failed = keeper; fault = option_or told why; pending = pending; came = came; passed = passed_of limits })
   ended (Some f) why idle h was cause = record { pending = numbers left; stands = stands (Some f) h was; none_pending = λ none. absurd cc }
   ended None why idle h was cause = record {
     pending = numbers left;
-    stands = stands why (on_same capacity s now book left came None h why left came h.once h.seen (written_still capacity s now h.list h.text why)) (is_told why cause);
+    stands = stands why (on_same capacity s now book left came limits None h why left came h.once h.seen (written_still capacity s now h.list h.text why)) (is_told why cause);
     none_pending = λ _. idle refl;
   }

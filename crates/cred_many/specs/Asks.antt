@@ -7,7 +7,7 @@ use Rattle.cred_cli.specs.{Costs.exceeds, Costs.request_exceeds, declared.costs.
 use Rattle.cred_cli.specs.Events.{longest_line, name_and_password, name_and_record, name_field, name_password_setting, only_name, request_of}
 use Rattle.cred_admin.specs.declared.edits.Edit.TheVariants.{Disable, Delete, Rename, Lock, Unlock, Expire}
 use Rattle.cred_many.specs.{declared.ask.Ask.Ask, declared.ask.QuickAsk.QuickAsk}
-use Rattle.cred_many.specs.declared.ask.Ask.TheVariants.{Quick, Whole, Login, Reset}
+use Rattle.cred_many.specs.declared.ask.Ask.TheVariants.{Quick, Whole, Login, Reset, Forgive, Later}
 use Rattle.cred_many.specs.declared.ask.QuickAsk.TheVariants.{Account, Load, Show, DisableShown, Bad, Edit, List as Names, ListMarks}
 use Rattle.cred_book.specs.declared.request.Request.TheVariants as request
 use Rattle.cred_cli.specs.declared.refusal.Refusal.TheVariants as refusal
@@ -79,6 +79,8 @@ ask_of drawn (word ∷ fields) =
     (only_name fields >>= λ name. Ok (Quick (Edit (Unlock name))))
     else if bytes_eq word (codes "expire") then
     (only_name fields >>= λ name. Ok (Quick (Edit (Expire name))))
+    else if bytes_eq word (codes "forgive") then
+    (only_name fields >>= λ name. Ok (Forgive name))
     else hashed_ask drawn word fields
 
 -- what is hashed for it: a login is an upgrade, and a reset hashes as the first record does
@@ -87,9 +89,12 @@ hashed_for (Quick ask) = None
 hashed_for (Whole r) = Some r
 hashed_for (Login name pw setting) = Some (request.Upgrade name pw setting)
 hashed_for (Reset name pw setting) = Some (request.Enrol name pw setting)
+hashed_for (Forgive name) = None
+hashed_for (Later name) = None
 
--- a setting isn't of the version of old records
+-- A setting isn't of the version of old records. No line asks to be told that its try is too early.
 abbrev pub IsSound : Ask → Type 0
+IsSound (Later name) = ⊥
 IsSound ask = IfSome (hashed_for ask) (λ r. is_for_current r ≡ true)
 
 -- what a line asks for that is refused
@@ -105,6 +110,8 @@ is_costly most (Quick _) = false
 is_costly most (Whole r) = request_exceeds most r
 is_costly most (Login name pw setting) = false
 is_costly most (Reset name pw setting) = exceeds most setting.scheme
+is_costly most (Forgive name) = false
+is_costly most (Later name) = false
 
 -- such a line is refused
 abbrev pub within : CostBounds → Ask → Ask

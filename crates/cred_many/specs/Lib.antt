@@ -9,6 +9,7 @@ pub mod Served
 pub mod Service
 pub mod Telling
 pub mod Transcript
+pub mod Tries
 pub mod Turns
 pub use Rattle.cred_book.specs.Accounts
 pub use Rattle.cred_phc.specs.Values

@@ -2,16 +2,22 @@
 -- those whose changes are made together. Of it public clauses cite `moment`, `numbers`, `unseen`,
 -- `IsPending`, `HasTurn` and `IsAnswered` alone.
 use Rattle.std.specs.{List.range_with_len, List.remove, List.Sorted.IsPermutation, Option.option_or, Str.bytes_eq}
-use Rattle.std.specs.Prelude.{◌≡◌, ◌⊎◌, ℕ, ◌<◌, ◌≤◌, ◌+◌, List, [], ◌∷◌, ◌++◌, Bool, ◌&&◌, true, false, All, if◌then◌else◌, IfSome, Option, Some, None, length, map, set, slice_get}
+use Rattle.std.specs.Prelude.{◌≡◌, ◌⊎◌, ℕ, ◌<◌, ◌≤◌, ◌+◌, List, [], ◌∷◌, ◌++◌, Bool, ◌&&◌, true, false, All, if◌then◌else◌, IfSome, Option, Some, None, is_none, length, map, set, slice_get}
 use Rattle.cred_phc.specs.Values.{RecordValue}
 use Rattle.cred_book.specs.{Accounts.Accounts, Works.Task, Works.same}
 use Rattle.cred_file.specs.Cells.{unmarked}
 use Rattle.cred_admin.specs.Marked.{MarkedBook}
 use Rattle.cred_cli.specs.Watched.{failed_of}
 use Rattle.cred_many.specs.{Asks.Entry, Service.IsLine, Service.Service, declared.ask.Ask.Ask, declared.fault.ServiceFault.ServiceFault}
-use Rattle.cred_many.specs.Served.{AreFor, IsWritten, Moment, answers, book_after, change_from, changes, entry_numbers, most_together, name_asked, record_at, tries}
+use Rattle.cred_many.specs.Served.{AreFor, IsWritten, Moment, answers, book_after, done, change_from, changes, entry_numbers, most_together, name_asked, record_at, tries}
 use Rattle.cred_many.specs.Transcript.{TakesFront, TakesMore, Written, written_of}
 use Rattle.cred_many.specs.{declared.fault.ServiceFault.TheVariants.Write, declared.scribe.job.Message.Message, declared.scribe.job.Message.TheVariants.Hashed, declared.scribe.job.Message.TheVariants.NoMemory, declared.open.Open.Open, declared.open.Sight.Sight, declared.output.Output.Output}
+use Rattle.cred_many.specs.Served.{effect_of, told_at}
+use Rattle.cred_many.specs.declared.ask.Ask.TheVariants.{Forgive, Later}
+use Rattle.cred_many.specs.declared.tries.Effect.{Effect}
+use Rattle.cred_many.specs.declared.tries.Effect.TheVariants as effect
+use Rattle.cred_tries.specs.{Answers.HasCounted, Answers.IsIdle, Answers.IsSettled, Histories.Event, Limits.IsFree, Limits.Limits, Limits.after_try, Limits.forgive_outcome, Limits.sending, Limits.seen}
+use Rattle.cred_tries.specs.declared.turn.Ending.TheVariants as ending
 use Rattle.std.specs.FinMap as fin
 
 -- ---- what an open line has seen
@@ -112,6 +118,67 @@ abbrev pub IsConcluded : List ℕ → Written → Written → Bool → Option Se
 IsConcluded text old new failed why = ((why ≡ None) × TakesMore old new text)
     ⊎ ((why ≡ Some Write) × TakesFront old new text × (failed ≡ true))
 
+-- ---- what is counted of tries
+
+-- no try runs: each begins and ends as it is answered
+abbrev pub AreIdle : Option Limits → Type 0
+AreIdle limits = IfSome limits IsIdle
+
+-- a try at the name may be judged now
+abbrev pub IsOpenTo : Option Limits → List ℕ → ℕ → Type 0
+IsOpenTo limits name now = IfSome limits (λ l. IsFree l name now)
+
+abbrev pub HasPlace : Effect → Option Limits → List ℕ → ℕ → Type 0
+HasPlace effect.Right limits name now = IsOpenTo limits name now
+HasPlace effect.Wrong limits name now = IsOpenTo limits name now
+HasPlace effect.Forgiven limits name now = Unit {0}
+HasPlace effect.Nothing limits name now = Unit {0}
+
+-- what an answer of this effect at the name leaves, at a reading of the clock
+abbrev pub limits_with : Effect → Limits → List ℕ → ℕ → Limits
+limits_with effect.Right l name now = after_try l name now ending.Right
+limits_with effect.Wrong l name now = after_try l name now ending.Wrong
+limits_with effect.Forgiven l name now = (forgive_outcome l name).1
+limits_with effect.Nothing l name now = l
+
+abbrev pub HasEffect : ℕ → Option Limits → Option Limits → List ℕ → Effect → Type 0
+HasEffect now None new name e = new ≡ None
+HasEffect now (Some l) new name e =
+    HasPlace e (Some l) name now × (new ≡ Some (limits_with e l name now))
+
+-- a try at the name was too early at this reading
+abbrev pub IsSentAway : ℕ → Option Limits → Option Limits → List ℕ → Type 0
+IsSentAway now None new name = ⊥
+IsSentAway now (Some l) new name = ((sending l name now).0 ≡ true) × (new ≡ Some (seen l now))
+
+-- nothing is counted at the name
+abbrev pub is_clear : Option Limits → List ℕ → Bool
+is_clear None name = true
+is_clear (Some l) name = is_none (fin.get l.counts name)
+
+-- the answer to this line at this book is counted
+abbrev pub IsCounted : Option Limits → Option Limits → MarkedBook → Ask → Type 0
+IsCounted old new book (Later name) = (now : ℕ) × IsSentAway now old new name
+IsCounted old new book (Forgive name) =
+    (now : ℕ) × HasEffect now old new name (effect_of book (Forgive name))
+IsCounted old new book ask = (now : ℕ) × HasEffect now old new (name_asked ask) (effect_of book ask)
+
+-- so are the answers to these, and nothing changes by it
+abbrev pub AreCounted : ℕ → Option Limits → MarkedBook → List Entry → Type 0
+AreCounted capacity limits book [] = Unit {0}
+AreCounted capacity limits book (e ∷ es) = IsCounted limits limits book e.ask
+    × AreCounted capacity limits (done capacity book e.ask).1 es
+
+abbrev pub passed_of : Option Limits → ℕ
+passed_of None = 0
+passed_of (Some l) = l.clock.passed
+
+-- the limiter, if there is a limit, has counted what is told at each name
+abbrev pub KeepsCount : Option ℕ → Option Limits → List ℕ → (List ℕ → List Event) → Type 0
+KeepsCount None None times told = Unit {0}
+KeepsCount (Some limit) (Some l) times told = HasCounted limit l times told
+KeepsCount _ _ times told = ⊥
+
 -- ---- changes that are made together
 
 -- the lines of what is hashed
@@ -124,9 +191,9 @@ AreReplaced old changed new =
     (name : List ℕ) → fin.get new name ≡ option_or (fin.get changed name) (fin.get old name)
 
 -- Lines that came, a few. Done in their order, they give these accounts their records, and have
--- this text of answers. None of these accounts is marked.
-pub record IsGroup (capacity : ℕ) (s : Service) (book : MarkedBook) (changed : Accounts)
-    (list : List Entry) (text : List ℕ) : Type 0 where
+-- this text of answers. None of these accounts is marked, and nothing is counted there.
+pub record IsGroup (capacity : ℕ) (s : Service) (limits : Option Limits) (book : MarkedBook)
+    (changed : Accounts) (list : List Entry) (text : List ℕ) : Type 0 where
   pub came : IfSome s.input (λ bytes. All (IsLine s bytes) list)
   pub few : length list ≤ most_together
   pub after : AreReplaced book.accounts changed (book_after capacity book list).accounts
@@ -134,14 +201,15 @@ pub record IsGroup (capacity : ℕ) (s : Service) (book : MarkedBook) (changed :
   pub plain : (name : List ℕ) → fin.contains_key changed name ≡ true
       → book.marks name ≡ unmarked
   pub text_is : text ≡ answers capacity book list
+  pub counted : IfSome limits IsSettled → AreCounted capacity limits book list
 
 -- ---- the whole
 
 -- what a scribe has that has these, where functions tell the book and the failure of a keeper, and
 -- the bytes of a writer
 abbrev pub moment : {K W : Type 0} → (K → MarkedBook) → (K → Bool) → (W → Option (List ℕ)) → K
-    → Output W → ℕ → Bool → Moment
-moment book failed contents keeper output came source_failed = record {
+    → Output W → ℕ → Option Limits → Bool → Moment
+moment book failed contents keeper output came limits source_failed = record {
   book = book keeper;
   written = written_of contents output.writer;
   source_failed = source_failed;
@@ -150,14 +218,19 @@ moment book failed contents keeper output came source_failed = record {
   fault = output.fault;
   pending = numbers output.pending;
   came = came;
+  passed = passed_of limits;
 }
 
--- one history, of which each open line saw what it notes
+-- one history, of which each open line saw what it notes, and the limiter counts what it tells
 pub record History (capacity : ℕ) (s : Service) (now : Written) (book : MarkedBook)
-    (why : Option ServiceFault) (open_lines : List Open) (came : ℕ) : Type 0 where
+    (why : Option ServiceFault) (open_lines : List Open) (came : ℕ) (limits : Option Limits)
+    : Type 0 where
   pub list : List Entry
+  pub times : List ℕ
   pub each : IfSome s.input (λ bytes. AreFor capacity s bytes list)
   pub once : IsPermutation (entry_numbers list ++ numbers open_lines) (range_with_len 0 came)
   pub seen : All (SightHolds capacity s.opening list) open_lines
   pub book_is : book ≡ book_after capacity s.opening list
   pub text : IsWritten capacity s now list why
+  pub timed : length times ≡ length list
+  pub counted : KeepsCount s.tries limits times (told_at capacity s.opening list times)

@@ -1,6 +1,6 @@
 -- What a service stands for at every moment: one list of lines, each done whole, one after another.
 use Rattle.std.specs.{List.range_with_len, List.Sorted.IsPermutation, Option.option_map}
-use Rattle.std.specs.Prelude.{◌≡◌, ◌≢◌, ◌⊎◌, ℕ, ◌<◌, ◌≤◌, ◌+◌, ◌-◌, ◌^◌, List, [], ◌∷◌, ◌++◌, Bool, true, false, if◌then◌else◌, IfSome, is_some, nat_lt, Option, Some, None, length, map, take, slice_get, slice_index_or, unwrap_or}
+use Rattle.std.specs.Prelude.{◌≡◌, ◌≢◌, ◌⊎◌, ℕ, ◌<◌, ◌≤◌, ◌+◌, ◌-◌, ◌^◌, List, [], ◌∷◌, ◌++◌, Bool, true, false, if◌then◌else◌, IfSome, is_some, nat_lt, Option, Some, None, length, map, take, slice_get, slice_index_or, unwrap_or, codes}
 use Rattle.cred_phc.specs.{Text.record_text, Values.RecordValue}
 use Rattle.cred_file.specs.{Cells.cell, Cells.is_blank, Cells.is_marked, Cells.mark_text, declared.mark.Mark.Mark}
 use Rattle.cred_book.specs.{Works.name_of, Works.new_record, Works.same, declared.reply.Reply.Reply}
@@ -10,7 +10,11 @@ use Rattle.cred_admin.specs.{Commands.reset_step, Edits.disabling, Edits.edit_li
 use Rattle.cred_admin.specs.{Marked.MarkedBook, Marked.mark_in, Marked.tried, Marked.with_account, Marked.with_record, Statuses.verdict_line, declared.verdict.Verdict.Verdict, declared.verdict.Verdict.TheVariants.Told}
 use Rattle.cred_many.specs.{Asks.Entry, Asks.hashed_for, Asks.refused, Names.marked_page, Names.marks_line, Names.names_line, Names.page, Service.Service, Service.asked, declared.ask.Ask.Ask}
 use Rattle.cred_many.specs.Transcript.{TakesMore, Written, written_of}
-use Rattle.cred_many.specs.declared.ask.Ask.TheVariants.{Quick, Whole, Login, Reset}
+use Rattle.cred_many.specs.Tries.{effect_by, event_of, forgiving_effect, is_try, is_try_request, reset_effect}
+use Rattle.cred_many.specs.declared.tries.Effect.{Effect}
+use Rattle.cred_many.specs.declared.tries.Effect.TheVariants as effect
+use Rattle.cred_tries.specs.{Answers.KeepLimit, Answers.with_told, Histories.Event, Histories.Sent, Steps.is_name_of}
+use Rattle.cred_many.specs.declared.ask.Ask.TheVariants.{Quick, Whole, Login, Reset, Forgive, Later}
 use Rattle.cred_many.specs.declared.ask.QuickAsk.TheVariants.{Account, Load, Show, DisableShown, Bad, Edit as Change, List as Names, ListMarks}
 use Rattle.cred_many.specs.{declared.ending.Served.Served, declared.fault.ServiceFault.ServiceFault}
 use Rattle.std.specs.FinMap as fin
@@ -59,6 +63,11 @@ shown_line m (Some None) =
     if is_marked m then (mark_text m ++ 10 ∷ []) else line_of (Shown None)
 shown_line m (Some (Some stored)) = mark_text m ++ record_text stored ++ 10 ∷ []
 
+-- the failed tries at an account are forgiven, if the book has it
+abbrev pub forgiven_line : Bool → List ℕ
+forgiven_line true = codes "forgiven\n"
+forgiven_line false = edit_line edit.NoAccount
+
 -- the answer to what is asked, with its line end, done whole on the book, and the book after
 abbrev pub done : ℕ → MarkedBook → Ask → List ℕ × MarkedBook
 done capacity book (Quick (Account name)) =
@@ -94,6 +103,8 @@ done capacity book (Reset name pw setting) = (
   reply_line (reset_step book name (new_record setting pw)).0,
   (reset_step book name (new_record setting pw)).1,
 )
+done capacity book (Forgive name) = (forgiven_line (fin.contains_key book.accounts name), book)
+done capacity book (Later name) = (codes "later\n", book)
 
 -- the answer to a line at this book, as it is written: `TAG ANSWER`
 abbrev pub line_at : ℕ → MarkedBook → Entry → List ℕ
@@ -130,6 +141,39 @@ changes capacity book name (e ∷ es) =
 abbrev pub name_asked : Ask → List ℕ
 name_asked ask = unwrap_or (option_map name_of (hashed_for ask)) []
 
+-- ---- what the answers tell of tries
+
+-- what the answer to this line at this book tells of the password of the account that it asks about
+abbrev pub effect_of : MarkedBook → Ask → Effect
+effect_of book (Whole r) = effect_by (is_try_request r) (tried book r).0
+effect_of book (Login name pw setting) =
+    effect_by true (tried book (request.Upgrade name pw setting)).0
+effect_of book (Reset name pw setting) =
+    reset_effect (reset_step book name (new_record setting pw)).0
+effect_of book (Quick ask) = effect.Nothing
+effect_of book (Forgive name) = forgiving_effect (fin.contains_key book.accounts name)
+effect_of book (Later name) = effect.Nothing
+
+-- what it tells of the tries at a name, given at this moment
+abbrev pub told_by : MarkedBook → List ℕ → Ask → ℕ → Option Event
+told_by book name (Forgive other) t =
+    if is_name_of name other then event_of (effect_of book (Forgive other)) t else None
+told_by book name (Later other) t = if is_name_of name other then Some (Sent t) else None
+told_by book name ask t =
+    if is_name_of name (name_asked ask) then event_of (effect_of book ask) t else None
+
+-- what the answers to these lines tell, given at these moments, behind what was told before; the
+-- latest comes first
+unfoldable pub told_on : ℕ → MarkedBook → List ℕ → List Entry → List ℕ → List Event → List Event
+told_on capacity book name [] times before = before
+told_on capacity book name (e ∷ es) [] before = before
+told_on capacity book name (e ∷ es) (t ∷ times) before =
+    told_on capacity (done capacity book e.ask).1 name es times
+    (with_told (told_by book name e.ask t) before)
+
+abbrev pub told_at : ℕ → MarkedBook → List Entry → List ℕ → List ℕ → List Event
+told_at capacity book list times name = told_on capacity book name list times []
+
 -- ---- lines that are given up
 
 -- What is asked needs memory at this book: for a hash, a list, the text of a record or a change. No
@@ -145,20 +189,23 @@ NeedsMemory capacity book (Quick (Change change)) =
     (edit_status (edited book change).0 ≡ status.Done) × (lacks_room capacity book change ≡ false)
 NeedsMemory capacity book (Quick (DisableShown name)) = is_some (record_at book name) ≡ true
 NeedsMemory capacity book (Quick (Bad why)) = ⊥
+NeedsMemory capacity book (Forgive name) = ⊥
+NeedsMemory capacity book (Later name) = ⊥
 NeedsMemory capacity book _ = Unit {0}
 
 -- so many changes of its account's record, and a line is given up
 abbrev pub tries : ℕ
 tries = 8
 
--- a line that asks for this is answered so behind these: for want of memory, or since the lines
--- before changed the record so often
+-- A line that asks for this is answered so behind these: for want of memory; since the lines before
+-- changed the record so often; or since its try is too early.
 abbrev pub IsGivenUp : ℕ → Service → List Entry → Ask → Ask → Type 0
 IsGivenUp capacity s before line told =
     ((told ≡ refused (refusal.Book error.Memory))
     × NeedsMemory capacity (book_after capacity s.opening before) line)
     ⊎ ((told ≡ refused refusal.Busy)
     × (tries ≤ changes capacity s.opening (name_asked line) before))
+    ⊎ ((told ≡ Later (name_asked line)) × (is_try line ≡ true) × (is_some s.tries ≡ true))
 
 -- ---- at every moment
 
@@ -194,7 +241,7 @@ pub record IsWritten (capacity : ℕ) (s : Service) (now : Written) (list : List
 
 -- what a scribe has at a moment: the book; what is seen of its writer; whether a call on the
 -- source, the writer or the keeper has failed; why it answers no more; the lines that came and have
--- no answer yet; and how many came
+-- no answer yet; how many came; and how many seconds have passed by the clock
 pub record Moment : Type 0 where
   pub book : MarkedBook
   pub written : Written
@@ -204,6 +251,7 @@ pub record Moment : Type 0 where
   pub fault : Option ServiceFault
   pub pending : List ℕ
   pub came : ℕ
+  pub passed : ℕ
 
 -- It answers no more since a call on the source, the writer or the keeper failed; since as many
 -- lines came as are read; or since one that came has no answer. Of memory nothing is said, and of
@@ -220,13 +268,18 @@ HasCause input m (Some fault.Memory) = Unit {0}
 HasCause input m (Some fault.Threads) = m.source_failed ≡ false
 
 -- There is one list of lines, each for a line of the input. Each line that came stands in it once,
--- or is pending. The book is the one after the list, and the answers to it are written.
+-- or is pending. The book is the one after the list, and the answers to it are written. They were
+-- given at these moments, and keep the limit of failed tries.
 pub record Stands (capacity : ℕ) (s : Service) (m : Moment) : Type 0 where
   pub list : List Entry
+  pub times : List ℕ
   pub each : IfSome s.input (λ bytes. AreFor capacity s bytes list)
   pub once : IsPermutation (entry_numbers list ++ m.pending) (range_with_len 0 m.came)
   pub book : m.book ≡ book_after capacity s.opening list
   pub text : IsWritten capacity s m.written list m.fault
+  pub timed : length times ≡ length list
+  pub limited : IfSome s.tries
+      (λ limit. KeepLimit limit m.passed times (told_at capacity s.opening list times))
   pub cause : HasCause s.input m m.fault
 
 -- what is left of a service, with these lines pending, where these tell the book and the failure of
@@ -242,6 +295,7 @@ left_of book failed contents source_failed served pending = record {
   fault = served.fault;
   pending = pending;
   came = served.lines;
+  passed = served.passed;
 }
 
 -- so it does at the end, with no line pending unless a fault is told

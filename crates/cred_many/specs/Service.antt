@@ -11,7 +11,8 @@ use Rattle.cred_cli.specs.declared.refusal.Refusal.TheVariants as refusal
 
 -- the book at first, what the reader has to give, what is seen of the writer before, with which
 -- costs and from which source of salts settings are drawn, how many KiB all hashes together may
--- take, and what the costs of a line may ask for
+-- take, what the costs of a line may ask for, and how many tries may fail at a name until the next
+-- has to wait, if there is a limit
 pub record Service : Type 0 where
   pub opening : MarkedBook
   pub input : Option (List ℕ)
@@ -20,6 +21,7 @@ pub record Service : Type 0 where
   pub salts : Stream
   pub memory : ℕ
   pub most : CostBounds
+  pub tries : Option ℕ
 
 abbrev pub service : MarkedBook → Option (List ℕ) → Written → ServiceConfig → Stream → Service
 service opening input before config salts = record {
@@ -30,6 +32,7 @@ service opening input before config salts = record {
   salts = salts;
   memory = config.memory;
   most = config.most;
+  tries = config.tries;
 }
 
 -- what is left of a source after so many salts of 16 bytes
@@ -77,4 +80,5 @@ no_service = record {
   };
   memory = 0;
   most = no_bounds;
+  tries = None;
 }

@@ -4,7 +4,7 @@ use Rattle.cred_book.specs.{Passwords.KeepsTags, Passwords.made_setting, Works.n
 use Rattle.cred_admin.specs.declared.edits.Edit.TheVariants.{Disable, Delete, Rename, Lock, Unlock, Expire}
 use Rattle.cred_admin.specs.Marked.{MarkedBook, keeps_password}
 use Rattle.cred_many.specs.{Asks.hashed_for, Served.name_asked, Served.record_at, declared.ask.Ask.Ask}
-use Rattle.cred_many.specs.declared.ask.Ask.TheVariants.{Quick, Whole, Login, Reset}
+use Rattle.cred_many.specs.declared.ask.Ask.TheVariants.{Quick, Whole, Login, Reset, Forgive, Later}
 use Rattle.cred_many.specs.declared.ask.QuickAsk.TheVariants.{Account, Load, Show, DisableShown, Bad, Edit as Change, List as Names, ListMarks}
 use Rattle.cred_book.specs.Passwords as book
 use Rattle.std.specs.FinMap as fin
@@ -29,6 +29,8 @@ names_in (Quick (Bad why)) = []
 names_in (Whole r) = name_of r ∷ []
 names_in (Login name pw setting) = name ∷ []
 names_in (Reset name pw setting) = name ∷ []
+names_in (Forgive name) = name ∷ []
+names_in (Later name) = name ∷ []
 
 -- the name has the same record and the same mark in both
 abbrev pub AreAlikeAt : List ℕ → MarkedBook → MarkedBook → Type 0
@@ -67,6 +69,8 @@ with_passwords other (Quick ask) = Quick ask
 with_passwords other (Whole r) = Whole (book.with_passwords other r)
 with_passwords other (Login name pw setting) = Login name (other pw) setting
 with_passwords other (Reset name pw setting) = Reset name (other pw) setting
+with_passwords other (Forgive name) = Forgive name
+with_passwords other (Later name) = Later name
 
 -- a change to the same password stays one, and another stays another
 abbrev pub KeepsSame : (List ℕ → List ℕ) → Ask → Type 0

@@ -1,7 +1,7 @@
 //! The operation that a tagged line asks for.
 
-ghost use Rattle.std.specs.Prelude.{◌≡◌};
-ghost use Rattle.cred_many.specs.Asks.{IsSound, is_costly, is_reset, refused, within};
+ghost use Rattle.std.specs.Prelude.{◌≡◌, IfSome, is_some};
+ghost use Rattle.cred_many.specs.{Asks.IsSound, Asks.is_costly, Asks.is_reset, Asks.refused, Asks.within, Served.name_asked, Tries.is_try};
 
 use cred_admin::Edit;
 use cred_book::{Name, Request};
@@ -19,6 +19,11 @@ pub(crate) enum Ask {
     Login(Name, Password, Setting),
     /// Gives an account the record of this password, in place of any other.
     Reset(Name, Password, Setting),
+    /// Forgives the failed tries at an account.
+    Forgive(Name),
+    /// A try at this account is too early. No line asks for it: a line that tries a password there
+    /// is answered so.
+    Later(Name),
 }
 
 /// An operation that needs no hash, or the fault of the line.
@@ -69,6 +74,19 @@ impl Ask {
         matches!(self, Ask::Reset(..))
     }
 
+    /// The account whose password the operation tries.
+    pub(crate) fn tried(&self) -> Option<Name>
+        ensures name { IfSome result (λ name. name ≡ name_asked self.now) }
+        ensures tried { is_some result ≡ is_try self.now }
+    {
+        match self {
+            Ask::Whole(Request::Enrol { .. }) => None,
+            Ask::Whole(request) => Some(request.name()),
+            Ask::Login(name, ..) => Some(*name),
+            Ask::Quick(_) | Ask::Reset(..) | Ask::Forgive(_) | Ask::Later(_) => None,
+        }
+    }
+
     fn is_costly(&self, most: &CostBounds) -> bool
         ensures { result ≡ is_costly most.now self.now }
     {
@@ -76,7 +94,7 @@ impl Ask {
             Ask::Quick(QuickAsk::Load(_, stored)) => exceeds(most, &stored.setting()),
             Ask::Whole(request) => request_exceeds(most, request),
             Ask::Reset(_, _, setting) => exceeds(most, setting),
-            Ask::Quick(_) | Ask::Login(_, _, _) => false,
+            Ask::Quick(_) | Ask::Login(..) | Ask::Forgive(_) | Ask::Later(_) => false,
         }
     }
 }

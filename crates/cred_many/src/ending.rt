@@ -19,6 +19,8 @@ pub struct Served<K: Host, W: Write, S: Source> {
     pub source: Option<S>,
     /// The number of lines.
     pub lines: u64,
+    /// The seconds that passed by the clock; none if failed tries weren't limited.
+    pub passed: u64,
     /// The reason why not all lines of the input came and were answered.
     pub fault: Option<ServiceFault>,
 }

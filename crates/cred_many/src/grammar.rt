@@ -48,6 +48,8 @@ pub(crate) fn ask_of(drawn: Setting, words: &[&[u8]]) -> Result<Ask, Refusal>
     } else if *word == b"expire".as_slice() {
         let name = fields::only_name(fields)?;
         Ok(Ask::Quick(QuickAsk::Edit(Edit::Expire(name))))
+    } else if *word == b"forgive".as_slice() {
+        Ok(Ask::Forgive(fields::only_name(fields)?))
     } else {
         hashed_ask(drawn, word, fields)
     }

@@ -25,6 +25,8 @@ mod sender;
 mod service;
 mod service_id;
 mod source;
+mod stopwatch;
+mod tries;
 
 pub use costs::Costs;
 pub use ending::Served;

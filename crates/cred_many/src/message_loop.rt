@@ -7,18 +7,21 @@ use crate::group::MOST_TOGETHER;
 use crate::open::MOST_OPEN;
 use crate::scribe::{Hashed, Job, Message, Scribe};
 use crate::service_id::ServiceId;
+use crate::stopwatch::Stopwatch;
 use cred_admin::Host;
 use crossbeam_channel::{Receiver, Sender};
 use std::alloc::Global;
 use std::io::Write;
 use std::mem;
 use std::sync::Wait;
+use std::time::Clock;
 
 /// The ends of the channels that the thread with the book keeps, and the work that is
 /// left.
 #[derive(Drop)]
 pub(crate) struct MessageLoop<J: ServiceId> {
     alloc: Global,
+    stopwatch: Stopwatch,
     inbox: Receiver<Message<J>>,
     jobs: Sender<Job<J>>,
     room: Sender<()>,
@@ -32,12 +35,14 @@ impl<J: ServiceId> MessageLoop<J> {
     /// The loop before the first message.
     pub(crate) fn new(
         alloc: Global,
+        stopwatch: Stopwatch,
         inbox: Receiver<Message<J>>,
         jobs: Sender<Job<J>>,
         room: Sender<()>,
     ) -> MessageLoop<J> {
         MessageLoop {
             alloc,
+            stopwatch,
             inbox,
             jobs,
             room,
@@ -48,7 +53,7 @@ impl<J: ServiceId> MessageLoop<J> {
 
     /// Handles the messages of the other threads, until all lines are answered or a fault ends it.
     /// Returns whether the last line has come.
-    pub(crate) fn run<T: Wait, K: Host, W: Write + Drop>(
+    pub(crate) fn run<T: Wait + Clock, K: Host, W: Write + Drop>(
         &mut self,
         rt: &T,
         scribe: &mut Scribe<J, K, W>,
@@ -69,7 +74,11 @@ impl<J: ServiceId> MessageLoop<J> {
 
     /// While changes wait, handles the messages that have arrived, so that their changes are made
     /// together. Ends after as many messages as there may be at once.
-    fn gather<T: Wait, K: Host, W: Write + Drop>(&mut self, rt: &T, scribe: &mut Scribe<J, K, W>) {
+    fn gather<T: Wait + Clock, K: Host, W: Write + Drop>(
+        &mut self,
+        rt: &T,
+        scribe: &mut Scribe<J, K, W>,
+    ) {
         for _ in 0..MOST_OPEN {
             if self.changes.is_empty() || self.changes.len() >= MOST_TOGETHER {
                 return;
@@ -82,7 +91,7 @@ impl<J: ServiceId> MessageLoop<J> {
     }
 
     /// Handles a message. A hashed change waits.
-    fn take_in<T: Wait, K: Host, W: Write + Drop>(
+    fn take_in<T: Wait + Clock, K: Host, W: Write + Drop>(
         &mut self,
         rt: &T,
         scribe: &mut Scribe<J, K, W>,
@@ -92,14 +101,15 @@ impl<J: ServiceId> MessageLoop<J> {
             → IsTakenIn message self.old.changes.items self.new.changes.items
             scribe.old.output.pending scribe.new.output.pending }
     {
+        let now = self.stopwatch.read(rt);
         match message {
             Message::Ended => self.ended = true,
-            Message::Came(line) => self.pass_on(rt, scribe.take(self.alloc, line)),
+            Message::Came(line) => self.pass_on(rt, scribe.take(self.alloc, line, now)),
             Message::Hashed(hashed) => {
                 if !hashed.worked().reply().makes_change() {
-                    self.pass_on(rt, scribe.commit(hashed));
+                    self.pass_on(rt, scribe.commit(hashed, now));
                 } else if let Err(refused) = self.changes.push(hashed) {
-                    self.pass_on(rt, scribe.commit(refused.value));
+                    self.pass_on(rt, scribe.commit(refused.value, now));
                 }
             }
             Message::NoMemory(starved) => {
@@ -111,7 +121,11 @@ impl<J: ServiceId> MessageLoop<J> {
 
     /// Makes changes together, if there are several, and then the remaining ones one by
     /// one.
-    fn commit<T: Wait, K: Host, W: Write + Drop>(&mut self, rt: &T, scribe: &mut Scribe<J, K, W>)
+    fn commit<T: Wait + Clock, K: Host, W: Write + Drop>(
+        &mut self,
+        rt: &T,
+        scribe: &mut Scribe<J, K, W>,
+    )
         ensures { scribe.new.output.fault ≡ None → UseTurns (entries_of self.old.changes.items)
             scribe.old.output.pending scribe.new.output.pending }
     {
@@ -127,7 +141,8 @@ impl<J: ServiceId> MessageLoop<J> {
             self.pass_on(rt, None);
         }
         for hashed in others {
-            self.pass_on(rt, scribe.commit(hashed));
+            let now = self.stopwatch.read(rt);
+            self.pass_on(rt, scribe.commit(hashed, now));
         }
     }
 

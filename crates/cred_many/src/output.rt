@@ -1,6 +1,6 @@
 //! The output of answers.
 
-ghost use Rattle.std.specs.{List.remove, Prelude.◌≡◌, Prelude.◌∷◌, Prelude.◌++◌, Prelude.IfSome, Prelude.OnErr, Prelude.OnOk, Prelude.None, Prelude.true};
+ghost use Rattle.std.specs.{List.remove, Prelude.◌≡◌, Prelude.◌∷◌, Prelude.◌++◌, Prelude.IfSome, Prelude.OnErr, Prelude.OnOk, Prelude.None, Prelude.codes, Prelude.true};
 ghost use Rattle.cred_cli.specs.Watched.{failed_of};
 ghost use Rattle.cred_many.specs.{Scribe.IsConcluded, Scribe.IsReady, Service.IsLine};
 ghost use Rattle.cred_many.specs.Transcript.{TakesFront, TakesMore, written_of};
@@ -35,6 +35,18 @@ impl<W: Write> Output<W> {
         if write_answer(&mut self.writer, line.tag(), answer).is_err() {
             self.fault = Some(ServiceFault::Write);
         }
+    }
+
+    /// Answers the line at this place that its try is too early, and closes it.
+    pub(crate) fn answer_later<J: ServiceId>(&mut self, place: usize, line: &Line<J>)
+        requires { IsReady self.old.fault self.old.pending place line.now.number }
+        ensures came { IfSome J.service.input (λ bytes. IsLine J.service bytes line.now) }
+        ensures closed { self.new.pending ≡ remove self.old.pending place }
+        ensures told { IsConcluded (line.now.tag ++ 32 ∷ codes "later\n")
+            (written_of W.contents self.old.writer) (written_of W.contents self.new.writer)
+            (failed_of self.new.writer) self.new.fault }
+    {
+        self.answer(place, line, b"later\n");
     }
 
     /// Writes the answers of lines that were done together. After a failed write no more are.

@@ -1,10 +1,11 @@
 //! The book that is served, the lines that are open, and the writer of their answers.
 
-ghost use Rattle.std.specs.List.{remove};
-ghost use Rattle.std.specs.Prelude.{◌≡◌, ◌↔◌, ◌+◌, ◌++◌, [], ◌∷◌, Bool, false, IfSome, IsTrue, is_some, length, None, option_map, Some, true, unwrap_or};
+ghost use Rattle.std.specs.{FinMap.contains_key, List.remove};
+ghost use Rattle.std.specs.Prelude.{◌≡◌, ◌↔◌, ℕ, ◌+◌, ◌++◌, [], ◌∷◌, Bool, false, IfSome, IsTrue, is_some, length, None, option_map, Some, true, unwrap_or};
 ghost use Rattle.cred_cli.specs.Script.{lines_of};
 ghost use Rattle.cred_book.specs.Works.{is_for_current, name_of};
-ghost use Rattle.cred_many.specs.{Asks.hashed_for, Asks.is_reset, Scribe.HasTurn, Scribe.History, Scribe.IsAnswered, Scribe.IsBusy, Scribe.IsLooked, Scribe.IsReady, Scribe.moment, Scribe.numbers, Scribe.unseen, declared.ask.Ask.TheVariants.Quick};
+ghost use Rattle.cred_many.specs.{Asks.hashed_for, Asks.is_reset, Scribe.HasTurn, Scribe.History, Scribe.IsAnswered, Scribe.IsBusy, Scribe.IsLooked, Scribe.IsReady, Scribe.moment, Scribe.numbers, Scribe.unseen, declared.ask.Ask.TheVariants.Forgive, declared.ask.Ask.TheVariants.Quick};
+ghost use Rattle.cred_tries.specs.Answers.{IsReadBy};
 ghost use Rattle.cred_many.specs.{Served.HasCause, Served.NeedsMemory, Served.Stands, Served.StandsAtEnd, Served.left_of, Served.record_at, Transcript.written_of, Turns.KeepsTurns, Turns.UsesTurn};
 
 mod commits;
@@ -21,9 +22,11 @@ use crate::open::OpenLines;
 use crate::output::Output;
 use crate::service_id::ServiceId;
 use crate::source::Source;
-use cred_admin::Host;
-use cred_book::{BookError, Request, Ticket};
+use crate::tries::Tries;
+use cred_admin::{EditReply, Host, edit_line};
+use cred_book::{BookError, Name, Request, Ticket};
 use cred_cli::{Refusal, Watched};
+use cred_tries::TryLimit;
 pub(crate) use job::Message;
 pub use job::{Hashed, Job, Starved};
 pub use reading::Ending;
@@ -47,20 +50,29 @@ pub struct Scribe<J: ServiceId, K: Host, W: Write> {
     output: Output<W>,
     /// The number of lines that came.
     came: u64,
+    tries: Tries,
     of: PhantomData<J>,
 
     ghost history: { ∥ History K.capacity J.service (written_of W.contents output.writer)
-        (K.book keeper) output.fault output.pending came ∥₁ },
+        (K.book keeper) output.fault output.pending came tries ∥₁ },
     ghost cause: { (source_failed : Bool) → ∥ HasCause J.service.input
-        (moment K.book K.failed W.contents keeper output came source_failed) output.fault ∥₁ },
+        (moment K.book K.failed W.contents keeper output came tries source_failed)
+        output.fault ∥₁ },
 }
 
 impl<J: ServiceId, K: Host, W: Write> Scribe<J, K, W> {
     /// The scribe before the first line.
-    pub fn new(alloc: Global, keeper: K, writer: Watched<W>) -> Scribe<J, K, W>
+    pub fn new(
+        alloc: Global,
+        keeper: K,
+        writer: Watched<W>,
+        limit: Option<TryLimit>,
+    ) -> Scribe<J, K, W>
         requires opening { K.book keeper ≡ J.service.opening }
         requires before { written_of W.contents writer ≡ J.service.before }
+        requires limit { limit ≡ J.service.tries }
     {
+        let tries = Tries::new(alloc, limit);
         Scribe {
             keeper,
             output: Output {
@@ -69,6 +81,7 @@ impl<J: ServiceId, K: Host, W: Write> Scribe<J, K, W> {
                 fault: None,
             },
             came: 0,
+            tries,
             of: PhantomData,
         }
     }
@@ -76,7 +89,7 @@ impl<J: ServiceId, K: Host, W: Write> Scribe<J, K, W> {
     /// The law of every scribe, at each moment between two calls.
     pub fn holds(&self)
         ensures { ∥ Stands K.capacity J.service (moment K.book K.failed W.contents self.now.keeper
-            self.now.output self.now.came false) ∥₁ }
+            self.now.output self.now.came self.now.tries false) ∥₁ }
     {
         let _came = &self.came;
     }
@@ -140,7 +153,7 @@ impl<J: ServiceId, K: Host, W: Write> Scribe<J, K, W> {
     fn left<S: Source>(self, source: Option<S>, why: Option<ServiceFault>) -> Served<K, W, S>
         requires idle { self.output.fault ≡ None → numbers self.output.pending ≡ [] }
         requires cause { HasCause J.service.input (moment K.book K.failed W.contents self.keeper
-            self.output self.came (unwrap_or (option_map S.failed source) false)) why }
+            self.output self.came self.tries (unwrap_or (option_map S.failed source) false)) why }
         ensures served { ∥ StandsAtEnd K.capacity J.service
             (left_of K.book K.failed W.contents S.failed result) ∥₁ }
         ensures lines { result.lines ≡ self.came }
@@ -152,6 +165,7 @@ impl<J: ServiceId, K: Host, W: Write> Scribe<J, K, W> {
             keeper,
             output,
             came: lines,
+            tries,
             of: _,
         } = self;
         let Output {
@@ -164,12 +178,14 @@ impl<J: ServiceId, K: Host, W: Write> Scribe<J, K, W> {
             writer,
             source,
             lines,
+            passed: tries.passed(),
             fault: fault.or(why),
         }
     }
 
-    /// Takes a line that came, and answers it unless it needs a hash.
-    pub fn take(&mut self, alloc: Global, line: Line<J>) -> Option<Job<J>>
+    /// Takes a line that came, at a reading of the clock in seconds, and answers it unless it needs
+    /// a hash. A try that is too early is sent away.
+    pub fn take(&mut self, alloc: Global, line: Line<J>, now: u64) -> Option<Job<J>>
         ensures came { line.number ≡ self.old.came → self.new.output.fault ≡ None
             → self.new.came ≡ self.old.came + 1 }
         ensures turn { line.number ≡ self.old.came → self.new.output.fault ≡ None → result ≡ None
@@ -180,11 +196,16 @@ impl<J: ServiceId, K: Host, W: Write> Scribe<J, K, W> {
             self.new.output.pending }
         ensures line { IfSome result (λ job. job.0 ≡ line) }
         ensures going { self.new.output.fault ≡ None → self.old.output.fault ≡ None }
+        ensures clock { IsReadBy now self.old.tries self.new.tries }
     {
         if self.output.fault.is_some() {
             return None;
         }
         let place = self.admit(&line)?;
+        if self.tries.send_away(&line.ask(), now) {
+            self.output.answer_later(place, &line);
+            return None;
+        }
         match line.ask() {
             Ask::Whole(request) => self.job(place, line, request),
             Ask::Login(name, pw, setting) => {
@@ -198,6 +219,11 @@ impl<J: ServiceId, K: Host, W: Write> Scribe<J, K, W> {
                 self.answer_at_once(alloc, place, line, ask);
                 None
             }
+            Ask::Forgive(name) => {
+                self.forgive(place, &line, &name);
+                None
+            }
+            Ask::Later(_) => unreachable!(),
         }
     }
 
@@ -212,6 +238,7 @@ impl<J: ServiceId, K: Host, W: Write> Scribe<J, K, W> {
         ensures last { IfSome result (λ place. place ≡ length self.old.output.pending) }
         ensures next { line.now.number ≡ self.old.came → result ≡ None
             → is_some self.new.output.fault ≡ true }
+        ensures same_tries { self.new.tries ≡ self.old.tries }
     {
         let number = line.number();
         let place = self.output.pending.len();
@@ -244,6 +271,7 @@ impl<J: ServiceId, K: Host, W: Write> Scribe<J, K, W> {
             self.new.output.pending) }
         ensures line { IfSome result (λ job. job.0 ≡ line) }
         ensures same_came { self.new.came ≡ self.old.came }
+        ensures same_tries { self.new.tries ≡ self.old.tries }
     {
         let ticket = ticket_of(&self.keeper, request);
         let changes = self
@@ -264,6 +292,7 @@ impl<J: ServiceId, K: Host, W: Write> Scribe<J, K, W> {
         ensures closed { self.new.output.fault ≡ None
             → self.new.output.pending ≡ remove self.old.output.pending place }
         ensures same_came { self.new.came ≡ self.old.came }
+        ensures same_tries { self.new.tries ≡ self.old.tries }
     {
         match do_ask(alloc, &mut self.keeper, ask) {
             Ok(text) => self.output.answer(place, &line, text.bytes()),
@@ -271,11 +300,36 @@ impl<J: ServiceId, K: Host, W: Write> Scribe<J, K, W> {
         }
     }
 
+    /// Forgives the failed tries at an account, if the book has it.
+    fn forgive(&mut self, place: usize, line: &Line<J>, name: &Name)
+        requires ready { IsReady self.old.output.fault self.old.output.pending place
+            line.now.number }
+        requires asked { Forgive name.now ≡ line.now.ask }
+        ensures closed { self.new.output.pending ≡ remove self.old.output.pending place }
+        ensures same_came { self.new.came ≡ self.old.came }
+        ensures clock { (now : ℕ) → IsReadBy now self.old.tries self.new.tries }
+    {
+        if self.has_account(name) {
+            self.tries.forgive(name);
+            self.output.answer(place, line, b"forgiven\n");
+            return;
+        }
+        let answer = edit_line(EditReply::NoAccount);
+        self.output.answer(place, line, answer);
+    }
+
+    fn has_account(&self, name: &Name) -> bool
+        ensures { result ≡ contains_key (K.book self.now.keeper).accounts name.now }
+    {
+        self.keeper.accounts().contains(name)
+    }
+
     /// Answers a line without memory for its hash.
     pub fn no_memory(&mut self, starved: Starved<J>)
         ensures turn { HasTurn starved.0.number self.old.output self.new.output }
         ensures turns { self.new.output.fault ≡ None → UsesTurn starved.0.number
             self.old.output.pending self.new.output.pending }
+        ensures clock { self.new.tries ≡ self.old.tries }
         ensures going { self.new.output.fault ≡ None → self.old.output.fault ≡ None }
     {
         self.starve(starved.into_line());
@@ -285,6 +339,7 @@ impl<J: ServiceId, K: Host, W: Write> Scribe<J, K, W> {
     fn starve(&mut self, line: Line<J>)
         requires { NeedsMemory K.capacity (K.book self.old.keeper) line.ask }
         ensures book { K.book self.new.keeper ≡ K.book self.old.keeper }
+        ensures same_tries { self.new.tries ≡ self.old.tries }
         ensures turn { HasTurn line.number self.old.output self.new.output }
         ensures turns { self.new.output.fault ≡ None → UsesTurn line.number
             self.old.output.pending self.new.output.pending }
@@ -303,6 +358,7 @@ impl<J: ServiceId, K: Host, W: Write> Scribe<J, K, W> {
         requires ready { IsReady self.old.output.fault self.old.output.pending place line.number }
         requires needs { NeedsMemory K.capacity (K.book self.old.keeper) line.ask }
         ensures book { K.book self.new.keeper ≡ K.book self.old.keeper }
+        ensures same_tries { self.new.tries ≡ self.old.tries }
         ensures closed { self.new.output.fault ≡ None
             → self.new.output.pending ≡ remove self.old.output.pending place }
         ensures same_came { self.new.came ≡ self.old.came }
@@ -321,6 +377,7 @@ impl<J: ServiceId, K: Host, W: Write> Scribe<J, K, W> {
         requires busy { IsBusy self.old.output.pending place line.ask }
         ensures closed { self.new.output.pending ≡ remove self.old.output.pending place }
         ensures same_came { self.new.came ≡ self.old.came }
+        ensures same_tries { self.new.tries ≡ self.old.tries }
     {
         self.output.answer(place, &line, Refusal::Busy.line());
     }

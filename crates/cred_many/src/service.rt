@@ -13,9 +13,11 @@ use crate::scribe::{Ending, Job, Message, OfReading, Scribe, await_end, read_lin
 use crate::sender::LineSender;
 use crate::service_id::ServiceId;
 use crate::source::{LineReader, Source};
+use crate::stopwatch::Stopwatch;
 use cred_admin::Host;
 use cred_cli::{CostBounds, Tools};
 use cred_file::FileBook;
+use cred_tries::TryLimit;
 use crossbeam_channel::{Receiver, Sender, bounded};
 use rand_core::Rng;
 use sqlite::Alter;
@@ -26,6 +28,7 @@ use std::sync::Wait;
 use std::sync::ledger::Blank;
 use std::thread;
 use std::thread::Threads;
+use std::time::Clock;
 
 /// The settings of a service.
 #[derive(Clone, Copy)]
@@ -37,6 +40,8 @@ pub struct ServiceConfig {
     /// The bounds on the setting or the record of a line. `costs` must be within them: a line
     /// that makes a record with these is judged too.
     pub most: CostBounds,
+    /// The number of failed tries at an account until the next has to wait, if there is a limit.
+    pub tries: Option<TryLimit>,
 }
 
 /// Answers lines to the end of the input, and hashes in `tools.workers` threads.
@@ -59,7 +64,7 @@ pub fn serve_tagged<J, T, S, G, K, W>(
 ) -> Ending<J, S>
 where
     J: ServiceId + Send + Sync + 'static,
-    T: Threads + Wait + Sync + Copy + Send + 'static,
+    T: Threads + Wait + Clock + Sync + Copy + Send + 'static,
     S: Source + Send + Drop + 'static,
     G: Rng + Send + Drop + 'static,
     K: Host,
@@ -112,7 +117,7 @@ pub fn serve_file<J, T, S, R, W, G>(
 ) -> Ending<J, LineReader<R>>
 where
     J: ServiceId + Send + Sync + 'static,
-    T: Threads + Wait + Sync + Copy + Send + 'static,
+    T: Threads + Wait + Clock + Sync + Copy + Send + 'static,
     S: Alter,
     R: Read + Send + Drop + 'static,
     W: Write + Drop,
@@ -173,7 +178,7 @@ fn hash_in_threads<L, J, T, K, W>(
 where
     L: Limit + Send + Sync,
     J: ServiceId + Send + Sync + 'static,
-    T: Threads + Wait + Sync + Copy + Send + 'static,
+    T: Threads + Wait + Clock + Sync + Copy + Send + 'static,
     K: Host,
     W: Write + Drop,
     requires name { blank.name ≡ L.name }
@@ -203,7 +208,7 @@ fn attend_beside<L, J, T, K, W>(
 where
     L: Limit + Send + Sync,
     J: ServiceId + Send + Sync + 'static,
-    T: Threads + Wait + Sync + Copy + Send + 'static,
+    T: Threads + Wait + Clock + Sync + Copy + Send + 'static,
     K: Host,
     W: Write + Drop,
 {
@@ -239,7 +244,7 @@ where
         if !started {
             return false;
         }
-        let mut messages = MessageLoop::new(tools.alloc, inbox, jobs, room);
+        let mut messages = MessageLoop::new(tools.alloc, Stopwatch::new(rt), inbox, jobs, room);
         messages.run(rt, scribe)
     })
 }

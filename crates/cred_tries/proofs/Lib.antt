@@ -1,4 +1,6 @@
 -- Lemmas on the entries of a tree, on times and waits, and on histories.
+pub mod Answered
+pub mod Cleared
 pub mod Counted
 pub mod Earlier
 pub mod Judged

@@ -8,7 +8,7 @@ moment_within : (clock : SteadyClock) (now : ℕ) → moment clock now ≤ end_o
 moment_within clock now = omega arith
 
 -- no more has passed than can
-passed_within : (steps : List Step) → (clock_after steps).passed ≤ end_of_time
+pub passed_within : (steps : List Step) → (clock_after steps).passed ≤ end_of_time
 passed_within [] = lit≤ tt
 passed_within (Asks name now ∷ before) = moment_within (clock_after before) now
 passed_within (Ends name now how ∷ before) = moment_within (clock_after before) now

@@ -1,5 +1,6 @@
 -- Definitions that contracts cite: the time, what is counted at one name and at all, what happens
 -- at a name, and what is asked of that.
+pub mod Answers
 pub mod Clocks
 pub mod CountMaps
 pub mod Counts

@@ -23,6 +23,13 @@ impl SteadyClock {
         }
     }
 
+    /// The seconds until the last reading.
+    pub(crate) const fn passed(self) -> u64
+        ensures { result ≡ self.passed }
+    {
+        self.passed
+    }
+
     /// The moment at which the other clock reads `now`.
     pub(crate) fn moment(self, now: u64) -> u64
         ensures { result ≡ moment self now }

@@ -10,12 +10,14 @@ mod clock;
 mod count;
 mod counts;
 mod laws;
+mod limit;
 mod limiter;
 mod turn;
 mod waiting;
 
 pub use count::MOST_TRIES;
 pub use laws::{each_name_is_limited, time_goes_forward};
+pub use limit::TryLimit;
 pub use limiter::Limiter;
 pub use turn::{Ending, Try, Turn};
 pub use waiting::{Wait, Waits};

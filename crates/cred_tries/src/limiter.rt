@@ -1,9 +1,9 @@
 //! The limiter of tries at all names.
 
-ghost use Rattle.std.specs.Prelude.{◌≡◌, ◌≤◌, ◌<◌, ◌^◌, IfErr, IfOk, length};
+ghost use Rattle.std.specs.Prelude.{◌≡◌, ◌≤◌, ◌<◌, ◌^◌, IfErr, IfOk, OnErr, OnOk, is_none, length};
 ghost use Rattle.std.specs.FinMap as map;
 ghost use Rattle.cred_tries.specs.Counts.{most_tries};
-ghost use Rattle.cred_tries.specs.Limits.{after_end, begin_outcome, count_at, forgive_outcome, new_limits, waits_at};
+ghost use Rattle.cred_tries.specs.Limits.{IsFree, after_end, after_try, begin_outcome, count_at, forgive_outcome, new_limits, sending, waits_at};
 
 use crate::clock::SteadyClock;
 use crate::count::{Count, Place};
@@ -96,6 +96,76 @@ impl Limiter {
             self.counts.put(&name, ended);
         }
         self.clock = self.clock.after(now);
+    }
+
+    /// Whether a try at a name is too early, at a reading of the clock in seconds. Then it is sent
+    /// away; otherwise nothing happens.
+    pub fn sends_away(&mut self, name: &Name, now: u64) -> bool
+        ensures { (result, self.new) ≡ sending self.old name.now now }
+    {
+        let moment = self.clock.moment(now);
+        let is_early = matches!(self.count(name).place(self.limit, moment), Place::Early(_));
+        if is_early {
+            self.clock = self.clock.after(now);
+        }
+        is_early
+    }
+
+    /// Counts a try whose password was right, which began and ended at this reading of the clock.
+    pub fn right(&mut self, name: &Name, now: u64)
+        requires { IsFree self.old name.now now }
+        ensures { self.new ≡ after_try self.old name.now now Ending.Right }
+    {
+        if self.is_clear(name) {
+            self.clock = self.clock.after(now);
+            return;
+        }
+        match self.judge(name, now, Ending::Right) {
+            Ok(()) => {}
+            Err(_) => unreachable!(),
+        }
+    }
+
+    /// Counts a try whose password was wrong, which began and ended at this reading of the clock.
+    ///
+    /// Errors: no memory, only where nothing is counted at the name; then nothing changes.
+    pub fn wrong(&mut self, name: &Name, now: u64) -> Result<(), AllocError>
+        requires { IsFree self.old name.now now }
+        ensures counted { OnOk result (self.new ≡ after_try self.old name.now now Ending.Wrong) }
+        ensures memory { OnErr result (self.new ≡ self.old) }
+        ensures absent { OnErr result (map.get self.old.counts name.now ≡ None) }
+    {
+        self.judge(name, now, Ending::Wrong)
+    }
+
+    /// A try that begins and ends at once.
+    fn judge(&mut self, name: &Name, now: u64, how: Ending) -> Result<(), AllocError>
+        requires { IsFree self.old name.now now }
+        ensures counted { OnOk result (self.new ≡ after_try self.old name.now now how) }
+        ensures memory { OnErr result (self.new ≡ self.old) }
+        ensures absent { OnErr result (map.get self.old.counts name.now ≡ None) }
+    {
+        match self.begin(name, now)? {
+            Turn::Begun(one) => {
+                self.end(one, now, how);
+                Ok(())
+            }
+            Turn::Waits | Turn::Later(_) => unreachable!(),
+        }
+    }
+
+    /// Whether nothing is counted at a name.
+    pub fn is_clear(&self, name: &Name) -> bool
+        ensures { result ≡ is_none (map.get self.now.counts name.now) }
+    {
+        self.counts.get(name).is_none()
+    }
+
+    /// The seconds that have passed by the clock, from reading to reading.
+    pub fn passed(&self) -> u64
+        ensures { result ≡ self.now.clock.passed }
+    {
+        self.clock.passed()
     }
 
     /// Forgives the failures at a name: tries wait no more. Tries that run go on. Answers whether

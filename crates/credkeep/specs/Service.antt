@@ -6,7 +6,7 @@ use Rattle.cred_admin.specs.Marked.{MarkedBook, kept_book}
 use Rattle.cred_admin.specs.declared.status.Status.{Status}
 use Rattle.cred_admin.specs.declared.status.Status.TheVariants.{Done, Io, Memory, Database, Data}
 use Rattle.cred_cli.specs.{Script.lines_of, declared.watched.Watched.Watched}
-use Rattle.cred_file.specs.{Kept.Kept, Kept.cells, Opening.IsFound}
+use Rattle.cred_file.specs.{Keeps.Keeps as IsKept, Kept.Kept, Kept.cells, Opening.IsFound}
 use Rattle.cred_many.specs.{Served.StandsAtEnd, Served.left_of, Service.Service, declared.fault.ServiceFault.ServiceFault}
 use Rattle.cred_many.specs.declared.fault.ServiceFault.TheVariants as fault
 use Rattle.cred_many.specs.declared.ending.Served.{Served}
@@ -25,7 +25,9 @@ status_of_end (Some e) = status_of_fault e
 status_of_end None = Done
 
 -- The book that a database holds is opened and served, and the connection and the writer come back
--- as the service left them. If nothing failed, all lines came.
+-- as the service left them. The table stands for the book after the lines that were done, until a
+-- change is lost; a crash from then on leaves that book, or the book with the lost change. If
+-- nothing failed, all lines came.
 pub record ServesBook {S W L : Type 0} (g : Ghosts S) (contents : W → Option (List ℕ))
     (failed : L → Bool) (service : MarkedBook → Service) (old new : Held S) (writer : Watched W)
     (status : Status) : Type 0 where
@@ -37,6 +39,7 @@ pub record ServesBook {S W L : Type 0} (g : Ghosts S) (contents : W → Option (
       (left_of kept_book (λ b. is_some b.lost) contents failed served) ∥₁
   pub all : served.fault ≡ None
       → IfSome (service (kept_book opened)).input (λ bytes. served.lines ≡ length (lines_of bytes))
+  pub keeps : IsKept g new (cells served.keeper) served.keeper.lost
   pub closed : new ≡ served.keeper.conn
   pub returned : writer ≡ served.writer
   pub told : status ≡ status_of_end served.fault

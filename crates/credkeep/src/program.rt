@@ -21,13 +21,14 @@ use std::alloc::Global;
 use std::io::{ErrorKind, Read, Write};
 use std::sync::Wait;
 use std::thread::Threads;
+use std::time::Clock;
 use std::{env, io};
 
 /// The maximum number of threads for an order on one account: the lanes of the default setting.
 const LANES: u8 = 4;
 
 /// Does the act that the process's words ask for.
-pub(crate) fn run<T: Threads + Wait + Sync + Copy + Send + 'static>(
+pub(crate) fn run<T: Threads + Wait + Clock + Sync + Copy + Send + 'static>(
     host: &HostRuntime,
     rt: &T,
 ) -> Status {
@@ -40,7 +41,7 @@ pub(crate) fn run<T: Threads + Wait + Sync + Copy + Send + 'static>(
     }
 }
 
-fn run_words<T: Threads + Wait + Sync + Copy + Send + 'static>(
+fn run_words<T: Threads + Wait + Clock + Sync + Copy + Send + 'static>(
     host: &HostRuntime,
     rt: &T,
 ) -> io::Result<Status> {
@@ -54,7 +55,7 @@ fn run_words<T: Threads + Wait + Sync + Copy + Send + 'static>(
 }
 
 /// Does an act. Either status is the program's; with the second, the refusal was written.
-fn answer<T: Threads + Wait + Sync + Copy + Send + 'static>(
+fn answer<T: Threads + Wait + Clock + Sync + Copy + Send + 'static>(
     host: &HostRuntime,
     rt: &T,
     command: &CommandLine<'_>,

@@ -26,13 +26,15 @@ use std::marker::Brand;
 use std::sync::Wait;
 use std::thread;
 use std::thread::Threads;
+use std::time::Clock;
 
 /// The way in which a book is served.
 #[derive(Clone, Copy)]
 pub(crate) struct Tagged {
     /// The number of threads that hash, if it was given.
     pub(crate) at_once: Option<u8>,
-    /// The memory of all hashes together, the costs of new records, and the bounds on lines.
+    /// The memory of all hashes together, the costs of new records, the bounds on lines, and the
+    /// limit of failed tries.
     pub(crate) config: ServiceConfig,
 }
 
@@ -50,13 +52,14 @@ impl Tagged {
                 costs,
                 memory: service.memory,
                 most: service.most,
+                tries: service.tries,
             },
         }
     }
 }
 
 /// Opens the file, answers tagged lines from standard input, and closes it.
-pub(crate) fn serve_tagged<T: Threads + Wait + Sync + Copy + Send + 'static>(
+pub(crate) fn serve_tagged<T: Threads + Wait + Clock + Sync + Copy + Send + 'static>(
     host: &HostRuntime,
     rt: &T,
     command: &CommandLine<'_>,
@@ -111,7 +114,7 @@ fn serve_in<T, S, R, W, G, F>(
     faults: &mut F,
 ) -> Finished<S, W>
 where
-    T: Threads + Wait + Sync + Copy + Send + 'static,
+    T: Threads + Wait + Clock + Sync + Copy + Send + 'static,
     S: Alter,
     R: Read + Send + Drop + 'static,
     W: Write + Drop,
@@ -182,7 +185,7 @@ fn serve_named<J, T, S, R, W, G>(
 ) -> Served<FileBook<S>, W, LineReader<R>>
 where
     J: ServiceId + Send + Sync + 'static,
-    T: Threads + Wait + Sync + Copy + Send + 'static,
+    T: Threads + Wait + Clock + Sync + Copy + Send + 'static,
     S: Alter,
     R: Read + Send + Drop + 'static,
     W: Write + Drop,
@@ -195,7 +198,12 @@ where
     ensures all { result.fault ≡ None
         → IfSome (R.remaining reader) (λ all. result.lines ≡ length (lines_of all)) }
 {
-    let mut scribe: Scribe<J, FileBook<S>, W> = Scribe::new(tools.alloc, book, writer);
+    let mut scribe: Scribe<J, FileBook<S>, W> = Scribe::new(
+        tools.alloc,
+        book,
+        writer,
+        config.tries,
+    );
     let ending = serve_file(tools, config, &mut scribe, salts, reader);
     scribe.end(ending)
 }

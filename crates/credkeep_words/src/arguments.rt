@@ -58,6 +58,9 @@ const TAGGED_HELP: &str = "Answers tagged lines: verify, login, enrol, change, r
 const AT_ONCE_HELP: &str = "How many lines are hashed at once, from 1 to 255\n\
     [default: as many as there are processors, and as --memory allows]";
 
+const TRIES_HELP: &str = "How many tries may fail at an account until the next has to wait,\n\
+    from 1 to 86 [default: no limit]";
+
 const MEMORY_HELP: &str = "How much memory all hashes may need at once, in KiB or as 512M or 2G\n\
     [default: 2G]";
 
@@ -117,6 +120,7 @@ pub(crate) enum Word {
     Setting,
     Tagged,
     AtOnce,
+    Tries,
     Memory,
     MostMemory,
     MostWork,
@@ -163,6 +167,7 @@ impl Word {
             Word::Setting => ("setting", Form::Valued("TEXT"), SETTING_HELP),
             Word::Tagged => ("tagged", Form::Flag, TAGGED_HELP),
             Word::AtOnce => ("at-once", Form::Valued("N"), AT_ONCE_HELP),
+            Word::Tries => ("tries", Form::Valued("N"), TRIES_HELP),
             Word::Memory => ("memory", Form::Valued("SIZE"), MEMORY_HELP),
             Word::MostMemory => ("most-memory", Form::Valued("SIZE"), MOST_MEMORY_HELP),
             Word::MostWork => ("most-work", Form::Valued("SIZE"), MOST_WORK_HELP),

@@ -9,6 +9,7 @@ use clap::{ArgMatches, Error};
 use cred_admin::{NewSetting, Status};
 use cred_cli::CostBounds;
 use cred_keep::{Counts, Order};
+use cred_tries::TryLimit;
 use std::alloc::Global;
 use std::random::RandomSource;
 
@@ -65,6 +66,8 @@ pub struct Service {
     pub setting: NewSetting,
     /// The bounds on the setting or the record of a line.
     pub most: CostBounds,
+    /// The number of failed tries at an account until the next has to wait, if there is a limit.
+    pub tries: Option<TryLimit>,
 }
 
 /// Reads the process's words. Refused words and calls for help are answered here, with the exit

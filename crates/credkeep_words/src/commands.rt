@@ -86,6 +86,7 @@ pub(crate) static COMMANDS: [CommandText; 21] = [
         words: &[
             Word::Tagged,
             Word::AtOnce,
+            Word::Tries,
             Word::Memory,
             Word::MostMemory,
             Word::MostWork,

@@ -6,6 +6,7 @@ use cred_admin::{Detail, Existing, Line, LockedRecords, Rules};
 use cred_book::Name;
 use cred_cli::CostBounds;
 use cred_keep::{BadLines, Counts, Effect, Importing};
+use cred_tries::{MOST_TRIES, TryLimit};
 
 /// The first value if the flag is given, and otherwise the second.
 pub(crate) fn either<V: Copy>(values: &ArgMatches<'_>, flag: &str, given: V, absent: V) -> V {
@@ -85,6 +86,15 @@ pub(crate) fn threads_in<'a>(
 ) -> Result<Option<u8>, Refusal<'a>> {
     let number = number_in(values, option, 1, u16::from(most))?;
     Ok(number.map(|number| u8::try_from(number).unwrap_or(most)))
+}
+
+/// The limit of failed tries, if it is given.
+pub(crate) fn tries_in<'a>(values: &ArgMatches<'a>) -> Result<Option<TryLimit>, Refusal<'a>> {
+    let most = u16::try_from(MOST_TRIES).unwrap_or(u16::MAX);
+    match number_in(values, "tries", 1, most)? {
+        Some(number) => Ok(TryLimit::new(u64::from(number))),
+        None => Ok(None),
+    }
 }
 
 /// The form of counts.

@@ -3,7 +3,7 @@
 use crate::command_line::{Act, Echo, Service};
 use crate::commands::Verb;
 use crate::options::{
-    either, importing_in, line_in, most_in, name_in, size_in, text_in, threads_in,
+    either, importing_in, line_in, most_in, name_in, size_in, text_in, threads_in, tries_in,
 };
 use crate::refusal::Refusal;
 use clap::ArgMatches;
@@ -119,6 +119,7 @@ fn service_in<'a, R: RandomSource + AllocGlobal>(
         memory,
         setting,
         most,
+        tries: tries_in(values)?,
     })
 }
 

@@ -7,10 +7,9 @@
     )
     if accounts.login(user_id, password) is Reply.YES: ...
 
-An operation reads the account's record, hashes without a lock, and commits by an UPDATE
-that compares the row's record with the one that it read. If the row has another record
-by then, the operation begins again. So whatever overlaps, the replies are those of one
-legal history.
+An operation reads the account's record, hashes without a lock, and commits by an UPDATE that
+compares the row's record with the one that it read. If the row has another record by then, the
+operation begins again. So the replies are those of one legal history, however operations overlap.
 
 It runs on SQLite (sqlite3), PostgreSQL (psycopg 3), MariaDB and MySQL (PyMySQL), and
 imports no driver. `AsyncAccounts` is the same for asyncio. `rigzumal.accounts.types` is

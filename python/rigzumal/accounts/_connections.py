@@ -1,4 +1,4 @@
-"""Connections that break, servers that fail, and how long an operation waits."""
+"""Broken connections, failing servers, and the time limit of an operation."""
 
 from __future__ import annotations
 
@@ -41,8 +41,8 @@ class Connections:
     _asked_from: float = field(default=0.0, init=False)  # on, the replica
 
     async def at_replica(self, job: Job[Any]) -> Any:
-        """Runs a job once at the replica; Undone without one, if it fails or refuses, or if it
-        did so a moment ago."""
+        """Runs a job once at the replica. Returns Undone without a replica, or if it fails or
+        refuses, or has done so a moment ago."""
         begun = time.monotonic()
         if self.replica is None or begun < self._asked_from:
             return Undone(None)
@@ -77,7 +77,7 @@ class Connections:
         return [kind(f"replica-{code}", text)]
 
     def _why(self, done: Undone) -> str:
-        """Why nothing was done, without a driver's text, which may quote a row."""
+        """The reason why nothing was done, without a driver's text, which may quote a row."""
         cause = done.cause.__cause__ if isinstance(done.cause, Lost) else done.cause
         if isinstance(cause, AccountsError):
             return f"{type(cause).__name__}: {cause}"

@@ -261,7 +261,7 @@ class Import:
 
 
 def _as_they_came(batch: Sequence[Line], words: Sequence[str]) -> list[str]:
-    """The words of a batch's lines in their own order, which were said in that of their names."""
+    """The outcomes of a batch's lines in their own order, from the order of their names."""
     names: list[Any] = [name for name, _ in batch]
     places = sorted(range(len(batch)), key=names.__getitem__)
     ordered = [""] * len(batch)
@@ -272,7 +272,7 @@ def _as_they_came(batch: Sequence[Line], words: Sequence[str]) -> list[str]:
 
 @contextlib.contextmanager
 def _read_twice(file: pathlib.Path) -> Iterator[IO[str]]:
-    """The lines of a file; those of a pipe are kept in another, until they are read again."""
+    """The lines of a file; another file keeps those of a pipe until they are read again."""
     given: dict[str, Any] = {"encoding": "utf-8", "errors": "surrogateescape"}
     with open(file, **given) as lines:
         if lines.seekable():

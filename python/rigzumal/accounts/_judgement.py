@@ -92,7 +92,7 @@ class Passwords:
         return made
 
     def _prepared(self, password: bytes) -> bytes:
-        """The bytes that are hashed; bytes that are no text stay as they are."""
+        """The bytes for the hash; bytes that are no text stay as they are."""
         if self.prepare is None:
             return password
         try:

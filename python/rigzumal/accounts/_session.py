@@ -159,7 +159,8 @@ class Runtime:
         return self._session(conn, self._options)
 
     async def use(self, pool: Any, job: Job[T]) -> T:
-        """Does a job on a connection of a pool, whatever the pool raises or swallows after it.
+        """Does a job on a connection of a pool, and returns the job's outcome even if the pool
+        raises or swallows an error after it.
 
         A pool that rolls back a broken connection raises its own error instead of the
         job's, and "COMMIT had no answer" would be read as "nothing was done".

@@ -116,7 +116,7 @@ class Table:
         return bool(self.dialect.at_once) and both and copy != after
 
     async def _at_once(self, session: Session, worked: Worked) -> Union[Answer, Undone, None]:
-        """A change by one statement; None if a transaction has to find out."""
+        """A change by one statement; None if only a transaction can tell its outcome."""
         dialect, copy, after = self.dialect, worked.ticket.copy, worked.after
         is_sent = False
         try:

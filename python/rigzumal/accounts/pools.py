@@ -53,7 +53,7 @@ def check_pool(pool: object, enter: str) -> None:
 
 
 def check_connect(connect: object, of: str) -> None:
-    """Raises TypeError for a connection or a DSN in place of what opens one."""
+    """Raises TypeError for a connection or a DSN in place of a function that opens one."""
     if not callable(connect) or hasattr(type(connect), "cursor"):
         kind = type(connect).__name__
         raise TypeError(f"{of} needs a function that opens a connection, not a {kind}")
@@ -261,7 +261,8 @@ def of_engine(engine: Any) -> Any:
 
 @contextmanager
 def _drivers_error() -> Iterator[None]:
-    """Raises the driver's error that SQLAlchemy's wraps: its meaning is known."""
+    """Raises the driver's error that SQLAlchemy's wraps: the dialect knows the meaning of that
+    one."""
     try:
         yield
     except Exception as error:

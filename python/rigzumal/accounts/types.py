@@ -177,7 +177,7 @@ class NoConnection(Unavailable):
 
 
 class OutcomeUnknown(AccountsError):
-    """COMMIT was sent, no answer came, and the row doesn't show whether it was done.
+    """COMMIT was sent, no answer came, and the row doesn't show its outcome.
 
     The change may be there, may have been replaced since, or may still come.
     """

@@ -102,7 +102,7 @@ def backends(**_: Any) -> Messages:
     """W001: the backend isn't used. W002: one that doesn't compare is used too. E012:
     one can't be imported. W014: the model compares, under Django's own backend.
 
-    A model that compares does so under any backend which calls its check_password.
+    A model's check_password compares under any backend that calls it.
     """
     listed, faults = _classes("AUTHENTICATION_BACKENDS", "E012")
     yield from faults
@@ -148,7 +148,7 @@ def hashers_listed(**_: Any) -> Messages:
     listed, faults = _classes("PASSWORD_HASHERS", "E015")
     yield from faults
     if listed and not issubclass(listed[0][1], OURS):
-        maker = "The first of PASSWORD_HASHERS, which makes new records,"
+        maker = "The first of PASSWORD_HASHERS, which hashes new passwords,"
         hint = "Put 'rigzumal.django.hashers.Argon2PasswordHasher' before the others."
         hint += _misspelt("PASSWORD_HASHERS")
         yield _message("W004", f"{maker} isn't Rigzumal's.", hint)

@@ -61,7 +61,7 @@ class PasswordChangeForm(_Comparing, forms.PasswordChangeForm):
     _judged: Optional[str] = None
 
     def clean_old_password(self) -> Any:
-        """Judges the old password at the row's record, and doesn't rehash."""
+        """Judges the old password at the row's record, without a rehash."""
         old_password = self.cleaned_data["old_password"]
         with lost_as_error():
             if not passwords.verify_password(self.user, old_password):

@@ -70,7 +70,7 @@ class Copy:
         return len(self.records) > 1 and self.settle not in waiting
 
     def followed_by(self, record: str, database: str) -> Copy:
-        """The copy after the record was written over this one."""
+        """The copy of a record that was written over this one's."""
         if not connections[database].in_atomic_block:
             return Copy(record)
         copy = Copy(*self.records, record)

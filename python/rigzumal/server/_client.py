@@ -105,7 +105,7 @@ class Question:
     wrong: Optional[Reply] = None
 
     def known_reply(self) -> Optional[Reply]:
-        """The reply, if it is known without asking."""
+        """The reply, if no server needs to decide it."""
         if self.no_name is not None and not all(map(may_be_name, self.names)):
             return self.no_name
         if self.wrong is not None and not may_be_password(self.passwords[0]):
@@ -113,7 +113,7 @@ class Question:
         return None
 
     def line(self, tag: bytes) -> bytes:
-        """The line that asks for it.
+        """The request's line.
 
         Raises:
             TypeError: a password is neither bytes nor text.
@@ -130,7 +130,7 @@ class Question:
         return b" ".join(fields) + b"\n"
 
     def reply(self, tag: bytes, line: bytes) -> Reply:
-        """The reply in the line that came.
+        """The reply in a received line.
 
         Raises:
             ServerError: as in `answer_of`; Unavailable also for a text that is no reply.
@@ -290,7 +290,7 @@ class Client(Calls[Reply, list[str]]):
         return answer_of(b"1", self._line(asked)).split()[1:]
 
     def _line(self, asked: Question) -> bytes:
-        """The line that came, or its beginning."""
+        """The received line, or its beginning."""
         until = time.monotonic() + self._timeout
         sent, line = asked.line(b"1"), b""
         try:

@@ -23,7 +23,7 @@ from tests.helpers import common_folder, each
 
 PASSWORDS = ("new password new-password", "again password new-password")
 EMOJI, UMLAUT = "\N{GRINNING FACE}", "ä"
-GUESSED = "first that are guessed"
+GUESSED = "first that attackers guess"
 # A field of a form of Ann's that is refused, and the error that it shows.
 REFUSED = [
     ("/login", {"password": NEW}, "password", login_page.NO),

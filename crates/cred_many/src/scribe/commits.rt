@@ -1,15 +1,18 @@
 //! The commit of what was hashed for a line, and the line's answer.
 
 ghost use Rattle.std.specs.List.{remove};
-ghost use Rattle.std.specs.Prelude.{◌≡◌, IfSome, None, true, false};
+ghost use Rattle.std.specs.Prelude.{◌≡◌, ℕ, IfSome, None, true, false};
 ghost use Rattle.cred_book.specs.Works.{name_of};
 ghost use Rattle.cred_many.specs.{Asks.IsJobOf, Asks.hashed_for, Asks.is_reset, Scribe.HasSeen, Scribe.HasTurn, Scribe.IsReady, Served.told_reply, Served.told_verdict, Turns.HasMoved, Turns.UsesTurn};
+ghost use Rattle.cred_tries.specs.Answers.{IsReadBy};
+ghost use Rattle.cred_many.specs.Tries.{effect_by, is_try, reply_effect};
 
 use super::{Hashed, Job, Scribe};
 use crate::ask::Ask;
 use crate::fault::ServiceFault;
 use crate::line::Line;
 use crate::service_id::ServiceId;
+use crate::tries::{Effect, forgives};
 use cred_admin::{Host, Verdict, commit_try, put_in_place, verdict_line};
 use cred_book::{Reply, Worked};
 use cred_cli::reply_line;
@@ -17,13 +20,16 @@ use std::io::Write;
 
 impl<J: ServiceId, K: Host, W: Write> Scribe<J, K, W> {
     /// Commits a whole operation, and answers it, if the record still equals the copy. Otherwise the
-    /// record is copied again. The account's marks count that stand now.
-    pub fn commit(&mut self, hashed: Hashed<J>) -> Option<Job<J>>
+    /// record is copied again. The account's marks count that stand now, and so do the tries that
+    /// failed before this reading of the clock, in seconds: one that is too early is sent away, be
+    /// its password right or wrong.
+    pub fn commit(&mut self, hashed: Hashed<J>, now: u64) -> Option<Job<J>>
         ensures turn { result ≡ None → HasTurn hashed.0.number self.old.output self.new.output }
         ensures again { IfSome result (λ job. (job.0 ≡ hashed.0)
             × HasMoved (K.book self.old.keeper) hashed.1) }
         ensures turns { self.new.output.fault ≡ None → UsesTurn hashed.0.number
             self.old.output.pending self.new.output.pending }
+        ensures clock { IsReadBy now self.old.tries self.new.tries }
         ensures going { self.new.output.fault ≡ None → self.old.output.fault ≡ None }
     {
         if self.output.fault.is_some() {
@@ -40,10 +46,16 @@ impl<J: ServiceId, K: Host, W: Write> Scribe<J, K, W> {
             self.output.fault = Some(ServiceFault::Lost);
             return None;
         }
-        self.commit_whole(place, line, worked)
+        self.commit_whole(place, line, worked, now)
     }
 
-    fn commit_whole(&mut self, place: usize, line: Line<J>, worked: Worked) -> Option<Job<J>>
+    fn commit_whole(
+        &mut self,
+        place: usize,
+        line: Line<J>,
+        worked: Worked,
+        now: u64,
+    ) -> Option<Job<J>>
         requires ready { IsReady self.old.output.fault self.old.output.pending place line.number }
         requires asked { hashed_for line.ask ≡ Some worked.0 }
         requires kept { is_reset line.ask ≡ false }
@@ -54,8 +66,13 @@ impl<J: ServiceId, K: Host, W: Write> Scribe<J, K, W> {
             × HasMoved (K.book self.old.keeper) worked) }
         ensures turns { IfSome result (λ _. UsesTurn line.number self.old.output.pending
             self.new.output.pending) }
+        ensures clock { IsReadBy now self.old.tries self.new.tries }
     {
         let ask = line.ask();
+        if self.tries.send_away(&ask, now) {
+            self.output.answer_later(place, &line);
+            return None;
+        }
         let request = worked.request();
         let verdict = match commit_try(&mut self.keeper, worked) {
             Ok(verdict) => verdict,
@@ -66,6 +83,11 @@ impl<J: ServiceId, K: Host, W: Write> Scribe<J, K, W> {
         };
         if verdict.is_outdated() {
             return self.job(place, line, request);
+        }
+        let effect = effect_of(&ask, &verdict);
+        if self.tries.count(&request.name(), now, effect).is_err() {
+            self.refuse(place, line);
+            return None;
         }
         let answer = verdict_line(&told_verdict(ask, verdict));
         self.output.answer(place, &line, answer);
@@ -79,12 +101,17 @@ impl<J: ServiceId, K: Host, W: Write> Scribe<J, K, W> {
         requires reset { is_reset line.ask ≡ true }
         ensures closed { self.new.output.fault ≡ None
             → self.new.output.pending ≡ remove self.old.output.pending place }
+        ensures clock { (now : ℕ) → IsReadBy now self.old.tries self.new.tries }
     {
         let Some(stored) = worked.after() else {
             unreachable!()
         };
-        match put_in_place(&mut self.keeper, &worked.request().name(), stored) {
-            Ok(reply) => self.output.answer(place, &line, reply_line(&reply)),
+        let name = worked.request().name();
+        match put_in_place(&mut self.keeper, &name, stored) {
+            Ok(reply) => {
+                self.tries.reset(&name, &reply);
+                self.output.answer(place, &line, reply_line(&reply));
+            }
             Err(_) => self.refuse(place, line),
         }
     }
@@ -98,6 +125,35 @@ fn told_verdict(ask: Ask, verdict: Verdict) -> Verdict
         Verdict::Told(reply) => Verdict::Told(told_reply(ask, reply)),
         Verdict::Expired => Verdict::Expired,
         Verdict::Same => Verdict::Same,
+    }
+}
+
+/// What the answer to an operation tells of its account's password.
+fn effect_of(ask: &Ask, verdict: &Verdict) -> Effect
+    ensures { result ≡ effect_by (is_try ask.now) verdict.now }
+{
+    match (ask.tried(), verdict) {
+        (Some(_), Verdict::Told(reply)) => reply_effect(reply),
+        (Some(_), Verdict::Expired | Verdict::Same) => Effect::Right,
+        (None, Verdict::Told(reply)) if forgives(reply) => Effect::Forgiven,
+        (None, _) => Effect::Nothing,
+    }
+}
+
+/// What the reply to a try tells of its password.
+fn reply_effect(reply: &Reply) -> Effect
+    ensures { result ≡ reply_effect reply.now }
+{
+    match reply {
+        Reply::Yes | Reply::Kept | Reply::Upgraded | Reply::Replaced | Reply::Removed => {
+            Effect::Right
+        }
+        Reply::No | Reply::Wrong => Effect::Wrong,
+        Reply::Enrolled
+        | Reply::Exists
+        | Reply::Absent
+        | Reply::Changed { .. }
+        | Reply::NoAccount => Effect::Nothing,
     }
 }
 

@@ -18,6 +18,7 @@ impl<J: ServiceId, K: Host, W: Write> Scribe<J, K, W> {
     pub fn commit_together(&mut self, alloc: Global, works: Vec<Hashed<J>>) -> Vec<Hashed<J>>
         ensures turns { self.new.output.fault ≡ None → HaveTurns works.items result.items
             self.old.output.pending self.new.output.pending }
+        ensures clock { self.new.tries ≡ self.old.tries }
         ensures going { self.new.output.fault ≡ None → self.old.output.fault ≡ None }
     {
         let mut group = Group::new(alloc);
@@ -37,13 +38,13 @@ impl<J: ServiceId, K: Host, W: Write> Scribe<J, K, W> {
         others
     }
 
-    /// Adds a line to the group if it changes an account that has no mark and that no other line
-    /// there changes, and otherwise returns it.
+    /// Adds a line to the group if it changes an account that has no mark and no failed tries, and
+    /// that no other line there changes; otherwise returns it.
     fn gather(&self, group: &mut Group<J>, hashed: Hashed<J>) -> Result<(), Hashed<J>>
-        requires { IsGroup K.capacity J.service (K.book self.now.keeper) group.old.changed
-            (entries_of group.old.works.items) group.old.text.items }
-        ensures group { IsGroup K.capacity J.service (K.book self.now.keeper) group.new.changed
-            (entries_of group.new.works.items) group.new.text.items }
+        requires { IsGroup K.capacity J.service self.now.tries (K.book self.now.keeper)
+            group.old.changed (entries_of group.old.works.items) group.old.text.items }
+        ensures group { IsGroup K.capacity J.service self.now.tries (K.book self.now.keeper)
+            group.new.changed (entries_of group.new.works.items) group.new.text.items }
         ensures added { OnOk result
             (group.new.works.items ≡ group.old.works.items ++ hashed ∷ []) }
         ensures same { OnErr result (group.new.works.items ≡ group.old.works.items) }
@@ -54,6 +55,9 @@ impl<J: ServiceId, K: Host, W: Write> Scribe<J, K, W> {
         }
         let name = hashed.worked().request().name();
         if self.keeper.mark_of(&name).is_marked() {
+            return Err(hashed);
+        }
+        if !self.tries.is_clear(&name) {
             return Err(hashed);
         }
         let (reply, stored, changes) = self.keeper.accounts().judge(hashed.worked());
@@ -71,10 +75,11 @@ impl<J: ServiceId, K: Host, W: Write> Scribe<J, K, W> {
     /// Makes the changes of a group, and answers its lines; none if the keeper refuses.
     fn commit_group(&mut self, group: Group<J>)
         requires going { self.old.output.fault ≡ None }
-        requires group { IsGroup K.capacity J.service (K.book self.old.keeper) group.changed
-            (entries_of group.works.items) group.text.items }
-        ensures { self.new.output.fault ≡ None → UseTurns (entries_of group.works.items)
+        requires group { IsGroup K.capacity J.service self.old.tries (K.book self.old.keeper)
+            group.changed (entries_of group.works.items) group.text.items }
+        ensures turns { self.new.output.fault ≡ None → UseTurns (entries_of group.works.items)
             self.old.output.pending self.new.output.pending }
+        ensures same_tries { self.new.tries ≡ self.old.tries }
     {
         let Group {
             works,
@@ -97,8 +102,9 @@ impl<J: ServiceId, K: Host, W: Write> Scribe<J, K, W> {
     /// Refuses the lines of a group for want of memory, or ends all if the keeper has failed.
     fn refuse_all(&mut self, works: Vec<Hashed<J>>)
         requires going { self.old.output.fault ≡ None }
-        ensures { self.new.output.fault ≡ None → UseTurns (entries_of works.items)
+        ensures turns { self.new.output.fault ≡ None → UseTurns (entries_of works.items)
             self.old.output.pending self.new.output.pending }
+        ensures same_tries { self.new.tries ≡ self.old.tries }
     {
         for hashed in works {
             let (line, _) = hashed.into_parts();

@@ -1,4 +1,4 @@
-"""PostgreSQL, and what speaks its protocol, by psycopg 3."""
+"""PostgreSQL, and servers with its protocol, by psycopg 3."""
 
 from __future__ import annotations
 
@@ -156,7 +156,7 @@ class Postgres(Dialect):
 
     @property
     def _came(self) -> tuple[str, str]:
-        """The statements that make tables for what came, and for what was put of it."""
+        """The statements that create tables for the lines, and for the stored ones among them."""
         columns = f"0 AS number, {self.key} AS name, {self.record}::text AS made"
         came = f"AS SELECT {columns} FROM {self.table} LIMIT 0"
         return (
@@ -166,7 +166,7 @@ class Postgres(Dialect):
 
     @property
     def _put_all(self) -> str:
-        """Puts the first record of each name, in their order, where the row has none."""
+        """Stores the first record of each name, in their order, in rows without one."""
         t, k, r = self.table, self.key, self.record
         came = "SELECT DISTINCT ON (name) * FROM rigzumal_came ORDER BY name, number"
         add = f"INSERT INTO {t} ({k}, {r}) SELECT name, made FROM came ON CONFLICT DO NOTHING"
@@ -180,7 +180,7 @@ class Postgres(Dialect):
 
     @property
     def _others(self) -> str:
-        """Finds lines that weren't put, and those whose row has another record."""
+        """Finds lines that weren't stored, and those whose row has another record."""
         same = f'kept.{self.record}::text COLLATE "C" = came.made'
         joined = "rigzumal_came AS came LEFT JOIN rigzumal_put AS put USING (number)"
         return self.alone(

@@ -7,7 +7,6 @@ A request enters the modules in this order:
     web         the same of a client that speaks HTTP
     service     who may ask what, when the book is asked, and what is noted
     names       names as they are typed, and as the book has them
-    tries       failed tries, and what is counted
     book        the book's process, and the turns of those who ask it
 
 Beside these stand:
@@ -16,6 +15,7 @@ Beside these stand:
     options     the command line
     protocol    the tables of operations and answers
     costs       the memory and the work of a hash
+    tally       what is counted of the answers
     disk        the room on the disks
     journal     the log, systemd's notices, and the audit log
     appending   files that only grow, and the process that writes the audit log
@@ -25,10 +25,10 @@ Beside these stand:
     old_file    that file
     aging       a user's line in it, with its dates
     schemes     a user's record in it
+    tries       failed tries at these users: the book counts those at its accounts
     ask         credkeep-ask(1)
 
-A function is called by what it returns, or by the verb of what it does; one that says whether
-something is so begins with is, are, has, have, may or must. What a client sends, and what it gets,
-is bytes. The package imports nothing of the rest of rigzumal, so that bin/credkeep-server and
-bin/credkeep-ask can run it alone.
+A function's name is the noun of its result, or the verb of its work; the name of a question begins
+with is, are, has, have, may or must. Requests and answers are bytes. The package imports nothing of
+the rest of rigzumal, so that bin/credkeep-server and bin/credkeep-ask can run it alone.
 """

@@ -68,7 +68,7 @@ class Line:
         return b"/" in home or b"=" in extra
 
     def bar(self, day: int) -> str:
-        """Why no password lets the user in, also once they moved; empty if nothing bars them."""
+        """The reason that bars the user, also after the move; empty if nothing does."""
         days = self.days()
         if days and days.has_ended(day):
             return "the account has expired"
@@ -79,7 +79,7 @@ class Line:
         return ""
 
     def why_shut(self, day: int) -> str:
-        """Why no password of this line lets the user in; empty if one may."""
+        """The reason that bars the user of this line; empty if a password may be right."""
         if why := self.bar(day):
             return why
         days = self.days()
@@ -88,6 +88,6 @@ class Line:
         return "the password has expired" if days.is_too_old(day) else ""
 
     def must_change(self, day: int) -> bool:
-        """Whether a right password lets the user in only once it is changed, as pam_unix has it."""
+        """Whether the user must change a right password before the login, by pam_unix's rules."""
         days = self.days()
         return days is not None and days.must_change(day)

@@ -2,8 +2,9 @@
 
     appending.py PATH
 
-The program appends texts that come by the socket at its standard input, and answers each. It is a
-process of its own, since a thread that a disk holds up can't be ended, nor can its process.
+The program appends texts that come by the socket at its standard input, and answers each. The
+program runs in a process of its own: a thread that waits for a hung disk can't be ended, nor can
+its process.
 """
 
 import errno

@@ -19,6 +19,7 @@ UNAVAILABLE = b"unavailable"
 NAME = re.compile(rb"[a-z0-9._-]{1,32}")  # of a book
 LOCKED, MUST_CHANGE = b"!", b"~"  # the marks of an account, in this order before its record
 LACKS = (b"absent", b"noaccount")  # its answers if it has no record, or no account
+LATER = b"later"  # its answer to a try that is too early
 NO_RECORD = b"none"  # the same of `show`
 NO_ACCOUNT = b"bad 5 noaccount"
 RETRY_SECONDS = 1.0  # from a process that couldn't start until the next one
@@ -55,7 +56,8 @@ class Process(asyncio.SubprocessProtocol):
         self.stdin = transport.get_pipe_transport(0)
 
     def ask(self, words: tuple[bytes, ...], answer: asyncio.Future[bytes]) -> None:
-        """Sends it a line, whose answer will be set; UNAVAILABLE if it ends before it has one."""
+        """Sends the process a line, and sets the answer later: UNAVAILABLE if the process ends
+        before."""
         if self.ended.done():
             answer.set_result(UNAVAILABLE)
             return
@@ -64,7 +66,7 @@ class Process(asyncio.SubprocessProtocol):
         self.stdin.write(b"%b %b\n" % (tag, b" ".join(words)))
 
     def pipe_data_received(self, _: int, data: bytes) -> None:
-        """Hands over its answers, and kills it at one that has no end."""
+        """Hands over the process's answers, and kills it at an answer without an end."""
         *lines, self.rest = (self.rest + data).split(b"\n")
         for line in lines:
             tag, _space, text = line.partition(b" ")
@@ -77,7 +79,7 @@ class Process(asyncio.SubprocessProtocol):
             self.kill()
 
     def connection_lost(self, _: object) -> None:
-        """It has ended, and all that it wrote has come."""
+        """The process has ended, and its last output has come."""
         status = self.transport.get_returncode()
         self.ended.set_result(status if status >= 0 else 128 - status)
         for answer in self.pending.values():
@@ -85,18 +87,18 @@ class Process(asyncio.SubprocessProtocol):
         self.pending.clear()
 
     def end(self) -> None:
-        """Has it answer the lines that it has, close the file, and end."""
+        """Lets the process answer its open lines, close the file, and end."""
         self.stdin.close()
 
     def kill(self) -> None:
-        """Kills it. asyncio's own call might lose its status."""
+        """Kills the process. asyncio's own call might lose its status."""
         if self.transport.get_returncode() is None:
             with suppress(ProcessLookupError):
                 os.kill(self.transport.get_pid(), signal.SIGKILL)
 
 
 class Book:
-    """Who answers lines: one process after another, since only one can have the file.
+    """The answers of the book: from one process after another, since only one can have the file.
 
     While another program has the file (`lent`), lines wait for the next process.
     """
@@ -135,7 +137,7 @@ class Book:
             self.ended.set_result(status)
 
     def hand_over_to(self, process: Process) -> None:
-        """Has a process answer all lines from now on, those that waited first."""
+        """Hands all lines to a process from now on, first those that waited."""
         self.process, self.is_down = process, False
         self.opened = time.monotonic()
         waiting, self.waiting = self.waiting, []
@@ -162,7 +164,7 @@ class Book:
         return self.process is None
 
     def has_ended(self) -> bool:
-        """Whether it has ended, or is about to."""
+        """Whether the book has ended, or is about to."""
         return self.ended.done() or self.is_ending
 
     @asynccontextmanager
@@ -181,8 +183,8 @@ class Book:
             await self.reopen()
 
     async def reopen(self) -> None:
-        """Starts a process until one answers, or the server ends. Whoever waits is refused at the
-        first that doesn't."""
+        """Starts processes until one answers, or the server ends. The first that doesn't answer
+        refuses all waiting lines."""
         while not self.is_ending:
             if process := await self.process_that_answers():
                 self.hand_over_to(process)
@@ -237,7 +239,7 @@ class Places:
         self.users = OrderedDict[Hashable, deque[asyncio.Future[None]]]()
 
     def take(self, user: Hashable) -> asyncio.Future[None]:
-        """Waits for a place, which may be free now."""
+        """Waits for a free place."""
         place: asyncio.Future[None] = asyncio.get_running_loop().create_future()
         if self.free > 1 and not self.users:
             self.give(user, place)
@@ -247,20 +249,20 @@ class Places:
         return place
 
     def give(self, user: Hashable, place: asyncio.Future[None]) -> None:
-        """Gives a user a place that is free."""
+        """Hands a free place to a user."""
         if not place.cancelled():  # as the server ends
             self.free -= 1
             self.taken[user] += 1
             place.set_result(None)
 
     def release(self, user: Hashable) -> None:
-        """Takes a place back, and gives it to the next user."""
+        """Frees a place, and hands it to the next user."""
         self.free += 1
         self.taken[user] -= 1
         self.give_next()
 
     def give_next(self) -> None:
-        """Gives the free places to those whose turn it is."""
+        """Hands the free places to the users whose turn it is."""
         while self.free and self.users:
             user = min(self.users, key=self.taken.__getitem__)
             if self.free == 1 and self.taken[user]:
@@ -282,7 +284,7 @@ class Rounds:
         self.running = 0  # changes of this round
 
     async def ask(self, words: list[bytes], is_alone: bool) -> bytes:
-        """The answer to a change, which goes now, or in the next round."""
+        """The answer to a change, which begins now, or in the next round."""
         while self.is_busy() and not self.gate.is_set():
             await self.gate.wait()
             if not is_alone:

@@ -38,7 +38,6 @@ class Client:
         self.socket = sock
         self.pid = peer.pid
         self.uid = peer.uid
-        self.owner = peer.owner
         self.user = peer.user
         self.is_ending = False  # it takes no more requests
         self.is_watched = False  # the loop tells when its socket can be read
@@ -67,7 +66,7 @@ class Client:
                 self.socket.close()
 
     async def read(self) -> None:
-        """Has each line answered; of a long one the beginning, which is refused."""
+        """Passes each line on; of a long one the beginning, which is refused."""
         text, is_rest = b"", False
         while more := await self.receive():
             text += more
@@ -82,7 +81,7 @@ class Client:
                     text = await self.read_text(self.incoming, text)
 
     async def read_text(self, incoming: Incoming, data: bytes) -> bytes:
-        """Has an import begin once its text has come; returns what comes behind the text."""
+        """Begins an import once its text has come; returns the bytes behind the text."""
         transfers = self.service.transfers
         try:
             rest = incoming.take(data)
@@ -106,7 +105,7 @@ class Client:
         return b"" if self.is_ending else await self.received
 
     def wake(self) -> None:
-        """Reads what has come, if somebody waits for it."""
+        """Reads the bytes that have come, if a task waits for them."""
         self.is_watched = not self.received.done()
         if not self.is_watched:  # nobody waits for more
             self.loop.remove_reader(self.socket)
@@ -120,7 +119,7 @@ class Client:
             self.received.set_result(b"")
 
     async def answer_line(self, line: bytes) -> None:
-        """Has a line answered, under its tag if it has one."""
+        """Answers a line, under its tag if it has one."""
         tag, *words = line.split(b" ")
         if not TAG.fullmatch(tag):
             await self.submit(NO_TAG, words, LONG if len(line) > LONGEST else BAD_LINE)
@@ -130,8 +129,8 @@ class Client:
             await self.submit(tag, words)
 
     async def submit(self, tag: bytes, words: list[bytes], refusal: bytes = b"") -> None:
-        """Has a request answered, or a refusal told, once few enough others run, and it is this
-        user's turn."""
+        """Answers a request, or refuses it, once few enough others run, and it is this user's
+        turn."""
         await self.has_fewer(AT_ONCE)
         if self.is_ending:
             return

@@ -1,4 +1,4 @@
-"""The sockets: who may ask what there, who is let in, and whose share of the book they use."""
+"""The sockets: their operations, their admission of clients, and the shares of users."""
 
 from __future__ import annotations
 
@@ -42,13 +42,12 @@ class Peer:
 
     pid: int
     uid: int
-    owner: int  # the person who has that uid
     user: tuple[str, str]  # whose turn it is: a door, and a share
 
 
 @dataclass(eq=False)
 class Door:
-    """A socket, what its clients may ask for, and who they are."""
+    """A socket, its operations, and its clients."""
 
     name: str
     path: str
@@ -134,8 +133,7 @@ class Door:
         pid, uid, _gid = PEER.unpack(
             sock.getsockopt(socket.SOL_SOCKET, socket.SO_PEERCRED, PEER.size)
         )
-        owner = owner_of(uid)
-        return Peer(pid, uid, owner, (self.name, share_of(owner, pid)))
+        return Peer(pid, uid, (self.name, share_of(owner_of(uid), pid)))
 
     def has_place(self, own: int) -> bool:
         """Whether a user who has so many places may have one more: of those that the others leave
@@ -145,7 +143,7 @@ class Door:
         return is_at_most_half and (own == 0 or taken < MOST_CLIENTS - LAST_PLACES)
 
     def let_in(self, service: Service, sock: socket.socket) -> bool:
-        """Whether it stays, in a place that its user may have; it is told otherwise."""
+        """Whether the connection gets a place of its user's; otherwise it is told so."""
         with suppress(OSError):  # if nothing has come
             if not sock.recv(1, socket.MSG_PEEK):
                 sock.close()

@@ -43,7 +43,7 @@ async def take_in(service: Service) -> None:
 
 
 async def has_taken(service: Service, name: bytes, word: bytes) -> bool:
-    """Has the book take the mark of an operation; false if there is nobody to have it."""
+    """Puts the mark of an operation into the book; false if no account can have the mark."""
     if not NAME.fullmatch(name):  # such as one that is too long for a line
         return False
     row = await asyncio.shield(service.book.row(name))
@@ -70,5 +70,5 @@ async def mark_in_old_file(service: Service, name: bytes, word: bytes) -> bytes:
 
 
 async def ask(service: Service, *words: bytes) -> bytes:
-    """The book's answer, for which it looks also if the start is cancelled."""
+    """The book's answer, also if the start is cancelled meanwhile."""
     return await asyncio.shield(service.book.ask(*words))

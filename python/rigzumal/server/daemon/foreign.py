@@ -1,6 +1,8 @@
 """Users of an htpasswd file, who move into the book by right passwords."""
 
 import asyncio
+import base64
+import os
 from collections.abc import Collection
 from contextlib import AsyncExitStack
 from dataclasses import replace
@@ -8,11 +10,13 @@ from typing import BinaryIO
 from weakref import WeakValueDictionary
 
 from .aging import Line, today
-from .book import LACKS, LOCKED, NO_ACCOUNT, NO_RECORD, UNAVAILABLE, has_record, password_of
+from .book import LACKS, LATER, LOCKED, NO_ACCOUNT, NO_RECORD, UNAVAILABLE
+from .book import has_record, password_of
 from .old_file import OldFile
 from .schemes import is_right
 from .service import Request, Service
 from .transfers import memory_file
+from .tries import Tries
 
 # Answers to a password after which the book has a record.
 HAS_RECORD = (b"yes", b"expired", b"same", b"replaced", b"upgraded", b"kept", b"enrolled")
@@ -20,7 +24,7 @@ HAS_RECORD = (b"yes", b"expired", b"same", b"replaced", b"upgraded", b"kept", b"
 IF_NAME_IS_TAKEN = {b"account": b"bad 1 exists", b"rename": b"exists"}
 ENDS_RECORD = (b"disable", b"delete", b"rename", b"remove")  # leave none in the book
 MARKS = (b"lock", b"unlock", b"expire")
-EXPIRED = b"expired"  # the answer to `expire`
+EXPIRED, FORGIVEN = b"expired", b"forgiven"  # the answers to `expire` and `forgive`
 
 
 class Foreign:
@@ -29,6 +33,7 @@ class Foreign:
     def __init__(self, service: Service, path: str) -> None:
         self.service = service
         self.file = OldFile(path, service.names)
+        self.tries = Tries(service.options.tries)
         self.locks = WeakValueDictionary[bytes, asyncio.Lock]()  # of names, one request at a time
 
     async def answer(self, request: Request) -> bytes:
@@ -37,13 +42,16 @@ class Foreign:
             return await self.service.ask(request)
         if request.word == b"marks":
             return await self.page_of_marks(request)
+        if request.word == b"forgive":
+            return await self.forgive(request)
         if not request.operation.tries and request.word not in (b"known", b"show"):
             return await self.answer_unbarred(request)
         name, question = request.words[1], request
         is_barred = await self.file.bars(name)
         if is_barred and request.operation.tries:
-            # As long as a wrong password takes, and nothing is changed.
-            question = replace(request, words=[b"verify", *request.words[1:3]])
+            # As long as a wrong password takes: it counts as one, and nothing is changed.
+            words = [b"verify", name, *map(password_of_nobody, request.words[2:3])]
+            question = replace(request, words=words)
         answer = await self.answer_unbarred(question)
         if is_barred or await self.file.bars(name):  # the file may have changed
             return answer_to_barred(request, answer)
@@ -66,6 +74,16 @@ class Foreign:
                 rows[name] = row_with_lock(rows.get(name, b""))
         names = sorted(rows)[:count]
         return b" ".join([word, *(b"%b:%b" % (name, rows[name]) for name in names)])
+
+    async def forgive(self, request: Request) -> bytes:
+        """Forgets the failed tries at a name, at the book and at the file."""
+        name = request.words[1]
+        answer = await self.service.ask(request)
+        if answer == b"noaccount" and (await self.file.line(name)).record:
+            answer = FORGIVEN
+        if answer == FORGIVEN:
+            self.tries.forgive(name)
+        return answer
 
     async def with_locks(self, text: BinaryIO) -> BinaryIO:
         """An export, with a lock at those whom the file bars."""
@@ -93,9 +111,12 @@ class Foreign:
         word, name = request.words[:2]
         if word in IF_NAME_IS_TAKEN and (await self.file.line(request.words[-1])).record:
             return IF_NAME_IS_TAKEN[word]
-        line, book = await self.file.line(name), self.service.book
-        if refusal := await self.prepare(request, line, await book.row(name)):
+        line, row = await self.file.line(name), await self.service.book.row(name)
+        if refusal := await self.prepare(request, line, row):
             return refusal
+        is_try_of_file = request.operation.tries and line.record and not has_record(row)
+        if is_try_of_file and self.tries.is_too_early(name):
+            return LATER
         answer = await self.service.ask(request)
         if not line.record:
             return answer
@@ -105,7 +126,8 @@ class Foreign:
         return answer
 
     async def prepare(self, request: Request, line: Line, row: bytes) -> bytes:
-        """Does what has to be done before the book is asked; returns the answer if it isn't."""
+        """Does the steps before the book's part; returns the answer if the book needn't be
+        asked."""
         word, name = request.words[:2]
         if row == UNAVAILABLE or row.startswith(b"bad ") and row != NO_ACCOUNT:
             return row
@@ -129,6 +151,7 @@ class Foreign:
     async def note_move(self, request: Request, answer: bytes) -> None:
         """Notes that a name has moved, if the book has its record after this answer."""
         if request.operation.hashes and answer in HAS_RECORD:
+            self.tries.forgive(request.words[1])
             await self.file.note_moved(request.words[1])
 
     async def answer_of_file(self, request: Request, line: Line, answer: bytes) -> bytes:
@@ -170,7 +193,9 @@ class Foreign:
         is_same = await self.file.line(name) == line  # as before that hash
         is_open = is_same and not line.why_shut(today()) and not await self.is_locked(name)
         if not is_password or not is_open:
+            self.tries.fail(name)
             return request.operation.wrong
+        self.tries.forgive(name)
         is_login = not request.operation.changes
         if is_login and not self.service.has_room():  # the user moves another day
             return self.answer_to_known(name, line)
@@ -181,7 +206,7 @@ class Foreign:
         return answer
 
     async def move(self, request: Request, line: Line) -> bytes:
-        """Puts a user's record into the book, and has the file decide no more; returns a refusal.
+        """Puts a user's record into the book, whose record then decides; returns a refusal.
 
         A password that must be changed is noted before, since a kill behind `enrol` would leave a
         record without the mark: `finish_move` sees the note.
@@ -199,6 +224,11 @@ class Foreign:
             return answer
         await self.file.note_moved(name)
         return b""
+
+
+def password_of_nobody(field: bytes) -> bytes:
+    """A password in place of one that may be right; what is no password as it is."""
+    return field if password_of(field) is None else base64.b64encode(os.urandom(24))
 
 
 def ends_record(word: bytes, row: bytes) -> bool:
@@ -230,7 +260,7 @@ def with_locks(text: BinaryIO, names: Collection[bytes]) -> BinaryIO:
 
 
 def answer_to_barred(request: Request, answer: bytes) -> bytes:
-    """What is answered in place of this answer for a user whom the file bars."""
+    """The answer in place of this one for a user whom the file bars."""
     if request.word == b"show":
         return row_with_lock(answer)
     if answer not in (b"yes", b"no", b"expired"):

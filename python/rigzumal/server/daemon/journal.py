@@ -17,6 +17,7 @@ from .appending import FAULT, SIZE, GrowingFile, private
 
 log = logging.getLogger("credkeep-server")
 SELDOM = 3600.0  # seconds
+MOST_KEYS = 65536  # of messages that were logged, as far as they are remembered
 logged_at = dict[Hashable, float]()  # when log_seldom logged what
 MARKED = re.compile(rb"([!-~]+)(?: ([a-z]+))? \d{4}-\d\d-\d\dT\d\d:\d\d:\d\dZ")
 MOST_LINES = 4096  # of a journal, that wait for its disk
@@ -31,8 +32,16 @@ def log_seldom(key: Hashable, text: str, *values: object) -> None:
     """Logs messages of one key once an hour."""
     now = time.monotonic()
     if now >= logged_at.get(key, -SELDOM) + SELDOM:
+        logged_at.pop(key, None)
         logged_at[key] = now
         log.warning(text, *values)
+        if len(logged_at) > MOST_KEYS:
+            del logged_at[next(iter(logged_at))]  # the oldest
+
+
+def forget_message(key: Hashable) -> bool:
+    """Has the next message of a key logged at once; false if none was logged."""
+    return logged_at.pop(key, None) is not None
 
 
 def utc(seconds: Optional[float] = None) -> str:
@@ -65,7 +74,7 @@ class Journal(GrowingFile):
         return len(self.lines) >= MOST_LINES
 
     def add(self, line: bytes) -> asyncio.Future[bool]:
-        """Appends a line with those that come meanwhile: whether it is on the disk."""
+        """Appends a line with those that come meanwhile; returns whether it is on the disk."""
         if self.is_full():
             text = "%s: its disk hangs: %d lines wait, and the next ones are left out"
             log_seldom((self.path, "full"), text, self.path, MOST_LINES)
@@ -113,7 +122,7 @@ class Writer:
         return self.process.poll() is not None
 
     async def append(self, text: bytes) -> None:
-        """Has a text written to the disk; one at a time."""
+        """Lets the process write a text to the disk, one at a time."""
         loop = asyncio.get_running_loop()
         await loop.sock_sendall(self.socket, SIZE.pack(len(text)) + text)
         answer = await loop.sock_recv(self.socket, FAULT.size)

@@ -1,4 +1,4 @@
-"""How the server begins, goes on and ends."""
+"""The server's start, its run and its end."""
 
 import asyncio
 import logging
@@ -16,8 +16,9 @@ from .earlier import take_in
 from .journal import Problem, log, notify
 from .options import Options, parse
 from .service import Service
-from .tries import metrics
+from .tally import metrics
 
+NEWEST_OPTION = "--tries"  # of credkeep's serve
 HASHES = 3  # of no account, at the start: the quickest tells how long a hash takes
 UNWATCHED_SECONDS = 30.0  # between two looks at the book, if systemd asks for no watchdog
 # After a signal to end: until a client that reads no answers is closed, until the lines that have
@@ -56,6 +57,7 @@ async def serve(options: Options) -> int:
     for door in options.doors:
         door.prepare()
     service = Service(options)
+    await refuse_older_credkeep(options)
     loop = asyncio.get_running_loop()
     loop.set_exception_handler(log_fault)
     await service.book.open()
@@ -69,6 +71,19 @@ async def serve(options: Options) -> int:
     finally:
         status = await end(service)
     return status
+
+
+async def refuse_older_credkeep(options: Options) -> None:
+    """Raises Problem if credkeep lacks an option that the server gives it."""
+    process = await asyncio.create_subprocess_exec(
+        *(options.credkeep, options.file, "serve", "--help"),
+        stdin=asyncio.subprocess.DEVNULL,
+        stdout=asyncio.subprocess.PIPE,
+        stderr=asyncio.subprocess.DEVNULL,
+    )
+    shown, _ = await process.communicate()
+    if NEWEST_OPTION.encode() not in shown:
+        raise Problem(f"{options.credkeep} is older than this server: it has no {NEWEST_OPTION}")
 
 
 def log_fault(_loop: asyncio.AbstractEventLoop, context: dict[str, Any]) -> None:
@@ -92,15 +107,13 @@ async def serve_clients(service: Service) -> None:
     beat = beat_seconds()
     while True:
         await notify_once_answered(service.book, beat)
-        service.tally.names.drop_expired()
-        service.tally.users.drop_expired()
         end_idle_clients(service, idle)
         await asyncio.sleep(min(beat, idle / 10))
 
 
 async def notify_once_answered(book: Book, beat: float) -> None:
-    """Tells systemd that the server goes on once the book answers; and in each beat until then, if
-    an import has the book's file."""
+    """Tells systemd that the server is alive, in each beat in which the book answers or an import
+    has its file."""
     answer = book.ask(b"show", b"-")
     while not answer.done():
         await asyncio.wait([answer], timeout=beat)
@@ -109,14 +122,14 @@ async def notify_once_answered(book: Book, beat: float) -> None:
 
 
 def beat_seconds() -> float:
-    """How often systemd is told that the server goes on: in half of the time that it gives."""
+    """The seconds of a beat: half of systemd's limit."""
     text = os.environ.get("WATCHDOG_USEC", "")
     microseconds = float(text) if text.isdecimal() else 0.0
     return microseconds / 2e6 if microseconds else UNWATCHED_SECONDS
 
 
 def end_idle_clients(service: Service, idle: float) -> None:
-    """Ends those that for so many seconds neither sent a line nor read their answers."""
+    """Closes clients that for so many seconds neither sent a line nor read their answers."""
     for client in list(service.clients):
         is_waiting = client.running and not client.writing.locked()
         if client.active < time.monotonic() - idle and not is_waiting:
@@ -142,7 +155,7 @@ async def end(service: Service) -> int:
 
 
 async def wait_for_answers(service: Service, began: float) -> None:
-    """Waits until each client has its answers and has gone, for as long as that may take."""
+    """Waits until each client has its answers and has gone, up to the limit."""
     seconds = 0.0
     while (service.clients or service.tasks) and seconds <= LINES_SECONDS:
         await asyncio.sleep(0.01)

@@ -13,7 +13,7 @@ NO_NAME = b"@"  # which no book can have
 
 
 class Names:
-    """What --mail-names and --fold-local-part make of names."""
+    """The rules of --mail-names and --fold-local-part for names."""
 
     def __init__(self, options: Options) -> None:
         self.has_addresses = options.mail_names

@@ -18,8 +18,8 @@ MUST_CHANGE = b"expire"  # the mark in HTPASSWD.moved of who must change before 
 
 
 class OldFile:
-    """The file, read again once it has changed. HTPASSWD.moved names who has left it, and who of
-    the others must change the password."""
+    """The file, read again once it has changed. HTPASSWD.moved names the users who have left it,
+    and of the others those who must change the password."""
 
     def __init__(self, path: str, names: Names) -> None:
         self.path = path
@@ -83,7 +83,7 @@ class OldFile:
         return self.moved.has(name)
 
     async def note_moved(self, name: bytes) -> bool:
-        """Has the file decide no more about a name; false if that can't be written."""
+        """Notes that the file no longer decides about a name; false if that can't be written."""
         return self.has_moved(name) or await self.moved.put(name)
 
     def is_expired(self, name: bytes) -> bool:
@@ -91,7 +91,7 @@ class OldFile:
         return self.moved.has(name, MUST_CHANGE) and not self.has_moved(name)
 
     async def expire(self, name: bytes) -> bool:
-        """Has HTPASSWD.moved say that a name must change the password; false if it can't."""
+        """Notes in HTPASSWD.moved that a name must change the password; false if that fails."""
         return self.is_expired(name) or await self.moved.put(name, MUST_CHANGE)
 
     def must_change(self, name: bytes, line: Line) -> bool:

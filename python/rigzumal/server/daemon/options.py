@@ -17,6 +17,7 @@ from .protocol import OPERATIONS
 VERSION = "0.2.0"
 BOOKS, SOCKETS = pathlib.Path("/var/lib/rigzumal"), pathlib.Path("/run/rigzumal")
 MOST_AT_ONCE = 254  # of a user: credkeep takes 255
+MOST_TRIES = 86  # of credkeep
 
 
 def number(word: str, most: int) -> int:
@@ -26,7 +27,7 @@ def number(word: str, most: int) -> int:
 
 
 def option(text: str, metavar: str = "", default: object = "", most: int = 10**9 - 1) -> Any:
-    """A field of Options that the command line sets; a flag if it has no value."""
+    """A field of Options that the command line sets; without a value it is a flag."""
     if not metavar:
         return field(default=False, metadata={"help": text, "action": "store_true"})
     text += f" ({default})" if default != "" else ""
@@ -45,8 +46,7 @@ class Options:
     doors: list[Door] = field(default_factory=list)
     socket: list[list[str]] = field(default_factory=list)
     http: str = option("answer HTTP at a further socket", "SOCKET")
-    tries: int = option("failed tries until a name has to wait; 0: no limit", "N", 10)
-    uid_tries: int = option("the same for each person's uid, over all names", "N", 0)
+    tries: int = option("failed tries until a name has to wait; 0: no limit", "N", 10, MOST_TRIES)
     idle: int = option("until an idle client is closed", "SECONDS", 600)
     audit: str = option("append a JSON line to this file for each change", "LOG")
     audit_tries: bool = option("log failed tries too")
@@ -55,7 +55,7 @@ class Options:
     upgrade: str = option("new costs, to which a verify upgrades", "COSTS")
     least_length: int = option("the least length of a new password", "N", 0)
     setting: str = option("for credkeep: the costs of new records", "TEXT")
-    at_once: int = option("hashes of a user at once; 0: processors", "N", 0, MOST_AT_ONCE)
+    at_once: int = option("a user's hashes at once; 0: one a processor", "N", 0, MOST_AT_ONCE)
     memory: str = option("for credkeep: memory for hashes, as 512M", "SIZE")
     most_memory: str = option(f"memory that {LINE}", "SIZE")
     most_work: str = option(f"work that {LINE}", "SIZE")
@@ -78,7 +78,7 @@ class Options:
     def book_words(self) -> list[str]:
         words = [self.credkeep, "--wait", self.wait, self.file, "serve", "--tagged"]
         words += ["--at-once", self.workers()]
-        for name in ("memory", "most_memory", "most_work", "setting"):
+        for name in ("tries", "memory", "most_memory", "most_work", "setting"):
             if value := getattr(self, name):
                 words += ["--" + name.replace("_", "-"), value]
         return [str(word) for word in words]
@@ -132,7 +132,7 @@ def parser() -> Parser:
 
 
 def parse(words: Sequence[str]) -> Options:
-    """The options of a command line; raises Problem for those that can't be meant."""
+    """The options of a command line; raises Problem for impossible ones."""
     options = parser().parse_args(words, Options())
     if options.metrics:
         return options

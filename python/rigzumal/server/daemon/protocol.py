@@ -1,8 +1,8 @@
-"""The operations that a line asks for, and the answers that it gets: one table of each.
+"""The operations and the answers of lines: one table of each.
 
-The server, credkeep-ask and the HTTP door read these tables. tools/protocol.py writes what others
-have of them: the replies of the clients for Python, the header of the PAM module, and the answers
-in docs/ERRORS.md and credkeep-server(8). tests/server/test_protocol.py looks whether all agree.
+The server, credkeep-ask and the HTTP door read these tables. From them tools/protocol.py writes the
+replies of the clients for Python, the header of the PAM module, and the answers in docs/ERRORS.md
+and credkeep-server(8). tests/server/test_protocol.py tests whether all agree.
 """
 
 from __future__ import annotations
@@ -30,12 +30,12 @@ class Answer:
 
 
 def done(reply: str, meaning: str) -> Answer:
-    """The answer to a change that was made."""
+    """The answer to a change that took effect."""
     return Answer(meaning, changed=True, reply=reply)
 
 
 def refused(meaning: str, ask: int = 1, http: int = 503) -> Answer:
-    """The answer to a line that isn't taken."""
+    """The answer to a refused line."""
     return Answer(meaning, ask=ask, http=http)
 
 
@@ -109,7 +109,7 @@ ANSWERS = {
         ask=4,
     ),
     "none": Answer(
-        "there is nothing of this kind: a record, a lock, failed tries, a right password",
+        "there is nothing of this kind: a record, a lock, a right password",
         reply="NONE",
         ask=4,
     ),
@@ -172,14 +172,14 @@ NO_ANSWER = Answer("")  # any other text
 
 @dataclass(frozen=True)
 class Command:
-    """A command of credkeep-ask for a server: what stands behind it, and what its help says."""
+    """A command of credkeep-ask for a server: the words behind it, and its text of help."""
 
     words: str
     text: str
 
     @cached_property
     def counts(self) -> range:
-        """How many words may stand behind it, without options."""
+        """The number of words behind the command, without options."""
         words = [word for word in self.words.split() if not word.startswith(("[-", "[OPTION]"))]
         least = sum(not word.startswith("[") for word in words)
         return range(least, len(words) + 1)
@@ -187,7 +187,7 @@ class Command:
 
 @dataclass(frozen=True)
 class Operation:
-    """What a line asks for, and its cost for the book.
+    """An operation that a line requests, and its cost for the book.
 
     Its fields are called NAME, OTHER (a new name), PW (the present password, so that the line may
     be a guess), NEW (a new password), RECORD, SETTING (costs and a salt, which a line may lack),
@@ -195,7 +195,8 @@ class Operation:
     """
 
     fields: str = "NAME"
-    answers: str = ""  # of the book; not those that any line may get, and no other texts
+    # Of the book; not those that any line, or any try, may get, and no other texts.
+    answers: str = ""
     hashes: bool = False
     changes: bool = False
     is_own: bool = False  # it is answered by the server, and not by the book
@@ -209,17 +210,17 @@ class Operation:
 
     @cached_property
     def names(self) -> int:
-        """How many of its fields are names, from the first on."""
+        """The number of names among its fields, which come first."""
         return sum(field in ("NAME", "OTHER") for field in self.fields.split())
 
     @cached_property
     def new(self) -> int:
-        """Which of its fields is a new password; 0 if none is."""
+        """The place of a new password among its fields; 0 if none is one."""
         return self.place("NEW")
 
     @cached_property
     def setting(self) -> int:
-        """Which of its fields is a setting, if a line has one; 0 if none may be."""
+        """The place of a setting among its fields; 0 if none may be one."""
         return self.place("[SETTING]")
 
     @cached_property
@@ -268,7 +269,7 @@ OPERATIONS = {
         "NAME RECORD",
         "ok",
         changes=True,
-        command=Command("NAME", "put the record that is read from standard input"),
+        command=Command("NAME", "store the record on standard input"),
     ),
     b"disable": Operation(
         "NAME",
@@ -298,7 +299,7 @@ OPERATIONS = {
         "NAME",
         "unlocked none noaccount",
         changes=True,
-        command=Command("NAME", "refuse them no longer"),
+        command=Command("NAME", "end a lock"),
     ),
     b"expire": Operation(
         "NAME",
@@ -315,6 +316,11 @@ OPERATIONS = {
         "FROM COUNT",
         command=Command("[NAME]", "who is locked, and who must change the password"),
     ),
+    b"forgive": Operation(
+        "NAME",
+        "forgiven noaccount",
+        command=Command("NAME", "end a wait after failed tries"),
+    ),
     b"import": Operation(
         "SIZE [OPTION]..",
         changes=True,
@@ -327,20 +333,16 @@ OPERATIONS = {
     b"backup": Operation(
         "", is_transfer=True, command=Command("FILE", "write a copy of the whole book")
     ),
-    b"forgive": Operation(
-        "NAME",
-        "forgiven none",
-        is_own=True,
-        command=Command("NAME", "end a wait after failed tries"),
-    ),
     b"last": Operation(
         "NAME",
         "none",
         is_own=True,
         command=Command("NAME", "the time of the last right password"),
     ),
+    b"waits": Operation(
+        "", is_own=True, command=Command("", "the names at which a try was too early")
+    ),
     b"stats": Operation("", is_own=True, command=Command("", "counts of answers")),
-    b"waits": Operation("", is_own=True, command=Command("", "who must wait after failed tries")),
 }
 # The options of an import, as credkeep has them.
 ONLY_TRIED = "--dry-run"

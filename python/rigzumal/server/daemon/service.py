@@ -1,4 +1,5 @@
-"""The requests of clients: who may ask what, when the book is asked, and what is noted."""
+"""The requests of clients: their rights, their turns at the book, and their notes in the audit
+log."""
 
 import asyncio
 import json
@@ -8,10 +9,9 @@ import time
 from collections import deque
 from collections.abc import Coroutine
 from dataclasses import dataclass, replace
-from functools import partial
 from typing import TYPE_CHECKING, Any, Optional
 
-from .book import LACKS, LOCKED, MUST_CHANGE, NO_ACCOUNT, NO_RECORD, UNAVAILABLE
+from .book import LACKS, LATER, LOCKED, MUST_CHANGE, NO_ACCOUNT, NO_RECORD, UNAVAILABLE
 from .book import Book, Places, Rounds, password_of
 from .clients import LONG, LONGEST, Client
 from .disk import FULL, NEEDED, has_room
@@ -20,8 +20,8 @@ from .journal import AuditLog, log_seldom, utc
 from .names import Names
 from .options import Options
 from .protocol import ANSWERS, NO_ANSWER, OPERATIONS, RIGHT, Operation
+from .tally import Tally
 from .transfers import Transfers
-from .tries import LATER, Tally
 
 if TYPE_CHECKING:
     from .foreign import Foreign
@@ -35,13 +35,12 @@ TURNS = 8  # places for lines that are taken in a pass of the loop
 LOOKS, CHANGES = 16, 128  # places for lines that change nothing, and for quick changes
 SYNC_SECONDS = 0.01  # that a change waits for the disk, more or less
 REFUSALS = (b"noaccount", b"bad ", LATER)  # change nothing; a name may be a password
-PEOPLE = range(1000, 60001)  # uids whose failed tries count: a service logs many in
 MOST_LOGINS_TIMED = 16
 
 
 @dataclass(eq=False)
 class Request:
-    """What a client asks for, and the places for which it waits."""
+    """A client's request, and the places for which it waits."""
 
     client: Client
     tag: bytes
@@ -59,18 +58,12 @@ class Request:
 
     @property
     def name(self) -> str:
-        """The account's name, by which failed tries are counted."""
+        """The account's name."""
         return self.words[1].decode(errors="replace")
-
-    @property
-    def person(self) -> str:
-        """The person whose failed tries are counted; nobody for a service, which logs many in."""
-        uid = self.client.owner
-        return f"uid={uid}" if uid in PEOPLE else ""
 
 
 class Service:
-    """The book, its doors, and who may ask what and when."""
+    """The book, its doors, and the rights and turns of clients."""
 
     def __init__(self, options: Options) -> None:
         self.options = options
@@ -161,7 +154,7 @@ class Service:
         return SHORT if length < self.options.least_length else b""
 
     def places_for(self, operation: Operation) -> Places:
-        """Where a request waits: for a hash, for the disk, or for neither."""
+        """The queue of a request: for a hash, for the disk, or none."""
         is_quick = operation.changes and self.hash_seconds <= SYNC_SECONDS
         if operation.hashes and not is_quick:
             return self.hashes
@@ -170,13 +163,13 @@ class Service:
     # ---- it is answered
 
     async def process(self, request: Request) -> None:
-        """Has a request answered, and notes the answer: that of a change before the client has it,
-        and that of a login behind it, since a slow disk holds up no login."""
+        """Answers a request, and notes the answer: that of a change before the client gets it, and
+        that of a login afterwards, so that a slow disk holds up no login."""
         client, operation = request.client, request.operation
         answer = await self.answer_in_turn(request)
         # Not the record that a `disable` shows.
         noted = b"disabled" if operation.changes and b":" in answer else answer
-        self.tally.count(operation, request.name, request.person, noted.decode())
+        self.tally.count(operation, request.name, noted.decode())
         if answer == LATER:
             # After the time of a hash: names that the book lacks take that too.
             await asyncio.sleep(random.choice(self.login_seconds or [self.hash_seconds]))
@@ -200,18 +193,9 @@ class Service:
         try:
             if not request.operation.changes and client.has_gone():
                 return b""
-            return await self.answer_within_tries(request)
+            return await self.answer_if_room(request)
         finally:
             request.places.release(client.user)
-
-    async def answer_within_tries(self, request: Request) -> bytes:
-        """The answer to a request; LATER if too many tries at its name, or of its person, failed
-        before."""
-        answering = partial(self.answer_if_room, request)
-        if not request.operation.tries:
-            return await answering()
-        judging = partial(self.tally.names.judge, request.name, answering)
-        return await self.tally.users.judge(request.person, judging)
 
     async def answer_if_room(self, request: Request) -> bytes:
         """The answer to a request. A change isn't tried if it finds no room, or if so many lines

@@ -49,7 +49,7 @@ def size_of_file(path: str) -> int:
 
 @dataclass
 class Result:
-    """How a run of credkeep ended, and what it wrote on both streams."""
+    """The status of a run of credkeep, and its output on both streams."""
 
     status: int = 0
     output: BinaryIO = field(default_factory=memory_file)
@@ -66,7 +66,7 @@ class Result:
         yield self.faults
 
     def first_line(self) -> bytes:
-        """What it says first, such as the counts of an import."""
+        """Its first line, such as the counts of an import."""
         self.output.seek(0)
         return self.output.readline(PIECE).rstrip(b"\n")
 
@@ -80,7 +80,7 @@ class Incoming:
         self.text = memory_file()
 
     def take(self, data: bytes) -> bytes:
-        """Takes what belongs to the text, and returns what comes behind it."""
+        """Keeps the bytes of the text, and returns those behind it."""
         own, rest = data[: self.missing], data[self.missing :]
         self.text.write(own)
         self.missing -= len(own)
@@ -101,7 +101,7 @@ class Transfers:
     # ---- what a client asks for
 
     def submit(self, request: Request) -> bytes:
-        """Begins to do what is asked for, or returns the answer."""
+        """Begins a request, or returns the answer."""
         word, *fields = request.words
         if self.service.audit.is_full():
             return UNAVAILABLE
@@ -115,7 +115,7 @@ class Transfers:
         return b""
 
     def submit_import(self, request: Request, fields: list[bytes]) -> bytes:
-        """Has the client send the text, by the answer `send`; or returns another one."""
+        """Asks the client for the text, by the answer `send`; or returns another answer."""
         size, *options = fields
         are_known = all(option.decode(errors="replace") in IMPORT_OPTIONS for option in options)
         if not re.fullmatch(rb"[0-9]{1,12}", size) or not are_known:
@@ -144,15 +144,14 @@ class Transfers:
         self.has_import = False
 
     def begin(self, request: Request, text: Optional[BinaryIO]) -> None:
-        """Begins to do what is asked for; an import goes on if its client has gone."""
+        """Begins a request; an import goes on if its client has gone."""
         request.client.running += 1
         self.service.begin(self.process(request, text))
 
     # ---- it is done
 
     async def process(self, request: Request, text: Optional[BinaryIO]) -> None:
-        """Does what is asked for, and answers. A fault costs this request, and never the
-        service."""
+        """Does a request, and answers it. A fault costs this request, and never the service."""
         client = request.client
         try:
             result = await self.result(request, text)
@@ -168,14 +167,14 @@ class Transfers:
             client.answered.set()
 
     async def is_noted(self, request: Request, result: Result) -> bool:
-        """Adds what was done to the audit log; false if that fails."""
+        """Notes a request in the audit log; false if that fails."""
         if result.status or is_only_tried(request):
             return True
         is_import = request.word == b"import"
         return await self.service.note(request, result.first_line() if is_import else b"ok")
 
     async def result(self, request: Request, text: Optional[BinaryIO]) -> Result:
-        """The result of what is asked for, which is done once no other run of credkeep goes on."""
+        """The result of a request, which waits until no other credkeep runs."""
         try:
             async with self.one_at_a_time:
                 if self.service.book.has_ended():
@@ -205,7 +204,7 @@ class Transfers:
         return result
 
     async def use_copy(self, request: Request, text: Optional[BinaryIO]) -> Result:
-        """Does with a copy what is asked for, while the book is served."""
+        """Does a request on a copy, while the book is served."""
         try:
             backup = await self.run(self.file, "backup", self.copy)
             if backup.status:
@@ -255,7 +254,7 @@ class Transfers:
         return await asyncio.to_thread(with_names_of_book, text, self.service.names)
 
     async def run(self, file: str, *words: str, text: Optional[BinaryIO] = None) -> Result:
-        """The result of credkeep that gets this text."""
+        """The result of a run of credkeep, with this text as its input."""
         options, result = self.service.options, Result()
         if text is not None:
             text.seek(0)

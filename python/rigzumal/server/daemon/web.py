@@ -1,7 +1,6 @@
 """HTTP for nginx's auth_request and its like: Basic comes in, and a status goes out."""
 
 import base64
-import math
 import re
 from collections.abc import Sequence
 from typing import Any, Optional
@@ -39,7 +38,7 @@ def credentials(headers: Sequence[tuple[bytes, bytes]]) -> Optional[tuple[bytes,
 
 
 def status_of_framing(request: Any) -> int:
-    """The status of a request that no server can be sure of; 0 for others. RFC 9112, 6.1."""
+    """The status of a request that servers may read in two ways; 0 for others. RFC 9112, 6.1."""
     if request.http_version not in VERSIONS:
         return 505
     names = {name for name, _ in request.headers}
@@ -105,18 +104,9 @@ class WebClient(Client):
         headers: list[tuple[str, Any]] = [("Content-Length", "0"), *HEADERS.get(status, ())]
         if status == 200:
             headers.append(("Remote-User", self.service.names.spelling(self.name)))
-        if status == 429:
-            headers.append(("Retry-After", str(self.seconds_to_wait())))
         head = h11.Response(status_code=status, headers=headers)
         await self.write([self.http.send(head) + self.http.send(h11.EndOfMessage())])
         if self.http.our_state is self.http.their_state is h11.DONE:
             self.http.start_next_cycle()
         else:
             self.end()
-
-    def seconds_to_wait(self) -> int:
-        """How long the next try at this name, or of this person, has to wait; at least a second."""
-        tally, name = self.service.tally, self.service.names.of_book(self.name)
-        of_name = tally.names.rest(name.decode(errors="replace"))
-        of_person = tally.users.rest(f"uid={self.owner}")
-        return max(1, math.ceil(max(of_name, of_person)))

@@ -8,7 +8,7 @@ use Rattle.cred_admin.specs.{Commands.reset_step, Marked.MarkedBook, Marked.barr
 use Rattle.cred_admin.specs.declared.verdict.Verdict.{Verdict}
 use Rattle.cred_admin.specs.declared.verdict.Verdict.TheVariants.{Same, Told}
 use Rattle.cred_many.specs.{Served.done, Served.login_verdict, Telling.KeepsTagsFor, Telling.with_passwords, declared.ask.Ask.Ask}
-use Rattle.cred_many.specs.declared.ask.Ask.TheVariants.{Quick, Whole, Login, Reset}
+use Rattle.cred_many.specs.declared.ask.Ask.TheVariants.{Quick, Whole, Login, Reset, Forgive, Later}
 use Rattle.cred_book.specs.declared.request.Request.TheVariants.{Enrol, Verify, Change, Upgrade, Remove}
 use Rattle.cred_book.specs.Passwords as book_passwords
 use Rattle.cred_book.specs.declared.reply.Reply.TheVariants as reply
@@ -74,6 +74,8 @@ as_done other capacity book (Quick ask) keeps = refl
 as_done other capacity book (Whole r) (standing, made, same) = ap (λ o. (verdict_line o.0, o.1)) (as_tried other book r standing made same)
 as_done other capacity book (Login name pw setting) (standing, made, same) = ap (λ o. (verdict_line (login_verdict o.0), o.1)) (as_tried other book (Upgrade name pw setting) standing made same)
 as_done other capacity book (Reset name pw setting) (standing, made, same) = ap (λ stored. (reply_line (reset_step book name stored).0, (reset_step book name stored).1)) (as_new other setting pw made)
+as_done other capacity book (Forgive name) keeps = refl
+as_done other capacity book (Later name) keeps = refl
 
 pub returns : goal.returns
 returns c = as_done

@@ -1,13 +1,13 @@
-use Rattle.std.proofs.Common.{◌≡◌, ℕ, List, [], ◌∷◌, ◌++◌, Bool, true, false, nat_lt, codes, Option, Some, None, refl, ap, ◌∙◌, arith}
+use Rattle.std.proofs.Common.{◌≡◌, ℕ, List, [], ◌∷◌, ◌++◌, Bool, true, false, nat_lt, codes, Option, Some, None, is_some, refl, ap, ◌∙◌, arith}
 use Rattle.cred_phc.specs.Values.{RecordValue}
 use Rattle.cred_book.specs.{Works.name_of, Works.new_record, declared.request.Request.Request}
 use Rattle.cred_cli.specs.Texts.{reply_line}
 use Rattle.cred_file.specs.declared.mark.Mark.{Mark}
 use Rattle.cred_admin.specs.{Commands.reset_step, Marked.MarkedBook, Marked.barred, Marked.tried, Marked.tried_at, Marked.tried_if, Statuses.verdict_line, declared.verdict.Verdict.Verdict}
 use Rattle.cred_admin.specs.declared.edits.Edit.TheVariants.{Disable, Delete, Rename, Lock, Unlock, Expire}
-use Rattle.cred_many.specs.{Names.marked_page, Names.marks_line, Names.names_line, Names.page, Served.disabled_line, Served.done, Served.login_verdict, Served.shown_line, declared.ask.Ask.Ask}
+use Rattle.cred_many.specs.{Names.marked_page, Names.marks_line, Names.names_line, Names.page, Served.disabled_line, Served.done, Served.login_verdict, Served.forgiven_line, Served.shown_line, declared.ask.Ask.Ask}
 use Rattle.cred_many.specs.Telling.{AreAlikeAt, AreAlikeFor}
-use Rattle.cred_many.specs.declared.ask.Ask.TheVariants.{Quick, Whole, Login, Reset}
+use Rattle.cred_many.specs.declared.ask.Ask.TheVariants.{Quick, Whole, Login, Reset, Forgive, Later}
 use Rattle.cred_many.specs.declared.ask.QuickAsk.TheVariants.{Account, Load, Show, DisableShown, Bad, Edit as Change, List as Names, ListMarks}
 use Rattle.cred_many.proofs.{Beside.done_stays, Listed.marks_told}
 use Rattle.std.specs.FinMap as map
@@ -106,6 +106,8 @@ module _ (capacity : ℕ) (one other : MarkedBook) where
   done_told (Whole r) (same, beside) = ap verdict_line (tried_told r (same 0 [] (omega arith)))
   done_told (Login name pw setting) (same, beside) = ap (λ v. verdict_line (login_verdict v)) (tried_told (request.Upgrade name pw setting) (same 0 [] (omega arith)))
   done_told (Reset name pw setting) (same, beside) = ap reply_line (reset_told name (new_record setting pw) (map.get other.accounts name) (same 0 [] (omega arith)).0 refl)
+  done_told (Forgive name) (same, beside) = ap (λ a. forgiven_line (is_some a)) (same 0 [] (omega arith)).0
+  done_told (Later name) (same, beside) = refl
 
 pub returns : goal.returns
 returns c = record { tells = done_told; keeps = λ capacity book ask name. done_stays capacity book name ask }

@@ -23,7 +23,7 @@ class Command(changepassword.Command):
 
     @hidden_below
     def handle(self, *args: Any, **options: Any) -> Any:
-        """Asks for the new password, and puts it, or raises a CommandError."""
+        """Asks for the new password and stores it, or raises a CommandError."""
         try:
             with users.comparing(get_user_model()):
                 return super().handle(*args, **options)

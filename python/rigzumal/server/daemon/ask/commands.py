@@ -1,4 +1,4 @@
-"""The commands of an administrator, which the server that has the book does."""
+"""The commands of an administrator for a running server."""
 
 from __future__ import annotations
 
@@ -20,8 +20,8 @@ LONGEST_PASSWORD = 256  # bytes
 LONGEST_NAME = 254  # bytes: it may be an address
 # The commands, by their words: those of operations, and two that ask for more than one.
 COMMANDS = {
-    "add": Command("NAME", "make an account, or its first record: asks for a password, twice"),
-    "check": Command("NAME", "ask for the password: is it right?"),
+    "add": Command("NAME", "add an account, or its first record; asks for the password twice"),
+    "check": Command("NAME", "ask for the password, and say whether it is right"),
 }
 COMMANDS |= {
     word.decode(): operation.command
@@ -37,7 +37,7 @@ LISTS = ("list", "marks", "stats", "waits")  # commands whose answers are names,
 
 
 class Commands:
-    """What a command does, by its word: each prints its answer, and returns the status."""
+    """The function of each command, by its word: it prints the answer, and returns the status."""
 
     def __init__(self, server: Server) -> None:
         self.server = server
@@ -76,7 +76,7 @@ class Commands:
         return self.server.ask(command, *names)
 
     def add(self, name: str) -> str:
-        """Makes an account with a record, or the first record of one."""
+        """Adds an account with a record, or the first record of one."""
         known = self.server.ask("known", name)
         if known in ("yes", "expired"):
             return "exists"
@@ -105,7 +105,7 @@ class Commands:
         return "!" in marks_of(self.server.send("show", name))
 
     def items(self, command: str) -> str:
-        """A line for each item of an answer, and how many it leaves out on standard error."""
+        """A line for each item of an answer; standard error gets the number of those left out."""
         items = self.server.ask(command).split()[1:]
         if items and items[-1].startswith("more="):
             more = items.pop().removeprefix("more=")
@@ -134,7 +134,7 @@ class Commands:
         return "$".join(said.split("$")[:-2]) if is_record and not is_whole else said
 
     def load(self, name: str) -> str:
-        """Puts a record, or a line of NAME:RECORD, from standard input."""
+        """Loads a record, or a line of NAME:RECORD, from standard input."""
         line = sys.stdin.buffer.readline().strip()
         record = line.decode("ascii", "replace").removeprefix(f"{name}:")
         if not re.fullmatch(r"\$[!-~]{1,600}", record):
@@ -144,14 +144,15 @@ class Commands:
     # ---- the whole book
 
     def import_text(self, options: list[str]) -> int:
-        """Has the accounts of the lines of standard input added."""
+        """Adds the accounts of the lines of standard input."""
         text = sys.stdin.buffer.read(LONGEST_TEXT + 1)
         if len(text) > LONGEST_TEXT:
             end(6, f"standard input has over {LONGEST_TEXT >> 20} MiB: import it in parts")
         return self.server.run_with(text, "import", str(len(text)), *options)
 
     def backup(self, file: str) -> int:
-        """Writes a copy of the book beside its place, where credkeep puts it as each backup."""
+        """Writes a copy of the book beside its place, from where credkeep renames it like any
+        backup."""
         end_in_order()
         folder = os.path.dirname(os.path.abspath(file))
         try:
@@ -182,7 +183,7 @@ def is_name(word: str) -> bool:
 
 
 def field_of(password: bytes) -> str:
-    """A password as a line has it."""
+    """A password as a field of a line."""
     if not password:
         end(6, "the password is empty")
     if len(password) > LONGEST_PASSWORD:

@@ -16,7 +16,7 @@ VALUED = ("--wait", "--setting")  # options that have a value behind them
 
 @dataclass(frozen=True)
 class Words:
-    """What the words of a command line mean for credkeep, as far as it matters here."""
+    """The meaning of a command line for credkeep: the part that matters here."""
 
     file: str = ""
     command: str = ""
@@ -41,7 +41,7 @@ def meaning_of(words: list[str]) -> Words:
 
 
 def become_credkeep(words: list[str]) -> NoReturn:
-    """Runs credkeep in the place of this program."""
+    """Runs credkeep in place of this program."""
     try:
         os.execvp(PROGRAM, [PROGRAM, *words])
     except OSError as fault:
@@ -56,7 +56,7 @@ def tell_left_out(file: str) -> None:
 
 
 def ask_credkeep(words: list[str]) -> int:
-    """Has credkeep do what the words say; returns its status.
+    """Runs credkeep with the words, and returns its status.
 
     Before passwords are asked for it looks for the account: where none would help, its answer is
     told at once.

@@ -30,7 +30,7 @@ def usage() -> str:
 
 
 def how_many(counts: range) -> str:
-    """How many words a command takes, in words."""
+    """The number of a command's words, spelled out."""
     if len(counts) > 1:
         return "a name or none"
     if counts.start == 0:

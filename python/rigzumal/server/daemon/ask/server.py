@@ -35,7 +35,7 @@ class Server:
         self.answers = self.socket.makefile("rb")
 
     def send(self, *words: str) -> str:
-        """The answer to a line, whatever it is."""
+        """The answer to a line, a refusal too."""
         with suppress(OSError):  # a server that has gone answers nothing
             self.socket.sendall(f"{TAG} {' '.join(words)}\n".encode())
         return self.answer()
@@ -79,12 +79,13 @@ class Server:
     # ---- whole books, which credkeep reads and writes beside the server
 
     def run(self, operation: str, output: BinaryIO) -> int:
-        """Has credkeep do an operation; the output has what it writes. Returns its status."""
+        """Requests an operation of credkeep, whose output goes to standard output. Returns its
+        status."""
         self.socket.settimeout(None)  # a large book takes long
         return self.copy_result(self.ask(operation), output)
 
     def run_with(self, text: bytes, *words: str) -> int:
-        """The same of an operation that reads a text, which standard output has the answer of."""
+        """The same for an operation that reads a text; standard output gets the answer."""
         self.socket.settimeout(None)
         said = self.ask(*words)
         if said != f"send {len(text)}":

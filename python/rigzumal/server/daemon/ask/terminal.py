@@ -1,4 +1,4 @@
-"""The terminal: what is said there, and passwords that are typed unseen."""
+"""The terminal: texts for it, and passwords that are typed unseen."""
 
 from __future__ import annotations
 
@@ -31,7 +31,7 @@ def end_by(number: int, _: object) -> NoReturn:
 
 
 def end_in_order() -> None:
-    """From now on a signal ends the program with what it has to do at its end."""
+    """From now on a signal ends the program with its last steps."""
     for number in SIGNALS:
         signal.signal(number, end_by)
 
@@ -93,6 +93,7 @@ def write_answer(said: str) -> None:
 
 
 def end_unwritten() -> NoReturn:
-    """Ends the program, whose answer couldn't be written; Python writes no more of it."""
+    """Ends the program after a failed write of its answer, and keeps Python from flushing the
+    rest."""
     os.dup2(os.open(os.devnull, os.O_WRONLY), sys.stdout.fileno())
     end(2, "the answer couldn't be written")

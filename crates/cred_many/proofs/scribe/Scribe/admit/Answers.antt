@@ -5,17 +5,17 @@ use Rattle.cred_many.proofs.scribe.Scribe.admit.Goals as goal
 
 pub invariant_of-self : goal.invariant_of-self
 invariant_of-self g c = record {
-  history = still _ _ _ _ _ _ _ _ c.requires c.args.self.now.history;
+  history = still _ _ _ _ _ _ _ _ _ c.requires c.args.self.now.history;
   cause = λ source. ∣ inr (line_missing g.J.ServiceId.service _ c.args.line.now _ c.number-number.ensures.came (omega arith)) ∣₁;
 }
 
 pub invariant_of-self-then-is_err : goal.invariant_of-self-then-is_err
 invariant_of-self-then-is_err g c =
     let same : c.push.new.self ≡ c.args.self.now.output.pending = search rules in
-    record { history = rw same (still _ _ _ _ _ _ _ _ c.requires c.args.self.now.history); cause = λ source. ∣ tt ∣₁ }
+    record { history = rw same (still _ _ _ _ _ _ _ _ _ c.requires c.args.self.now.history); cause = λ source. ∣ tt ∣₁ }
 
 pub invariant_of-self-2-clause-history : goal.invariant_of-self-2-clause-history
-invariant_of-self-2-clause-history g c = opened _ _ _ _ _ _ _ _ c.number-number.result _ (search rules) (search rules) (search rules) c.args.self.now.history
+invariant_of-self-2-clause-history g c = opened _ _ _ _ _ _ _ _ _ c.number-number.result _ (search rules) (search rules) (search rules) c.args.self.now.history
 
 pub returns-clause-ready : goal.returns-clause-ready
 returns-clause-ready g c =

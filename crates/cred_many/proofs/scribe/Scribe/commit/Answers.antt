@@ -20,7 +20,7 @@ returns-then-is_reset-clause-turns g c =
 
 pub invariant_of-self : goal.invariant_of-self
 invariant_of-self g c = record {
-  history = still _ _ _ _ _ _ _ _ (search rules) c.args.self.now.history;
+  history = still _ _ _ _ _ _ _ _ _ (search rules) c.args.self.now.history;
   cause = λ source. ∣ inl (some_pending _ _ _ c.in_ok-place.ensures.there) ∣₁;
 }
 
@@ -33,3 +33,6 @@ pub returns-clause-turns : goal.returns-clause-turns
 returns-clause-turns g c =
     let there : slice_get (numbers c.args.self.now.output.pending) c.in_ok-place.place ≡ Some c.args.hashed.0.number = search rules in
     either_turn _ _ c.in_ok-place.place _ _ there c.commit_whole.result c.commit_whole.ensures.closed (rw c.into_parts-line.ensures.line at c.commit_whole.ensures.turns)
+
+pub returns-then-is_reset-clause-clock : goal.returns-then-is_reset-clause-clock
+returns-then-is_reset-clause-clock g c = c.reset.ensures.clock c.args.now

@@ -6,17 +6,18 @@ use Rattle.cred_many.proofs.scribe.Scribe.commit_together.Goals.{then-is_none+th
 use Rattle.cred_many.proofs.scribe.Scribe.commit_together.Goals as goal
 
 pub loop-hashed-init : goal.loop-hashed-init
-loop-hashed-init g c = rw (c.new-group.ensures.changed, c.new-group.ensures.works, c.new-group.ensures.text) (none_together _ _ _, λ going. (going, none_gathered _ _ _ _ refl))
+loop-hashed-init g c = rw (c.new-group.ensures.changed, c.new-group.ensures.works, c.new-group.ensures.text) (none_together _ _ _ _, refl, λ going. (going, none_gathered _ _ _ _ refl))
 
 pub loop-hashed-preserved-in_default : goal.loop-hashed-preserved-in_default
 loop-hashed-preserved-in_default g c =
-    (c.in_default.ensures.group, λ going. let was = c.loop-hashed.invariant.1 going in (was.0, rw c.in_default.ensures.added (gathered_in c.loop-hashed.yielded _ _ c.in-Some.hashed _ _ was.1)))
+    (c.in_default.ensures.group, c.loop-hashed.invariant.1, λ going. let was = c.loop-hashed.invariant.2 going in (was.0, rw c.in_default.ensures.added (gathered_in c.loop-hashed.yielded _ _ c.in-Some.hashed _ _ was.1)))
 
 pub loop-hashed-preserved-in-Err-push : goal.loop-hashed-preserved-in-Err-push
 loop-hashed-preserved-in-Err-push g c = (
-  rw c.starve.ensures.book c.in-Err.ensures.group,
+  rw (c.starve.ensures.book, c.starve.ensures.same_tries) c.in-Err.ensures.group,
+  c.starve.ensures.same_tries ∙ c.loop-hashed.invariant.1,
   λ going.
-      let was = c.loop-hashed.invariant.1 (c.starve.ensures.going going) in
+      let was = c.loop-hashed.invariant.2 (c.starve.ensures.going going) in
       let used = rw (c.into_parts-line.ensures.line, c.in-Err-push.ensures.value_returned, c.in-Err.ensures.back) at (c.starve.ensures.turns going) in
       (was.0, rw (c.in-Err-push.ensures.items, c.in-Err.ensures.same) (gathered_starved c.loop-hashed.yielded _ _ c.in-Some.hashed _ _ _ was.1 used)),
 )
@@ -24,8 +25,9 @@ loop-hashed-preserved-in-Err-push g c = (
 pub loop-hashed-preserved : goal.loop-hashed-preserved
 loop-hashed-preserved g c = (
   c.in-Err.ensures.group,
+  c.loop-hashed.invariant.1,
   λ going.
-      let was = c.loop-hashed.invariant.1 going in
+      let was = c.loop-hashed.invariant.2 going in
       (was.0, rw (c.in_default-push.ensures.items, c.in-Err.ensures.back, c.in-Err.ensures.same) (gathered_back c.loop-hashed.yielded _ _ c.in-Some.hashed _ _ was.1)),
 )
 
@@ -36,12 +38,18 @@ returns-clause-turns g c =
     rw (← all) (elim c.if-is_none.branch [
       | then-is_none+then-not-is_empty w ↦ rw w.self-is (λ going.
           let was : c.loop-hashed.self.output.fault ≡ None = search rules in
-          all_done c.loop-hashed.yielded _ _ _ _ _ (w.commit_group.ensures going) (c.loop-hashed.invariant.1 was).1)
+          all_done c.loop-hashed.yielded _ _ _ _ _ (w.commit_group.ensures.turns going) (c.loop-hashed.invariant.2 was).1)
       | else-is_none w ↦ rw w.self-is (λ going.
           elim w.else-is_none.branch [
             | else-is_none-via-then-is_none+else-not-is_empty w' ↦
                 let none : length c.loop-hashed.group.works.items ≡ 0 = search (rules, arith) in
-                all_back c.loop-hashed.yielded _ _ _ _ none (c.loop-hashed.invariant.1 going).1
+                all_back c.loop-hashed.yielded _ _ _ _ none (c.loop-hashed.invariant.2 going).1
             | else-is_none-via-else-is_none w' ↦ absurd (search rules)
           ])
     ])
+
+pub returns-clause-clock : goal.returns-clause-clock
+returns-clause-clock g c = elim c.if-is_none.branch [
+  | then-is_none+then-not-is_empty w ↦ rw w.self-is (w.commit_group.ensures.same_tries ∙ c.loop-hashed.invariant.1)
+  | else-is_none w ↦ rw w.self-is c.loop-hashed.invariant.1
+]

@@ -5,7 +5,7 @@ use Rattle.cred_many.proofs.{Seen.looked_ready, Seen.looked_worn, Serving.looked
 use Rattle.cred_many.proofs.scribe.Scribe.job.Goals as goal
 
 pub invariant_of-self-clause-history : goal.invariant_of-self-clause-history
-invariant_of-self-clause-history g c = looked _ _ _ (g.K.Host.book c.args.self.now.keeper) _ _ _ _ c.args.place _ _ _ c.look-changes.ensures (c.copy.ensures ∙ c.ticket_of-ticket.ensures.copy ∙ ap (record_at (g.K.Host.book c.args.self.now.keeper)) (sym c.name.ensures)) c.args.self.now.history
+invariant_of-self-clause-history g c = looked _ _ _ (g.K.Host.book c.args.self.now.keeper) _ _ _ _ _ c.args.place _ _ _ c.look-changes.ensures (c.copy.ensures ∙ c.ticket_of-ticket.ensures.copy ∙ ap (record_at (g.K.Host.book c.args.self.now.keeper)) (sym c.name.ensures)) c.args.self.now.history
 
 pub give_up_as_busy-requires-clause-ready : goal.give_up_as_busy-requires-clause-ready
 give_up_as_busy-requires-clause-ready g c = looked_ready _ _ _ _ _ _ _ _ c.look-changes.ensures c.requires.ready

@@ -3,7 +3,7 @@ use Rattle.cred_many.proofs.Serving.{starved, still}
 use Rattle.cred_many.proofs.scribe.Scribe.refuse.Goals as goal
 
 pub invariant_of-self : goal.invariant_of-self
-invariant_of-self g c = record { history = still _ _ _ _ _ _ _ _ c.requires.ready.going c.args.self.now.history; cause = λ source. ∣ (search rules) ∣₁ }
+invariant_of-self g c = record { history = still _ _ _ _ _ _ _ _ _ c.requires.ready.going c.args.self.now.history; cause = λ source. ∣ (search rules) ∣₁ }
 
 pub invariant_of-self-2-clause-history : goal.invariant_of-self-2-clause-history
-invariant_of-self-2-clause-history g c = starved _ g.J.ServiceId.service _ _ (g.K.Host.book c.args.self.now.keeper) _ c.args.line _ _ c.args.place _ _ _ _ _ c.requires.ready c.answer.ensures.came c.answer.ensures.closed c.answer.ensures.told c.args.self.now.history refl c.line-answer.ensures c.requires.needs
+invariant_of-self-2-clause-history g c = starved _ g.J.ServiceId.service _ _ (g.K.Host.book c.args.self.now.keeper) _ c.args.line _ _ c.args.place _ _ _ _ _ _ _ c.requires.ready c.answer.ensures.came c.answer.ensures.closed c.answer.ensures.told c.args.self.now.history refl c.line-answer.ensures c.requires.needs refl

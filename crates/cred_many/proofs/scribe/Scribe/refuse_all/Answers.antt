@@ -1,4 +1,4 @@
-use Rattle.std.proofs.Common.{[], ◌∷◌}
+use Rattle.std.proofs.Common.{[], ◌∷◌, ◌∙◌}
 use Rattle.std.proofs.lemmas.List.{map-append}
 use Rattle.cred_book.specs.Works.{Task}
 use Rattle.cred_many.specs.Asks.{Entry}
@@ -6,6 +6,12 @@ use Rattle.cred_many.proofs.Uses.{use_more}
 use Rattle.cred_many.proofs.scribe.Scribe.refuse_all.Goals as goal
 
 pub loop-hashed-preserved : goal.loop-hashed-preserved
-loop-hashed-preserved g c = λ going.
-    rw (map-append (λ (w : Entry × Task). w.0) c.loop-hashed.yielded (c.in-Some.hashed ∷ []))
-    (use_more _ c.in-Some.hashed.0 _ _ _ (c.loop-hashed.invariant (c.starve.ensures.going going)) (rw c.into_parts-line.ensures.line at (c.starve.ensures.turns going)))
+loop-hashed-preserved g c = (
+  c.starve.ensures.same_tries ∙ c.loop-hashed.invariant.0,
+  λ going.
+      rw (map-append (λ (w : Entry × Task). w.0) c.loop-hashed.yielded (c.in-Some.hashed ∷ []))
+      (use_more _ c.in-Some.hashed.0 _ _ _ (c.loop-hashed.invariant.1 (c.starve.ensures.going going)) (rw c.into_parts-line.ensures.line at (c.starve.ensures.turns going))),
+)
+
+pub returns-clause-same_tries : goal.returns-clause-same_tries
+returns-clause-same_tries g c = c.loop-hashed.invariant.0

@@ -1,5 +1,14 @@
-use Rattle.cred_many.proofs.Turns.{opened_closed, opened_keeps, taken}
+use Rattle.std.proofs.Common.{refl}
+use Rattle.cred_many.proofs.{Limiting.asked_as, Serving.sent_away, Turns.opened_closed, Turns.opened_keeps, Turns.taken}
 use Rattle.cred_many.proofs.scribe.Scribe.take.Goals as goal
+
+pub invariant_of-self-clause-history : goal.invariant_of-self-clause-history
+invariant_of-self-clause-history g c =
+    let sent = asked_as _ _ _ _ _ c.ask.ensures.ask (c.send_away.ensures.sent c.if-send_away.true) in
+    sent_away _ g.J.ServiceId.service _ _ (g.K.Host.book c.admit.new.self.keeper) _ c.args.line _ _ c.in_ok-place.place _ _ _ _ _ _ _ c.in_ok-place.ensures.ready c.answer_later.ensures.came c.answer_later.ensures.closed c.answer_later.ensures.told c.admit.new.self.history c.args.now refl refl sent.0 sent.1
+
+pub returns-then-send_away-clause-turns : goal.returns-then-send_away-clause-turns
+returns-then-send_away-clause-turns g c = λ next going. opened_closed _ _ _ c.in_ok-place.place _ _ c.in_ok-place.ensures.opened c.in_ok-place.ensures.ready c.answer_later.ensures.closed
 
 pub returns-in-Whole-clause-turn : goal.returns-in-Whole-clause-turn
 returns-in-Whole-clause-turn g c = λ next going none. taken _ c.in_ok-place.place _ _ _ _ c.in_ok-place.ensures.opened c.in_ok-place.ensures.ready (c.job.ensures.closed none)
@@ -12,6 +21,9 @@ returns-in-Login-clause-turn g c = λ next going none. taken _ c.in_ok-place.pla
 
 pub returns-in-Login-clause-turns : goal.returns-in-Login-clause-turns
 returns-in-Login-clause-turns g c = λ next going. opened_keeps c.job-in-Login.result _ _ _ c.in_ok-place.place _ _ _ _ c.in_ok-place.ensures.opened c.in_ok-place.ensures.ready c.in_ok-place.ensures.last c.job-in-Login.ensures.closed c.job-in-Login.ensures.looked
+
+pub returns-in-Forgive-clause-turns : goal.returns-in-Forgive-clause-turns
+returns-in-Forgive-clause-turns g c = λ next going. opened_closed _ _ _ c.in_ok-place.place _ _ c.in_ok-place.ensures.opened c.in_ok-place.ensures.ready c.forgive.ensures.closed
 
 pub returns-in-Quick-clause-turn : goal.returns-in-Quick-clause-turn
 returns-in-Quick-clause-turn g c = λ next going none. taken _ c.in_ok-place.place _ _ _ _ c.in_ok-place.ensures.opened c.in_ok-place.ensures.ready (c.answer_at_once.ensures.closed going)

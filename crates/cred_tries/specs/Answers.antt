@@ -1,0 +1,84 @@
+-- How answers that tell of tries keep a limit, and what a limiter counts of them: each try begins and
+-- ends as it is answered.
+use Rattle.std.specs.Prelude.{◌≡◌, ◌⊎◌, ⊤, ℕ, ◌+◌, ◌-◌, ◌<◌, ◌≤◌, List, [], ◌∷◌, All, Option, Some, None}
+use Rattle.cred_tries.specs.Clocks.{after_reading, end_of_time, new_clock}
+use Rattle.cred_tries.specs.Counts.{most_tries, wait}
+use Rattle.cred_tries.specs.Histories.{Event, Begun, Sent, Right, Wrong, Unjudged, Forgiven, HasWaited, failures, last_failure}
+use Rattle.cred_tries.specs.Limits.{Limits, count_at}
+use Rattle.cred_tries.specs.Steps.{Step, events_at, limits_after}
+use Rattle.cred_tries.specs.Stretches.{FailsSeldom, judgements}
+use Rattle.cred_tries.specs.declared.clock.SteadyClock.{SteadyClock}
+
+-- what an answer tells, if anything, before which this was told; the latest comes first
+abbrev pub with_told : Option Event → List Event → List Event
+with_told None before = before
+with_told (Some event) before = event ∷ before
+
+-- ---- what is asked of the events at a name
+
+-- so many failures as the limit says, and the wait behind the last isn't over
+abbrev pub MustWait : ℕ → ℕ → List Event → Type 0
+MustWait limit t before = (limit ≤ failures t before)
+    × (t < last_failure before + wait (failures t before - limit))
+
+-- Each password that is told right or wrong is told when no wait is left, and each try that is sent
+-- away is sent away in a wait.
+abbrev pub AreInTurn : ℕ → List Event → Type 0
+AreInTurn limit [] = ⊤
+AreInTurn limit (Right t ∷ before) =
+    (limit ≤ failures t before → HasWaited limit t before) × AreInTurn limit before
+AreInTurn limit (Wrong t ∷ before) =
+    (limit ≤ failures t before → HasWaited limit t before) × AreInTurn limit before
+AreInTurn limit (Sent t ∷ before) = MustWait limit t before × AreInTurn limit before
+AreInTurn limit (Forgiven t ∷ before) = AreInTurn limit before
+AreInTurn limit (Begun t ∷ before) = AreInTurn limit before
+AreInTurn limit (Unjudged t ∷ before) = AreInTurn limit before
+
+-- none comes before the one before it
+abbrev pub Ascend : List ℕ → Type 0
+Ascend [] = ⊤
+Ascend (t ∷ later) = All (λ u. t ≤ u) later × Ascend later
+
+-- Answers at these moments, of which the last is this one at most, keep a limit: they tell this at
+-- each name.
+pub record KeepLimit (limit passed : ℕ) (times : List ℕ) (told : List ℕ → List Event) : Type 0 where
+  pub ascend : Ascend times
+  pub until : All (λ t. t ≤ passed) times
+  pub in_turn : (name : List ℕ) → AreInTurn limit (told name)
+  pub seldom : (name : List ℕ) → FailsSeldom limit (judgements (told name))
+
+-- ---- the clock
+
+-- of a limiter, or one that is never read
+abbrev pub clock_of : Option Limits → SteadyClock
+clock_of None = new_clock
+clock_of (Some limits) = limits.clock
+
+-- the clock was read at this reading, or not at all
+abbrev pub IsReadBy : ℕ → Option Limits → Option Limits → Type 0
+IsReadBy now old new = (clock_of new ≡ clock_of old)
+    ⊎ (clock_of new ≡ after_reading (clock_of old) now)
+
+-- ---- what a limiter counts
+
+-- no try runs
+abbrev pub IsIdle : Limits → Type 0
+IsIdle limits = (name : List ℕ) → (count_at limits name).running ≡ 0
+
+-- it has a limit, and its time can pass
+abbrev pub IsSettled : Limits → Type 0
+IsSettled limits = (0 < limits.limit) × (limits.clock.passed ≤ end_of_time)
+
+-- The limiter has counted what answers at these moments tell at each name: as steps of its own,
+-- which tell the same.
+pub record HasCounted (limit : ℕ) (limits : Limits) (times : List ℕ) (told : List ℕ → List Event)
+    : Type 0 where
+  pub some : 0 < limit
+  pub few : limit ≤ most_tries
+  pub steps : List Step
+  pub limits_are : limits ≡ limits_after limit steps
+  pub told_are :
+      (name : List ℕ) → judgements (events_at limit name steps) ≡ judgements (told name)
+  pub in_turn : (name : List ℕ) → AreInTurn limit (told name)
+  pub ascend : Ascend times
+  pub until : All (λ t. t ≤ limits.clock.passed) times

@@ -1,0 +1,143 @@
+"""What is counted of answers since the start."""
+
+import re
+import socket
+import time
+from collections import Counter, OrderedDict
+from collections.abc import Iterator
+from dataclasses import dataclass
+
+from .book import LATER
+from .journal import Problem, forget_message, log, log_seldom, utc
+from .options import Options, folder_of
+from .protocol import ANSWERS, NO_ANSWER, RIGHT, Operation
+from .tries import LONGEST_WAIT
+
+EXPIRED = "expired"  # what `expire` is answered, and a right password that must be changed
+FORGIVEN = "forgiven"
+REMEMBERED = 65536  # names
+MOST_SHOWN, LONGEST_STATS = 1000, 4096  # names in an answer, letters of one
+
+
+@dataclass(frozen=True)
+class Metric:
+    """A metric of Prometheus: its name and text, and the counts of `stats` that are its samples."""
+
+    name: str
+    text: str
+    counts: tuple[str, ...]
+
+    def lines(self, counted: dict[str, str]) -> Iterator[str]:
+        """In Prometheus' text format, each sample with its answer if there are several."""
+        kind = "counter" if self.name.endswith("_total") else "gauge"
+        yield f"# HELP credkeep_{self.name} {self.text}"
+        yield f"# TYPE credkeep_{self.name} {kind}"
+        for count in self.counts:
+            answer = f',answer="{count}"' if len(self.counts) > 1 else ""
+            book = counted["book"]
+            yield f'credkeep_{self.name}{{book="{book}"{answer}}} {counted[count]}'
+
+
+TRIES = ("yes", "no", "absent", "noaccount", "later")
+METRICS = (
+    Metric("tries_total", "Tries by their answer.", TRIES),
+    Metric("changes_total", "Changes that were made.", ("changes",)),
+    Metric("upgraded_total", "Records that --upgrade upgraded.", ("upgraded",)),
+    Metric("memory_total", "Lines that found no memory for a hash.", ("memory",)),
+    Metric("disk_total", "Changes that found no room on a disk.", ("disk",)),
+    Metric("denied_total", "Lines that their socket doesn't allow.", ("denied",)),
+    Metric("refused_total", "Connections that had no room.", ("refused",)),
+    Metric("clients", "Connections.", ("clients",)),
+    Metric("waits", "Names whose tries were too early, in a quarter of an hour.", ("waits",)),
+    Metric("waited_seconds_total", "Seconds that lines waited for their turn.", ("waited",)),
+)
+COUNTED = [*(count for metric in METRICS for count in metric.counts), "book"]  # by `stats`
+
+
+def remember(moments: "OrderedDict[str, float]", name: str, moment: float) -> None:
+    """Notes a name's last moment, and forgets the oldest of too many names."""
+    moments[name] = moment
+    moments.move_to_end(name)
+    if len(moments) > REMEMBERED:
+        moments.popitem(last=False)
+
+
+class Tally:
+    """The answers of a server since its start, counted."""
+
+    def __init__(self, options: Options) -> None:
+        self.tries = options.tries  # that may fail until the next has to wait
+        self.book, self.doors = folder_of(options.file).name, options.doors
+        self.counts, self.waited = Counter[str](), 0.0
+        self.logins = OrderedDict[str, float]()
+        self.early = OrderedDict[str, float]()  # names, by their last try that was too early
+
+    def count(self, kind: Operation, name: str, answer: str) -> None:
+        """Counts an answer to a request for a name, and logs what it tells of a wait."""
+        if answer == LATER.decode():
+            self.counts["later"] += 1
+            remember(self.early, name, time.monotonic())
+            log_seldom((LATER, name), "%s has to wait after %d failed tries", name, self.tries)
+        if answer == FORGIVEN:
+            self.end_wait(name, "an administrator forgave it")
+        meaning = ANSWERS.get(answer, NO_ANSWER)
+        is_refused = kind.tries and answer == EXPIRED
+        has_changed = kind.changes and meaning.changed and not is_refused
+        self.counts["changes"] += has_changed
+        self.counts["disk"] += answer == "bad 19 disk"
+        if answer == "bad 4 memory":
+            self.counts["memory"] += 1
+            log_seldom(answer, "no memory for a hash: see --memory, and the machine's")
+        if not kind.tries:
+            if kind.hashes and has_changed:
+                self.end_wait(name, "a new password")
+        elif tried := meaning.tried:
+            self.counts[tried] += 1
+            if tried == RIGHT:
+                self.end_wait(name, "a right password")
+                remember(self.logins, name, time.time())
+
+    def end_wait(self, name: str, why: str) -> None:
+        """Notes that a name has to wait no more, and logs it if its wait was logged."""
+        self.early.pop(name, None)
+        if forget_message((LATER, name)):
+            log.info("%s has to wait no more: %s", name, why)
+
+    def waits(self) -> list[str]:
+        """The names at which a try was too early in the time of the longest wait, and that weren't
+        let in or forgiven since."""
+        then = time.monotonic() - LONGEST_WAIT
+        return [name for name, moment in self.early.items() if moment > then]
+
+    def stats(self) -> str:
+        now: dict[str, object] = {**self.counts, "waited": f"{self.waited:.3f}"}
+        now["waits"] = len(self.waits())
+        now["clients"] = sum(sum(door.counts.values()) for door in self.doors)
+        now["book"] = re.sub("[^A-Za-z0-9_.-]", "_", self.book)
+        return " ".join(["stats", *(f"{it}={now.get(it, 0)}" for it in COUNTED)])
+
+    def answer(self, operation: bytes, name: str) -> str:
+        """The server's own answers; `last` is the time of a right password."""
+        if operation == b"waits":
+            names = self.waits()
+            more = [f"more={len(names) - MOST_SHOWN}"] if len(names) > MOST_SHOWN else []
+            return " ".join(["waits", *names[:MOST_SHOWN], *more])
+        if operation == b"last":
+            return f"last {utc(self.logins[name])}" if name in self.logins else "none"
+        return self.stats()
+
+
+def metrics(path: str) -> str:
+    """The counts of the server at an admin socket, in Prometheus' text format."""
+    try:
+        with socket.socket(socket.AF_UNIX) as it:
+            it.settimeout(10)
+            it.connect(path)
+            it.sendall(b"1 stats\n")
+            answer = it.makefile(errors="replace").readline(LONGEST_STATS)
+    except OSError as fault:
+        raise Problem(f"{path}: {fault.strerror or fault}") from None
+    found = dict(re.findall(r" (\w+)=([\w.-]+)", answer))
+    if found.keys() != set(COUNTED):
+        raise Problem(f"{path}: its clients may not ask for stats")
+    return "".join(f"{line}\n" for metric in METRICS for line in metric.lines(found))
