@@ -46,14 +46,14 @@ const FILE_HELP: &str = "The database file";
 
 const NAME_HELP: &str = "The account: 1 to 32 of a-z, 0-9, '.', '_', '-'";
 
-const NEW_NAME_HELP: &str = "The name that it has from then on";
+const NEW_NAME_HELP: &str = "The account's new name";
 
-const SETTING_HELP: &str = "How the new record is made: the scheme, the costs and perhaps a\n\
-    salt, which is drawn otherwise\n\
+const SETTING_HELP: &str = "The scheme, the costs and perhaps the salt of the new record; a\n\
+    salt that isn't given is random\n\
     [default: $argon2id$v=19$m=65536,t=3,p=4]";
 
 const TAGGED_HELP: &str = "Answers tagged lines: verify, login, enrol, change, reset and others;\n\
-    serve answers no others, so it must be given";
+    required, since serve answers no other lines";
 
 const AT_ONCE_HELP: &str = "How many lines are hashed at once, from 1 to 255\n\
     [default: as many as there are processors, and as --memory allows]";
