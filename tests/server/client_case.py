@@ -11,7 +11,7 @@ from collections.abc import Callable, Coroutine, Iterator
 from typing import Any
 
 from served import TOP, Case
-from tests.helpers import Peer
+from tests.helpers import LONGEST, Peer
 from tests.needs import need_file
 
 
@@ -50,7 +50,7 @@ class ClientCase(Case):
         """Runs a coroutine function with an asyncio client."""
 
         async def run() -> None:
-            async with self.aio.Client(path) as client:
+            async with self.aio.Client(path, LONGEST) as client:
                 await used(client)
 
         asyncio.run(run())

@@ -15,7 +15,7 @@ from typing import Any
 from unittest import mock
 
 from client_case import ClientCase
-from served import SECRET, until
+from served import LONGEST, SECRET, until
 
 
 class Clients(ClientCase):
@@ -221,7 +221,7 @@ class Clients(ClientCase):
             service = self.serving("--tries", "0", faults=faults)
             service.enrol(**{f"user{number}": f"secret{number}" for number in range(8)})
             self.run_with(service.path(), used)
-            verify = self.server.Client(service.path()).verify
+            verify = self.server.Client(service.path(), LONGEST).verify
             with concurrent.futures.ThreadPoolExecutor(8) as pool:
                 said = pool.map(lambda it: verify(f"user{it[0]}", f"secret{it[1]}"), pairs)
                 self.assertEqual(list(said), ought)

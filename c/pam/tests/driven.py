@@ -116,7 +116,7 @@ class Question:
 def asked(question: Question, path: pathlib.Path) -> Said:
     """What the driver says of a question at a socket."""
     module = question.build.module()
-    options = f"socket={path} timeout=5 {question.options}"
+    options = f"socket={path} timeout=60 {question.options}"
     default = "".join(
         f"{kind} {question.stack} {module} {options}\n" for kind in ("auth", "account", "password")
     )

@@ -25,7 +25,7 @@ UNWATCHED_SECONDS = 30.0  # between two looks at the book, if systemd asks for n
 # no answer are dropped, and until the book is killed.
 UNREAD_SECONDS = 0.5
 LINES_SECONDS = 18.0
-LAST_SECONDS = 20.0
+LAST_SECONDS = 30.0
 KILLED_SECONDS = 1.0  # until a killed book is gone, unless a disk holds it up
 
 
