@@ -56,7 +56,12 @@ FOLDERS = (
     ),
     Folder("tests/tools", is_package=True, needs_library=False),
     Folder("tests/packages", is_package=True, packing=["install"], long=["empty_root"]),
-    Folder("c/tests", packing=["package"], parts={"programs": 3, "secrets": 3, "calls": 2}),
+    Folder(
+        "c/tests",
+        packing=["package"],
+        parts={"programs": 3, "secrets": 2, "calls": 2},
+        long=["older_builds"],
+    ),
     Folder("c/pam/tests", quiet=["answers"]),
     Folder("python/tests/hashers", options=WARNINGS),
     Folder("python/tests/package", options=WARNINGS, packing=["package"]),
