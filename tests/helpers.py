@@ -87,6 +87,8 @@ def each(*rows: Any) -> Callable[[Callable[..., None]], Callable[..., None]]:
     """Has a test run for each of these rows, which is a subtest with its values by the names of the
     parameters."""
 
+    assert rows, "a test for no row tests nothing"
+
     def run_each(test: Callable[..., None]) -> Callable[..., None]:
         _, *names = inspect.signature(test).parameters
 

@@ -12,6 +12,7 @@ line is `all` and the module, so whoever reads it knows that nothing ended the p
 from __future__ import annotations
 
 import importlib
+import inspect
 import os
 import sys
 import unittest
@@ -71,10 +72,39 @@ class Told(unittest.TextTestResult):
         super().addUnexpectedSuccess(test)
         self.fail(test)
 
+    def addExpectedFailure(self, test: Any, err: Any) -> None:
+        super().addExpectedFailure(test, err)
+        self.fail(test)  # what isn't so is no test
+
 
 def tests_in(suite: Any) -> Iterator[unittest.TestCase]:
     for test in suite:
         yield from tests_in(test) if isinstance(test, unittest.TestSuite) else [test]
+
+
+def is_never_run(test: unittest.TestCase) -> bool:
+    """Whether a test's body doesn't run where unittest calls it."""
+    body = inspect.unwrap(getattr(test, test._testMethodName))
+    is_awaited = isinstance(test, unittest.IsolatedAsyncioTestCase)
+    is_other = inspect.isgeneratorfunction(body) or inspect.isasyncgenfunction(body)
+    return is_other or inspect.iscoroutinefunction(body) and not is_awaited
+
+
+def outside(module: Any) -> Iterator[str]:
+    """The functions of a module that have a test's name and aren't in a test case."""
+    own = {
+        name: it
+        for name, it in vars(module).items()
+        if getattr(it, "__module__", "") == module.__name__
+    }
+    cases = [it for it in vars(module).values() if isinstance(it, type)]
+    cases = [it for it in cases if issubclass(it, unittest.TestCase)]
+    for name, it in own.items():
+        if inspect.isfunction(it) and name.startswith("test_"):
+            yield f"{module.__name__}.{name}"
+        elif isinstance(it, type) and not any(issubclass(case, it) for case in cases):
+            tests = (word for word in vars(it) if word.startswith("test_"))
+            yield from (f"{module.__name__}.{name}.{word}" for word in tests)
 
 
 def main() -> int | str:
@@ -90,6 +120,9 @@ def main() -> int | str:
     tests = [*tests_in(unittest.defaultTestLoader.loadTestsFromModule(found))]
     if not tests:
         return f"{module}: no test is in it"
+    lost = [*outside(found), *(it.id() for it in tests if is_never_run(it))]
+    if lost:
+        return f"{module}: nothing runs {', '.join(lost)}"
     if part:
         tests = tests[int(part[0]) - 1 :: int(part[1])]
     runner = unittest.TextTestRunner(resultclass=Told, verbosity=2)

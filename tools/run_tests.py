@@ -143,7 +143,10 @@ def fault_of_build() -> str:
     """The output of a failed build of the library, or nothing."""
     for command in BUILDS if helpers.IS_NATIVE else []:
         pipes: dict[str, Any] = {"stdout": subprocess.PIPE, "stderr": subprocess.STDOUT}
-        done = subprocess.run(command, cwd=TOP, stdin=subprocess.DEVNULL, text=True, **pipes)
+        try:
+            done = subprocess.run(command, cwd=TOP, stdin=subprocess.DEVNULL, text=True, **pipes)
+        except OSError as fault:  # make isn't there
+            return f"{' '.join(command)}: {fault}"
         if done.returncode:
             return f"{done.stdout}\n{' '.join(command)}: status {done.returncode}"
     return ""

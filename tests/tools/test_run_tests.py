@@ -35,6 +35,8 @@ MODULES = {
             with self.subTest(name):
                 self.assertEqual(name, "a")
     def test_error(self): raise OSError
+    @unittest.expectedFailure
+    def test_fails_as_expected(self): self.fail("as it should")
     def test_skipped_without_a_reason(self): self.skipTest("it is Monday")
     def test_skipped_for_what_is_there(self): self.skipTest("needs the program sh")
     def test_well(self): pass
@@ -58,6 +60,14 @@ MODULES = {
     def test_one(self): pass
     def test_two(self): pass
     def test_three(self): pass
+""",
+    "tests/credbook/test_never.py": """
+    async def test_nobody_awaits(self): self.fail("never")
+    def test_generator(self): yield self.fail("never")
+    def test_well(self): pass
+class Others:
+    def test_of_no_case(self): pass
+def test_function(): pass
 """,
     "python/tests/hashers/test_values.py": """
     def test_warns(self): warnings.warn("that nobody hears")
@@ -92,11 +102,13 @@ FAILED = {
     "tests/credbook/test_false": {
         "tests.credbook.test_false.Tests.test_error",
         "tests.credbook.test_false.Tests.test_fails",
+        "tests.credbook.test_false.Tests.test_fails_as_expected",
         "tests.credbook.test_false.Tests.test_fails_in_part",
         "tests.credbook.test_false.Tests.test_skipped_for_what_is_there",
         "tests.credbook.test_false.Tests.test_skipped_without_a_reason",
     },
     "tests/credbook/test_dies": {"tests.credbook.test_dies.Tests.test_dies"},
+    "tests/credbook/test_never": {"tests/credbook/test_never"},
     "tests/packages/test_install": {"tests/packages/test_install"},
     "python/tests/hashers/test_values": {"test_values.Tests.test_warns"},
 }
@@ -129,12 +141,16 @@ class RunTests(Case):
         done = self.run_tests("tests/tools", "book", "server", "c/", "python", "docs", "packages")
         self.assertEqual(done.faults, "")
         lines = done.written.splitlines()
-        self.assertEqual(lines[-1], "tests: 8 passed, 8 failed, 3 skipped")
+        self.assertEqual(lines[-1], "tests: 8 passed, 10 failed, 3 skipped")
         found = re.findall(r"^FAILED: (\S+): (\S+)$", done.written, re.M)
         wanted = {(job, name) for job, names in FAILED.items() for name in names}
         self.assertEqual({*found}, wanted)
         for text in ("as it should", "missing: it is Monday", "test_dies: has not ended"):
             self.assertIn(text, done.written)
+        never = ("Others.test_of_no_case", "test_function")
+        never += ("Tests.test_generator", "Tests.test_nobody_awaits")
+        lost = ", ".join(f"tests.credbook.test_never.{it}" for it in never)
+        self.assertIn(f"nothing runs {lost}\n", done.written)
         self.assertEqual(done.status, 1)
         self.assertEqual((self.top / "order").read_text(), "turned\nquiet\n")
 
@@ -194,6 +210,12 @@ class RunTests(Case):
             done.written.splitlines()[-2:],
             ["FAILED: the library", "tests: 2 passed, 1 failed, 2 skipped"],
         )
+        self.assertEqual(done.status, 1)
+
+    def test_where_make_is_missing(self) -> None:
+        """Nothing waits for a library that can't be built."""
+        done = self.run_tests("c/tests", "tests/tools", PATH="/no/such/folder")
+        self.assertIn("make -s -C c: [Errno 2] No such file or directory: 'make'\n", done.written)
         self.assertEqual(done.status, 1)
 
     def test_without_rt(self) -> None:
