@@ -29,7 +29,7 @@ class ClientCase(Case):
 
         def reply(line: bytes, client: socket.socket) -> None:
             client.sendall(answer)
-            for _ in range(60 if then == "drips" else 0):
+            for _ in range(600 if then == "drips" else 0):
                 client.sendall(b"x")
                 time.sleep(0.2)
             client.recv(1 if then == "waits" else 0)
@@ -37,7 +37,9 @@ class ClientCase(Case):
         return self.enterContext(Peer(self.room() / "s", reply)).path
 
     def calls(self, path: object, **options: float) -> Iterator[Callable[..., Any]]:
-        """One of each client: called with a method's name and its arguments, it calls that."""
+        """One of each client: called with a method's name and its arguments, it calls that. By
+        default it waits longer than a machine may stall."""
+        options = {"timeout": LONGEST, **options}
         plain = self.server.Client(path, **options)
         yield lambda name, *given: getattr(plain, name)(*given)
 

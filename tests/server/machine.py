@@ -31,10 +31,11 @@ def on_page(path: str) -> str:
 
 
 def install(*paths: str) -> None:
-    """Writes files as the page has them."""
+    """Writes files as the page has them, but for PAM's patience: a machine may stall."""
     for path in paths:
         pathlib.Path(path).parent.mkdir(parents=True, exist_ok=True)
-        pathlib.Path(path).write_text(on_page(path))
+        patient = on_page(path).replace("pam_rigzumal.so", "pam_rigzumal.so timeout=60")
+        pathlib.Path(path).write_text(patient)
 
 
 def commands_on_page(word: str) -> list[str]:

@@ -12,7 +12,7 @@ from typing import Any
 
 from client_case import ClientCase
 from machine import PAGE
-from served import TOP, Case, need
+from served import LONGEST, TOP, Case, need
 from tests import hostile_fields
 from tests.helpers import run
 from tests.hostile_fields import NAMES, PASSWORDS
@@ -46,7 +46,7 @@ class HostileFields(ClientCase):
     def test_hostile_fields(self) -> None:
         """Each field that a visitor may send gets an answer from the client for threads."""
         with self.tapped() as path:
-            client = self.server.Client(path)
+            client = self.server.Client(path, LONGEST)
             for what, (reply, call, *asked) in self.logins():
                 with self.subTest(what, call=call):
                     self.assertIs(getattr(client, call)(*asked), reply)

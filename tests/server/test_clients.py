@@ -78,7 +78,9 @@ class Clients(ClientCase):
             ("TypeError", "login", "verify", "ada", 5),
         ]
         login, admin = service.path(), service.path("admin")
-        self.assertIs(self.server.Client(login).verify("ada", "guess"), self.server.Reply.NO)
+        self.assertIs(
+            self.server.Client(login, LONGEST).verify("ada", "guess"), self.server.Reply.NO
+        )
         asked = len(service.asked())
         for ought, door, *given in rows:
             for call in self.calls(admin if door == "admin" else str(login)):
@@ -88,7 +90,7 @@ class Clients(ClientCase):
                 self.assertEqual(text[: len(ought)], ought, f"{given}")
                 self.assertNotIn("secret", text)
         with self.assertRaises(self.server.Refused) as refused:
-            self.server.Client(admin).account("a b")
+            self.server.Client(admin, LONGEST).account("a b")
         self.assertEqual((refused.exception.number, refused.exception.word), (3, "name"))
         sent = ["account Ada", f"verify ada {SECRET}"]
         self.assertEqual(sorted(service.asked()[asked:]), sorted(sent * 2), "what isn't sent")
@@ -115,7 +117,7 @@ class Clients(ClientCase):
         answers = [b"", b"yes\n", b"1 yes", b"2 yes\n", b"1 yess\n", b"1 ye\n", b"1 no yes\n"]
         answers += [b"1 \xffyes\n", b"x" * 200000, b"* bad 16 long\n", b"1 unavailable\n"]
         scenes = [(answer, "", 60.0, 0.0, 30) for answer in (*answers, b"\n", b"1\n")]
-        scenes += [(b"1 y", "waits", 0.5, 0.4, 15), (b"1 y", "drips", 1.0, 0.9, 8)]
+        scenes += [(b"1 y", "waits", 0.5, 0.4, 60), (b"1 y", "drips", 1.0, 0.9, 60)]
         for answer, then, timeout, least, most in (
             *scenes,
             (b"x" * (8 << 20), "waits", 60.0, 0, 30),
@@ -142,7 +144,7 @@ class Clients(ClientCase):
 
         later = threading.Timer(0.2, take)
         later.start()
-        self.assertIs(self.server.Client(path).verify("ada", "x"), self.server.Reply.YES)
+        self.assertIs(self.server.Client(path, LONGEST).verify("ada", "x"), self.server.Reply.YES)
         later.join()
 
     def test_pauses_of_a_full_backlog(self) -> None:
@@ -201,7 +203,8 @@ class Clients(ClientCase):
             writer.close()
 
         async def asks() -> None:
-            async with await asyncio.start_unix_server(take, path), self.aio.Client(path) as client:
+            client = self.aio.Client(path, LONGEST)
+            async with await asyncio.start_unix_server(take, path), client:
                 said = await asyncio.gather(*(client.known("ada") for _ in range(50)))
             self.assertEqual((set(said), len(taken)), ({self.server.Reply.YES}, 1))
 

@@ -11,6 +11,9 @@ import time
 from served import FRESH, SECRET, WRONG, Case, Client, as_user, cpu, need_root, until
 from tests.needs import lacking
 
+# An idle time, in seconds, beyond that for which a machine may stall.
+STALL = "15"
+
 
 class Limits(Case):
     def test_half_lines(self) -> None:
@@ -205,7 +208,7 @@ class Limits(Case):
     def test_idle_clients(self) -> None:
         """After the idle time a client is closed, also in the midst of a line; one that asks
         isn't."""
-        service = self.serving("--idle", "3")
+        service = self.serving("--idle", STALL)
         silent, half, drips, busy = [service.client() for _ in range(4)]
         half.send("a verify ada")
 
@@ -227,7 +230,7 @@ class Limits(Case):
     def test_slow_readers(self) -> None:
         """A client that doesn't read its answers is held back, and costs others nothing; then it is
         closed."""
-        service = self.serving("--idle", "2", "--at-once", "2")
+        service = self.serving("--idle", STALL, "--at-once", "2")
         for number in range(100):
             service.enrol(**{f"{'n' * 30}{number:02}": ""})
         begun = len(service.asked())

@@ -121,7 +121,9 @@ class Endings(Case):
     def test_an_end_amid_a_beat(self) -> None:
         """A stop while the server itself waits for the book costs nobody an answer."""
         for number, ought in ((signal.SIGCONT, b"noaccount"), (signal.SIGKILL, b"unavailable")):
-            service = self.serving("--idle", "1")
+            service = self.serving(
+                environment={"WATCHDOG_USEC": "200000"}
+            )  # of which half is a beat
             client, book = service.client(), service.book_pid()
             os.kill(book, signal.SIGSTOP)
             time.sleep(0.3)  # until the server asks it

@@ -204,7 +204,7 @@ class Imports(TransferCase):
     def test_a_text_that_never_ends(self) -> None:
         """credkeep-ask reads so much of it, and the server isn't asked; a client that sends no more
         holds up nobody but other imports."""
-        service = self.over("--idle", "1")
+        service = self.over("--idle", "15")  # longer than a machine may stall
         with subprocess.Popen(["yes", LINE.strip()], stdout=subprocess.PIPE) as endless:
             command = [ASK, "--server", str(service.path("admin")), "import"]
             done = subprocess.run(command, stdin=endless.stdout, capture_output=True)

@@ -1,6 +1,7 @@
 """The PAM module in a driver of its own, and a peer that answers it."""
 
 import base64
+import contextlib
 import enum
 import os
 import pathlib
@@ -131,8 +132,9 @@ def asked(question: Question, path: pathlib.Path) -> Said:
     pipe, said, before = subprocess.PIPE, Said(), time.monotonic()
     with subprocess.Popen(words, stdin=pipe, stdout=pipe, stderr=pipe, env=environment) as run:
         assert run.stdin and run.stdout and run.stderr
-        run.stdin.write("".join(f"{it.hex()}\n" for it in question.answers).encode())
-        run.stdin.close()
+        with contextlib.suppress(BrokenPipeError):  # it has ended, and asked for nothing
+            run.stdin.write("".join(f"{it.hex()}\n" for it in question.answers).encode())
+            run.stdin.close()
         while os.WIFSTOPPED(status := os.waitpid(run.pid, os.WUNTRACED)[1]):
             said.looks.append(found_in(run.pid, question.looked_for))
             run.send_signal(signal.SIGCONT)

@@ -156,26 +156,28 @@ class Answers(Case):
         with peer(drips) as it:
             self.assertEqual(asked(Question(), it.path).codes, [Pam.SUCCESS])
 
-    def check_deadline(self, path: pathlib.Path, most: int) -> None:
+    def check_deadline(self, path: pathlib.Path) -> None:
+        """The call ends at its second, or a little after it on a machine that stalls, and not at
+        another event."""
         said = asked(Question(options="timeout=1", build=PLAIN), path)
         self.assertEqual(said.codes, [Pam.AUTHINFO_UNAVAIL])
-        self.assertTrue(0.9 < said.seconds < most, f"{said.seconds} s")
+        self.assertTrue(0.9 < said.seconds < 40, f"{said.seconds} s")
 
     def test_deadlines(self) -> None:
         """A peer that says nothing, drips, or doesn't take the connection costs the timeout,
         once."""
 
         def nothing(line: bytes, client: socket.socket) -> None:
-            time.sleep(8)
+            time.sleep(100)
 
         def drips(line: bytes, client: socket.socket) -> None:
-            for _ in range(40):
+            for _ in range(500):
                 client.sendall(b"1")
                 time.sleep(0.2)
 
         for reply in (nothing, drips):
             with peer(reply) as it:
-                self.check_deadline(it.path, 7)
+                self.check_deadline(it.path)
         self.check(YES, Pam.SUCCESS, VERIFY, environment={"JUMPS": "1"})  # the clock is set
         path, busy = ROOM / "busy", socket.socket(socket.AF_UNIX)
         busy.bind(str(path))
@@ -184,7 +186,7 @@ class Answers(Case):
         for client in waiting:
             client.setblocking(False)
             client.connect_ex(str(path))
-        self.check_deadline(path, 30)
+        self.check_deadline(path)
         for it in (*waiting, busy):
             it.close()
 
@@ -215,7 +217,7 @@ class Answers(Case):
                 self.assertEqual(asked(Question(tasks=task), it.path).codes, [Pam.SUCCESS])
                 self.assertEqual(it.lines, [line] * 4)
         with peer(sends(NO_ROOM)) as it:
-            self.check_deadline(it.path, 7)
+            self.check_deadline(it.path)
             self.assertLess(len(it.lines), 9)
 
     def test_no_room_at_once(self) -> None:
