@@ -20,6 +20,9 @@ WITHOUT_BODY = {"use", "const", "static", "type"}
 ENDS_HEAD = {it: {"{", ";", *(CLAUSES if it == "fn" else ())} for it in KINDS}
 # What an attribute says to the prover, to the compiler or to a reader alone.
 UNSEEN = {"tactic", "cycle", "inline", "allow", "doc"}
+# The attributes that are known to hide nothing, and the one that leaves out of all but tests.
+KNOWN = {"derive", "error", "repr", "test", "unsafe"} | UNSEEN
+FOR_TESTS = "cfg ( test )"
 
 
 @dataclasses.dataclass
@@ -118,6 +121,8 @@ class File:
         while at < end and self.tokens[at].text == "#":
             opens = self.until(at, end, {"["})
             found.append(self.words(opens + 1, self.closing[opens]))
+            if found[-1][0] not in KNOWN and " ".join(found[-1]) != FOR_TESTS:
+                raise ValueError(f"an attribute that may hide items: {' '.join(found[-1])}")
             at = self.closing[opens] + 1
         return at, [" ".join(it) for it in found if it[0] not in UNSEEN]
 

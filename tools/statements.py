@@ -15,8 +15,9 @@ changes its own line, and a definition those of the promises that rest on it. Th
   trait; each public constant;
 - each crate: the names that it hands out, and its line in crates.txt; and HANDLES.
 
-A signature, and what a crate hands out, count with what their imported names stand for. A macro
-among items is refused, since no line would tell what it writes.
+A signature, and what a crate hands out, count with what their imported names stand for. Refused is
+what no line would tell of: a macro among items, an import of all names, a file that no `mod` names,
+and an attribute that may hide an item, such as a condition other than `cfg(test)`.
 
 No line changes by a comment, the layout, the order of imports, a proof, another body, or where a
 file stands. A binder's or a definition's new name does change lines, as words are compared. What no
@@ -39,7 +40,7 @@ from collections.abc import Iterable, Iterator
 
 import definitions
 from definitions import Definitions, Names, Place, Text
-from items import File, Item
+from items import FOR_TESTS, File, Item
 from tree import CRATES, TOP, is_test_or_example, listed, source
 
 STATEMENTS = TOP / "docs/STATEMENTS.txt"
@@ -48,7 +49,8 @@ HEAD = """\
 # and writes this file. A second person reads what changed behind each line (CONTRIBUTING.md).
 """
 # Whose bodies are the runs that their clauses tell of: functions, and all those of a crate.
-RUNS = {"crash_laws", "cred_file::crash_and_open", "cred_file::reopen", "credbook::main"}
+RUNS = {"crash_laws", "cred_file::crash_and_open", "cred_file::reopen"}
+RUNS |= {"credbook::main", "credkeep::main"}
 # The items that have a line of their own, beside those of their clauses.
 TOLD = {"fn", "struct", "enum", "trait", "const", "static", "type"}
 WRITE = "python3 tools/statements.py --write"
@@ -108,7 +110,7 @@ class Source:
 
 
 def is_for_tests(item: Item) -> bool:
-    return any(it.startswith("cfg ( test") for it in item.attributes)
+    return FOR_TESTS in item.attributes
 
 
 def all_items(items: list[Item]) -> Iterator[Item]:
@@ -125,6 +127,9 @@ def sources_of(crate: str, crates: pathlib.Path) -> Iterator[Source]:
     for file in sorted(top.glob("**/*.rt")):
         path = file.relative_to(top).with_suffix("").parts
         found[() if path in (("lib",), ("main",)) else path] = File(source(file)).items()
+    named = {(*at, it.name) for at, items in found.items() for it in items if it.kind == "mod"}
+    if lost := {*found} - named - {()}:
+        raise ValueError(f"{crate}: a file that no `mod` names: {'/'.join(min(lost))}.rt")
     tests = {(*at, it.name) for at, items in found.items() for it in items if is_for_tests(it)}
     for modules, items in found.items():
         if not any(modules[: len(it)] == it for it in tests):
@@ -134,6 +139,8 @@ def sources_of(crate: str, crates: pathlib.Path) -> Iterator[Source]:
 def imports_of(item: Item) -> list[tuple[str, Place]]:
     """The imports of a `use` of code: each local name, with its path."""
     path = item.head[item.head.index("use") + 1 :]
+    if "*" in path:
+        raise ValueError(f"an import of names that aren't seen: {''.join(path)}")
     return [*definitions.imported(["." if it == "::" else it for it in path])]
 
 

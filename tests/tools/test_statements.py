@@ -1,5 +1,6 @@
 """tools/statements.py: which lines a change of two crates changes, each change alone."""
 
+import re
 import sys
 
 from tests.helpers import TOP, Case, each, ended, write_files
@@ -272,6 +273,34 @@ SAME = [
     ("../crates.txt", "low std", "std low"),
 ]
 
+# What would hide an item from the tool: a file, its text, what stands in its place, and what is
+# told.
+HIDES = "an attribute that may hide items: "
+UNSEEN = [
+    (
+        "low/src/limits.rt",
+        "const HALF",
+        "more!();\nconst HALF",
+        "a macro among items, whose items aren't seen: more!",
+    ),
+    ("low/src/lib.rt", "mod inner;", "#[cfg(any())]\nmod inner;", f"{HIDES}cfg ( any ( ) )"),
+    ("low/src/inner.rt", "use", "#![cfg(any())]\nuse", f"{HIDES}cfg ( any ( ) )"),
+    ("low/src/lib.rt", "pub fn fits", "#[cfg(test2)]\npub fn fits", f"{HIDES}cfg ( test2 )"),
+    (
+        "low/src/lib.rt",
+        "mod inner;",
+        '#[path = "other.rt"]\nmod inner;',
+        f'{HIDES}path = "other.rt"',
+    ),
+    ("low/src/lib.rt", "mod inner;", "", "low: a file that no `mod` names: inner.rt"),
+    (
+        "low/src/lib.rt",
+        "use crate::limits::LIMIT;",
+        "use crate::limits::*;",
+        "an import of names that aren't seen: crate::limits::*",
+    ),
+]
+
 
 class Statements(Case):
     def setUp(self) -> None:
@@ -323,11 +352,10 @@ class Statements(Case):
         """A file of definitions or of code under another name changes no line."""
         crates = self.top / "crates"
         (crates / "low/specs/Bounds.antt").rename(crates / "low/specs/Sizes.antt")
-        (crates / "low/src/limits.rt").rename(crates / "low/src/most.rt")
+        (crates / "low/src/inner.rt").rename(crates / "low/src/most.rt")
         for file in [*crates.glob("*/specs/*.antt"), *crates.glob("*/src/*.rt")]:
             text = file.read_text().replace("specs.Bounds", "specs.Sizes")
-            text = text.replace("declared.limits", "declared.most")
-            file.write_text(text.replace("crate::limits", "crate::most"))
+            file.write_text(re.sub(r"\b(mod |use )inner\b", r"\1most", text))
         self.assertEqual(self.told()[0], 0)
 
     def test_renamed_binder(self) -> None:
@@ -347,11 +375,12 @@ class Statements(Case):
         self.told("--write")
         self.test_lines(sorted([*ALL, "low::kept ensures", "low::more fn"]))
 
-    def test_macro(self) -> None:
-        """A macro among items, which may write any, is refused."""
-        self.replace("low/src/limits.rt", "const HALF", "more!();\nconst HALF")
-        told = "docs/STATEMENTS.txt: a macro among items, whose items aren't seen: more!"
-        self.assertEqual(self.told(), (1, [told]))
+    @each(*UNSEEN)
+    def test_unseen(self, file: str, old: str, new: str, told: str) -> None:
+        """What may hide an item, or write any, is refused."""
+        self.replace(file, old, new)
+        self.assertEqual(self.told(), (1, [f"docs/STATEMENTS.txt: {told}"]))
+        write_files(self.top, FILES)
 
     def test_lost_definition(self) -> None:
         """A name that leads to no definition is told, and no traceback."""
