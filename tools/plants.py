@@ -71,6 +71,9 @@ PLANTS = (
         "return PAM_AUTHINFO_UNAVAIL;",
         "c/pam/tests/test_answers",
     ),
+    Plant("c/programs/calls.c", "if (at >= word_count)", "if (at > word_count)", "test_programs"),
+    Plant("c/cmake/rigzumal-config.cmake.in", "@TO_PREFIX@", "@TO_PREFIX", "c/tests/test_package"),
+    Plant("c/proved/proved.sum", "# cred_pool:", "# cred_pool: std", "c/tests/test_machine_code"),
     # The package for Python
     Plant(
         "python/rigzumal/accounts/_accounts.py",
@@ -118,6 +121,8 @@ PLANTS = (
         "tests/server/test_ask",
     ),
     Plant("units/credkeep-server@.service", "UMask=0077\n", "", "tests/server/test_units"),
+    Plant("man/credkeep-server.8", "audit\\-tries", "audit\\-trials", "test_options"),
+    Plant("bin/launcher.in", "hugetlb=1 ;;", "hugetlb=0 ;;", "tests/credbook"),
     # The crate for Rust, pages, packages and tools
     Plant(
         "rust/src/ffi.rs",
@@ -144,6 +149,11 @@ PLANTS = (
         "librigzumal 2",
         "tests/packages/test_install",
     ),
+    Plant("packaging/folders", "#!/bin/sh\n", "#!/bin/sh\nif\n", "tests/tools/test_layout"),
+    Plant("packaging/rigzumal-tools/postinst", "set -e", "set -e\nif", "tests/tools/test_layout"),
+    Plant("completions/bash", '$line == "$word"*', "$line == '$word'*", "tools/test_completions"),
+    Plant("docs/site/build.py", "PLACES.get(path) or ", "", "docs/tests/test_site"),
+    Plant("bench/turns.py", "def ", "def not_", "tests/tools/test_measures"),
     Plant("tools/mutants.py", '"&&", "||", ', '"&&", ', "tests/tools/test_mutate"),
     Plant(
         "tests/needs.py", "        if lacks_program(name):\n", "        if True:\n", "test_units"
@@ -199,6 +209,8 @@ def main() -> int:
     reader.add_argument("words", nargs="*", metavar="WORD", help="a part of a file's name")
     words = reader.parse_args().words or [""]
     chosen = [it for it in PLANTS if any(word in it.file for word in words)]
+    if not chosen:
+        raise SystemExit(f"no plant is of a file with {' or '.join(words)} in its name")
     refused = 0
     with tempfile.TemporaryDirectory(prefix="rigzumal-plants-") as folder:
         room = pathlib.Path(folder)
@@ -213,7 +225,7 @@ def main() -> int:
             refused += bool(by)
     left = len(chosen) - refused
     print(f"{refused} refused, {left} not")
-    return 1 if left or not chosen else 0
+    return 1 if left else 0
 
 
 if __name__ == "__main__":

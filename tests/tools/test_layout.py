@@ -1,4 +1,5 @@
-"""The layout of all Python of the tree: black by pyproject.toml, and tests that need no program."""
+"""The layout of all Python of the tree: black by pyproject.toml, and tests that need no program;
+and checks of the shell's scripts and of the manuals."""
 
 import ast
 import pathlib
@@ -35,6 +36,31 @@ def has_noqa(fault: str) -> bool:
     """Whether the line that a fault of pyflakes names says that it is meant."""
     path, line, _ = fault.split(":", 2)
     return "noqa" in pathlib.Path(path).read_text().splitlines()[int(line) - 1]
+
+
+def scripts() -> list[pathlib.Path]:
+    """The files for the shell, by their first lines."""
+    found = [it for it in TOP.rglob("*") if not BUILT & {*it.relative_to(TOP).parts}]
+    files = [it for it in found if it.is_file() and not it.is_symlink()]
+    return [it for it in files if it.open("rb").read(9) == b"#!/bin/sh"]
+
+
+class Others(unittest.TestCase):
+    def test_scripts(self) -> None:
+        """The shell reads each script of the tree, those of packages too."""
+        names = {str(it.relative_to(TOP)) for it in scripts()}
+        wanted = {".ci/run", "bin/launcher.in", "packaging/deb", "packaging/rigzumal-tools/postrm"}
+        self.assertEqual(wanted - names, set())
+        for path in scripts():
+            with self.subTest(path.relative_to(TOP)):
+                run("sh", "-n", path)
+
+    def test_manuals(self) -> None:
+        """groff warns of nothing."""
+        need("groff")
+        for path in sorted((TOP / "man").iterdir()):
+            with self.subTest(path.name):
+                self.assertEqual(run("groff", "-man", "-Tutf8", "-ww", "-z", path), "")
 
 
 class Layout(unittest.TestCase):

@@ -275,6 +275,16 @@ class Jobs(unittest.TestCase):
             if "out" not in path.parts:
                 self.assertIn(str(path.with_suffix("")), known)
 
+    def test_tests_of_others_are_named(self) -> None:
+        """A file with tests whose name isn't test_*.py is run, or used, by one beside it."""
+        for path in TOP.rglob("*.py"):
+            is_other = "out" not in path.parts and not path.name.startswith("test_")
+            if is_other and re.search(r"^    (async )?def test_\w+\(self", path.read_text(), re.M):
+                with self.subTest(path.relative_to(TOP)):
+                    texts = [it.read_text() for it in path.parent.glob("test_*.py")]
+                    form = re.compile(rf"\b{path.stem}\b")
+                    self.assertTrue(any(form.search(it) for it in texts), "nothing runs it")
+
     def test_named_modules_are_there(self) -> None:
         for folder in jobs.FOLDERS:
             for word in (*folder.parts, *folder.quiet, *folder.packing, *folder.long):
