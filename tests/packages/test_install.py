@@ -177,6 +177,23 @@ class Folders(helpers.Case):
                     self.make(part, "uninstall")
                 self.assertEqual(self.left(), [])
 
+    def test_programs_too(self):
+        """The programs, the server, its units and all pages are there, and the top's uninstall
+        leaves nothing of any part."""
+        need_file(*BUILT)
+        self.make(".", "install-programs")
+        for part in self.parts:
+            self.make(part, "install")
+        units, pages = ((TOP / it).iterdir() for it in ("units", "man"))
+        names = {"bin/credbook", "bin/credkeep", "bin/credkeep-ask", "sbin/credkeep-server"}
+        names |= {f"lib/systemd/system/{it.name}" for it in units}
+        names |= {f"share/man/man{it.suffix[1:]}/{it.name}" for it in pages}
+        if "c/pam" not in self.parts:
+            names -= {"share/man/man8/pam_rigzumal.8"}
+        self.assertEqual(names - files_below(self.prefix), set())
+        self.make(".", "uninstall")
+        self.assertEqual(self.left(), [])
+
     def test_folders_of_others_stay(self):
         """Those that were there before, and those in which others have put something since."""
         (self.prefix / "share/zsh").mkdir(parents=True)

@@ -19,6 +19,8 @@ class Plants(Case):
             with self.subTest(plant.file):
                 self.assertIn(plant.old, (TOP / plant.file).read_text())
                 self.assertNotEqual(jobs.jobs([plant.jobs]), [])
+        page = (TOP / "docs/BUILDING.md").read_text()
+        self.assertIn(f"a mistake in each folder: {len(plants.PLANTS)} of them", page)
 
     @each(
         ("right", ["one"], [], "one"),
