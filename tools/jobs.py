@@ -8,7 +8,7 @@ import sys
 from collections.abc import Collection, Iterator, Mapping
 from pathlib import Path
 
-from tree import TOP
+from tree import CRATES, TOP, has_rt
 
 SECONDS = TOP / "tools/job_seconds.json"
 TOLD = TOP / "tests/told.py"
@@ -71,8 +71,13 @@ FOLDERS = (
     Folder("rust/tests"),
 )
 
-# Programs of tools/ that are tests too, with their words. README's sessions need the library.
-PROGRAMS = {"refuse_memory": (), "peak_memory": (), "readme": ("README.md",)}
+# Programs of tools/ that are tests too, with their words and the crate whose program, which rt
+# alone builds, they run. README's sessions need the library.
+PROGRAMS = {
+    "refuse_memory": ((), "book_tests/out/book_tests_tests"),
+    "peak_memory": ((), "hash_tests/out/hash_tests_tests"),
+    "readme": (("README.md",), "credkeep/out/credkeep"),
+}
 
 
 @dataclasses.dataclass(frozen=True)
@@ -87,6 +92,8 @@ class Job:
     is_quiet: bool = False
     is_packing: bool = False
     is_long: bool = False
+    # What is missing of the machine, without which it is skipped.
+    lacks: str = ""
 
     @property
     def is_told(self) -> bool:
@@ -115,9 +122,11 @@ def modules_of(folder: Folder) -> Iterator[Job]:
 
 
 def programs() -> Iterator[Job]:
-    for name, words in PROGRAMS.items():
+    for name, (words, built) in PROGRAMS.items():
         command = (str(TOP / f"tools/{name}.py"), *words)
-        yield Job(f"tools/{name}", "tools", command, TOP, needs_library=name == "readme")
+        lacks = "" if has_rt() or (CRATES / built).exists() else "the program rt"
+        is_readme = name == "readme"
+        yield Job(f"tools/{name}", "tools", command, TOP, needs_library=is_readme, lacks=lacks)
 
 
 def seconds() -> dict[str, float]:

@@ -81,6 +81,10 @@ class Done:
         self.tests: dict[str, str] = {}
         self.output = ""
         self.is_whole = not job.is_told
+        self.seconds = self.processor = 0.0
+        if job.lacks:
+            self.note("skipped", job.name, f"needs {job.lacks}")
+            return
         with tempfile.TemporaryDirectory(prefix="rigzumal-job-") as room:
             told, printed = pathlib.Path(room, "told"), pathlib.Path(room, "printed")
             self.run(told, printed)

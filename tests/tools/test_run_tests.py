@@ -196,6 +196,16 @@ class RunTests(Case):
         for word in ("no-such-job", "docs/tests"):
             self.assertEqual(self.run_tests(word).status, 1)
 
+    def test_tools_without_rt(self) -> None:
+        """Tools that run what rt builds are skipped where it isn't, and fail where it is."""
+        folders = os.environ["PATH"].split(":")
+        path = ":".join(it for it in folders if not pathlib.Path(it, "rt").exists())
+        done = self.run_tests("tools/peak", "tests/tools", PATH=path)
+        self.assertIn("skipped needs the program rt: 1\n", done.written)
+        self.assertEqual(done.status, 0)
+        done = self.run_tests("tools/peak", "tests/tools", PATH=path, RT="true")
+        self.assertIn("FAILED: tools/peak_memory: tools/peak_memory\n", done.written)
+
     def test_long_ones(self) -> None:
         done = self.run_tests("--long", "credkeep")
         self.assertIn("a long one ran", done.written)
