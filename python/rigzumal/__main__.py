@@ -5,8 +5,9 @@
     python3 -m rigzumal calibrate --target-ms 250 --memory 64M
     python3 -m rigzumal accounts --help
 
-A password is never an argument. At a terminal the command asks for it, unseen; otherwise it is all
-of standard input, with a newline at its end too. The exit statuses are credkeep's: 4 is a no.
+A password is never an argument. At a terminal the command asks for the password, unseen. Otherwise
+the password is all of standard input, with a newline at its end too. The exit statuses are
+credkeep's: 4 is a no.
 """
 
 from __future__ import annotations
@@ -95,7 +96,7 @@ def _verify(given: argparse.Namespace) -> int:
 
 
 def _calibrate(given: argparse.Namespace) -> int:
-    """Prints the costs that were tried, with their times, and then the best of them."""
+    """Prints the costs that it tried, with their times, and then the best costs."""
     if given.memory < LEAST_SAFE_MEMORY and not given.below:
         least = f"--memory is below {LEAST_SAFE_MEMORY} KiB; --below allows it"
         raise Refusal(least, Status.WORDS)
@@ -113,13 +114,13 @@ def _calibrate(given: argparse.Namespace) -> int:
 
 
 def _hint_at(record: str) -> str:
-    """The fault of a record that isn't ours, in words for people."""
+    """The fault of a record of another program, in words for people."""
     unquoted = "" if record.startswith("$") else "in single quotes a shell leaves its $ alone"
     return none_of_ours(record) or unquoted
 
 
 def _run(given: argparse.Namespace) -> int:
-    """Runs the command, and answers its exit status."""
+    """Runs the command, and returns its exit status."""
     try:
         status: int = given.act(given)
         return status
@@ -131,7 +132,7 @@ def _run(given: argparse.Namespace) -> int:
 
 
 def main() -> int:
-    """Runs the command, and answers its exit status once all is written."""
+    """Runs the command, and returns its exit status once all output is written."""
     if sys.argv[1:2] == ["accounts"]:
         from rigzumal.accounts import cli
 

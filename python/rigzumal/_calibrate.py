@@ -9,7 +9,7 @@ from typing import Final, NamedTuple, Optional
 
 from rigzumal._hashers import PasswordHasher
 
-# KiB: a lane's least of Argon2, and OWASP's least costs with two passes and with one.
+# KiB: Argon2's least for a lane, and OWASP's least with two passes and with one.
 LEAST_MEMORY: Final = 8
 LEAST_SAFE_MEMORY: Final = 19456
 _OF_ONE_PASS: Final = 47104
@@ -23,7 +23,7 @@ class Measured(NamedTuple):
 
 
 def measured(hasher: PasswordHasher, turns: int = 5) -> Measured:
-    """The best time of some hashes, after one that isn't counted."""
+    """The best time of some hashes; a first hash isn't counted."""
     times = []
     for _ in range(turns + 1):
         begun = time.perf_counter()
@@ -44,8 +44,8 @@ def trials(
     """Costs to try, in turn: the last ones are the result.
 
     RFC 9106, section 4, chooses all of the memory (KiB), and then as many passes as the target
-    (milliseconds) allows. If one pass needs too long, less memory is tried, down to the least:
-    OWASP's, or Argon2's if the costs may be below it.
+    (milliseconds) allows. If one pass needs too long, the trials use less memory, down to OWASP's
+    least, or to Argon2's if the caller allows costs below OWASP's.
     """
     least = max(LEAST_MEMORY * lanes, 0 if below else LEAST_SAFE_MEMORY)
     found = measured(PasswordHasher(1, memory, lanes, threads=threads))
@@ -70,7 +70,7 @@ def trials(
 
 
 def why_busy() -> Optional[str]:
-    """A remark if other work may use the processors, otherwise None."""
+    """A remark if other processes may use the processors, otherwise None."""
     load, processors = os.getloadavg()[0], os.cpu_count() or 1
     if load <= processors / 2:
         return None

@@ -1,4 +1,4 @@
-"""The exit statuses (credkeep's) and the words that the commands at the shell share."""
+"""The exit statuses (those of credkeep) and the options that the commands at the shell share."""
 
 from __future__ import annotations
 
@@ -31,7 +31,7 @@ class Status(enum.IntEnum):
 
 
 class Refusal(Exception):
-    """A refusal in words, which standard error gets, with its status."""
+    """A refusal: a text for standard error, and an exit status."""
 
     def __init__(self, text: str, status: Status = Status.INPUT) -> None:
         super().__init__(text)
@@ -39,7 +39,7 @@ class Refusal(Exception):
 
 
 _COSTS = "--memory, --passes or --lanes"
-# What other programs call the costs.
+# The names of the costs in other programs.
 _SYNONYMS = {
     "--time": "--passes",
     "--time-cost": "--passes",
@@ -61,7 +61,8 @@ _SYNONYMS = {
 class Words(argparse.ArgumentParser):
     """A parser that exits with status 1 if it refuses a word.
 
-    It takes no abbreviation: `--pass` would be `--passes`, whose value an error shows.
+    The parser accepts no abbreviation: it would read `--pass` as `--passes`, whose value an error
+    shows.
     """
 
     def __init__(self, **given: Any) -> None:
@@ -96,7 +97,7 @@ def _options_of(words: argparse.ArgumentParser, command: str) -> Iterator[str]:
 
 
 def _unknown(word: str, options: Sequence[str]) -> str:
-    """The fault of a word that isn't shown, where a command has these options."""
+    """The fault of a word, which isn't shown, at a command with these options."""
     if not word.startswith("-"):
         return "a word too many; a password is never an argument: pipe or type it"
     said, meant = "an unknown option, which isn't shown", _meant(word, options)
@@ -104,7 +105,7 @@ def _unknown(word: str, options: Sequence[str]) -> str:
 
 
 def _meant(word: str, options: Sequence[str]) -> str:
-    """The options that an unknown one may mean; empty if none."""
+    """The options that an unknown option may mean; empty if none."""
     synonym = _SYNONYMS.get(word)
     if synonym is None:
         return "".join(difflib.get_close_matches(word, options, 1, 0.7))
@@ -119,7 +120,7 @@ def status_of(fault: Exception) -> Status:
 
 
 def ended(command: Callable[[], int]) -> int:
-    """The status of a command that may be refused, interrupted or left without its streams."""
+    """The status of a command, also if it is refused, interrupted, or loses its streams."""
     try:
         with warnings.catch_warnings():
             warnings.simplefilter("ignore", LowMemoryWarning)  # `memory` has a line of its own
@@ -144,7 +145,7 @@ def positive(text: str) -> int:
 
 
 def memory(text: str) -> int:
-    """KiB, of a number with its unit: 64M, 1G, 65536K or 65536."""
+    """The KiB of a number with its unit: 64M, 1G, 65536K or 65536."""
     unit = text[-1:].upper()
     number = text[:-1] if unit in _UNITS else text
     if not (number.isascii() and number.isdigit()):
@@ -181,9 +182,9 @@ def hasher_of(given: argparse.Namespace) -> Union[PasswordHasher, ScryptHasher]:
 
 
 def read_password(prompt: str = "Password", *, is_new: bool = False) -> bytes:
-    """All of standard input, or the password that is typed: a new one twice.
+    """The password: all of standard input, or what the user types, twice for a new one.
 
-    Raises Refusal if two differ, if there is none, or if it can't be read.
+    Raises Refusal if the two differ, if there is none, or if it can't be read.
     """
     if sys.stdin is None:
         raise Refusal("standard input is closed", Status.STREAM)
@@ -199,12 +200,12 @@ def read_password(prompt: str = "Password", *, is_new: bool = False) -> bytes:
 
 
 def is_empty(password: bytes) -> bool:
-    """Whether a password is only a line's end, as an unset variable leaves it."""
+    """Whether a password is only the end of a line, as from an unset variable."""
     return not password.strip(b"\r\n")
 
 
 def hint(password: bytes, is_right: Callable[[bytes], bool]) -> Optional[str]:
-    """Advice if another end of its line would make the password right, or None."""
+    """Advice, if the password would be right with another end of its line; otherwise None."""
     newlines = "`printf %s` writes none, and `echo` one"
     bare = password[:-1] if password.endswith(b"\n") else password
     if bare != password:

@@ -1,5 +1,5 @@
-"""Values with names, which don't change. dataclasses would do, but take longer to import than all
-the rest of the package."""
+"""A base class for named values that don't change. dataclasses would do, but take longer to import
+than all the rest of the package."""
 
 from __future__ import annotations
 

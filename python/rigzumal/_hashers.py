@@ -1,4 +1,5 @@
-"""Hashers of passwords, in argon2-cffi's manner, and the two functions behind them."""
+"""The hashers of passwords, with argon2-cffi's interface, and the functions `argon2` and
+`scrypt`."""
 
 from __future__ import annotations
 
@@ -23,7 +24,7 @@ Bytes: TypeAlias = "Union[bytes, bytearray, memoryview]"
 _SCRYPT: Final = 3
 _MOST: Final = 2**32 - 1
 _MOST_MEMORY: Final = 2 * 1024 * 1024  # KiB
-LOW_MEMORY: Final = 8192  # KiB; a lower number is one of MiB, more often than not
+LOW_MEMORY: Final = 8192  # KiB; a lower number is more often one of MiB
 _has_warned = False
 
 # The numbers of rigzumal.h for what is out of range.
@@ -38,15 +39,16 @@ _BLOCKS: Final = 21
 
 
 class LowMemoryWarning(UserWarning):
-    """A hasher has a memory_cost below 8 MiB, perhaps since its unit is KiB."""
+    """A hasher has a memory_cost below 8 MiB. Perhaps its author took the unit for MiB; it is
+    KiB."""
 
 
 def _warn_of(memory_cost: int) -> None:
-    """Warns where a caller asks for little memory, once in a process."""
+    """Warns a caller that sets a low memory cost, once in a process."""
     global _has_warned
     if memory_cost >= LOW_MEMORY or _has_warned:
         return
-    import warnings  # which most processes needn't
+    import warnings  # most processes don't need it
 
     level, frame = 1, sys._getframe()
     while is_ours(frame) and frame.f_back is not None:
@@ -123,9 +125,10 @@ class _Hasher(Frozen):
         return True
 
     def _verified(self, hash: Secret, password: Secret) -> int:
-        """The place, from 0, of the secret that the record was hashed with."""
+        """The index of the secret with which the record was hashed."""
         for place, secret in enumerate(self._secrets()):
-            # Without a secret records of scrypt are verified too, and with one they aren't.
+            # A hasher without a secret verifies records of scrypt too; a hasher with a secret
+            # doesn't.
             fault = _library.check(hash, password, secret or None, self.threads)
             if fault not in (_library.MISMATCH, _library.SCHEME):
                 break
@@ -139,7 +142,7 @@ class _Hasher(Frozen):
     def verify_and_rehash(self, hash: Secret, password: Secret) -> Optional[str]:
         """None if the password is right and its record may stay; a new record if it is old.
 
-        It raises as `verify` and `hash`.
+        It raises the exceptions of `verify` and `hash`.
         """
         place = self._verified(hash, password)
         is_old = place > 0 or self.check_needs_rehash(hash)
@@ -158,7 +161,7 @@ class _Hasher(Frozen):
 
 
 def _is_record(password: Secret) -> bool:
-    """Whether a password is a record: other libraries have the two in the other order."""
+    """Whether a password is a record: other libraries take the two arguments in the other order."""
     return isinstance(password, (str, bytes)) and _library.is_record(password)
 
 
@@ -168,8 +171,8 @@ class PasswordHasher(_Hasher):
     Attributes: time_cost: passes, 1 to 2^32 - 1. memory_cost: in KiB, 8 a lane to 2097152.
     parallelism: lanes, 1 to 255. hash_len: bytes of the tag, 4 to 64. salt_len: bytes of a
     generated salt, 8 to 48. type: the kind of Argon2. secret: a pepper, which you keep apart from
-    the records: RFC 9106's K. With it the hasher verifies records of the same secret alone, and
-    none of scrypt. It is never empty: an unset variable is no pepper. No repr shows it. threads:
+    the records: RFC 9106's K. A hasher with a secret verifies only records of that secret, and none
+    of scrypt. The secret is never empty: an unset variable is no pepper. No repr shows it. threads:
     how many threads may work the lanes of one record, the caller's among them; it changes no
     record. 1 is right for a service: other logins use the other processors. `parallelism` is right
     for a program that hashes one password at a time: 64 MiB and four lanes need a third of the time

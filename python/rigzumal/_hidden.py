@@ -1,7 +1,7 @@
-"""Reports of errors without passwords.
+"""Keeps passwords out of reports of errors.
 
-Sentry, cgitb, rich and Django's debug page show the variables of the frames that an exception has
-passed, all but those of some names. So each public call that gets a password or a pepper empties
+Sentry, cgitb, rich and Django's debug page show the variables of each frame that an exception has
+passed, except those with some names. So each public call that gets a password or a pepper empties
 such frames before an exception leaves it.
 """
 
@@ -20,13 +20,13 @@ if TYPE_CHECKING:
 
 
 def hidden(function: Function) -> Function:
-    """The function, whose exceptions bring no variable of this package's frames. A caller's hooks
+    """Wraps a function: its exceptions carry no variable of this package's frames. A caller's hooks
     keep theirs."""
     return _hiding(function, hide)
 
 
 def hidden_below(function: Function) -> Function:
-    """The function, whose exceptions bring no variable of a frame below it, whosever it is."""
+    """Wraps a function: its exceptions carry no variable of any frame below it."""
     return _hiding(function, _hide_all)
 
 
@@ -45,7 +45,7 @@ def _hiding(function: Function, hides: Callable[..., None]) -> Function:
 
 
 def hide(raised: BaseException, handled: Optional[BaseException] = None) -> None:
-    """Empties this package's frames that an exception, and those of which it came, have passed."""
+    """Empties this package's frames in the tracebacks of an exception and of its causes."""
     _empty(raised, handled, is_ours)
 
 

@@ -5,7 +5,7 @@ from __future__ import annotations
 import ctypes
 import os
 
-# typing takes longer to import than all else here, so it is left to those who check types.
+# typing takes longer to import than all else here, so only type checkers import it.
 TYPE_CHECKING = False
 if TYPE_CHECKING:
     from collections.abc import Callable
@@ -14,7 +14,7 @@ if TYPE_CHECKING:
     from typing_extensions import TypeAlias
 
 Secret: TypeAlias = "Union[bytes, str]"
-"""A password or the like: bytes, or text, which counts as its bytes in UTF-8."""
+"""A password, for example: bytes, or text, which stands for its bytes in UTF-8."""
 
 TEXT_SIZE: Final = 513
 OK: Final = 0
@@ -81,7 +81,7 @@ def raise_fault(number: int, text: Secret = b"") -> None:
 
 
 def _range_of(text: Secret) -> str:
-    """The number of a record that is out of its range, and the range."""
+    """The field of a record whose number is out of its range, and that range."""
     words = ctypes.create_string_buffer(TEXT_SIZE)
     is_range = _library.rigzumal_explain(words, TEXT_SIZE, text_bytes(text)) == RANGE
     return words.value.decode() if is_range else ""
@@ -105,7 +105,8 @@ def bytes_of(secret: Secret) -> bytes:
 
 
 def data_of(data: object, wanted: str = "bytes") -> bytes:
-    """The bytes of a salt or the like; TypeError for text, and for whatever holds no bytes."""
+    """The bytes of a salt, for example; raises TypeError for text, and for objects without
+    bytes."""
     if isinstance(data, bytes):
         return data
     try:
@@ -232,7 +233,7 @@ def version() -> str:
 
 
 def trim() -> int:
-    """Returns the memory that is kept for the next hashes to the system; answers how many bytes.
+    """Releases the memory that is kept for the next hashes; returns the number of bytes.
 
     The library keeps as much as hashes used at one time, up to the bound of `keep`. A system
     that is short of memory reclaims it; this call is for a program that hashes seldom.
@@ -241,9 +242,10 @@ def trim() -> int:
 
 
 def keep(most: int) -> int:
-    """Bounds the bytes that are kept from now on, and returns the old bound.
+    """Sets the bound on the bytes that are kept, and returns the old bound.
 
-    The first bound is 64 MiB, or RIGZUMAL_KEEP of the environment; with 0 no memory is kept.
+    The default is 64 MiB, or the environment variable RIGZUMAL_KEEP. With 0 the library keeps no
+    memory.
     """
     whole_number("most", most)
     if not 0 <= most < 2**63:
@@ -264,7 +266,7 @@ def record(
     secret: Optional[bytes] = None,
     threads: int = 1,
 ) -> str:
-    """rigzumal_record_from; the salt is bytes, or the size of one that the library draws."""
+    """rigzumal_record_from; the salt is bytes, or the size of a salt that the library generates."""
     text = ctypes.create_string_buffer(TEXT_SIZE)
     given = (text, TEXT_SIZE, checked(tag_size), text_bytes(costs))
     drawn = (None, checked(salt)) if isinstance(salt, int) else pair(salt)
@@ -323,7 +325,7 @@ def whole_number(name: str, number: object) -> None:
 
 
 def checked(number: int) -> int:
-    """A number that ctypes doesn't cut off; TypeError or OverflowError of any other."""
+    """A number that ctypes doesn't truncate; raises TypeError or OverflowError for any other."""
     whole_number("the number", number)
     if not 0 <= number < 2**32:
         raise OverflowError("the number is not 0 to 2^32 - 1")
@@ -331,7 +333,7 @@ def checked(number: int) -> int:
 
 
 def made_bytes(size: int, call: Any, *given: Any) -> bytes:
-    """So many bytes, which a call writes."""
+    """The bytes that a call writes into a buffer of this size."""
     room = ctypes.create_string_buffer(checked(size))
     raise_fault(call(room, size, *given))
     return room.raw

@@ -1,4 +1,4 @@
-"""The form of a password that RFC 8265 has servers compare."""
+"""The form in which servers compare passwords, by RFC 8265."""
 
 from __future__ import annotations
 
@@ -7,7 +7,7 @@ from rigzumal._hidden import hidden
 # The categories of RFC 8264's FreeformClass, section 4.3: what a person may type.
 _ALLOWED = frozenset("Ll Lu Lo Nd Lm Mn Mc Lt Nl No Me Sm Sc Sk So Pc Pd Ps Pe Pi Pf Po Zs".split())
 
-# Default_Ignorable_Code_Point in these categories, which unicodedata doesn't tell; conjoining
+# Default_Ignorable_Code_Point in these categories, a property that unicodedata lacks; conjoining
 # Hangul (sections 9.9 and 9.13); the exceptions of RFC 5892, section 2.6.
 _REFUSED = (
     "[\u034f\u17b4\u17b5\u180b-\u180f\u3164\ufe00-\ufe0d\uffa0\U000e0100-\U000e01ef"
@@ -20,16 +20,16 @@ _JOINERS = "\u200c\u200d"
 
 @hidden
 def opaque_string(text: str) -> str:
-    """The text as RFC 8265's OpaqueString (section 4.2): each space is U+0020, in NFC.
+    """The text as RFC 8265's OpaqueString (section 4.2): in NFC, with each space as U+0020.
 
     So a password is the same from each keyboard: macOS may send a letter and its accent,
-    and Windows both in one. Case and width stay. Joiners and the selectors of emoji are
-    allowed, which the RFC allows in some contexts alone, or not at all.
+    and Windows both in one. Case and width stay. Joiners and the selectors of emoji are allowed
+    everywhere. The RFC allows them in some contexts alone, or not at all.
 
     Raises:
-        ValueError: the text is empty, or has a character that the RFC refuses: a control
-            character, one without a meaning in this Python's Unicode, or one that nobody
-            sees. The text isn't shown.
+        ValueError: the text is empty, or has a character that the RFC refuses: a control character,
+        a character that this Python's Unicode doesn't define, or an invisible one. The exception
+        doesn't show the text.
     """
     import re
     import unicodedata

@@ -50,19 +50,19 @@ def parts(record: Secret) -> Parts:
 
 
 def encoded(data: bytes) -> str:
-    """The letters of some bytes."""
+    """The base64 of some bytes."""
     return b2a_base64(data, newline=False).rstrip(b"=").decode()
 
 
 def decoded(letters: str) -> bytes:
-    """The bytes of letters; raises ValueError if they encode no bytes."""
+    """The bytes of a base64 text; raises ValueError if the text encodes no bytes."""
     data = a2b_base64(letters + "=" * (-len(letters) % 4))
     if encoded(data) != letters:
         raise ValueError("a salt or a tag is not base64")
     return data
 
 
-# As other programs begin a record: $2b$.., or Django's pbkdf2_sha256$... Nothing else is
+# The beginnings of records of other programs: $2b$.., or Django's pbkdf2_sha256$... Nothing else is
 # shown, since the text may be a password.
 _OTHERS = r"\$([A-Za-z0-9-]{1,20})\$" r"|((?:pbkdf2|bcrypt|argon2|scrypt|md5|sha1)[a-z0-9_]{0,9})\$"
 
@@ -79,6 +79,6 @@ def scheme_of_another(record: str) -> str:
 
 
 def none_of_ours(record: str) -> str:
-    """The scheme in words, for people."""
+    """The scheme of another program's record, in words for people."""
     scheme = scheme_of_another(record)
     return f"the record's scheme is {scheme}" if scheme else ""

@@ -31,7 +31,7 @@ _TYPES = {"id": rigzumal.Type.ID, "i": rigzumal.Type.I, "d": rigzumal.Type.D}
 
 
 class _OneBackend:
-    """passlib's calls for handlers with backends, of which this has one."""
+    """passlib's calls for handlers with backends; this handler has one backend."""
 
     backends = (_BACKEND,)
 

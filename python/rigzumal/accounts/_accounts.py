@@ -88,7 +88,7 @@ class Accounts(Operations[Pool]):
     _kind = Runtime
 
     def _done(self, doing: Coroutine[Any, Any, T]) -> T:
-        """The operation's answer; AsyncAccounts returns the coroutine instead."""
+        """The operation's answer; in AsyncAccounts the coroutine of it."""
         return run(doing)
 
     @hidden
@@ -106,7 +106,7 @@ class Accounts(Operations[Pool]):
 
     @hidden
     def login(self, key: Key, password: Secret, *, also: Hook = None) -> Reply:
-        """A verify that replaces a record of lower costs, answered as a verify.
+        """A verify that also replaces a record of lower costs; its replies are those of a verify.
 
         If the new record can't be written (a full disk, an unknown outcome), the answer
         is that of a verify all the same.
@@ -117,7 +117,7 @@ class Accounts(Operations[Pool]):
     def change(
         self, key: Key, password: Secret, new_password: Secret, *, also: Hook = None
     ) -> Reply:
-        """REPLACED; WRONG if the password is; ABSENT; NO_ACCOUNT; CHANGED as below.
+        """REPLACED; WRONG if the old password is wrong; ABSENT; NO_ACCOUNT; CHANGED as below.
 
         CHANGED, of any operation: its commit found another record `tries` times.
         """
@@ -126,7 +126,7 @@ class Accounts(Operations[Pool]):
 
     @hidden
     def reset(self, key: Key, new_password: Secret, *, also: Hook = None) -> Reply:
-        """For administrators: REPLACED, or ENROLLED if it had no record; NO_ACCOUNT."""
+        """For administrators: REPLACED, or ENROLLED if the account had no record; NO_ACCOUNT."""
         request = Request(Kind.RESET, key, b"", new_password)
         return self._done(self._replied(request, also))
 
@@ -158,11 +158,11 @@ class Accounts(Operations[Pool]):
         It writes a record into a new row, or into one of the table's if a new one is
         impossible, in a transaction that it rolls back. Name Kind.REMOVE if the service
         removes records: then a column that is NOT NULL is an error, and the trial removes
-        one too. Of a full disk it warns
-        on SQLite, as far as the filesystem tells; no quota of a user's is seen.
+        one too. On SQLite it warns of a full disk, as far as the filesystem reports it; it sees no
+        user's quota.
 
         Raises:
-            TypeError: what is named is no Kind.
+            TypeError: an argument is no Kind.
             StoreFault: the connection isn't in autocommit, or has a transaction open.
             Exception: whatever the driver raises.
         """
@@ -187,7 +187,7 @@ class Accounts(Operations[Pool]):
 
     @hidden
     def commit(self, worked: Worked) -> Answer:
-        """The third part: writes the new record, if the row still has the copy.
+        """The third part: writes the new record if the row still has the copy.
 
         The reply is CHANGED if the row has another record, which is `after`.
         """

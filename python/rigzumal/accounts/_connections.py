@@ -18,7 +18,7 @@ from rigzumal.accounts.dialects._faults import Fault, error as fault_of, warning
 LOGGER: Final = logging.getLogger("rigzumal.accounts")
 """Warns of retries and unknown outcomes, without a name, record or password."""
 
-_AT_ONCE: Final = 0.5  # seconds in which a pool's dead connections are worked through
+_AT_ONCE: Final = 0.5  # seconds in which a pool's dead connections are used up
 _LONGEST: Final = 400  # letters of a reason
 _AWAY: Final = 5.0  # seconds for which a replica that failed isn't asked
 _DSN_PASSWORD: Final = re.compile(
@@ -41,13 +41,13 @@ class Connections:
     _asked_from: float = field(default=0.0, init=False)  # on, the replica
 
     async def at_replica(self, job: Job[Any]) -> Any:
-        """Runs a job once at the replica. Returns Undone without a replica, or if it fails or
-        refuses, or has done so a moment ago."""
+        """Runs a job once at the replica. Returns Undone if there is no replica, or if it fails or
+        refuses, or did so a moment ago."""
         begun = time.monotonic()
         if self.replica is None or begun < self._asked_from:
             return Undone(None)
         if self._is_passed_over:
-            # This operation alone finds out whether it is back, which may take a while.
+            # Only this operation tests whether the replica is back, which may take a while.
             self._asked_from = begun + _AWAY
         done = await self._at_replica(job)
         self._asked_from = time.monotonic() + _AWAY if self._is_passed_over else 0.0
@@ -77,7 +77,7 @@ class Connections:
         return [kind(f"replica-{code}", text)]
 
     def _why(self, done: Undone) -> str:
-        """The reason why nothing was done, without a driver's text, which may quote a row."""
+        """The reason why the job did nothing, without the driver's text, which may quote a row."""
         cause = done.cause.__cause__ if isinstance(done.cause, Lost) else done.cause
         if isinstance(cause, AccountsError):
             return f"{type(cause).__name__}: {cause}"
@@ -114,7 +114,7 @@ class Connections:
             return await self.runtime.use(pool, job)
         except Lost as lost:
             return Undone(lost)
-        except Exception as error:  # of the pool, which makes connections
+        except Exception as error:  # of the pool, which opens connections
             verdict = self.table.dialect.verdict
             if any(kind.__name__ == "PoolClosed" for kind in type(error).__mro__):
                 raise NoConnection(f"the pool is closed{_reason(error)}") from error
@@ -124,7 +124,7 @@ class Connections:
 
 
 class Waits:
-    """Pauses that grow, for so many seconds."""
+    """Pauses that grow, for this many seconds in all."""
 
     is_first = True
 
@@ -140,7 +140,7 @@ class Waits:
         return self.age >= self._patience
 
     def next(self, is_dead: bool = False) -> float:
-        """The next pause; after a dead connection as long as the last."""
+        """The next pause; after a dead connection it is as long as the last one."""
         pause, self.is_first = self._next, False
         if not is_dead:
             self._next = min(pause * 2, 0.5)

@@ -27,8 +27,8 @@ from rigzumal.accounts.types import Worked
 from rigzumal.accounts.pools import Pool
 
 BATCH = 50_000  # lines of an import that are committed together
-SHARE = 1000  # of them that one statement adds
-FEW = 200  # that one puts into rows without a record: each key is compared with all
+SHARE = 1000  # lines that one statement adds
+FEW = 200  # lines that one statement puts into existing rows: each key is compared with all
 _KEY: Final[Callable[[Line], Any]] = operator.itemgetter(0)
 _NO_UTF8: Final = re.compile("[\udc80-\udcff]")
 
@@ -79,8 +79,8 @@ class Import:
     dialect: Dialect
     pool: Pool
     takes_foreign: bool = False  # records of other schemes, for a hook to judge
-    are_new: bool = True  # the names, so far
-    copies: bool = True  # the engine takes lines in a way of its own, so far
+    are_new: bool = True  # the names until now
+    copies: bool = True  # whether the engine still takes lines in its own way
 
     def take(self, file: pathlib.Path, key_of: Callable[[str], Key]) -> dict[str, int]:
         """Adds the accounts of lines "NAME RECORD", and counts the outcomes.
@@ -94,7 +94,8 @@ class Import:
             return self._taken(self._records(lines, key_of), total)
 
     def _checked(self, records: Iterable[Line]) -> int:
-        """The number of lines; it names those with a space in the name, which may be a mistake."""
+        """The number of lines; reports each line with a space in its name, which may be a
+        mistake."""
         total, spaced, first = 0, 0, ""
         for total, (key, _) in enumerate(records, 1):
             if isinstance(key, str) and " " in key:
@@ -105,7 +106,7 @@ class Import:
         return total
 
     def _taken(self, records: Iterator[Line], total: int) -> dict[str, int]:
-        """Adds the records of so many lines, batch after batch, and counts the outcomes."""
+        """Adds the records of this many lines, batch by batch, and counts the outcomes."""
         begun, done, counts = time.monotonic(), 0, Counter[str]()
         while done < total:
             try:
@@ -174,14 +175,14 @@ class Import:
         try:
             return run(self.dialect.add_all(session, batch))
         except Exception:
-            # As of a role that makes no temporary table: then by statements for all engines.
+            # Perhaps the role may create no temporary table: statements for all engines follow.
             self.copies = False
             run(self.dialect.undo(session))
             run(self.dialect.start(session))
         return None
 
     def _by_shares(self, session: Session, batch: Sequence[Line]) -> list[str]:
-        """Writes a batch by large statements: as if all names were new, and then without that.
+        """Writes a batch by large statements: first as if all names were new, then without that.
 
         If both fail, it writes line by line, which shows the account at fault.
         """
@@ -202,7 +203,8 @@ class Import:
         return words if len({*words}) == 1 else _as_they_came(batch, words)
 
     def _put_at_once(self, session: Session, share: Sequence[Line]) -> list[str]:
-        """Writes some lines by a few statements; StoreFault if their rows have other records."""
+        """Writes some lines by a few statements; raises StoreFault if their rows have other
+        records."""
         keys = [] if self.are_new else [key for key, _ in share]
         stands = dict(self._standing(session, keys))
         lines = [it for it in share if stands.get(it[0]) is None] if stands else share
@@ -285,7 +287,7 @@ def _read_twice(file: pathlib.Path) -> Iterator[IO[str]]:
 
 
 def line_of(name: object, record: Optional[str]) -> str:
-    """The line of an import; empty of an account without a record, or if it fits none."""
+    """The line of an import; empty if the account has no record, or fits no line."""
     text, line = str(name), f"{name} {record}"
     fits = text and record and line.isprintable() and " " not in record
     return line if fits and text == text.strip() else ""

@@ -1,4 +1,4 @@
-"""The effect of a whole operation at the copy of a record, and the passwords that it gets."""
+"""The effect of a whole operation at the copy of a record, and the rules for its passwords."""
 
 from __future__ import annotations
 
@@ -201,7 +201,7 @@ class Judge:
             secrets = (None,)
         if not request.can_be_right:
             _library.check_text(copy)
-            self._spend(copy, b"", secrets)  # whoever was wrong waits for a hash
+            self._spend(copy, b"", secrets)  # a wrong password waits for a hash
             return _wrong(request), copy
         if secrets[0] == self._secret:
             reply, after = self._stepped(request, copy)
@@ -261,9 +261,9 @@ class Judge:
     def goes_up(self, found: Parts) -> bool:
         """Whether an upgrade replaces a record of these numbers.
 
-        No chain of upgrades leads back: of one scheme, neither version, memory nor work
-        is lower, and one is higher. So two versions of a service, whose costs differ, don't
-        flip records to and fro.
+        No chain of upgrades leads back: within one scheme neither version, memory nor work falls,
+        and one of them rises. So two versions of a service with different costs don't flip records
+        to and fro.
         """
         if found.costs in self._old:
             return True
@@ -274,7 +274,7 @@ class Judge:
 
 
 def verdict_of(answer: object) -> Optional[bool]:
-    """A hook's answer; raises TypeError for a pair, a word or a number."""
+    """The hook's answer; raises TypeError for a pair, a word or a number."""
     if answer is None or isinstance(answer, bool):
         return answer
     kind = type(answer).__name__
@@ -282,7 +282,7 @@ def verdict_of(answer: object) -> Optional[bool]:
 
 
 def _numbers_of(costs: str) -> tuple[str, int, int, int, int]:
-    """The numbers of costs; raises InvalidRecordError of another text, such as a record."""
+    """The numbers of costs; raises InvalidRecordError for another text, such as a record."""
     try:
         return parts(f"{costs}${'A' * 22}${encoded(bytes(_TAG_SIZE))}").costs
     except InvalidRecordError as fault:

@@ -98,7 +98,7 @@ class Operations(Generic[AnyPool]):
             raise  # another look would wait for a connection too
         except (StoreFault, OutOfMemoryError, Unavailable):
             pass
-        # The server was waited for already: this is one look more, or in what is left.
+        # The upgrade already waited for the server: one more look, or looks in the time left.
         rest = max(0.0, self._connections.patience - (time.monotonic() - begun))
         verify = Request(Kind.VERIFY, key, password)
         return (await self._perform(verify, also, rest)).reply
@@ -127,7 +127,7 @@ class Operations(Generic[AnyPool]):
     async def _perform(
         self, request: Request, also: Hook = None, patience: Optional[float] = None
     ) -> Answer:
-        """The whole operation, done again if the row changed before its commit."""
+        """Runs the whole operation, and runs it again if the row changed before its commit."""
         request = self._passwords.of(request)
         copy, is_settled = await self._first_copy(request, patience)
         for _ in range(self._tries):
@@ -137,7 +137,7 @@ class Operations(Generic[AnyPool]):
             answer = await self._commit(worked, also, patience)
             if answer.reply is not Reply.CHANGED:
                 break
-            # What stands is the next copy: no replica has to come up to it.
+            # The row's record is the next copy: no replica has to catch up with it.
             copy, is_settled = answer.after, True
         return answer
 
@@ -163,7 +163,7 @@ class Operations(Generic[AnyPool]):
             found = await connections.at_replica(self._looking(key))
             if not isinstance(found, Undone):
                 return found, False
-        # No replica exists, or it is away: logins go on.
+        # No replica exists, or it is down: logins go on.
         return await connections.patiently(self._looking(key), patience), True
 
     def _looking(self, key: Key) -> Job[Copy]:
@@ -214,7 +214,7 @@ class Operations(Generic[AnyPool]):
             except OutcomeUnknown:
                 raise
             except Exception as error:
-                # What fails by now says nothing of the COMMIT that had no answer.
+                # A failure now says nothing about the COMMIT that had no answer.
                 why = f" ({self._table.name(error)})"
                 break
             if waits.are_over:
@@ -223,7 +223,8 @@ class Operations(Generic[AnyPool]):
         raise _unknown(worked, why)
 
     def _is_refusal(self, cause: Optional[BaseException]) -> bool:
-        """Whether the server answered a COMMIT, as it does each time while its disk fails."""
+        """Whether the server answered a COMMIT with an error, as it always does while its disk
+        fails."""
         return cause is not None and self._dialect.verdict(cause) is Verdict.REFUSED
 
     async def _put_again(self, worked: Worked, also: Hook) -> bool:

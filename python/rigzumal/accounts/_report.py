@@ -16,8 +16,8 @@ class State(enum.Enum):
 
     CURRENT = "current"
     REHASH = "rehash"  # a right password replaces it by one of the hasher's costs
-    FOREIGN = "foreign"  # it is of another scheme, which the hook of the service judges
-    UNREADABLE = "unreadable"  # of no known scheme: nobody logs in without a hook
+    FOREIGN = "foreign"  # the record is of another scheme, and the service's hook judges it
+    UNREADABLE = "unreadable"  # the record is of no known scheme: nobody logs in without a hook
     ABSENT = "absent"  # the account has no record
 
 
@@ -43,7 +43,7 @@ def group_of(record: Optional[str], is_old: Callable[[Parts], bool]) -> Group:
 
 
 def costs_of(record: str) -> Optional[str]:
-    """Costs such as "$argon2id$v=19$m=65536,t=3,p=4"; None of another text."""
+    """Costs such as "$argon2id$v=19$m=65536,t=3,p=4"; None for another text."""
     return record.rsplit("$", 2)[0] if _library.is_record(record) else None
 
 

@@ -1,4 +1,4 @@
-"""The hooks that run, by which an operation within one is known.
+"""The running hooks: they show whether an operation runs within a hook.
 
 An `also` holds the row of its operation. Another operation on the same table could wait for that
 row, which no server sees as a deadlock; and PerThread's one connection is in use.
@@ -14,7 +14,7 @@ class Also:
     """A caller's `also` that runs, within an operation on a table over a pool.
 
     Attributes:
-        is_over: whether it has ended: a task that it created has its context ever after.
+        is_over: whether the hook has ended: a task that it created keeps its context for ever.
     """
 
     def __init__(self, pool: Any, table: str) -> None:

@@ -1,7 +1,7 @@
 """The difference between blocking drivers and asyncio.
 
-All layers above are coroutines. Over a blocking driver they wait for the driver alone,
-so `run` has their answer at once.
+All layers above are coroutines. Over a blocking driver they wait for the driver alone, so `run`
+gets the answer at once.
 """
 
 from __future__ import annotations
@@ -32,7 +32,7 @@ class HookFailed(Exception):
 
 
 def at_once(name: str, answer: Any) -> Any:
-    """The answer of a caller's function; raises TypeError if its body hasn't run."""
+    """The answer of a caller's function; raises TypeError if the function's body didn't run."""
     if isinstance(answer, Coroutine):
         answer.close()
     if isinstance(answer, Awaitable):
@@ -103,7 +103,7 @@ def _values(row: Any) -> tuple[Any, ...]:
 
 
 Job = Callable[[Session], Coroutine[Any, Any, T]]
-"""The work on one connection."""
+"""The type of a job on one connection."""
 
 
 def run(coroutine: Coroutine[Any, Any, T]) -> T:
@@ -122,7 +122,7 @@ def run(coroutine: Coroutine[Any, Any, T]) -> T:
 
 
 async def _ended(job: Awaitable[T], ends: list[Union[T, BaseException]]) -> None:
-    """Notes what a job has answered, or has raised."""
+    """Notes the result of a job, or its exception."""
     try:
         ends.append(await job)
     except BaseException as error:
@@ -140,9 +140,9 @@ def _answer(end: Union[T, BaseException]) -> T:
 class Runtime:
     """Waits as a thread does; `options` are those of its sessions."""
 
-    enter = "__enter__"  # gives a pool's connection
+    enter = "__enter__"  # lends a connection of a pool
     _session: type[Session] = Session
-    _executors: tuple[type[ThreadPoolExecutor], ...] = ()  # those that it can use
+    _executors: tuple[type[ThreadPoolExecutor], ...] = ()  # the kinds of executor that it accepts
 
     def __init__(
         self, options: Mapping[str, Any], executor: Optional[ThreadPoolExecutor] = None
@@ -175,15 +175,15 @@ class Runtime:
         return _answer(*ends)
 
     async def pause(self, seconds: float) -> None:
-        """Waits so long."""
+        """Waits this many seconds."""
         time.sleep(seconds)
 
     async def call(self, work: Callable[..., T], *args: Any) -> T:
-        """Runs work that needs a processor for a while."""
+        """Runs a function that needs a processor for a while."""
         return work(*args)
 
     async def ask(self, name: str, hook: Callable[..., Any], *args: Any) -> Any:
-        """The answer of a caller's hook, which may hash too."""
+        """The answer of a caller's hook; the hook may hash too."""
         return at_once(name, hook(*args))
 
 
@@ -221,7 +221,8 @@ class AsyncRuntime(Runtime):
             try:
                 return run_in(work, *args)
             except StopIteration as end:
-                # Before Python 3.13 no future takes it: whoever awaits one waits for ever.
+                # Before Python 3.13 no future accepts this exception: a task that awaits one waits
+                # for ever.
                 raise RuntimeError("a function raised StopIteration") from end
 
         return await loop.run_in_executor(self._executor, done)

@@ -45,7 +45,7 @@ class Undone:
     """Nothing was stored, and the job may be tried again."""
 
     cause: Optional[BaseException]
-    reason: str = ""  # why there is no connection, in words that have no row
+    reason: str = ""  # why there is no connection, in words that quote no row
 
 
 class _Put(NamedTuple):
@@ -53,7 +53,7 @@ class _Put(NamedTuple):
 
     reply: Reply
     after: Copy
-    what: str  # is done to a record, in a word
+    what: str  # the participle of the change, such as "written"
 
 
 @dataclass
@@ -61,7 +61,7 @@ class Table:
     """The jobs on one table."""
 
     dialect: Dialect
-    confirm: bool  # what makes no change is confirmed by a COMMIT that writes
+    confirm: bool  # a COMMIT that writes confirms an operation without a change
     before_commit: Callable[[Worked], None]  # is called before each one of a change
     pool: Any = None  # of the primary: accounts that share it are of one database
 
@@ -71,7 +71,7 @@ class Table:
             raise TypeError(NESTED)
 
     def writes(self, worked: Worked) -> bool:
-        """Whether the operation writes, if only the copy over itself."""
+        """Whether the operation writes: a change, or the copy over itself."""
         if worked.reply.makes_change:
             return True
         return self.confirm and worked.ticket.copy is not NO_ROW
@@ -116,7 +116,7 @@ class Table:
         return bool(self.dialect.at_once) and both and copy != after
 
     async def _at_once(self, session: Session, worked: Worked) -> Union[Answer, Undone, None]:
-        """A change by one statement; None if only a transaction can tell its outcome."""
+        """A change by one statement; None if only a transaction can show its outcome."""
         dialect, copy, after = self.dialect, worked.ticket.copy, worked.after
         is_sent = False
         try:
@@ -135,7 +135,7 @@ class Table:
         return await self._undone(session, caught)
 
     def _may_stand(self, caught: Exception) -> bool:
-        """Only a statement that the server itself gave up is known to be undone."""
+        """Whether a driver's statement may have taken effect: not if the server gave it up."""
         return is_of_driver(caught) and not self.dialect.gave_up(caught)
 
     async def _transaction(
@@ -147,7 +147,7 @@ class Table:
             await dialect.start(session)
             answer = await self._answer(session, worked, also)
             if answer.reply is Reply.CHANGED:
-                # What a trigger has written in the place of a row that isn't counted, say.
+                # For example, a trigger has written a row that the server doesn't count.
                 await dialect.undo(session)
                 return answer
             if answer.reply.makes_change:
@@ -229,7 +229,7 @@ class Table:
             raise StoreFault("the row has the copy, and an UPDATE doesn't change it")
         if count != 1:
             raise StoreFault(f"the UPDATE touched {count} rows instead of one")
-        # A trigger, a short column or a character set may have made another of it.
+        # A trigger, a short column or a character set may have altered the record.
         if not dialect.returns:
             rows = (await session.execute(dialect.select, key)).rows
         if _record(rows) != worked.after:
@@ -252,7 +252,7 @@ class Table:
         return faults + ([Fault(Severity.ERROR, "no-update", text)] if text else [])
 
     async def _trial(self, session: Session, puts: Sequence[_Put]) -> Optional[str]:
-        """The reason why one of these can't be put into a row."""
+        """The reason why one of these changes can't be written to a row."""
         fault, put = None, puts[0]
         try:
             await self.dialect.start(session)
@@ -277,7 +277,7 @@ class Table:
         return fault
 
     async def _put_nowhere(self, session: Session, record: Copy) -> None:
-        """An UPDATE of no row, which the server refuses if the role may not update."""
+        """Runs an UPDATE of no row, which the server refuses if the role may not update."""
         key = unused_key(self.dialect.key_type)
         try:
             await self.dialect.put(session, record, key, None)
@@ -355,14 +355,14 @@ class Table:
 
 
 def judged(worked: Worked, now: Copy) -> Answer:
-    """The answer without a change, at the record that was found."""
+    """The answer without a change, at the record that the statement found."""
     if now == worked.ticket.copy:
         return Answer(worked.reply, now, now)
     return Answer(Reply.NO_ACCOUNT if now is NO_ROW else Reply.CHANGED, now, now)
 
 
 def _record(rows: list[tuple[Any, ...]]) -> Copy:
-    """The record of the row that was found; NO_ROW without one."""
+    """The record of the row that the statement found; NO_ROW if it found none."""
     if len(rows) > 1:
         raise StoreFault("more than one row has the key")
     if not rows:
@@ -378,7 +378,7 @@ def _record(rows: list[tuple[Any, ...]]) -> Copy:
 def unused_key(kind: type) -> Key:
     """A key that no row has."""
     number = uuid.uuid4()
-    # A column of two bytes holds the whole number.
+    # A column of two bytes can hold this number.
     small = -1 - secrets.randbelow(30_000)
     keys: dict[type, Key] = {str: number.hex[:16], int: small, bytes: number.bytes}
     return keys.get(kind, number)

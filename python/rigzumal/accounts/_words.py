@@ -79,12 +79,12 @@ def accounts_hasher(args: argparse.Namespace) -> Union[PasswordHasher, ScryptHas
 
 
 def password_of(*, is_new: bool = False) -> bytes:
-    """The password that is typed, or standard input without one newline at its end."""
+    """The password: what the user types, or standard input without one newline at its end."""
     return _checked(read_password(is_new=is_new).removesuffix(b"\n"))
 
 
 def old_and_new() -> tuple[bytes, bytes]:
-    """The old password and the new one: two lines, or what is typed."""
+    """The old password and the new one: two lines, or what the user types."""
     if sys.stdin is not None and sys.stdin.isatty():
         old = read_password("Old password")
         return _checked(old), _checked(read_password("New password", is_new=True))

@@ -39,7 +39,7 @@ DRIVERS = ("sqlite3", "psycopg", "pymysql")
 
 
 def main(words: Optional[Sequence[str]] = None) -> int:
-    """Runs the command, and answers its exit status."""
+    """Runs the command, and returns its exit status."""
     texts = {name: act.__doc__ or "" for name, act in _COMMANDS.items()}
     args = parser(__doc__.partition("\n\n")[2], texts).parse_args(words)
     try:
@@ -62,7 +62,7 @@ def main(words: Optional[Sequence[str]] = None) -> int:
 
 @contextlib.contextmanager
 def _password_judged() -> Iterator[None]:
-    """Turns a ValueError within, which is about the password, into a Refusal."""
+    """Turns a ValueError of its block, which is about the password, into a Refusal."""
     try:
         yield
     except RigzumalError:
@@ -72,7 +72,7 @@ def _password_judged() -> Iterator[None]:
 
 
 class _Command:
-    """The commands over one table: each answers its exit status."""
+    """The commands over one table: each returns its exit status."""
 
     def __init__(self, args: argparse.Namespace) -> None:
         self.args = args
@@ -145,7 +145,7 @@ class _Command:
 
     @contextlib.contextmanager
     def record_judged(self, key: Key) -> Iterator[None]:
-        """An InvalidRecordError within is about the account's record."""
+        """Reports an InvalidRecordError of its block as a fault of the account's record."""
         try:
             yield
         except InvalidRecordError as fault:

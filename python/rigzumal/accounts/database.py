@@ -39,7 +39,7 @@ class Database:
     """
 
     url: str = field(repr=False)
-    turn: int = 0  # which of several MySQL hosts is the first
+    turn: int = 0  # the index of the first MySQL host to try
 
     def __post_init__(self) -> None:
         kind, colon, self._rest = self.url.partition("://")
@@ -49,7 +49,7 @@ class Database:
             fault = "a database is sqlite:///.., postgresql://.. or mysql://.."
             raise ValueError(fault)
         if self.kind == "sqlite" and self._path in ("", ":memory:"):
-            # SQLite would make a database that goes with the connection.
+            # SQLite would create a database that ends with the connection.
             raise ValueError("a database of SQLite is a file: sqlite:///path")
         if self.kind != "sqlite":
             _check_people(self._rest)

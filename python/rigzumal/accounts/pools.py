@@ -38,7 +38,7 @@ _MAKERS: Final = {
     "__enter__": "PerThread(connect), of_engine(engine) or ConnectionPool(..).connection",
     "__aenter__": "PerUse(connect), of_engine(async_engine) or AsyncConnectionPool(..).connection",
 }
-"""The pools of Accounts and of AsyncAccounts, by what gives a connection."""
+"""The pools of Accounts and of AsyncAccounts, by the method that lends a connection."""
 
 
 def check_pool(pool: object, enter: str) -> None:
@@ -62,7 +62,8 @@ def check_connect(connect: object, of: str) -> None:
 def lent(pool: Any, enter: str) -> Any:
     """The context manager of a pool's connection; raises TypeError if it lacks `enter`.
 
-    A connection of psycopg or sqlite3 is a context manager too, which doesn't close it.
+    A connection of psycopg or sqlite3 is a context manager too, but its end doesn't close the
+    connection.
     """
     lender = pool()
     kind = type(lender)
@@ -76,9 +77,9 @@ def lent(pool: Any, enter: str) -> Any:
 
 
 class _Held:
-    """A connection that is closed with its thread, in the process that opened it."""
+    """A connection that closes with its thread, in the process that opened it."""
 
-    conn: Any = None  # of an interrupted __init__, as its pid is that of no process
+    conn: Any = None  # after an interrupted __init__: the pid of no process
     pid, is_lent = 0, False
 
     def __init__(self, conn: Any) -> None:
@@ -121,7 +122,7 @@ class PerThread:
             fault = "this thread's connection is in use"
             raise TypeError(f"{fault}: within `also`, use its argument")
         held = self._mine()
-        # One that is lent never came back: a signal may have interrupted its use anywhere.
+        # A lent connection never came back: a signal may have interrupted its use anywhere.
         if held is None or held.is_lent:
             held = self._made()
         held.is_lent = True
@@ -130,7 +131,7 @@ class PerThread:
     def _take_back(self, held: _Held, is_well: bool) -> None:
         """Keeps a connection for the thread's next use, or closes it."""
         if held is not getattr(self._local, "held", None):
-            held.close()  # another took its place, or it is closed
+            held.close()  # another connection took its place, or it is closed
         elif is_well:
             held.is_lent = False
         else:
@@ -176,8 +177,8 @@ _CONNECTING: Final = 4  # connections that are opened at a time: each holds up t
 class PerUse:
     """A connection for each use, for AsyncAccounts; `connect` opens one in autocommit.
 
-    A connection is closed whenever its task is cancelled, while it is opened too. For many
-    uses at once a pool that keeps its connections is faster.
+    If its task is cancelled, even while the connection opens, the connection is closed. A pool that
+    keeps its connections serves many uses at once faster.
     """
 
     def __init__(self, connect: Callable[[], Awaitable[Any]]) -> None:
@@ -261,8 +262,8 @@ def of_engine(engine: Any) -> Any:
 
 @contextmanager
 def _drivers_error() -> Iterator[None]:
-    """Raises the driver's error that SQLAlchemy's wraps: the dialect knows the meaning of that
-    one."""
+    """Raises the driver's error inside SQLAlchemy's error: the dialect knows the meaning of the
+    driver's."""
     try:
         yield
     except Exception as error:

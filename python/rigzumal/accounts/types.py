@@ -6,7 +6,7 @@ A caller with its own transaction does an operation in three parts:
     worked = accounts.work(ticket)             # no connection is held
     answer = accounts.commit_in(conn, worked)  # within a transaction that is open
 
-For rows that an operation commits with its reply, its `also` is enough.
+If an operation only has to commit some rows with its reply, its `also` is enough.
 """
 
 from __future__ import annotations
@@ -43,7 +43,7 @@ class Reply(enum.Enum):
 
     __hash__ = object.__hash__  # Enum's own is one of Python's, and slow
 
-    # Hidden from mypy, whose `truthy-bool` then names each place where it is missing.
+    # Hidden from mypy, whose `truthy-bool` then reports each place where a comparison is missing.
     if not TYPE_CHECKING:
 
         def __bool__(self) -> bool:
@@ -72,7 +72,7 @@ class Kind(enum.Enum):
 
 
 def check_kind(kind: object) -> None:
-    """Raises TypeError at a word in the place of a Kind: it would be none of them."""
+    """Raises TypeError for a word in the place of a Kind, since it would equal no Kind."""
     if not isinstance(kind, Kind):
         raise TypeError(f"pass a Kind, such as Kind.CHANGE, not a {type(kind).__name__}")
 
@@ -110,7 +110,8 @@ class Request:
     key: Key
     password: bytes = field(repr=False)  # not of a reset
     new_password: bytes = field(repr=False)  # of a change and of a reset
-    # False of what no account can have; the password is then empty, and a wrong one.
+    # False for a password that no account can have; the field is then empty, and the password
+    # wrong.
     can_be_right: bool = field(init=False, repr=False)
 
     @hidden
@@ -122,18 +123,18 @@ class Request:
         try:
             present = bytes_of_password(password)
         except ValueError:
-            # Anybody may try a password, and gets an answer.
+            # A try gets an answer, not an exception, whatever its password.
             if kind is Kind.ENROL:
                 raise
             present, can_be_right = b"", False
         if type(key) is not str and isinstance(key, str):
-            # As a driver sees it, whatever its class makes of it.
+            # The text as a driver sees it, whatever its class shows.
             key = str.__str__(key)
         passwords = {"password": present, "new_password": new}
         self.__dict__.update(passwords, kind=kind, key=key, can_be_right=can_be_right)
 
 
-# Not frozen: that is slow, and each login makes three.
+# Not frozen: frozen ones are slow, and each login builds three.
 @dataclass
 class Ticket:
     """A request that was begun, with the copy of the account's record."""
@@ -173,11 +174,11 @@ class Unavailable(AccountsError):
 
 
 class NoConnection(Unavailable):
-    """The pool had no free connection, at the last try too."""
+    """The pool had no free connection, even at the last try."""
 
 
 class OutcomeUnknown(AccountsError):
     """COMMIT was sent, no answer came, and the row doesn't show its outcome.
 
-    The change may be there, may have been replaced since, or may still come.
+    The change may be stored, may have been replaced since, or may still take effect.
     """

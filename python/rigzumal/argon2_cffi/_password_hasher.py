@@ -32,7 +32,8 @@ _TYPES: Final = {
 
 
 def _bytes_of(text: _Text, encoding: str) -> bytes:
-    """The bytes of a text; an error tells the place of a letter without bytes, and no letter."""
+    """The bytes of a text; an error gives the place of a letter without bytes, and never the
+    letter."""
     if isinstance(text, bytes):
         return text
     try:
@@ -64,8 +65,8 @@ class PasswordHasher:
 
     Args: time_cost: passes, 1 or more. memory_cost: in KiB, 8 a lane to 2097152. parallelism:
     lanes, 1 to 255, and the number of threads that may work them. hash_len: bytes of the tag, 4 or
-    more. salt_len: bytes of a drawn salt, 8 or more. encoding: of passwords that are text. type:
-    the kind of Argon2.
+    more. salt_len: bytes of a generated salt, 8 or more. encoding: of passwords that are text.
+    type: the kind of Argon2.
 
     Raises:
         TypeError: a value is of another type.
@@ -115,7 +116,7 @@ class PasswordHasher:
 
     @hidden
     def hash(self, password: _Text, *, salt: Optional[bytes] = None) -> str:
-        """A new encoded hash; the salt is drawn if it is left out.
+        """A new encoded hash; without a salt the call generates one.
 
         Raises:
             HashingError: a number or a size is outside its range, or memory is short.
@@ -131,8 +132,8 @@ class PasswordHasher:
 
         Raises:
             VerifyMismatchError: the hash is of another password.
-            VerificationError: it can't be verified for another reason.
-            InvalidHashError: it begins with none of Argon2's kinds, or isn't a string of C.
+            VerificationError: the verification failed for another reason.
+            InvalidHashError: the hash begins with none of Argon2's kinds, or isn't a string of C.
         """
         try:
             encoded = _bytes_of(hash, "ascii")
@@ -148,6 +149,6 @@ class PasswordHasher:
         """Whether the hash has other parameters than this hasher's.
 
         Raises:
-            InvalidHashError: it is no hash of Argon2.
+            InvalidHashError: the text is no hash of Argon2.
         """
         return self._parameters != extract_parameters(hash)

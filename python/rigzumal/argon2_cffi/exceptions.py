@@ -11,7 +11,7 @@ if TYPE_CHECKING:
 
 
 class _Said:
-    """An exception with a message of libargon2's, and the fault's number of rigzumal.h."""
+    """An exception with a message of libargon2, and the fault's number in rigzumal.h."""
 
     def __init__(self, message: str = "", number: int = 1) -> None:
         rigzumal.RigzumalError.__init__(self, number)  # type: ignore[arg-type]
@@ -49,4 +49,4 @@ InvalidHash = InvalidHashError
 
 
 class UnsupportedParametersError(ValueError):
-    """Kept for code that names it: every system runs every parameter here."""
+    """Never raised, and kept for code that names it: every system runs every parameter here."""

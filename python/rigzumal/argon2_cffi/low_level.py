@@ -39,11 +39,11 @@ _FORM: Final = (
     rf"\$m={_NUMBER},t={_NUMBER},p={_NUMBER}\${_BASE64}\${_BASE64}"
 )
 _VERSIONS: Final = (0x10, 0x13)
-_NO_VERSION: Final = 18  # argon2-cffi's of a hash that names none; it is 0x10
+_NO_VERSION: Final = 18  # argon2-cffi's number for a hash without a version; it stands for 0x10
 _MOST_LANES: Final = 255
 
-# Faults of a record that the library may not read and argon2-cffi does: by a number, or
-# by the length of its salt, its tag or its text.
+# Faults of records that argon2-cffi reads and the library may not: a number, or the length of the
+# salt, the tag or the text.
 _OF_OURS: Final = (5, 6, 7, 9)
 
 # libargon2's messages, from 0 down to -35.
@@ -86,7 +86,7 @@ _MESSAGES: Final = (
     "The password does not match the supplied hash",
 )
 
-# The number of libargon2 that is nearest to a fault of rigzumal.h.
+# The number in libargon2 that is nearest to a fault of rigzumal.h.
 _NUMBERS: Final = {8: -22, 10: -35, 13: -26, 14: -17, 15: -15, 16: -12, 17: -3, 18: -5}
 
 
@@ -197,7 +197,7 @@ def extract_parameters(hash: Union[str, bytes]) -> Parameters:
     """The parameters of an encoded hash.
 
     Raises:
-        InvalidHashError: it is no hash of Argon2.
+        InvalidHashError: the text is no hash of Argon2.
     """
     try:
         text = _library.bytes_of(hash)
@@ -307,8 +307,8 @@ def verify_secret(hash: bytes, secret: bytes, type: Type) -> Literal[True]:
     """True if the encoded hash is of this type and of the secret, with a thread for each lane.
 
     Raises:
-        VerifyMismatchError: it is of another secret.
-        VerificationError: it is no hash of this type, or there is too little memory.
+        VerifyMismatchError: the hash is of another secret.
+        VerificationError: the text is no hash of this type, or there is too little memory.
     """
     hash, secret = _library.data_of(hash), _library.data_of(secret)
     if not hash.startswith(f"$argon2{type.name.lower()}$".encode()):
@@ -327,7 +327,8 @@ def verify_secret(hash: bytes, secret: bytes, type: Type) -> Literal[True]:
 
 
 def _verdict(hash: bytes, secret: bytes) -> int:
-    """The library's, which reads no salt of over 48 bytes and no tag of over 64; else ours."""
+    """The library's verdict, or ours for a salt of over 48 bytes or a tag of over 64, which it
+    refuses."""
     fault = _library.check(hash, secret, threads=_MOST_LANES)
     read = Encoded.read(hash) if fault in _OF_OURS else None
     if read is None:

@@ -2,7 +2,7 @@
 
     admin.site.register(Person, UserAdmin)
 
-With RIGZUMAL_USER_COMPARES a stock User has it already, instead of Django's own.
+With RIGZUMAL_USER_COMPARES a stock User has this admin already, instead of Django's own.
 """
 
 # mypy: allow-subclassing-any
@@ -24,12 +24,12 @@ from rigzumal.django.users import CompareAndSetMixin
 
 
 class UserAdmin(admin.UserAdmin):
-    """Django's UserAdmin; a password that was changed meanwhile is an error of the form."""
+    """Django's UserAdmin, whose form reports an error if the password was changed meanwhile."""
 
     change_password_form = forms.AdminPasswordChangeForm
 
     def save_model(self, request: Any, obj: Any, form: Any, change: bool) -> None:
-        """Saves the user; the password only if the model compares or the form has set it."""
+        """Saves the user; writes the password only if the model compares or the form has set it."""
         compares = isinstance(obj, CompareAndSetMixin)
         if not change or compares or "password" in form.changed_data:
             super().save_model(request, obj, form, change)
@@ -39,14 +39,15 @@ class UserAdmin(admin.UserAdmin):
         obj.save(update_fields=names)
 
     def changeform_view(self, request: Any, *args: Any, **kwargs: Any) -> Any:
-        """The page of a user, which is shown again if a password couldn't be written."""
+        """The page of a user; it shows the form again if it couldn't write the password."""
         try:
             return super().changeform_view(request, *args, **kwargs)
         except RecordChanged:
             return self._again(request)
 
     def user_change_password(self, request: Any, id: str, form_url: str = "") -> Any:
-        """The page that sets a password, which is shown again if another was set meanwhile."""
+        """The page that sets a password; it shows the form again if the password was changed
+        meanwhile."""
         try:
             return super().user_change_password(request, id, form_url)
         except (RecordChanged, ValidationError):

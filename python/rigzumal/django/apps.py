@@ -51,7 +51,7 @@ class AdminConfig(djangos.AdminConfig):
 
 
 def require_app() -> None:
-    """Refuses a project of users whose INSTALLED_APPS lacks the app, and so its checks.
+    """Refuses a project with users if its INSTALLED_APPS lacks the app, and so the app's checks.
 
     Raises:
         ImproperlyConfigured: the app is missing.

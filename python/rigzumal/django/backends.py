@@ -67,8 +67,8 @@ class CompareAndSetBackend(ModelBackend):
 
 @hidden_below
 def _spend(password: Any) -> None:
-    """Hashes the typed password, so that the answer needs as long as for a wrong one."""
+    """Hashes the typed password, so that the answer takes as long as for a wrong password."""
     try:
         hashers.make_password(password)
-    except ValueError:  # the text has no form in UTF-8, and is judged as an empty one
+    except ValueError:  # the text has no form in UTF-8, and is judged as an empty password
         hashers.make_password("")

@@ -1,4 +1,5 @@
-"""The checks of `manage.py check`: the settings, and all that they leave unprotected.
+"""The checks of `manage.py check`: they report wrong settings, and unprotected ways to write
+passwords.
 
 `manage.py check --database default`, and `migrate`, look at the records too.
 """
@@ -33,7 +34,7 @@ WIDTH = 128  # letters that a record of Django's may have
 OURS = (hashers.Argon2PasswordHasher, hashers.ScryptPasswordHasher)
 
 _SNAPSHOTS = {"repeatable read", "serializable"}
-_PSYCOPG2_SNAPSHOTS = {2, 3}  # psycopg2's numbers of the same
+_PSYCOPG2_SNAPSHOTS = {2, 3}  # psycopg2's numbers for the same
 _LEVEL = re.compile(r"isolation(?:[ _-]level)?[ =']+(repeatable|serializable)")
 """Its form in PostgreSQL's `options` and in MySQL's `init_command`."""
 
@@ -99,8 +100,8 @@ def _misspelt(setting: str) -> str:
 
 
 def backends(**_: Any) -> Messages:
-    """W001: the backend isn't used. W002: one that doesn't compare is used too. E012:
-    one can't be imported. W014: the model compares, under Django's own backend.
+    """W001: the backend isn't used. W002: a backend that doesn't compare is used too. E012: a
+    backend can't be imported. W014: the model compares, under Django's own backend.
 
     A model's check_password compares under any backend that calls it.
     """
@@ -143,7 +144,7 @@ def hashers_listed(**_: Any) -> Messages:
     W004: another library hashes new records.
     E013: another hasher has the name of ours, and judges its records.
 
-    Of two hashers of one algorithm Django asks the later.
+    If two hashers have one algorithm, Django asks the later.
     """
     listed, faults = _classes("PASSWORD_HASHERS", "E015")
     yield from faults
@@ -286,7 +287,7 @@ def unlisted_hashers(databases: Any = None, **_: Any) -> Messages:
 def _unlisted(holder: Any, alias: str) -> Optional[str]:
     """The algorithm of a record that no listed hasher accepts; None without such a record."""
     if holder._meta.db_table not in connections[alias].introspection.table_names():
-        return None  # `migrate` asks, before it makes the table.
+        return None  # `migrate` runs the checks too, before it creates the table.
     others = holder._base_manager.using(alias).exclude(password="")
     others = others.exclude(password__startswith=djangos.UNUSABLE_PASSWORD_PREFIX)
     for algorithm in djangos.get_hashers_by_algorithm():
@@ -298,6 +299,6 @@ def _unlisted(holder: Any, alias: str) -> Optional[str]:
             name = record.partition("$")[0]
             classes = [it for it in vars(djangos).values() if isinstance(it, type)]
             known = {getattr(it, "algorithm", None) for it in classes}
-            # What isn't Django's isn't shown: it may be a password in the clear.
+            # The check shows no text that isn't Django's: it may be a password in the clear.
             return repr(name) if name in known else "another hasher"
     return None

@@ -1,7 +1,7 @@
 """Django's forms of a change, of a reset and of the admin, which compare as they write.
 
-`save` raises a ValidationError if the record was changed after the form was validated. Our
-views show it, and your own view does by `show(form, error)`. `commit=False` is a ValueError.
+`save` raises a ValidationError if the record was changed after the form was validated. Our views
+show the error; your own view shows it by `show(form, error)`. `commit=False` is a ValueError.
 """
 
 # mypy: allow-subclassing-any
@@ -37,7 +37,7 @@ def show(form: Any, error: ValidationError) -> None:
 
 
 class _Comparing:
-    """A form whose frames no report of an error shows: they have passwords."""
+    """A form that hides its frames from reports of errors: the frames have passwords."""
 
     @hidden_below
     def full_clean(self) -> None:
@@ -80,7 +80,7 @@ class PasswordChangeForm(_Comparing, forms.PasswordChangeForm):
 
 
 class SetPasswordForm(_Comparing, forms.SetPasswordForm):
-    """Sets the password of a user who came by a link; the link ends with its record."""
+    """Sets the password of a user who followed a link; the link ends with the record."""
 
     def _write(self) -> None:
         passwords.set_password(self.user, self.cleaned_data["new_password1"])

@@ -26,12 +26,12 @@ from rigzumal.django.apps import require_app
 Password = Union[str, bytes]
 
 _DJANGOS_SCRYPT = getattr(hashers, "ScryptPasswordHasher", None)
-_SALT_LETTERS = 62  # from so many letters Django makes a salt
+_SALT_LETTERS = 62  # the letters from which Django builds a salt
 _KEY_SIZE = 64  # bytes of a scrypt key, as Django's own hasher writes it
 
 _TAG_OF_CFFI = 16
-"""Bytes of a tag of argon2-cffi before 21.2. Such a record stays: a server with ours and
-one with Django's own hasher would rehash each other's records by turns."""
+"""The bytes of a tag of argon2-cffi before 21.2. A record with such a tag stays. Otherwise a server
+with our hasher and one with Django's would rehash each other's records by turns."""
 
 _NUMBER = r"[1-9]\d{0,9}"
 
@@ -42,11 +42,11 @@ def _tag(record: str) -> bytes:
 
 
 class _RecordHasher(BasePasswordHasher):
-    """The part that both hashers share: reading, comparing, showing and aging of strings."""
+    """The common part of both hashers: it reads, compares and shows strings, and finds old ones."""
 
     _scheme: str
     _form: re.Pattern[str]  # of a record behind its algorithm
-    _numbers: tuple[str, ...]  # that a record and its hasher have
+    _numbers: tuple[str, ...]  # the numbers that a record and its hasher have
 
     def __init__(self) -> None:
         require_app()
@@ -77,14 +77,14 @@ class _RecordHasher(BasePasswordHasher):
         try:
             parts = self.decode(encoded)
             made = self._made(password, parts)
-        # OverflowError: a number above 2^32.
+        # OverflowError: a number of over 2^32.
         except (ValueError, OverflowError):
             self.encode(b"", self.salt())
             return False
         return hmac.compare_digest(made, _tag(parts["hash"]))
 
     def safe_summary(self, encoded: str) -> dict[str, Any]:
-        """The parts of a record that may be shown; of a broken one, its fault."""
+        """The parts of a record that may be shown; the fault of a broken record."""
         try:
             parts = self.decode(encoded)
         except ValueError as fault:
@@ -160,7 +160,7 @@ class Argon2PasswordHasher(_RecordHasher):
         numbers["hash_len"] = len(_tag(parts["hash"]))
         is_new = (parts["variety"], parts["version"]) == ("argon2id", 19)
         if is_new and parts["salt"].isascii() and "$" not in parts["salt"]:
-            # By `encode`, since a subclass may wrap an old hash there.
+            # Calls `encode`, in which a subclass may wrap an old hash.
             of_record = copy.copy(self)
             for name, number in numbers.items():
                 setattr(of_record, name, number)
@@ -189,7 +189,7 @@ class ScryptPasswordHasher(_RecordHasher):
     Attributes:
         work_factor: N, a power of two.
         block_size: r, 1 to 255.
-        parallelism: p, 1 to 255; the installed Django's, since its records would be old
+        parallelism: p, 1 to 255; that of the installed Django, whose records would be old
             otherwise, or 5.
     """
 
@@ -226,7 +226,7 @@ class ScryptPasswordHasher(_RecordHasher):
         length = len(_tag(parts["hash"]))
         if length != _KEY_SIZE:
             return self._key(password, parts, length)
-        # By `encode`, since a subclass may wrap an old hash there.
+        # Calls `encode`, in which a subclass may wrap an old hash.
         numbers = (parts["work_factor"], parts["block_size"], parts["parallelism"])
         return _tag(self.encode(password, parts["salt"], *numbers))
 

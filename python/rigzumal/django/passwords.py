@@ -38,7 +38,7 @@ def check_password(user: Any, password: Any) -> bool:
 
 @hidden_below
 def verify_password(user: Any, password: Any) -> bool:
-    """Like `check_password`, but never rehashes (unless the model's own method does)."""
+    """Like `check_password`, but without a rehash (unless the model's own method rehashes)."""
     if users.has_own_methods(user):
         return bool(user.check_password(password))
     return records.judge_alone(user, password)
@@ -49,7 +49,7 @@ def change_password(user: Any, old_password: Any, new_password: Any) -> bool:
     """Writes the new password if the old one is right; False if it is wrong.
 
     The old password is judged at the record that the new one replaces, so a reset that
-    came meanwhile stays. Validators aren't asked, but their `password_changed` is called.
+    came meanwhile stays. The call runs no validator, but calls their `password_changed`.
     The call writes one column and sends no signal; a model with its own `set_password`
     is saved whole.
     """
@@ -74,8 +74,8 @@ def change_judged(user: Any, old_password: Any, new_password: Any, judged: Optio
 def set_password(user: Any, new_password: Any) -> None:
     """Writes a new password over the record that the user was read with.
 
-    For a reset: the token was checked with that record, so a newer record stays, and so
-    does a deleted user. With None no password is right any more. Columns, signals and
+    This is for a reset: the token was checked with that record, so a newer record stays, and a
+    deleted user stays deleted. After None no password is right any more. Columns, signals and
     validators are as in `change_password`.
     """
     if users.has_own_methods(user):

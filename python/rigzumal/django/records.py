@@ -2,13 +2,12 @@
 
 `user.password` is the copy: the record as it was when the user was read. A record is
 judged and hashed without a lock, and an UPDATE writes the new one if the row still has
-the copy. Otherwise the row's record is judged instead. So the answer is that of the
+the copy. Otherwise the operation judges the row's record instead. So the answer is that of the
 row's record, and no change is lost to a slower one.
 
-In a transaction of the caller's (`ATOMIC_REQUESTS`) a change counts once that has been
-committed. On PostgreSQL, MySQL and MariaDB its isolation must be READ COMMITTED, Django's
-default. A transaction of SQLite that has read fails ("database is locked") if another
-process writes before it does.
+In the caller's transaction (`ATOMIC_REQUESTS`) a change counts once the transaction is committed.
+On PostgreSQL, MySQL and MariaDB its isolation must be READ COMMITTED, Django's default. On SQLite a
+transaction that has read fails ("database is locked") if another process writes first.
 """
 
 from __future__ import annotations
@@ -48,8 +47,8 @@ def database_of(user: Any) -> str:
 class Copy:
     """The record that a user was read with, or that was written since.
 
-    `records` ends with the newest one. Until the transaction of that write is committed, it
-    has the older ones too: after a rollback the row has one of these.
+    `records` ends with the newest one. Until the transaction of that write is committed, `records`
+    keeps the older ones too: after a rollback the row has one of them.
     """
 
     def __init__(self, *records: str) -> None:
@@ -65,7 +64,7 @@ class Copy:
         self.records = self.records[-1:]
 
     def is_in_doubt(self, database: str) -> bool:
-        """Whether a rollback may have undone the write, since no on_commit callback waits."""
+        """Whether a rollback may have undone the write: no on_commit callback waits."""
         waiting = [entry[1] for entry in connections[database].run_on_commit]
         return len(self.records) > 1 and self.settle not in waiting
 
@@ -78,26 +77,26 @@ class Copy:
         return copy
 
     def __deepcopy__(self, memo: Any) -> Copy:
-        return self  # of TestCase's class data too, which isn't committed yet
+        return self  # also for TestCase's class data, which isn't committed yet
 
     def __reduce__(self) -> tuple[Any, ...]:
         return Copy, self.records[-1:]
 
 
 def note_read(user: Any, database: str, record: str) -> None:
-    """Keeps the record that a user was read with, in place of older ones."""
+    """Stores the record that a user was read with, in place of older ones."""
     user._record_copies = {database: Copy(record)}
 
 
 def note_put(user: Any, database: str, copy: Copy) -> None:
-    """Keeps the record that was written."""
+    """Stores the record that was written."""
     user._record_copies = {**getattr(user, "_record_copies", {}), database: copy}
 
 
 def known_copy(user: Any, database: str) -> Optional[Copy]:
     """The user's record in a database; None if it wasn't read or written there.
 
-    For a write, the record may have been read from another database: a replica.
+    For a write the record may come from another database: a replica.
     """
     copies: dict[str, Copy] = getattr(user, "_record_copies", {})
     if copies and database not in copies and database == database_of(user):
@@ -111,7 +110,7 @@ class Row:
     def __init__(self, user: Any) -> None:
         if user.pk is None:
             raise ValueError("the user isn't saved yet")
-        # An UPDATE through a child's table would select first, and compare nothing.
+        # An UPDATE through a child's table would first select, and then compare nothing.
         holder = user._meta.get_field("password").model
         self.user, self.database = user, database_of(user)
         self._rows = holder._base_manager.using(self.database).filter(
@@ -124,7 +123,7 @@ class Row:
         return found
 
     def put(self, over: Sequence[str], record: str) -> bool:
-        """Writes the record if the row has one of these; the user then has it."""
+        """Writes the record if the row has one of these; then sets it in the user too."""
         if self._rows.filter(password__in=over).update(password=record) == 0:
             return False
         copy = known_copy(self.user, self.database)
@@ -195,8 +194,8 @@ def judge_change(
 def awaited(function: Callable[..., T]) -> Callable[..., Awaitable[T]]:
     """The same function in a thread, for `await`.
 
-    An error report shows the frames that wait, so none of them has a password: the work
-    has no argument, and no coroutine runs it.
+    An error report shows the waiting frames, so none of them has a password: the work has no
+    argument, and no coroutine runs it.
     """
     concealed = hidden_below(function)
 

@@ -18,7 +18,7 @@ class AdminSite(sites.AdminSite):
 
     def password_change(self, request: Any, extra_context: Optional[dict[str, Any]] = None) -> Any:
         """Changes the password of the user who is logged in."""
-        # They ask for the user model, which isn't there yet where this is imported.
+        # The forms need the user model, which doesn't exist yet when this module is imported.
         from rigzumal.django.forms import AdminOwnPasswordChangeForm
         from rigzumal.django.views import PasswordChangeView
 

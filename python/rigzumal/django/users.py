@@ -61,7 +61,7 @@ class CompareAndSetMixin(models.Model):
         super().refresh_from_db(using=using, fields=fields, **kwargs)
         if fields is None or "password" in fields:
             self._note_read()
-            self._password = None  # it wasn't saved: no validator hears of it
+            self._password = None  # it wasn't saved, so no validator is called
 
     def _note_read(self) -> None:
         if "password" in self.__dict__:
@@ -69,10 +69,10 @@ class CompareAndSetMixin(models.Model):
 
     @hidden_below
     def check_password(self, raw_password: Any) -> bool:
-        """Whether the password is right; RecordChanged if it was changed eight times."""
+        """Whether the password is right; raises RecordChanged if the record changed eight times."""
         copy = records.known_copy(self, records.database_of(self))
         if self._state.adding or copy is None or self.password != copy.newest:
-            # A password was set and isn't saved.
+            # A password was set and isn't saved yet.
             return bool(hashers.check_password(raw_password, self.password))
         return records.judge_login(self, raw_password)
 
@@ -83,7 +83,7 @@ class CompareAndSetMixin(models.Model):
     @hidden_below
     def set_password(self, raw_password: Any) -> None:
         """Sets the password, which `save` writes, as AbstractBaseUser's."""
-        _ = self.password  # One that was deferred is read, so that it is compared.
+        _ = self.password  # Reads a deferred password, so that the save compares it.
         super().set_password(raw_password)
 
     def set_unusable_password(self) -> None:
@@ -120,11 +120,11 @@ class CompareAndSetMixin(models.Model):
                     update_fields=update_fields,
                 )
         except RecordChanged:
-            self._password = None  # it wasn't saved: no validator hears of it
+            self._password = None  # it wasn't saved, so no validator is called
             raise
 
     def _may_lose(self, database: str, update_fields: Optional[Collection[str]]) -> bool:
-        """Whether a save within a transaction writes a password over one that was read."""
+        """Whether a save, in a transaction, writes a password over the record that was read."""
         if update_fields is not None and "password" not in update_fields:
             return False
         copy = records.known_copy(self, database)
@@ -151,7 +151,7 @@ class CompareAndSetMixin(models.Model):
         if written[0] == copy.newest and not copy.is_in_doubt(using):
             others = [it for it in values if it[0].attname != "password"]
             return update(rows, using, pk, others, *rest, **more)
-        # A `bulk_update` of this user may have put the new record already.
+        # A `bulk_update` of this user may have written the new record already.
         compared = rows.filter(password__in=[*copy.records, written[0]])
         updated = update(compared, using, pk, values, *rest, **more)
         if updated:
@@ -185,7 +185,7 @@ def make_comparing(model: Any) -> None:
 
 @contextlib.contextmanager
 def comparing(model: Any) -> Iterator[None]:
-    """`make_comparing`, for the time of a `with`."""
+    """`make_comparing` for the time of a `with`."""
     bases = model.__bases__
     make_comparing(model)
     try:
@@ -195,14 +195,14 @@ def comparing(model: Any) -> Iterator[None]:
 
 
 def own_methods(classes: Any, *names: str) -> list[str]:
-    """The methods of these names that are neither Django's nor the mixin's."""
+    """The methods with these names that are neither Django's nor the mixin's."""
     known = (AbstractBaseUser, CompareAndSetMixin)
     having = [(of, name) for name in names for of in classes if name in vars(of)]
     return [f"{of.__qualname__}.{name}" for of, name in having if of not in known]
 
 
 def unreached_methods(model: Any) -> list[str]:
-    """A model's own methods that would be skipped, or would not compare."""
+    """A model's own methods that our calls would skip, or that would not compare."""
     classes = model.__mro__
     if not issubclass(model, CompareAndSetMixin):
         return own_methods(classes, "check_password", "set_password")
@@ -211,7 +211,8 @@ def unreached_methods(model: Any) -> list[str]:
 
 
 def has_own_methods(user: Any) -> bool:
-    """Whether the user's model has any; ImproperlyConfigured if one is unreached."""
+    """Whether the user's model has such methods; raises ImproperlyConfigured if one is
+    unreached."""
     unreached = unreached_methods(user.__class__)
     if unreached:
         raise ImproperlyConfigured(

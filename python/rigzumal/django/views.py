@@ -13,10 +13,10 @@ from rigzumal.django import forms
 
 
 class _ShowsWhyNot:
-    """Shows what `form_valid` raises as an error of the form."""
+    """Shows an exception of `form_valid` as an error of the form."""
 
     def form_valid(self, form: Any) -> Any:
-        """Writes the password, or shows why not."""
+        """Writes the password, or shows the reason why it didn't."""
         try:
             with forms.lost_as_error():
                 return super().form_valid(form)  # type: ignore[misc]

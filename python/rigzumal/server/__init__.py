@@ -1,4 +1,4 @@
-"""Asks a kept book through credkeep-server, which has it.
+"""Asks a kept book through credkeep-server, which serves the book.
 
     book = Client("/run/rigzumal/users/login.sock")
     if book.verify("ada", password) is Reply.YES: ...

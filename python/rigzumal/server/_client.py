@@ -69,7 +69,7 @@ class Unavailable(ServerError):
 
 
 class Later(ServerError):
-    """Too many tries at this name, or by this user, failed: this one wasn't hashed."""
+    """Too many tries at this name, or by this user, failed: the server didn't hash this one."""
 
 
 class Denied(ServerError):
@@ -105,7 +105,7 @@ class Question:
     wrong: Optional[Reply] = None
 
     def known_reply(self) -> Optional[Reply]:
-        """The reply, if no server needs to decide it."""
+        """The reply, if the client can decide it without the server."""
         if self.no_name is not None and not all(map(may_be_name, self.names)):
             return self.no_name
         if self.wrong is not None and not may_be_password(self.passwords[0]):
@@ -133,7 +133,7 @@ class Question:
         """The reply in a received line.
 
         Raises:
-            ServerError: as in `answer_of`; Unavailable also for a text that is no reply.
+            ServerError: as in `answer_of`; also Unavailable for a text that is no reply.
         """
         try:
             return Reply(answer_of(tag, line))
@@ -166,7 +166,7 @@ def answer_of(tag: bytes, line: bytes) -> str:
     """The answer in a line with this tag.
 
     Raises:
-        ServerError: one of those above; Unavailable also for a line that is no answer.
+        ServerError: one of the classes above; also Unavailable for a line that is no answer.
     """
     found, _, said = line.partition(b" ")
     if found != tag or not line.endswith(b"\n") or not said[:-1].isascii():
@@ -186,7 +186,7 @@ def answer_of(tag: bytes, line: bytes) -> str:
 
 
 class Calls(Generic[Replied, Listed]):
-    """The calls of both clients, of which each has its own way to ask."""
+    """The calls of both clients; each client has its own way to ask the server."""
 
     def _reply(self, asked: Question) -> Replied:
         raise NotImplementedError
@@ -197,7 +197,7 @@ class Calls(Generic[Replied, Listed]):
     def verify(self, name: str, password: Secret) -> Replied:
         """YES or NO; ABSENT if the account has no record; NO_ACCOUNT.
 
-        EXPIRED is a right password that must be changed, by `change`, before a login. A
+        EXPIRED: the password is right, and must be changed by `change` before a login. A
         name or a password that no book can have, such as a name with a space, gets NO.
         """
         no = Reply.NO
@@ -218,7 +218,7 @@ class Calls(Generic[Replied, Listed]):
     def known(self, name: str) -> Replied:
         """YES if the account has a record; ABSENT if it has none or is locked; NO_ACCOUNT.
 
-        EXPIRED if the password must be changed.
+        EXPIRED: the password must be changed.
         """
         return self._reply(Question("known", (name,), no_name=Reply.NO_ACCOUNT))
 
@@ -247,7 +247,7 @@ class Calls(Generic[Replied, Listed]):
         return self._reply(Question("rename", (name, new_name)))
 
     def lock(self, name: str) -> Replied:
-        """LOCKED: each password is wrong until `unlock`; NO_ACCOUNT."""
+        """LOCKED: every password is wrong until `unlock`; NO_ACCOUNT."""
         return self._reply(Question("lock", (name,)))
 
     def unlock(self, name: str) -> Replied:
@@ -309,7 +309,7 @@ class Client(Calls[Reply, list[str]]):
         return line
 
     def _connect(self, connection: socket.socket, until: float) -> None:
-        """Connects, and waits while too many other clients wait for the server."""
+        """Connects; if too many other clients wait for the server, it waits too."""
         while True:
             try:
                 return connection.connect(self._path)

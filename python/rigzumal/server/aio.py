@@ -71,7 +71,7 @@ class Client(Calls[Coroutine[Any, Any, Reply], Coroutine[Any, Any, "list[str]"]]
             self._waiting.pop(tag, None)
 
     async def _answer(self, tag: bytes, sent: bytes) -> bytes:
-        # Until Python 3.10 a lock takes the loop of its birth.
+        # Until Python 3.10 a lock belongs to the loop in which it was created.
         self._connecting = self._connecting or asyncio.Lock()
         async with self._connecting:
             if self._reading is None or self._reading.done():

@@ -1,13 +1,14 @@
-"""Operations a second on private servers, beside a plain UPDATE with no comparison.
+"""Measures operations a second on private servers, beside a plain UPDATE without a comparison.
 
     python3 python/tests/accounts/bench.py [sqlite] [postgres] [mariadb] [galera] [--logins]
                                            [--seconds 10] [--turns 10] [--processes 1,4,8,16]
 
 Prints the tables of docs/SCALE.md in Markdown, in some half an hour for all engines, and with
---logins those of a login and a plain one alone, in some three minutes for three engines. Under
-costs that are next to nothing (64 KiB) what is seen is the database. A thousand accounts, a
-connection for each process. The rows of a table take turns, so that what else the machine does is
-in all of them. "change in a transaction" is a change as of an engine with no statement for it.
+--logins those of a login and a plain one alone, in some three minutes for three engines. The hashes
+cost next to nothing (64 KiB), so the figures show the database. Each process has a connection, and
+the table a thousand accounts. The rows of a table take turns, so that other work of the machine
+affects all of them. "change in a transaction" is a change on an engine that has no single statement
+for it.
 """
 
 import argparse
@@ -38,7 +39,7 @@ ROWS = ("hash", CHANGE, SEVERAL, PLAIN, BRACED)
 
 
 class Load:
-    """One process: its connection, and what it does over and over."""
+    """One process: its connection, and the operation that it repeats."""
 
     def __init__(self, url, number=0):
         self.rng, self.database = random.Random(number), Database(url, number)
@@ -49,7 +50,7 @@ class Load:
         self.plain = self.dialect.update.partition(" AND ")[0]
 
     def connect(self):
-        """A connection as a service has it: what Galera needs is set."""
+        """A connection as a service opens it, with the settings that Galera needs."""
         conn = self.database.connect()
         if "," in self.database.url:
             with conn.cursor() as cursor:
@@ -72,7 +73,7 @@ class Load:
             self.by_hand(name, row)
 
     def by_hand(self, name, row):
-        """As services do it: read, verify, hash, and update with no comparison."""
+        """A login as services write it: read, verify, hash, and update without a comparison."""
         with self.pool() as conn:
             cursor = conn.cursor()
             cursor.execute(self.dialect.select, (name,))
@@ -88,7 +89,7 @@ class Load:
             cursor.close()
 
     def fill(self):
-        """The table, whose accounts have one record."""
+        """Fills the table: all accounts have the same record."""
         with self.pool() as conn:
             if self.database.kind == "sqlite":
                 conn.execute("PRAGMA journal_mode = WAL")
@@ -121,7 +122,7 @@ def measured(url, row, processes, seconds):
 
 
 def table(engine, url, rows, counts, seconds, turns):
-    """The rows of an engine, and what ours have of a plain one's throughput."""
+    """The rows of an engine, with the share of a plain UPDATE's throughput that ours reach."""
     print(f"\n| {engine} |", " | ".join(f"{it}" for it in counts), "|")
     print("|---|" + "---|" * len(counts))
     figures = collections.defaultdict(list)
@@ -157,7 +158,7 @@ def statements(load):
             load.act(row)
             for place, (word, milliseconds) in enumerate(found):
                 took[place, word].append(milliseconds)
-        # The first use of a connection asks for more.
+        # The first use of a connection sends more statements.
         often = ((word, it) for (_, word), it in sorted(took.items()) if len(it) > 150)
         said = ", ".join(f"{word} {statistics.median(it):.2f}" for word, it in often)
         lines.append(f"{row}: {said}")

@@ -1,4 +1,4 @@
-"""Changed parts of the accounts of a torture, whose histories must be legal, or refused."""
+"""Alters parts of the accounts of a torture, whose histories must then be legal, or refused."""
 
 import dataclasses
 import functools
@@ -29,7 +29,7 @@ def uncompared(accounts):
 
 
 def uncounted(accounts):
-    """Nobody asks how many rows were updated."""
+    """The operation ignores the number of updated rows."""
     table = accounts._table
     table.dialect.at_once = ""
     compare = table.compare
@@ -45,7 +45,7 @@ def uncounted(accounts):
 
 
 def snapshots(accounts):
-    """All is read in a transaction of REPEATABLE READ that lasts for twenty reads."""
+    """Each read runs in a transaction of REPEATABLE READ that lasts for twenty reads."""
     table, pool, seen = accounts._table, accounts._connections.primary, [0, None]
 
     async def look(session, key):
@@ -64,7 +64,7 @@ def snapshots(accounts):
 
 
 def unlooked(accounts):
-    """An operation without a change is answered at the copy, with no look at the primary."""
+    """An operation without a change answers from the copy, without a look at the primary."""
     commit = accounts._commit
 
     async def blind(worked, *given):
@@ -76,7 +76,7 @@ def unlooked(accounts):
 
 
 class LeavesOpen(PerThread):
-    """Leaves a connection open after an exception, for what a thread may still send."""
+    """Leaves a connection open after an exception, for statements that a thread may still send."""
 
     def _take_back(self, held, is_well):
         if is_well:
@@ -93,7 +93,7 @@ class Left(BaseException):
 class Queue:
     """A pool of one connection for a process, in each of the ways of writing one.
 
-    As its connection is broken, the rollback raises in place of what was raised.
+    The connection is broken, so the rollback raises an exception in place of the first one.
     """
 
     def __init__(self, connect):
@@ -121,7 +121,7 @@ class Queue:
                 raise
 
 
-# A caller's own transaction on a pool that swallows is the caller's fault.
+# A caller's own transaction on a pool that swallows exceptions is the caller's fault.
 OWN = ("whole", "parts")
 
 
@@ -142,11 +142,11 @@ def queued(accounts):
 def lossy(accounts, pool=LeavesOpen):
     """Three COMMITs in ten have no answer: not sent, done, or still to come.
 
-    A pool that rolls back leaves none of them to come: there the connection breaks.
+    No COMMIT is still to come at a pool that rolls back: there the connection breaks.
     """
     connect = accounts._connections.primary._connect
     if isinstance(accounts._dialect, Sqlite):
-        # A thread of its own may send what is still to come.
+        # A thread of its own may send the late COMMIT.
         path = connect().execute("PRAGMA database_list").fetchone()[2]
         given = {"isolation_level": None, "check_same_thread": False, "timeout": 20}
         connect = functools.partial(sqlite3.connect, path, **given)
@@ -185,7 +185,7 @@ def losing(dialect, breaks, may_be_late=False):
 
 
 def queued_tasks(accounts):
-    """The same for a task: COMMITs lose their answers, in a pool of some way."""
+    """Lets COMMITs of tasks lose their answers, in a pool of this kind."""
     connect = accounts._connections.primary._connect
     idle, way = [], random.choice(("closes", "raises", "swallows"))
 
@@ -209,7 +209,7 @@ def queued_tasks(accounts):
 
 
 def resent(accounts):
-    """COMMITs are lost, and what was lost is done again from its beginning."""
+    """COMMITs are lost, and the lost operations run again from their beginning."""
     lossy(accounts)
 
     async def again(worked, also):
@@ -226,7 +226,7 @@ def resent_at_none(accounts):
     async def again(worked, also):
         if worked.ticket.copy is not None:
             return await settled(worked, also)
-        # Long enough for another to remove what was put.
+        # Long enough for another client to remove the new record.
         time.sleep(0.05)
         while True:
             now = (await accounts._begin(worked.ticket.request)).copy

@@ -1,4 +1,4 @@
-"""A small disk of memory, which root alone mounts, and which is full at times."""
+"""A small disk in memory, which only root mounts, and which is full at times."""
 
 import contextlib
 import os
@@ -22,7 +22,7 @@ def small_disk(case, size):
 
 @contextlib.contextmanager
 def full(folder):
-    """Nothing more fits on the disk, within."""
+    """Fills the disk for the time of a `with`."""
     path = os.path.join(folder, "filling")
     with open(path, "wb", buffering=0) as filling, contextlib.suppress(OSError):
         while True:

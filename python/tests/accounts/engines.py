@@ -1,4 +1,4 @@
-"""The engines, each with what is its own: settings, errors, and what an operation sends."""
+"""The engines, each with its own settings, errors, and statements of an operation."""
 
 import asyncio
 import itertools
@@ -25,9 +25,9 @@ class OnSqlite:
     kind, dialect = servers.SqliteFile, Sqlite("users", "name", "record")
     broken = sqlite3.OperationalError("disk I/O error")
     again = lost_look = sqlite3.OperationalError("database is locked")
-    # What a COMMIT may raise though it was done.
+    # The errors that a COMMIT may raise though it took effect.
     unknown = (broken, DISK)
-    # What is sent: a change at once, in a transaction, and an answer that is confirmed.
+    # The statements of a change at once, of one in a transaction, and of a confirmed answer.
     one = several = confirmed = "BEGIN UPDATE SELECT COMMIT"
     # Around a hook, where its BEGIN would commit.
     held = ""
@@ -35,20 +35,20 @@ class OnSqlite:
     check_number = CHECK_FAILED
     holding = "SELECT 1 FROM users"
     lock_timeout = statement_timeout = "PRAGMA busy_timeout = 10"
-    # Columns of keys, with a key, and with another that no row has.
+    # Columns of keys, each with the key of a row, and a key that no row has.
     keys = (("BIGINT", int, 7, 8), ("BLOB", bytes, b"\0\xff", b"x"))
-    # What is sent before a table has keys of an enum, and the column.
+    # The statements before the creation of a table with keys of an enum, and its column.
     enum = (), "TEXT CHECK (name IN ('ann', 'ben'))"
     shouting = (f"{AFTER_UPDATE} WHEN NEW.record LIKE '%m=%' {PUTS.format('upper(NEW.record)')}",)
     ignoring = (f"{BEFORE_UPDATE} BEGIN SELECT RAISE(IGNORE); END",)
     emptying = (f"{AFTER_UPDATE} {PUTS.format('NULL')}",)
-    # Columns whose collation takes other texts for the same, columns that change a record, and
-    # settings of connections under which they do.
+    # Columns whose collation equates different texts; columns that change a record; and settings of
+    # connections under which they do.
     folding, changing, modes = ("TEXT COLLATE NOCASE",), (), ()
     begins_late = True
 
     def patient(self):
-        """A connection that waits for others as long as a test may take."""
+        """A connection that waits for others for as long as a test may take."""
         return self.connect(timeout=60)
 
     def as_dictionaries(self):
@@ -115,15 +115,15 @@ class OnPostgres(OnServer):
         return servers.psycopg.errors.DeadlockDetected("planted")
 
     def reading(self):
-        """The connect of a standby, as an address that moved early has it; and the call that
-        promotes the standby."""
+        """A function that connects to a standby, as after an early move of the address; and the
+        call that promotes the standby."""
         standby = servers.PostgresServer("standby", self.server).start()
         self.addCleanup(standby.kill)
         return standby.connect, standby.promote
 
     def create(self):
-        """With the extension and the collation that some tests need."""
-        # A statement that was prepared knows the table that was there before.
+        """Creates the database with the extension and the collation that some tests need."""
+        # A prepared statement knows the earlier table.
         self.conn.prepare_threshold = None
         super().create()
         self.execute("CREATE EXTENSION IF NOT EXISTS citext")
@@ -144,7 +144,7 @@ class OnPostgres(OnServer):
         yield self.connect(row_factory=dict_row)
 
     def of_role(self, grants):
-        """The connect of a role that may do this alone."""
+        """A function that connects as a role with these rights alone."""
         name = f"looker{next(NUMBERS)}"
         self.execute(f"CREATE ROLE {name} LOGIN")
         self.execute(f"GRANT {grants} ON users TO {name}")
@@ -178,7 +178,8 @@ class OnMariaDB(OnServer):
         return servers.pymysql.err.OperationalError(1213, "planted")
 
     def reading(self):
-        """The connect of a server that is read only, and the call that ends that."""
+        """A function that connects to a read-only server, and the call that makes the server
+        writable."""
 
         def set_to(value):
             self.server.as_root(f"SET GLOBAL read_only = {value}")
@@ -199,7 +200,7 @@ class OnMariaDB(OnServer):
         yield self.connect(cursorclass=DictCursor)
 
     def of_role(self, grants):
-        """The connect of a user who may do this alone."""
+        """A function that connects as a user with these rights alone."""
         name, password = "looker@'127.0.0.1'", self.server.password
         made = f"CREATE USER {name} IDENTIFIED BY '{password}'"
         granted = f"GRANT {grants} ON store.users TO {name}"
@@ -221,7 +222,7 @@ class OnPgBouncer(OnPostgres):
 
 class OnGalera(OnMariaDB):
     kind = Galera
-    # Of writers of one row at both nodes one is undone at its COMMIT, again and again.
+    # If both nodes write one row, one of the writers is undone at its COMMIT, again and again.
     test_strangers_guesses_beside_the_owner = None
 
     def end_sessions(self):
@@ -237,7 +238,7 @@ def made(suite, *bases, **more):
 
 
 class Awaited:
-    """AsyncAccounts, each of whose operations is run to its end."""
+    """AsyncAccounts with blocking calls: each runs an operation to its end."""
 
     def __init__(self, accounts):
         self.core = accounts
@@ -262,7 +263,7 @@ class OnSqliteTasks(OnSqlite):
 
 
 class OnAiosqlite(OnSqliteTasks):
-    """The same over a driver that is asynchronous."""
+    """The tests of SQLite over an asynchronous driver."""
 
     async def awaiting(self):
         given = {"isolation_level": None, "timeout": 5}

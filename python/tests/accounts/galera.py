@@ -9,8 +9,8 @@ LIBRARY = "/usr/lib/galera/libgalera_smm.so"
 
 
 class Node(MariaServer):
-    # How long a node may say nothing until the others take it for dead, in seconds: on a slow
-    # machine it may have to wait for the processor.
+    # The seconds of silence until the other nodes take a node for dead: on a slow machine it may
+    # have to wait for the processor.
     silence = 60
     cluster = ()
 
@@ -33,13 +33,14 @@ class Node(MariaServer):
         ]
 
     def answers(self):
-        """Only a node that is synced does: one that joins, or copies to it, refuses or waits."""
+        """Whether a node answers: only a synced node does; a joining node, and one that copies to
+        it, refuses or waits."""
         shown = "SHOW STATUS LIKE 'wsrep_local_state_comment'"
         return self.as_root(shown)[0][1] == "Synced"
 
 
 class Galera:
-    """A cluster's nodes, whose connections are of each by turns and read what was committed."""
+    """A cluster's nodes: connections go to each by turns, and read what other nodes committed."""
 
     def __init__(self, name, count=2, silence=Node.silence):
         need_file(LIBRARY)

@@ -1,8 +1,8 @@
-"""Many processes on real servers: which histories are legal, and which must be refused.
+"""Runs many processes on real servers, and tests which histories are legal or refused.
 
     /usr/bin/python3 python/tests/accounts/histories.py [-k NAME..]
 
-RIGZUMAL_SECONDS is how long each runs; all take ten minutes. docs/SCALE.md says what each does.
+RIGZUMAL_SECONDS is the length of each run; all take ten minutes. docs/SCALE.md describes each.
 """
 
 import time
@@ -16,7 +16,7 @@ from runs import galera, killed_servers, lagging, legal, maria, maria_without_lo
 
 LOST = {"alter": lossy, "patience": 5.0}
 LOST_IN_POOLS = {"alter": queued, "patience": 5.0, "ways": OWN}
-# All processes are of asyncio, with four tasks each, cancelled now and then.
+# All processes use asyncio, with four tasks each; some tasks are cancelled.
 TASKS = {"every": 1, "tasks": 4}
 LOST_IN_TASKS = {"alter": queued_tasks, "ways": OWN, **TASKS}
 # Without upgrades and looks, so that records come and go as fast as they can.
@@ -24,7 +24,7 @@ CHANGES = {"mix": {"enrol": 3, "verify": 3, "change": 6, "remove": 2, "reset": 1
 NONE = {"mix": {"enrol": 6, "remove": 6, "verify": 2}, "accounts": 1, "alter": resent_at_none}
 WHOLE = {"patience": 3.0, "ways": ("whole",)}
 WAITS = {"settings": ("SET SESSION wsrep_sync_wait = 1",)}
-# Galera's default: a node may read what was replaced at another.
+# Galera's default: a node may read a record that was replaced at another node.
 NO_WAITS = {"settings": ("SET SESSION wsrep_sync_wait = 0",), "accounts": 1}
 UNCOMPARED = {"alter": breaking.uncompared, **CHANGES}
 SNAPSHOTS = {"alter": breaking.snapshots, "accounts": 2}
@@ -45,7 +45,7 @@ def is_refused(url, **given):
 
 
 class Histories(unittest.TestCase):
-    """Each prints what was judged, or what shows that it is refused."""
+    """Each test prints the counts of its verdict, or the operations that contradict each other."""
 
     def told(self, said):
         print(f"{self.id().rpartition('.test_')[2]}: {said}", flush=True)
@@ -74,23 +74,23 @@ class Histories(unittest.TestCase):
     test_refused_galera_without_sync_wait = is_refused(GALERA, **NO_WAITS)
 
     def test_postgres_with_kills(self):
-        """Clients killed; the server killed, and stopped at once, every other second."""
+        """Clients are killed, and every other second the server is killed or stopped at once."""
         run = Run(POSTGRES(), kill=True, seconds=2 * SECONDS)
         self.told(killed_servers(run, postgres()))
 
     def test_mariadb_with_kills(self):
-        """Clients killed; the server killed every other second."""
+        """Clients are killed, and every other second the server."""
         run = Run(MARIADB(), kill=True, seconds=2 * SECONDS)
         self.told(killed_servers(run, maria(), pause=3.0))
 
     def test_mariadb_confirmed_with_kills(self):
-        """The same with no binary log: each look is confirmed by a COMMIT that writes."""
+        """The same kills without a binary log: a COMMIT that writes confirms each look."""
         server = maria_without_log()
         run = Run(server.url, kill=True, confirm=True, seconds=2 * SECONDS)
         self.told(killed_servers(run, server, pause=3.0))
 
     def test_mariadb_what_was_read_stays(self):
-        """The server is killed just as a login was answered by a change without one."""
+        """The server is killed just after a login got an answer from a change that had none."""
         logged = Crashes(maria()).run(6)
         confirmed_ones = Crashes(maria_without_log(), confirm=True).run(6)
         for crashes in (logged, confirmed_ones):
@@ -98,7 +98,8 @@ class Histories(unittest.TestCase):
         self.told(f"{logged.kills} kills with a binary log, {confirmed_ones.kills} confirmed")
 
     def test_refused_mariadb_without_a_binary_log(self):
-        """There a crash takes what a login was answered by: seldom, but it does."""
+        """Without a binary log a crash seldom, but in fact, loses the change that answered a
+        login."""
         crashes = Crashes(maria_without_log()).run(30, until_lost=True)
         self.assertTrue(crashes.lost, f"none was lost in {crashes.kills} kills")
         self.told(f"1 lost of {crashes.kills}")
@@ -116,15 +117,15 @@ class Histories(unittest.TestCase):
         self.told(legal(self.failed_over(Pair(is_synchronous=True), Pair.fail_over)))
 
     def test_postgres_synchronous_failover_with_a_slow_receiver(self):
-        """The same, with the standby's receiver stopped, and killed, before."""
+        """A failover after the standby's receiver was stopped, and then killed."""
         self.told(legal(self.failed_over(Pair(is_synchronous=True), Pair.fail_over_with_lag)))
 
     def test_refused_asynchronous_failover(self):
-        """An asynchronous standby that lags takes over: acknowledged changes are gone."""
+        """A lagging asynchronous standby takes over: acknowledged changes are lost."""
         self.told(refused(lambda: self.failed_over(Pair(), Pair.fail_over_with_lag)))
 
     def test_postgres_copies_of_a_replica(self):
-        """Copies are read from a standby that lags, commits go to the primary."""
+        """Copies come from a standby that lags; commits go to the primary."""
         pair = lagging()
         self.told(legal(Run(pair.primary.url, replica=pair.standby.url)))
 
@@ -134,7 +135,7 @@ class Histories(unittest.TestCase):
         self.told(refused(lambda: Run(pair.primary.url, **given)))
 
     def test_galera_copies_that_do_not_wait(self):
-        """Copies are read by sessions of wsrep_sync_wait=0, and all else by others."""
+        """Sessions with wsrep_sync_wait=0 read the copies, and others do all else."""
         self.told(legal(Run(GALERA(), replica=GALERA(), **WAITS)))
 
     def test_galera_with_a_node_killed(self):

@@ -1,8 +1,8 @@
 """The behaviour of every engine: classes of tests, run over each by test_engines.py, as are those
 of of_tables.py and of_hooks.py.
 
-A dialect of one's own is tried by a subclass of these with what `engines.py` says of an engine:
-its `kind` (a server that is started, and connects), its `dialect`, and its settings.
+To test your own dialect, write a subclass of these with the attributes of an engine in
+`engines.py`: its `kind` (a server that starts and connects), its `dialect`, and its settings.
 """
 
 import itertools
@@ -22,7 +22,7 @@ upgrade ann one absent; remove ann one absent; change ann one x absent; verify b
 login bob one noaccount; upgrade bob one noaccount; remove bob one noaccount
 enrol bob one noaccount; reset bob one noaccount; change bob one x noaccount"""
 UPGRADED = "upgrade ann one upgraded; login ann one yes; login ann two no"
-# Costs of new records, what stands, what is called, and what is answered.
+# Costs of new records, the record in the row, the call, and the reply.
 TABLE = ("low", "one", AT_ONE), ("low", None, AT_NONE), ("high", "one", UPGRADED)
 CALLS = [
     (costs, stands, *call.rsplit(" ", 1))
@@ -36,7 +36,7 @@ class Operations:
 
     @each(*CALLS)
     def test_replies_and_records(self, costs, stands, text, reply):
-        """By its method, and with the records before and after it."""
+        """Each method's reply, and the records before and after the operation."""
         hasher, record, told = getattr(self, costs), self.give(stands), []
         accounts = self.accounts(hasher)
         self.assertEqual(called(accounts, text), reply)
@@ -74,7 +74,7 @@ class Operations:
         *(("one", it, "one", "") for it in (Kind.UPGRADE, Kind.REMOVE, Kind.VERIFY)),
     )
     def test_each_change_compares(self, stood, kind, password, new):
-        """No operation puts or answers what was worked out at a record that is gone."""
+        """No operation writes or answers a result that it computed at a replaced record."""
         self.give(stood)
         accounts = self.accounts(self.high)
         slow = self.worked(accounts, kind, password, new)
@@ -88,9 +88,9 @@ class Operations:
 
 
 class LostAnswers:
-    """COMMITs without an answer, whether they were done or not."""
+    """COMMITs without an answer, whether they took effect or not."""
 
-    # What is answered, and whether a record stands, if it wasn't done and if it was.
+    # The replies, and whether the row has a record: if the COMMIT took no effect, and if it did.
     @each(
         ("one", "change ann one two", ("replaced", True), ("replaced", True)),
         ("one", "reset ann two", ("replaced", True), ("replaced", True)),
@@ -100,7 +100,8 @@ class LostAnswers:
         ("one", "remove ann one", ("removed", False), (OutcomeUnknown, False)),
     )
     def test_what_stands_tells(self, stands, text, undone, done):
-        """Whether a record was put; of none nothing is known, so nothing is sent again."""
+        """A new record in the row shows that it was stored; NULL shows nothing, so nothing is sent
+        again."""
         for is_done, error, times in itertools.product((0, 1), self.unknown, (1, 3)):
             reply, is_record = (undone, done)[is_done]
             record = self.give(stands)
@@ -131,7 +132,7 @@ class LostAnswers:
 
     @each(*itertools.product((True, False), (True, False)))
     def test_another_change_meanwhile(self, before, is_after):
-        """The new record may have been stored and replaced: nobody knows, and nothing is
+        """The new record may have been stored and replaced: the outcome is unknown, and nothing is
         written."""
         self.give("one")
         accounts = self.losing(before)
@@ -140,7 +141,8 @@ class LostAnswers:
         self.assertTrue(self.is_right("another"))
 
     def test_what_was_done_is_put_over_itself(self):
-        """The record in the table may not be on the disk."""
+        """The record in the table may not be on the disk yet, so the operation writes it over
+        itself."""
         accounts = self.losing(before=False)
         put = accounts._dialect.put = mock.Mock(wraps=accounts._dialect.put)
         with self.assertLogs("rigzumal.accounts", "WARNING") as logs:
@@ -153,7 +155,8 @@ class LostAnswers:
 
     @each(True, False)
     def test_a_fault_after_a_lost_answer_says_nothing_of_it(self, before):
-        """The change is stored, or may be later: its outcome is unknown, and no StoreFault."""
+        """The change is stored, or may be later, so the call raises OutcomeUnknown, and no
+        StoreFault."""
         self.give("one")
         accounts = self.losing(before)
         self.at_second_look(accounts, mock.Mock(side_effect=StoreFault("the disk is full")))
@@ -164,11 +167,11 @@ class LostAnswers:
 
 
 class Confirmed:
-    """Answers that make no change, confirmed by a COMMIT that writes."""
+    """Operations without a change, which a COMMIT that writes confirms."""
 
     @each(("one", "two", Reply.NO), ("one", None, Reply.ABSENT), (None, "two", Reply.NO))
     def test_what_was_replaced_meanwhile(self, stands, other, reply):
-        """It is worked again at the present record, and nothing of the old comes back."""
+        """The operation runs again at the present record, and never restores the old one."""
         accounts = self.accounts(confirm=True)
         stood = self.give(stands)
         worked = self.worked(accounts, Kind.VERIFY, "one")
@@ -184,18 +187,18 @@ class Confirmed:
 
     @each(("one", Reply.YES), (None, Reply.ABSENT))
     def test_a_commit_without_an_answer(self, stands, reply):
-        """Nothing was changed, so it is sent again; the answer is no unknown one."""
+        """The operation changed nothing, so it is sent again, and its outcome is never unknown."""
         self.give(stands)
         accounts = self.losing(True, 2, self.lost_look, confirm=True)
         self.assertIs(accounts.verify("ann", "one"), reply)
 
 
 class AtOnce:
-    """A change by one statement: what it promises is what a transaction did."""
+    """A change by one statement, which keeps the promises of a change in a transaction."""
 
     def test_it_is_told_before_it_is_sent(self):
-        """A log of attempts has to be written first; and the record in the table is the
-        answer's."""
+        """`_before_commit` runs before the statement, for a log of attempts; the table then has the
+        answer's record."""
         accounts, seen = self.accounts(), []
         accounts._table.before_commit = lambda it: seen.append((it.reply, self.is_right("one")))
         answer = accounts.commit(self.worked(accounts, Kind.CHANGE, "one", "two"))
@@ -205,13 +208,13 @@ class AtOnce:
         self.assertTrue(self.is_right("two"))
 
     def test_who_may_not_update(self):
-        """Nothing was done, and that is known."""
+        """A role without UPDATE gets a StoreFault: the change surely took no effect."""
         accounts = self.accounts(connect=self.of_role("SELECT"))
         self.assertRaisesRegex(StoreFault, "42501|1142", accounts.change, "ann", "one", "two")
 
 
 class OnServers:
-    """A server's own acts: it ends waits, and restarts."""
+    """Servers that end waits, restart, or only read."""
 
     def test_restart(self):
         """The pool's connection is gone after a restart: it opens another."""
@@ -223,7 +226,8 @@ class OnServers:
         self.assert_replies("change ann one two replaced; verify ann two yes", accounts)
 
     def test_a_server_that_only_reads(self):
-        """As in a failover that is under way: it is waited for, and nothing was done."""
+        """The operation waits for a server that only reads, as in a failover, and then is
+        Unavailable."""
         self.give(None, "ben")
         connect, frees = self.reading()
         accounts = self.accounts(connect=connect, patience=60.0)
@@ -238,7 +242,7 @@ class OnServers:
 
     @each(*itertools.product(("put_at_once", "commit"), (AttributeError, TypeError, NameError)))
     def test_a_fault_of_a_program_comes_through(self, name, error):
-        """It is no answer that was lost, though the statement may have been sent."""
+        """A program's own fault is no lost answer, though the statement may have been sent."""
         dialect = losing(self.another_dialect(), True, 9, error("mine"), [name])
         if name == "put_at_once" and not dialect.at_once:
             return
@@ -249,7 +253,7 @@ class OnServers:
         self.assertTrue(self.is_right("one"))
 
     def test_a_rollback_that_fails(self):
-        """A refusal of the server is raised at once, and not after all of patience."""
+        """The call raises a refusal of the server at once, and not after all of patience."""
         self.execute("ALTER TABLE users ADD CHECK (record LIKE '%m=64,%')")
         dialect = losing(self.another_dialect(), True, 99, ConnectionError("planted"), ["undo"])
         made, connect = [], lambda: made.append(self.connect()) or made[-1]

@@ -16,7 +16,7 @@ CHANGES = ("change ann one two", "login ann one", "remove ann one")
 
 
 class RowsOfOnesOwn:
-    """A row that `also` writes stays exactly if the reply does."""
+    """A row that `also` writes is stored exactly if the operation is."""
 
     def setUp(self):
         super().setUp()
@@ -29,7 +29,7 @@ class RowsOfOnesOwn:
         self.execute("INSERT INTO sessions VALUES ('ann', %s)", reply.value, conn=conn)
 
     def begin(self, password="one"):
-        """With a record of this password and no row; the record."""
+        """Starts with a record of this password and no row of the hook; returns the record."""
         self.execute("DELETE FROM sessions")
         self.calls.clear()
         return self.give(password)
@@ -39,7 +39,7 @@ class RowsOfOnesOwn:
 
     @each(*CALLS, ("low", None, "login b\0b one", "noaccount"))
     def test_each_reply(self, costs, stands, text, reply):
-        """It is told what its caller is, and its row is committed."""
+        """The hook gets the reply that its caller gets, and its row is committed."""
         self.begin(stands)
         accounts = self.accounts(getattr(self, costs))
         self.assertEqual(called(accounts, text, also=self.also), reply)
@@ -49,7 +49,8 @@ class RowsOfOnesOwn:
     def test_an_exception_undoes_all(self):
         """The exception comes through as it is, be it a driver's, and nothing is stored."""
         accounts = self.accounts(patience=60.0)
-        # A mail server's looks as a connection's, and another's refusal as this server's.
+        # A mail server's error looks like a connection's, and another server's refusal like this
+        # server's.
         network = (ConnectionRefusedError("mine"), TimeoutError("mine"), self.broken)
         others = (StoreFault("mine"), Unavailable("mine"), OutcomeUnknown("mine"))
         errors = (KeyError("mine"), FileNotFoundError("mine"), *network, *others, None)
@@ -105,7 +106,8 @@ class RowsOfOnesOwn:
             self.assertEqual(len(self.calls), 2)
 
     def test_a_hook_that_does_not_keep_to_its_transaction(self):
-        """It is told so, and was called once; no record was written."""
+        """A hook that ends the transaction gets a TypeError, is called once, and no record is
+        written."""
         accounts = self.accounts(patience=60.0)
 
         def rewrites(conn):
@@ -130,7 +132,8 @@ class RowsOfOnesOwn:
                 (rewrites, "has changed the account's own record"),
                 (nests, "operation on its own table"),
                 (uses_the_pool, "connection is in use"),
-                # A generator function is its own answer, as is a coroutine function.
+                # A call of a generator function returns no answer, nor does one of a coroutine
+                # function.
                 (lambda conn: (it for it in ()), "a generator, which nobody runs"),
                 (lambda conn: awaited(), "use AsyncAccounts"),
             ),
@@ -148,7 +151,7 @@ class RowsOfOnesOwn:
         self.assert_replies("verify ann one yes", accounts)
 
     def test_a_nested_call_leaves_the_transaction_alone(self):
-        """If the hook goes on, so does the operation."""
+        """If the hook goes on after the refused nested call, so does the operation."""
         accounts = self.accounts()
 
         def nests(conn, reply):
@@ -159,12 +162,13 @@ class RowsOfOnesOwn:
         self.assertEqual(self.rows(), ["replaced"])
 
     def test_a_nested_call_over_a_pool_of_several(self):
-        """It would wait for the row that its own operation holds, on another connection."""
+        """A nested call on another connection would wait for the row that its own operation
+        locks."""
         self.execute("DROP TABLE IF EXISTS others")
         self.execute(self.another_dialect(table="others").create())
         self.execute("INSERT INTO others VALUES ('ann', %s)", self.low.hash("one"))
         used, given = [], {"patience": 0.5}
-        # Of each the pool is another object, as psycopg_pool's `pool.connection` is.
+        # Each Accounts gets another object as its pool, as with psycopg_pool's `pool.connection`.
         accounts, dearer = (self.over(self.of_several, it, **given) for it in (self.low, self.high))
         other_table = self.another_dialect(table="others")
         others = self.over(self.of_several, self.low, other_table, **given)
@@ -187,8 +191,8 @@ class RowsOfOnesOwn:
         self.assert_replies("verify ann two yes", accounts)
 
     def test_what_is_no_nested_call(self):
-        """One over another pool, which may be of another database, and one that was begun within
-        `also` and comes after it."""
+        """A call over another pool, which may be of another database, is no nested one. Nor is a
+        call that begins within `also` and runs after it."""
         accounts, other, contexts = self.accounts(), self.accounts(), []
 
         def also(conn, reply):
@@ -212,8 +216,8 @@ class RowsOfOnesOwn:
             conn.close()
 
     def test_strangers_guesses_beside_the_owner(self):
-        """Each writes the account's own row, as a counter of failures does: nobody is told to
-        come again, and no hook is called twice for an operation."""
+        """Each hook writes the account's own row, as a counter of failures does. No operation is
+        CHANGED, and no hook is called twice for one operation."""
         self.execute("ALTER TABLE users ADD failures INT DEFAULT 0")
         accounts = self.accounts(connect=self.patient, patience=0.0)
 
@@ -237,7 +241,8 @@ class RowsOfOnesOwn:
         ("emptying", "another record|doesn't change it"),
     )
     def test_triggers(self, name, said):
-        """A hook's change of a record is undone with all, and the error doesn't show the record."""
+        """A trigger's change of a record is undone with the hook's row, and the error doesn't show
+        the record."""
         self.create()
         accounts, confirming = self.accounts(), self.accounts(confirm=True)
         for sql in getattr(self, name):
@@ -247,7 +252,7 @@ class RowsOfOnesOwn:
         texts = ("change ann one two", "reset ann two", "enrol ann two")
         calls = [*itertools.product([accounts], texts, ({}, {"also": self.also}))]
         for of, text, more in (*calls, (confirming, "verify ann one", {})):
-            # Put as another writes it, past the trigger.
+            # Written past the trigger, as by another program.
             record = self.begin(None if "enrol" in text else "one")
             with self.subTest(text=text, more=more):
                 with self.assertRaisesRegex(StoreFault, said) as raised:
@@ -258,7 +263,8 @@ class RowsOfOnesOwn:
 
     @each(True, False)
     def test_a_commit_without_an_answer(self, before):
-        """Of a change one row is stored, as the record is; otherwise nobody knows."""
+        """After a change exactly one row of the hook is stored, with the record; otherwise the
+        outcome is unknown."""
         self.begin()
         losing = self.losing(before)
         self.assert_replies("change ann one two replaced", losing, also=self.also)

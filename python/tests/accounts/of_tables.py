@@ -37,7 +37,7 @@ class Connections:
         self.assertTrue(self.is_right("one"))
 
     def test_a_callers_transaction(self):
-        """All or nothing; and a copy that is gone is not put."""
+        """A caller's transaction stores all or nothing, and writes nothing over a replaced copy."""
         accounts, caller = self.accounts(), self.another()
         worked = self.worked(accounts, Kind.CHANGE, "one", "two")
         replaced = ("ROLLBACK", Reply.REPLACED, "one"), ("COMMIT", Reply.REPLACED, "two")
@@ -48,7 +48,7 @@ class Connections:
             self.assertTrue(self.is_right(right))
 
     def test_a_session_beside_a_verify(self):
-        """It stands before a change, or isn't there."""
+        """A session beside a verify is stored before a change, or not at all."""
         accounts, owner, caller, done = self.accounts(), self.accounts(), self.another(), []
         worked = self.worked(accounts, Kind.VERIFY, "one")
         self.execute(self.dialect.begin, conn=caller)
@@ -63,8 +63,8 @@ class Connections:
 
     @each(*CALLS)
     def test_what_is_sent(self, costs, stands, text, reply):
-        """No statement too many: docs/SCALE.md has these lists. From none to a record, and from a
-        record to none, the row wouldn't tell enough for one statement."""
+        """Each operation sends only the statements that docs/SCALE.md lists. From no record to one,
+        and back, the row wouldn't show the outcome of a single statement."""
         hasher, conn, several = getattr(self, costs), self.another(), self.several
         plain, confirming = (self.kept(hasher, conn, confirm=it) for it in (False, True))
         begin, _, rest = several.partition(" ")
@@ -116,9 +116,9 @@ class Connections:
             self.assert_replies("login ann one yes", dearer)
 
     def test_waits_that_the_engine_ends(self):
-        """Of a lock, and of a statement that takes too long: what was sent is undone, so it is
-        tried again within patience, on the same connection and with the same hash; then nothing
-        was done. A login goes on."""
+        """The engine ends a wait for a lock, and a statement that takes too long. It undoes the
+        statement, so the operation sends it again within patience, on the same connection and with
+        the same hash. Then it is Unavailable, and nothing was done. A login goes on."""
         settings = {self.lock_timeout, self.statement_timeout}
         for setting, stands in itertools.product(settings, ("one", None)):
             connect, made, record = self.setting(setting), [], self.give(stands)
@@ -163,7 +163,8 @@ class Tables:
                 self.assertRaises(TypeError, accounts.login, str(key), "one")
 
     def test_keys_of_an_enum(self):
-        """Its names are accounts, and no other is; an empty table of it shows no fault."""
+        """The names of an enum are accounts, and no others are; an empty table with such keys has
+        no fault."""
         before, key = self.enum
         self.execute("DROP TABLE IF EXISTS users")
         for sql in before:
@@ -191,7 +192,7 @@ class Tables:
         self.assertEqual(self.execute("SELECT record FROM users"), [(record,)] * 2)
 
     def test_names_with_signs(self):
-        """Of a table and columns, in statements with values and without."""
+        """Tables and columns whose names have signs, in statements with values and without."""
         dialect = self.another_dialect(table='a"`b%c', key="k%`1", record='r "s', key_type=int)
         self.execute(f"DROP TABLE IF EXISTS {dialect.table}".replace("%%", "%"))
         self.execute(dialect.create())
@@ -204,7 +205,7 @@ class Tables:
         self.assertEqual((key, record[:9]), (7, "$argon2id"))
 
     def test_bytes_are_compared(self):
-        """Under each collation that takes other texts for the same."""
+        """Statements compare bytes under each collation that equates different texts."""
         copies = ("ABCdef", "abcDEF ", "abcdef", "\u00e4bcDEF", "abcDEF")
         for column, copy in itertools.product(self.folding, copies):
             self.table(column)
@@ -215,7 +216,7 @@ class Tables:
             cursor.close()
 
     def test_columns_that_change_a_record(self):
-        """They are found as a record is written, and none is stored."""
+        """The trial finds a column that changes a record, and no such record is stored."""
         for column, mode, stands in itertools.product(self.changing, self.modes, ("short", None)):
             self.table(column)
             self.put(stands)

@@ -24,11 +24,11 @@ from torture._torture import LOW, hasher
 SECONDS = float(os.environ.get("RIGZUMAL_SECONDS", "8"))
 
 
-# What SQLite says then, in the words of Python before 3.11 too.
+# SQLite's message on a full disk, also in the words of Python before 3.11.
 FULL = "SQLITE_FULL|SQLITE_IOERR|OperationalError;"
 
 
-# What operations raise, by a line each.
+# The exceptions of operations, by a line each.
 EXPECTED = re.compile("(StoreFault|OutcomeUnknown|Unavailable|NoConnection): ")
 
 
@@ -40,7 +40,7 @@ class Run:
     def __init__(self, url, **given):
         number = next(Run.numbers)
         self.folder = servers.ROOM / f"run{number}"
-        # What is altered is the accounts of a process, and none of asyncio's.
+        # The alteration affects the accounts of a process, and none of asyncio's.
         given = {"tasks": 0 if "alter" in given else 4, **given}
         given = {"seconds": SECONDS, "table": f"t{number}", **given}
         self.torture = torture.Torture(url, folder=self.folder, **given)
@@ -58,7 +58,7 @@ class Run:
         self.said.put((found and found.reason, found and [*map(str, found.part)], summary))
 
     def verdict(self):
-        """Why it is illegal, by which operations, and how much was judged."""
+        """The reason why the history is illegal, the operations that show it, and the counts."""
         self.process.join()
         if self.process.exitcode:
             with open(f"{self.folder}.err") as file:
@@ -69,7 +69,7 @@ class Run:
 
 
 def legal(run, fault="nothing else"):
-    """The summary of a legal history, in which no fault came but of this form."""
+    """The summary of a legal history, in which each fault has this form."""
     reason, part, summary = run.verdict()
     if reason:
         raise AssertionError(f"{reason}: {part}; {summary}")
@@ -83,7 +83,7 @@ def legal(run, fault="nothing else"):
 
 
 def refused(start, turns=8):
-    """Whether a run of what was broken is refused; luck may make one legal."""
+    """Whether a run with broken accounts is refused; luck may make one run legal."""
     for _ in range(turns):
         reason, part, summary = start().verdict()
         if reason:
@@ -95,12 +95,12 @@ class WithoutLog(servers.MariaServer):
     more_lines = ()
 
 
-# Each engine's server, which is started when it is asked for, and its URL.
+# Each engine's server, which starts at its first use, and its URL.
 postgres, maria, maria_without_log = (
     functools.partial(server, it)
     for it in (servers.PostgresServer, servers.MariaServer, WithoutLog)
 )
-# As by Galera's defaults, since a node is killed.
+# With Galera's defaults, since a node is killed.
 galera = functools.cache(lambda: Galera("galera", 3, silence=5).start())
 SQLITE = lambda: servers.SqliteFile().url
 POSTGRES = lambda: postgres().url
@@ -109,7 +109,7 @@ GALERA = lambda: galera().url
 
 
 def killed_servers(run, node, pause=1.5):
-    """The verdict, while the server is stopped at once and killed by turns."""
+    """The verdict of a run whose server is stopped at once and killed by turns."""
     count = 0
     time.sleep(1.5)
     while run.process.is_alive():
@@ -193,7 +193,7 @@ CHEAP = hasher(LOW)
 
 
 class Crashes:
-    """One changes a password again and again, one looks, others keep the disk busy.
+    """One client changes a password again and again, one logs in, and others keep the disk busy.
 
     The server is killed just after a login was answered YES by a change that had no answer; of
     these kills some are lost: that password is wrong afterwards, and the old one right.
@@ -231,7 +231,7 @@ class Crashes:
             answered.value = now + (said is Reply.REPLACED)
 
     def run(self, turns, until_lost=False):
-        """So many turns, each up to a kill; at once to the end of the first loss."""
+        """Runs this many turns, each up to a kill; ends early at the first loss."""
         others = [self.started(self.noise, number) for number in range(3)]
         now = 0
         for _ in range(turns):

@@ -36,13 +36,13 @@ MAIN = os.getpid()
 
 @atexit.register
 def clear():
-    """Removes the folder, after all servers were ended."""
+    """Removes the folder, after all servers have ended."""
     if os.getpid() == MAIN and not os.environ.get("RIGZUMAL_KEEP"):
         shutil.rmtree(ROOM, ignore_errors=True)
 
 
 def need(driver, name, *programs):
-    """The path of the first program; a skipped test without the driver, or one of the programs."""
+    """The path of the first program; skips the test without the driver or one of the programs."""
     if driver is None:
         needs.need_module(name)
     needs.need(*programs)
@@ -68,7 +68,7 @@ def descendants(pid):
 
 
 def is_running(pid):
-    """Whether a process has its memory and its files yet, which one that was killed may have."""
+    """Whether a process still has its memory and its files, as a killed process may for a while."""
     try:
         state = pathlib.Path(f"/proc/{pid}/stat").read_text().rpartition(") ")[2][:1]
     except OSError:
@@ -95,7 +95,7 @@ class Server:
             raise RuntimeError(f"{words}: {done.stdout.decode(errors='replace')}")
 
     def start(self, *more):
-        """Starts it, and waits until it answers."""
+        """Starts the server, and waits until it answers."""
         with open(self.log, "ab") as log:
             streams = {"stdin": subprocess.DEVNULL, "stdout": log, "stderr": log}
             given = {"cwd": ROOM, "start_new_session": True, **as_user(self.user)}
@@ -105,7 +105,7 @@ class Server:
         return self
 
     def wait(self):
-        """Until it answers."""
+        """Waits until the server answers."""
         has_ended = lambda: self.process.poll() is not None
         try:
             until(lambda: has_ended() or self.ready(), "it answers", 3 * LONGEST)
@@ -118,10 +118,10 @@ class Server:
         raise RuntimeError(f"{self.folder.name} doesn't answer: {tail}")
 
     def kill(self):
-        """As a crash: all of its processes end at once, and are gone."""
+        """Kills all of the server's processes at once, as a crash does, and waits for their end."""
         if self.process.poll() is not None:
             return
-        self.process.send_signal(signal.SIGSTOP)  # so that it makes no more of them
+        self.process.send_signal(signal.SIGSTOP)  # so that it starts no more of them
         pids = descendants(self.process.pid)
         for pid in pids:
             with contextlib.suppress(ProcessLookupError):
@@ -259,7 +259,8 @@ class PooledPostgres(OfPostgres):
         return super().start(*more)
 
     def connect(self, prepare_threshold=None, **more):
-        """The tests' own statements aren't prepared either, if they name no threshold."""
+        """A connection for the tests' own statements, which aren't prepared either unless a
+        threshold is named."""
         return super().connect(prepare_threshold=prepare_threshold, **more)
 
 
@@ -278,7 +279,7 @@ class OfMySql(Server):
         return pymysql.connect(**{**place, **given})
 
     def as_root(self, *statements):
-        """The rows of the last of these."""
+        """Runs statements as root; returns the rows of the last one."""
         conn = pymysql.connect(unix_socket=self.socket, user="root", autocommit=True)
         with conn, conn.cursor() as cursor:
             for sql in statements:
@@ -286,7 +287,7 @@ class OfMySql(Server):
             return cursor.fetchall()
 
     def ready(self):
-        """Whether it answers: while it starts, any question to it may be refused or cut."""
+        """Whether the server answers: while it starts, it may refuse or cut off any request."""
         with contextlib.suppress(pymysql.err.Error, OSError):
             if self.answers():
                 self.has_store = self.has_store or self.make_store()
@@ -308,7 +309,7 @@ class OfMySql(Server):
 
 class MariaServer(OfMySql):
     user = "mysql"
-    # What is read is on the disk then: docs/SCALE.md.
+    # With this setting every record that a client reads is on the disk: docs/SCALE.md.
     more_lines = ("log_bin=binlog", "sync_binlog=1", "server_id=1")
 
     def __init__(self, name):
@@ -317,7 +318,7 @@ class MariaServer(OfMySql):
         ROOM.chmod(0o777)
         self.port = free_port(8)
         self.socket = f"{self.folder}.sock"
-        # Servers that are made at a time would take each other's files in /tmp.
+        # Servers that are created at the same time would use each other's files in /tmp.
         self.temporary = ROOM / f"{name}.tmp"
         self.temporary.mkdir()
         self.temporary.chmod(0o777)
@@ -347,7 +348,7 @@ class MySqlServer(OfMySql):
     depends on, each unpacked there by `dpkg -x`.
     """
 
-    user = "root"  # only root enters another root, and its users are none of this machine's
+    user = "root"  # only root enters another root, whose users aren't this machine's
     password = ""  # PyMySQL needs python3-cryptography for one
     more_grants = ("PROCESS, CONNECTION_ADMIN ON *.*",)
 

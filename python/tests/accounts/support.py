@@ -26,13 +26,13 @@ from rigzumal.accounts.types import Kind, Request
 from tests.helpers import each  # noqa: F401: of each test
 from tests.needs import lacking
 
-# Of sqlite3's errors, which have their names from Python 3.11 on.
+# The codes of sqlite3's errors, which have names from Python 3.11 on.
 CHECK_FAILED, FOREIGN_KEY_FAILED = (
     f"SQLITE_CONSTRAINT_{it}" if sys.version_info >= (3, 11) else ""
     for it in ("CHECK", "FOREIGNKEY")
 )
 warnings.simplefilter("ignore", LowMemoryWarning)
-# Seconds that an operation goes on which the test expects to succeed, on a slow machine too.
+# The patience, in seconds, of an operation that must succeed even on a slow machine.
 PATIENCE = 60.0
 LOW = PasswordHasher(time_cost=1, memory_cost=64, parallelism=1)
 HIGH = PasswordHasher(time_cost=1, memory_cost=128, parallelism=1)
@@ -41,7 +41,7 @@ OLDER = "$argon2i$m=256,t=2,p=1$c29tZXNhbHQ$/U3YPXYsSb3q9XxHvc0MLxur+GP960kN9j7e
 COSTS = "--memory 64K --passes 1 --lanes 1".split()
 FOREIGN = "$2y$05$" + "a" * 53
 RECORD, TWO = LOW.hash("one"), LOW.hash("two")
-# Of a command's answers those with status 4.
+# The answers of the command that have status 4.
 NO = ("exists", "no", "no account", "no record", "wrong")
 logging.getLogger("rigzumal.accounts").addHandler(logging.NullHandler())
 READS = (Kind.VERIFY, Kind.CHANGE, Kind.UPGRADE, Kind.REMOVE)
@@ -49,7 +49,7 @@ SERVERS = {}
 
 
 def server(kind):
-    """A server for all tests of a run, and of SQLite a file; a skipped test if none is there."""
+    """The server for all tests of a run, or SQLite's file; skips the test if there is none."""
     if kind is servers.SqliteFile:
         return kind().start()
     if kind not in SERVERS:
@@ -89,12 +89,12 @@ class Base(unittest.TestCase):
         self.give("one")
 
     def another_dialect(self, **names):
-        """One that a test may bend."""
+        """Another dialect, which a test may alter."""
         named = {"table": "users", "key": "name", "record": "record", **names}
         return type(self.dialect)(**named)
 
     def execute(self, sql, *values, conn=None):
-        """A statement, with %s for a value on each engine; its rows."""
+        """Runs a statement, with %s for a value on each engine; returns its rows."""
         cursor = (conn or self.conn).cursor()
         if values:
             cursor.execute(sql.replace("%s", self.dialect.mark), values)
@@ -144,19 +144,20 @@ class Base(unittest.TestCase):
         return self.over(pool, hasher, dialect, **more)
 
     def kept(self, hasher=LOW, conn=None, **more):
-        """Accounts over one connection that is kept, whatever comes, and was used once."""
+        """Accounts over one connection that stays open whatever happens, and was used once."""
         conn = conn or self.another()
         accounts = Accounts(lambda: contextlib.nullcontext(conn), self.dialect, hasher, **more)
         accounts.verify("nobody", "x")
         return accounts
 
     def losing(self, before, times=1, error=None, **more):
-        """Accounts whose first COMMITs break: before they are done, or after."""
+        """Accounts whose first COMMITs break: before they take effect, or after."""
         dialect = losing(self.another_dialect(), before, times, error or self.broken)
         return self.accounts(dialect=dialect, **more)
 
     def assert_given_up(self, pool, *kinds):
-        """A connection is kept for the next use, and given up after each of these exceptions."""
+        """A pool keeps a connection for the next use, and closes it after each of these
+        exceptions."""
         for kind in kinds:
             made = []
             for _ in range(2):
@@ -203,7 +204,7 @@ class Base(unittest.TestCase):
 
     @contextlib.contextmanager
     def hashes(self, count):
-        """So many turns of hashing are within: steps, and checks of a dummy."""
+        """The block must hash this many times: steps, and checks of a dummy."""
         step, dummy = (mock.Mock(wraps=it) for it in (_judgement.step, _judgement.is_right))
         with mock.patch.multiple(_judgement, step=step, is_right=dummy):
             yield
@@ -213,7 +214,7 @@ class Base(unittest.TestCase):
 
     @contextlib.contextmanager
     def statements(self, words):
-        """The statements that are sent within have these first words."""
+        """The statements that the block sends must begin with these words."""
         given = {"autospec": True, "side_effect": Session.execute}
         with mock.patch.object(Session, "execute", **given) as execute:
             yield
@@ -224,7 +225,7 @@ class Base(unittest.TestCase):
         return "; ".join(map(str, accounts.examine()))
 
     def assert_no_record(self, error):
-        """None is in what is raised, nor in what it was raised from."""
+        """Neither the exception nor its causes may show a record."""
         lines = traceback.format_exception(type(error), error, error.__traceback__)
         self.assertNotIn("$argon2", "".join(lines))
 
@@ -248,7 +249,8 @@ class Commands(Base):
         return "".join(self.streams(*words, **more))
 
     def assert_answers(self, *rows, **more):
-        """Rows are words, the input (a list is typed), and the answer or an explained status."""
+        """Each row has the words, the input (a list is typed), and the answer, or a status with its
+        message."""
         for words, given, answer in rows:
             status = answer if isinstance(answer, int) else 4 * (answer in NO)
             given = {"typed" if isinstance(given, list) else "given": given}
@@ -310,13 +312,13 @@ def commanded(main, *words, **more):
 
 
 def closed(conn):
-    """Closes it; PyMySQL says so if it was closed."""
+    """Closes the connection; PyMySQL raises an error if it was closed already."""
     with contextlib.suppress(Exception):
         conn.close()
 
 
 def losing(dialect, before, times=1, error=Base.broken, names=("commit", "put_at_once")):
-    """The dialect, whose first COMMITs break: before they are done, or after."""
+    """The dialect, whose first COMMITs break: before they take effect, or after."""
     left = [times]
 
     def breaking(commit):
@@ -336,7 +338,7 @@ def losing(dialect, before, times=1, error=Base.broken, names=("commit", "put_at
 
 
 def after_hash(accounts, act, times=1):
-    """Does `act` after each of the next hashes, before what was worked out is committed."""
+    """Calls `act` after each of the next hashes, before the operation commits its result."""
     work, left = accounts._judge.work, [times]
 
     def worked(ticket):
@@ -356,7 +358,7 @@ def in_threads(act, count):
 
 
 def scripted(*answers):
-    """A session that answers what it is told, one statement after another, and notes them."""
+    """A session that returns these answers, one for each statement, and notes the statements."""
     return mock.Mock(execute=mock.AsyncMock(side_effect=answers))
 
 

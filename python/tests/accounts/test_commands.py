@@ -23,7 +23,8 @@ class Answers(Commands):
     has_table = False
 
     def test_answers_and_statuses(self):
-        """Of each command, in their order; standard error has the reason from 1 to 6 but 4."""
+        """The answer and status of each command, in order; with each status of 1 to 6 but 4,
+        standard error has the reason."""
         one, two, bad = (
             pathlib.Path(self.file(line)).rename(f"{self.server.path}.{place}")
             for place, line in enumerate((f"bob {RECORD}", f"bob {LOW.hash('two')}", "cid garbage"))
@@ -84,7 +85,8 @@ class Answers(Commands):
         self.assertIn("error: ", self.run_command("examine", status=5))
 
     def test_a_file_that_is_mistyped(self):
-        """It isn't made; what `init` makes has what SCALE.md asks of SQLite."""
+        """A mistyped file isn't created; a file of `init` has the settings that SCALE.md
+        requires."""
         path, typo = f"{self.server.path}.typo", ("--database", f"{self.server.url}.typo")
         said = self.run_command(*typo, "list", status=5)
         self.assertIn("typo: no such file; init creates one", said)
@@ -168,7 +170,7 @@ class Words(Commands):
 
 
 class Passwords(Commands):
-    """The sources of passwords, and the form in which they are hashed."""
+    """The sources of passwords, and the form in which the command hashes them."""
 
     def test_one_form_of_a_password(self):
         apart, typed = "cafe\u0301", "caf\u00e9"
@@ -193,14 +195,14 @@ class Passwords(Commands):
         )
 
     def test_a_passwords_end(self):
-        """If another newline would be right, the command says so."""
+        """If the password would be right with another newline, the command prints so."""
         self.assert_answers(("add ann", "one\n", "enrolled"))
         for given, hints in (("one\n\n", 1), ("two\n", 0)):
             said, error = self.streams("check", "ann", given=given, status=4)
             self.assertEqual((said, len(error.splitlines())), ("no\n", hints))
 
     def test_a_terminal_is_asked(self):
-        """Twice for a new password."""
+        """At a terminal the command asks for a password, twice for a new one."""
         said = self.run_command("add", "ann", typed=("one", "two"), status=6)
         self.assertEqual(said, "rigzumal: the two passwords differ\n")
         self.assert_answers(
@@ -214,7 +216,8 @@ class Passwords(Commands):
 
 class Faults(Commands):
     def test_the_first_line_of_a_drivers_text_alone(self):
-        """Further ones may have a row."""
+        """The command prints only the first line of a driver's text: further lines may quote a
+        row."""
         error = sqlite3.OperationalError("it failed\nDETAIL: (ann, $argon2id$x)")
         with mock.patch.object(Database, "connect", side_effect=error):
             said = self.run_command("--database", "mysql://x/y", "list", status=5)
@@ -227,7 +230,7 @@ class Faults(Commands):
 
     @each(("list", 0), ("check eve", 4), ("add ann", 6), ("--table nowhere list", 5))
     def test_its_connection_is_closed(self, words, status):
-        """However the command ends."""
+        """The command closes its connection, however it ends."""
         made, connect = [], Database.connect
 
         def noted(database):
@@ -240,7 +243,8 @@ class Faults(Commands):
         self.assertRaises(sqlite3.ProgrammingError, made[0].execute, "SELECT 1")
 
     def test_a_name_that_the_table_keeps(self):
-        """Whatever refuses another name, it isn't said that the other exists."""
+        """If something else refuses the new name, the message doesn't claim that the name
+        exists."""
         self.insert({"ann": RECORD})
         self.conn.execute(
             "CREATE TRIGGER tr BEFORE UPDATE OF name ON accounts"
@@ -251,7 +255,7 @@ class Faults(Commands):
         self.assert_answers(("check ann", "one", "yes"))
 
     def test_an_addition_is_whole(self):
-        """No account is left without a record if its record isn't put."""
+        """An addition that can't write the record adds no account."""
         trigger = "CREATE TRIGGER tr BEFORE UPDATE ON accounts BEGIN SELECT RAISE(IGNORE); END"
         self.conn.execute(trigger)
         self.insert({"ben": None})

@@ -27,7 +27,8 @@ REFUSED = sqlite3.OperationalError("no such table: users")
 
 class Patience(unittest.TestCase):
     def connections(self, *answers, patience=10.0, replica=None):
-        """Over a runtime whose uses end so, and the next one is done; a pause passes at once."""
+        """Connections over a runtime whose first uses end so, while the next succeeds; a pause
+        passes at once."""
         runtime, time = mock.AsyncMock(now=100.0, pauses=[]), _connections.time
         runtime.use.side_effect = [*answers, "done"]
 
@@ -47,7 +48,7 @@ class Patience(unittest.TestCase):
 
     @each(BUSY, Undone(BUSY))
     def test_pauses_double_up_to_half_a_second(self, answer):
-        """Of a server that can't be reached, and of one that undoes what is sent."""
+        """Pauses grow for a server that can't be reached, and for one that undoes statements."""
         runtime, connections = self.connections(*[answer] * 12)
         with self.assertLogs("rigzumal.accounts", "WARNING") as logs:
             self.assertEqual(run(connections.patiently(None)), "done")
@@ -57,7 +58,8 @@ class Patience(unittest.TestCase):
         self.assertEqual([round(it, 3) for it in runtime.pauses], wanted)
 
     def test_dead_connections_are_worked_through(self):
-        """For half a second; then the server ends what it is sent, and is left in peace."""
+        """Dead connections are used up for half a second; after that the operation pauses between
+        tries."""
         runtime, connections = self.connections(*[Lost()] * 400, patience=1000.0)
         run(connections.patiently(None))
         quick = [it for it in runtime.pauses if it < 0.003]
@@ -75,13 +77,13 @@ class Patience(unittest.TestCase):
         self.assertIs(raised.exception.__cause__, error)
 
     def test_pauses_differ(self):
-        """So that many who wait don't come at a time."""
+        """Pauses are random, so that many waiting clients don't return at the same time."""
         pauses = {Waits(1.0, 0.0).next() for _ in range(20)}
         self.assertGreater(len(pauses), 1)
         self.assertTrue(all(0.001 <= it <= 0.003 for it in pauses))
 
     def test_the_clock_begins_with_the_first_use(self):
-        """A statement that hung has used up what there was."""
+        """A statement that hung has used up the whole time."""
         runtime, connections = self.connections(patience=5.0)
 
         async def hangs(pool, job):
@@ -101,7 +103,8 @@ class Patience(unittest.TestCase):
         self.assertEqual(runtime.pauses, [])
 
     def test_a_replica_is_asked_once(self):
-        """A fault there leaves the work to the primary, and is told once; a program's is raised."""
+        """After a replica's fault the primary does the work, and the log gets the fault once; a
+        program's exception is raised."""
         faults = (REFUSED, StoreFault("x"), Unavailable("its pool is full"))
         for answer in (BUSY, Lost(), Undone(BUSY), *faults):
             given = (answer, answer, "done", answer)
@@ -125,7 +128,8 @@ class Patience(unittest.TestCase):
         self.assertEqual((self.used(runtime), runtime.pauses), (["primary"], []))
 
     def test_a_replica_that_is_away_is_left_alone(self):
-        """For five seconds; then one operation asks it, and the others wait for none."""
+        """No operation asks a failed replica for five seconds; then one asks it, and the others
+        don't wait."""
         runtime, connections = self.connections(BUSY, BUSY, "back", replica="replica")
         look = lambda: isinstance(run(connections.at_replica(None)), Undone)
         uses = []
@@ -151,7 +155,7 @@ class Patience(unittest.TestCase):
             run(connections.at_replica(None))
             runtime.now += 5.1
         self.assertEqual(asked, ["replica"] * 2)
-        for _ in range(2):  # `examine` asks it at any time
+        for _ in range(2):  # `examine` asks the replica at any time
             found = run(connections.replica_faults(None))
             self.assertEqual([it.code for it in found], ["replica-away"])
         self.assertEqual(asked, ["replica"] * 4)
@@ -162,7 +166,7 @@ class Refused(Exception):
 
 
 class Running(unittest.TestCase):
-    """Within which hooks a caller is: those of an outer operation count too."""
+    """The hooks within which a caller runs, those of an outer operation too."""
 
     def test_of_pools_and_tables(self):
         pool = contextlib.closing(io.StringIO())  # its bound methods are equal, and not the same
@@ -229,7 +233,7 @@ class Urls(unittest.TestCase):
         conn.close.assert_called_once_with()
 
     def test_hosts_are_tried_in_turn(self):
-        """From the one that answered last on."""
+        """The driver tries the hosts in turn, and begins with the one that answered last."""
         database = Database("mysql://one,two:7,three/d")
         for dead, tried in (("one", "one two"), ("one", "two"), ("one two", "two three")):
             self.dead = set(dead.split())
@@ -264,7 +268,8 @@ class Urls(unittest.TestCase):
 
     @each("sec%ret", "sec@ret", "sec/ret@x", "%", "a%zz")
     def test_a_password_that_is_no_part_of_a_url(self, password):
-        """It is said how to write it, and it is in no error and no look-up of a host."""
+        """The error says how to write such a password, and neither it nor a host's look-up has the
+        password."""
         for kind in ("mysql", "mariadb", "postgresql", "postgres"):
             with self.assertRaisesRegex(ValueError, "%25, @ is %40, / is %2F") as raised:
                 Database(f"{kind}://ada:{password}@db/d").connect()
@@ -276,7 +281,7 @@ class Urls(unittest.TestCase):
 
     @each("ada:secret", "ada:secret/d", "one:5432,ada:secret/d", "[::1]:secret/d", "ada:123456/d")
     def test_a_password_without_a_host(self, rest):
-        """It is in the place of a port, which a driver's error shows."""
+        """Without a host the password is in the place of a port, which a driver's error shows."""
         for kind in ("mysql", "postgresql"):
             with self.assertRaisesRegex(ValueError, "and @ ends them") as raised:
                 Database(f"{kind}://{rest}").connect()
@@ -290,7 +295,7 @@ class Urls(unittest.TestCase):
         *("u:secret@[::1/d", "u:x@[::1]secret/d"),
     )
     def test_what_libpq_can_not_read(self, rest):
-        """Its own text shows the part, which may be a password."""
+        """libpq's own message shows the part that it can't read, which may be a password."""
         module("psycopg")
         with self.assertRaisesRegex(ValueError, "% is written %25, @ is %40") as raised:
             Database(f"postgresql://{rest}").connect()

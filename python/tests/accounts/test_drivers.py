@@ -1,4 +1,4 @@
-"""Drivers and pools that people have: those that work, and those that are refused by name."""
+"""Common drivers and pools: those that work, and those that an error refuses by name."""
 
 import asyncio
 import contextlib
@@ -18,10 +18,10 @@ from tests.needs import lacking
 
 
 class Refused(unittest.TestCase):
-    """A connection of another driver is no table that won't do."""
+    """An error at a connection of another driver names the driver, and blames no table."""
 
     def assert_refused(self, conn, kind, said):
-        """By each of the operations, before anything is sent."""
+        """Each operation refuses the connection before it sends anything."""
         dialect = kind("users", "name", "record")
         accounts = Accounts(lambda: contextlib.nullcontext(conn), dialect, LOW, patience=0.0)
         ticket = Ticket(Request(Kind.CHANGE, "ann", "one", "two"), LOW.hash("one"))
@@ -59,7 +59,8 @@ class Refused(unittest.TestCase):
         self.assertRaisesRegex(StoreFault, "the driver is asyncpg", accounts.verify, "ann", "one")
 
     def test_others(self):
-        """SQLAlchemy's own connections are named with what makes a pool of their engine."""
+        """The error for SQLAlchemy's own connections names the function that makes a pool of their
+        engine."""
         sqlalchemys = type("Connection", (), {"__module__": "sqlalchemy.pool", "info": {}})
         for kind in (Sqlite, MariaDB, Postgres):
             said = "the driver is sqlalchemy instead of .* of_engine"
@@ -99,7 +100,7 @@ class Engines:
             self.assertEqual(engine.pool.checkedout(), 0)
 
     def test_pools_that_will_not_do(self):
-        """An engine that isn't in autocommit, and its own connections, which are named."""
+        """Errors name an engine that isn't in autocommit, and an engine's own connections."""
         manual = of_engine(self.engine(isolation_level=None)), "have to be in autocommit"
         own = self.engine().connect, "the driver is sqlalchemy instead of .* of_engine"
         for pool, said in (manual, own):
@@ -113,7 +114,7 @@ class Engines:
         self.assertEqual(engine.pool.checkedout(), 0)
 
     def test_a_pool_that_is_empty(self):
-        """It has waited for a connection by its own timeout, and isn't asked again."""
+        """A pool has waited for a connection up to its own timeout, and isn't asked again."""
         kind = self.sqlalchemy.pool.QueuePool
         engine = self.engine(poolclass=kind, pool_size=1, max_overflow=0, pool_timeout=0.01)
         with of_engine(engine)():
@@ -129,7 +130,7 @@ class AwaitedEngines(Engines):
         from sqlalchemy.ext.asyncio import create_async_engine
 
         async def act():
-            # SQLite's default keeps no connection, and so gives up each.
+            # SQLAlchemy's default for SQLite keeps no connection, and so closes each.
             kind = self.sqlalchemy.pool.AsyncAdaptedQueuePool
             given = {"isolation_level": "AUTOCOMMIT", "poolclass": kind, "pool_size": 1}
             engine = create_async_engine(self.url(self.asynchronous_driver), **given)
@@ -166,7 +167,8 @@ class EnginesOfMariaDB(Engines, engines.OnMariaDB, support.Base):
     name, driver = "mysql", "pymysql"
 
     def test_a_restart(self):
-        """The server is waited for: its refusals are the driver's, not SQLAlchemy's."""
+        """The operation waits for the server: the dialect reads the driver's refusal inside
+        SQLAlchemy's."""
         accounts = self.over(self.engine())
         self.assert_replies("login ann one yes", accounts)
         self.server.end()
@@ -189,7 +191,8 @@ class EnginesOfPostgres(AwaitedEngines, engines.OnPostgres, support.Base):
 
 class Prepared(engines.OnPostgres, support.Base):
     def test_a_services_own_statements(self):
-        """They stay prepared on a connection that it shares; ours never are."""
+        """A service's own statements stay prepared on a shared connection; ours are never
+        prepared."""
         conn = self.another()
         for _ in range(9):
             self.kept(conn=conn).login("ann", "one")
@@ -203,7 +206,7 @@ class Pooler(engines.OnPgBouncer, support.Base):
     """PgBouncer, whose sessions are another's from one transaction to the next."""
 
     def test_no_statement_is_prepared(self):
-        """By psycopg's defaults, which prepare a statement at its sixth use."""
+        """No statement is prepared, though psycopg by default prepares one at its sixth use."""
         accounts = self.accounts(connect=lambda: self.connect(prepare_threshold=5))
         calls = "reset {0} a; change {0} a b; login {0} b; remove {0} b; enrol {0} a".split("; ")
         for number in range(4):
@@ -219,19 +222,20 @@ class Pooler(engines.OnPgBouncer, support.Base):
 
 
 class OfStatements(servers.PooledPostgres):
-    """A pooler that gives sessions out for a statement each."""
+    """A pooler that lends a session for one statement."""
 
     mode = "statement"
 
 
 class StatementMode(support.Base):
-    """PgBouncer in statement mode, which has no transactions: it is named, whatever is asked."""
+    """PgBouncer in statement mode, which has no transactions: each error names this mode."""
 
     kind, dialect = OfStatements, Postgres("users", "name", "record")
     named = "PgBouncer's pool_mode is statement, .* set it to transaction or session"
 
     def create(self):
-        """By the server behind it: what a pooler's session keeps is no matter here."""
+        """Creates the table at the server behind the pooler, whose own session doesn't matter
+        here."""
         self.conn = self.server.of.connect()
         self.addCleanup(self.conn.close)
         super().create()
@@ -263,7 +267,7 @@ class StatementMode(support.Base):
         self.assertTrue(self.is_right("two"))
 
     def test_a_transaction_of_ones_own(self):
-        """It can't begin, so an operation is judged by none."""
+        """A caller's transaction can't begin, so no operation runs in one."""
         self.put(LOW.hash("one"))
         accounts = self.accounts()
         worked = accounts.work(accounts.begin(Request(Kind.VERIFY, "ann", "one")))

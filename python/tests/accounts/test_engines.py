@@ -12,7 +12,7 @@ SERVERS = (engines.OnPostgres, engines.OnMariaDB, engines.OnMySQL)
 ENGINES = (engines.OnSqlite, *SERVERS)
 TASKS = (engines.OnSqliteTasks, engines.OnPostgresTasks)
 HASHERS = (engines.OnSqliteWithPepper, engines.OnSqliteWithScrypt)
-# Where a connection isn't one session, or a lock isn't seen at the other node.
+# Tests that don't apply if a connection isn't one session, or the other node doesn't see a lock.
 SHARED = (engines.OnPgBouncer, engines.OnGalera)
 
 
@@ -34,7 +34,7 @@ globals().update(
 
 class TheCommandOnMySQL(engines.OnMySQL, Base):
     def test_a_table_and_a_torture(self):
-        """It makes a table, and a torture of it is legal."""
+        """The command creates a table, and a torture of the table is legal."""
         given = ("--database", self.server.url)
         commanded(cli.main, *given, "--table", "made", "init")
         words = "--seconds 3 --processes 4 --kill".split()

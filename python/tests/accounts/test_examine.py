@@ -1,4 +1,4 @@
-"""The findings of `examine`: each table, role and setting that won't do by itself."""
+"""The findings of `examine`: one table, role or setting at fault at a time."""
 
 import contextlib
 from unittest import mock
@@ -15,15 +15,16 @@ SHORTER = "record-length: record is {}: another program's record has up to 512 b
 LATIN = "key-not-unicode: names outside of {} are no accounts"
 NOT_UNIQUE = "no unique index of its own: two rows may have one name, and are then refused"
 SLOW, PUT = "key-not-indexed: no index finds name", "no record can be written: "
-# Where equal keys are equal, and where others may be too, or equal ones may differ.
+# Indexes under which equal keys alone are equal; and those under which others may be too, or equal
+# keys may differ.
 OF_ONE_CASE = ("lower(name)", "upper(name)", "LOWER ( name )")
 OF_MORE = ("lower(record)", "lower(name || record)", "coalesce(record, lower(name))")
 SHORT = "CHECK (length(record) < 60)"
 KEY, RECORD, INDEX = "name VARCHAR(90)", "record VARCHAR(512)", "CREATE UNIQUE INDEX i ON users"
 TEXTS, TEXT_KEY = "name TEXT, record TEXT", "name TEXT PRIMARY KEY, record TEXT"
 OTHER_INDEXES = ("name, record", "record, name", "record")
-# Tables of any engine, by their columns and statements after them, and what is said of each: an
-# index of the key alone and of all rows, and what takes a record.
+# Tables of any engine, by their columns and further statements, with the findings for each: an
+# index of the key alone and of all rows, and a column that holds a record.
 TABLES = (
     (f"{KEY}, {RECORD}", NOT_UNIQUE),
     *((f"{KEY}, {RECORD}, UNIQUE ({it})", NOT_UNIQUE) for it in OTHER_INDEXES),
@@ -35,7 +36,7 @@ TABLES = (
 
 
 class Said:
-    """The findings are the faults, and nothing else: in an engine's own `tables`, and by the
+    """`examine` finds these faults, and nothing else: in an engine's own `tables`, and with the
     `settings` of a connection, which are statements."""
 
     table_of = "CREATE TABLE users ({})"
@@ -47,7 +48,7 @@ class Said:
             self.assertIn(word, "; ".join(f"{it.code}: {it}" for it in faults))
 
     def test_tables(self):
-        """The rows of each stay as they are."""
+        """`examine` finds the faults of each table, whose rows stay as they are."""
         refused = f"{KEY} PRIMARY KEY, {RECORD} {SHORT}", PUT + self.refused
         for sql, *words in (*TABLES, refused, *self.tables):
             with self.subTest(sql=sql):
@@ -78,7 +79,7 @@ SQLITE_TABLES = (
     *((f"{TEXTS}; {INDEX} ({it})", SLOW) for it in OF_ONE_CASE),
     *((f"{TEXTS}; {INDEX} ({it})", NOT_UNIQUE) for it in OF_MORE),
     (f"{TEXTS}; {INDEX} (NAME)",),
-    # Rows that the trial can't make: it is done at one that is there.
+    # Rows that the trial can't add: it uses an existing row.
     (f"{TEXT_KEY}, {MAIL}",),
     (f"{TEXT_KEY} {SHORT}, b UNIQUE; {ROW.format('NULL, 1')}", PUT + SQLITE_REFUSES),
     (f"{TEXT_KEY} {SHORT}, {MAIL}; {ROW.format('NULL, 2')}", PUT + SQLITE_REFUSES),
@@ -97,7 +98,7 @@ class OnSqlite(Said, engines.OnSqlite, support.Base):
     )
 
     def test_schemas_and_spellings(self):
-        """As a statement finds the table, so it is examined."""
+        """`examine` finds the table as a statement does."""
         self.execute("CREATE TRIGGER tr AFTER UPDATE ON users BEGIN SELECT 1; END")
         self.give("one")
         spellings = {"table": "Users", "key": "NAME", "record": "Record"}
@@ -116,7 +117,7 @@ class OnSqlite(Said, engines.OnSqlite, support.Base):
         ("name TEXT COLLATE RTRIM PRIMARY KEY, record TEXT", "names-folded", True),
     )
     def test_what_is_an_error_and_what_a_warning(self, columns, code, is_error):
-        """Each by its code; samples stop at errors alone."""
+        """Each code's severity; the samples stop only at errors."""
         self.execute("DROP TABLE users")
         self.execute(self.table_of.format(columns))
         (fault,) = self.accounts().examine()
@@ -177,7 +178,7 @@ class OnServer(Said):
     """The common tests of both servers' tables."""
 
     def assert_no_account(self, accounts, text, **more):
-        """After a hash."""
+        """A login at an unknown name answers NO_ACCOUNT, after a hash."""
         with self.hashes(1):
             self.assertIs(accounts.login(text, "x", **more), Reply.NO_ACCOUNT)
         self.assertIs(accounts.reset(text, "x"), Reply.NO_ACCOUNT)
@@ -190,7 +191,7 @@ class OnServer(Said):
         (", mail INT NOT NULL", 1, "SELECT, INSERT, UPDATE"),
     )
     def test_roles(self, row):
-        """An empty table tells nothing, and the server does."""
+        """An empty table doesn't show a role's rights; the server does."""
         more, rows, grants, *words = row
         self.execute("DROP TABLE IF EXISTS users")
         table = f"name VARCHAR(150) PRIMARY KEY, record VARCHAR(512){more}"
@@ -206,7 +207,7 @@ class OnServer(Said):
         self.assert_faults([NOT_UNIQUE, "not-a-table: people is no table"], accounts)
 
     def test_names_of_tables_and_columns(self):
-        """As a statement finds the table, so it is examined."""
+        """`examine` finds the table as a statement does."""
         ours = "table_name = 'users' AND table_schema IN ('public', 'store')"
         here = self.execute(f"SELECT table_schema FROM information_schema.tables WHERE {ours}")
         for names, *words in (
@@ -221,7 +222,7 @@ class OnServer(Said):
         self.assertIn("and keys are int", self.said(numbers))
 
     def test_a_replica(self):
-        """It refuses, or it is away; and one that will do."""
+        """A replica that refuses, one that is down, and one without a fault."""
         for grants, *words in (("SELECT",), ("UPDATE", "replica-refuses: the replica is passed")):
             replica = PerThread(self.of_role(grants))
             self.addCleanup(replica.close)
@@ -234,7 +235,7 @@ class OnServer(Said):
 NOTHING, COMMITS = "CREATE RULE r AS ON UPDATE TO users DO INSTEAD NOTHING", "synchronous_commit"
 UNSAFE = f"not-durable: {COMMITS} is"
 INVALID = "UPDATE pg_index SET indisvalid = false WHERE indexrelid = 'i'::regclass"
-# What a trigger before the write does was tried.
+# The trial has shown the effect of a trigger before the write.
 BEFORE = (
     f"{engines.BEFORE_UPDATE} FOR EACH ROW EXECUTE FUNCTION suppress_redundant_updates_trigger()"
 )
@@ -252,7 +253,7 @@ POSTGRES_TABLES = (
     (f"{TEXTS}, EXCLUDE (name WITH =) WHERE (record = 'x')", NOT_UNIQUE),
     (f"{TEXTS}, EXCLUDE (record WITH =)", NOT_UNIQUE),
     (f"{TEXTS}; {INDEX} (name) INCLUDE (record)",),
-    # As CREATE UNIQUE INDEX CONCURRENTLY leaves one that found a key twice.
+    # The index is invalid, as after CREATE UNIQUE INDEX CONCURRENTLY found a key twice.
     (f"{TEXTS}; {INDEX} (name); {INVALID}", NOT_UNIQUE),
     ("name text PRIMARY KEY, record char(300)", "character(300)", "than the one that was written"),
     ("name text PRIMARY KEY, record bytea", "record is bytea, not text", "the record is not text"),
@@ -291,7 +292,8 @@ class OnPostgres(OnServer, engines.OnPostgres, support.Base):
         self.assert_faults(["key-not-unique: no index of users holds"])
 
     def test_encodings(self):
-        """Names that a database lacks are no accounts, after a hash; texts aren't bytes."""
+        """Names that a database's encoding lacks are no accounts, after a hash; texts aren't
+        bytes."""
         given = "TEMPLATE template0 LC_COLLATE 'C' LC_CTYPE 'C' ENCODING"
         as_bytes = "encoding: client_encoding is SQL_ASCII: texts come as bytes"
         others = ((it, LATIN.format(it)) for it in ("LATIN1", "EUC_JP"))
@@ -345,7 +347,7 @@ MARIADB_TABLES = (
     (f"{KEY} PRIMARY KEY, record TINYTEXT", SHORTER.format("tinytext(255)")),
     (f"{KEY} PRIMARY KEY, record CHAR(255)", SHORTER.format("char(255)")),
     (f"{KEY} PRIMARY KEY, record TEXT CHARACTER SET ucs2", "is in ucs2"),
-    # Nothing is tried where nothing is undone.
+    # The trial doesn't run where the engine can't undo it.
     *((ENGINE.format(it), f"no-transactions: users is of {it}") for it in ENGINES),
     (f"{KEY} PRIMARY KEY, record VARBINARY(512)", "is varbinary, not text", "bytes"),
 )
@@ -356,7 +358,7 @@ class OnMariaDB(OnServer, engines.OnMariaDB, support.Base):
     refused, tables = "OperationalError 4025", MARIADB_TABLES
 
     def test_keys_that_are_padded(self):
-        """A BINARY(16) has the bytes of a UUID; of a wider one no row tells."""
+        """A BINARY(16) holds the bytes of a UUID; a wider column pads them, which no row shows."""
         for size, rows in ((16, 0), (20, 0), (20, 1)):
             self.table("TEXT", f"BINARY({size})")
             for _ in range(rows):
@@ -367,7 +369,8 @@ class OnMariaDB(OnServer, engines.OnMariaDB, support.Base):
         self.assert_faults([])
 
     def test_names_that_a_character_set_lacks(self):
-        """They are no accounts, after a hash; and a connection may lack them too."""
+        """Names that a character set lacks are no accounts, after a hash; a connection's set may
+        lack them too."""
         key = "VARCHAR(90) CHARACTER SET {} COLLATE {}"
         tables = [(it, it, "utf8mb4") for it in ("latin1", "ascii", "utf8mb3")]
         connections = [(it, "utf8mb4", it) for it in ("latin1", "utf8")]

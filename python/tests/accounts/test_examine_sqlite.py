@@ -7,12 +7,12 @@ from rigzumal.accounts.types import Kind
 
 class OnSqlite(Base):
     def columns(self, *columns):
-        """A table of these, without a row."""
+        """Creates a table of these columns, without a row."""
         self.execute("DROP TABLE users")
         self.execute(f"CREATE TABLE users ({', '.join(columns)})")
 
     def test_a_key_that_is_generated(self):
-        """It is a column like any other."""
+        """A generated column is a key like any other."""
         generated = "name TEXT AS (lower(typed)) STORED UNIQUE"
         self.columns("typed TEXT PRIMARY KEY", generated, "record TEXT")
         self.execute("INSERT INTO users (typed, record) VALUES ('Ann', ?)", RECORD)
@@ -20,7 +20,7 @@ class OnSqlite(Base):
         self.assert_replies("login ann one yes; change ann one two replaced")
 
     def test_records_that_are_bytes(self):
-        """A column of text may have them too."""
+        """A column of text may hold records that are bytes too."""
         self.execute("UPDATE users SET record = CAST(record AS BLOB)")
         self.assertRaisesRegex(StoreFault, "bytes", self.accounts().login, "ann", "one")
         (fault,) = self.accounts().examine()

@@ -16,19 +16,19 @@ CALLS = (
     *(f"{it} ann {TYPED}" for it in ("enrol", "verify", "login", "upgrade", "remove", "reset")),
     f"change ann {TYPED} {NEWER}",
 )
-# Those that read the record, and those that make one.
+# The operations that read the record, and those that write one.
 READ, MAKE = CALLS[1:5] + CALLS[6:], (CALLS[0], *CALLS[2:4], *CALLS[5:])
 PARTS = (Kind.CHANGE, "ann", TYPED, NEWER)
 
 
 class Frames:
-    """Over threads and over tasks."""
+    """The frames of operations, over threads and over tasks."""
 
     low = LOW.replace(secrets=[b"newer", PEPPER.encode()])
     high = low.replace(memory_cost=128)
 
     def assert_hidden(self, kind, call, *given, **named):
-        """The call raises this, and neither a frame nor a text has its arguments."""
+        """The call raises this exception, and neither a frame nor a text shows its arguments."""
         with self.assertRaises(kind):
             call(*given, **named)
         try:
@@ -42,7 +42,8 @@ class Frames:
                 self.assert_hidden(kind, called, accounts, text, **more)
 
     def assert_parts_hidden(self, kind, accounts):
-        """Of a change in parts, each of which is called until one raises this."""
+        """Calls the parts of a change until one raises this exception, and looks for the
+        arguments."""
 
         def in_parts(request):
             accounts.commit(accounts.work(accounts.begin(request)))
@@ -64,7 +65,7 @@ class Frames:
             self.assert_all_hidden(OutOfMemoryError, accounts)
 
     def test_a_record_of_another_scheme(self):
-        """As any visitor may type the name of one that hasn't moved."""
+        """A record of another scheme: any visitor may type the name of a user who hasn't moved."""
         self.put("{SSHA}a record of another scheme")
         accounts = self.accounts(self.high)
         self.assert_all_hidden(InvalidRecordError, accounts, READ)

@@ -1,5 +1,5 @@
-"""A file of SQLite on a disk that is full or ill. The disk is a small one of memory, which root
-alone mounts."""
+"""A file of SQLite on a disk that is full or ill. The disk is a small one in memory, which only
+root mounts."""
 
 import contextlib
 import os
@@ -14,14 +14,15 @@ from rigzumal.accounts import OutcomeUnknown, Reply, StoreFault
 
 
 class FullDisk(Base):
-    """The answers of each operation, which come at once: it waits for nothing."""
+    """Each operation on a full disk answers at once, without a wait."""
 
     def setUp(self):
         super().setUp()
         self.folder = small_disk(self, "120k")
 
     def begin(self, mode):
-        """With a table on that disk in a mode of SQLite's journal: of `ann`, `low` and `none`."""
+        """Creates a table on that disk, in this mode of SQLite's journal, with `ann`, `low` and
+        `none`."""
         self.server.path = f"{self.folder}/{mode}.db"
         self.conn = self.another()
         for pragma in (f"journal_mode = {mode}", "synchronous = FULL"):
@@ -57,7 +58,7 @@ class FullDisk(Base):
 
     @each("WAL", "DELETE")
     def test_examine_sees_it(self, mode):
-        """In WAL too, where the trial, which is rolled back, writes nothing."""
+        """`examine` sees a full disk, also in WAL, where the rolled back trial writes nothing."""
         self.folder = small_disk(self, "32m")
         self.begin(mode)
         accounts = self.accounts(dialect=self.another_dialect(table="MAIN.users"))
@@ -71,7 +72,7 @@ class FullDisk(Base):
         self.assertEqual((str(found["disk-full"]), found["disk-full"].is_error), (said, False))
 
     def test_a_crash_after_a_refused_commit(self):
-        """The row has the record that was acknowledged last, wherever the log of SQLite ended."""
+        """The row has the last acknowledged record, wherever the log of SQLite ended."""
         for before in range(9):
             self.begin("WAL")
             words = (self.server.path, str(before), os.path.join(self.folder, "filling"))
@@ -119,7 +120,7 @@ class Room(Base):
 
     @each((9 << 20, []), (8 << 20, []), ((8 << 20) - 1, ["disk-full"]), (0, ["disk-full"]))
     def test_room_on_the_disk(self, free, codes):
-        """Under 8 MiB it warns: in WAL the trial, which is rolled back, writes nothing."""
+        """`examine` warns below 8 MiB: in WAL the rolled back trial writes nothing."""
         disk = mock.Mock(f_bavail=free, f_frsize=1, f_blocks=1)
         with mock.patch("os.statvfs", return_value=disk) as asked:
             self.assertEqual([it.code for it in self.accounts().examine()], codes)
@@ -130,7 +131,7 @@ class Room(Base):
             self.assertEqual(self.accounts().examine(), [])
 
     def test_the_disk_of_an_attached_database(self):
-        """It is that of the table's own schema, in whichever case it is named."""
+        """The disk is that of the table's own schema, whatever the case of its name."""
         path = f"{os.path.realpath(self.server.path)}.side"
 
         def attached():
@@ -147,12 +148,12 @@ class Room(Base):
 
 
 class IllDisk(Base):
-    """A disk whose errors say nothing of what was written."""
+    """A disk whose errors don't show what was written."""
 
     broken = sqlite3.OperationalError("disk I/O error")
 
     def test_a_commit_is_sent_again_a_few_times(self):
-        """And not for all of patience, by a login either."""
+        """A COMMIT is sent again a few times, and not for all of patience; so is a login's."""
         for name, raised in (
             ("login", None),
             ("change", OutcomeUnknown),

@@ -1,7 +1,6 @@
-"""Short runs of histories.py: what many processes are answered at once is one legal history, while
-they are killed, COMMITs lose their answers, and a disk is full; and a broken one is refused.
-
-Each prints how much was judged, and the seed of what was asked.
+"""Short runs of histories.py: the answers to many processes are one legal history, while processes
+are killed, COMMITs lose their answers, and a disk is full. Broken accounts are refused. Each run
+prints the counts of its verdict, and the seed of its operations.
 """
 
 import re
@@ -16,7 +15,7 @@ SHORT = {"seconds": 4.0, "processes": 4}
 
 class ShortHistories(unittest.TestCase):
     def told(self, said):
-        """A summary shows something: changes were judged, and whatever else is named."""
+        """The summary counts judged changes, and each other thing that is named."""
         print(f"{self.id().rpartition('.test_')[2]}: {said}", flush=True)
         (changes,) = re.findall(r" (\d+) changes", said)
         self.assertGreater(int(changes), 0)
@@ -37,14 +36,14 @@ class ShortHistories(unittest.TestCase):
         self.told(on_a_full_disk(self, kill=True, **SHORT))
 
     def test_postgres_with_kills(self):
-        """Of clients and of the server."""
+        """PostgreSQL, while clients and the server are killed."""
         self.told(killed_servers(Run(POSTGRES(), kill=True, **SHORT), postgres()))
 
     def test_mariadb_with_kills(self):
         self.told(killed_servers(Run(MARIADB(), kill=True, **SHORT), maria(), pause=3.0))
 
     def test_refused(self):
-        """An UPDATE without a comparison is found out."""
+        """The checker refuses the history of an UPDATE without a comparison."""
         print(refused(lambda: Run(SQLITE(), **SHORT, **histories.UNCOMPARED)), flush=True)
 
 

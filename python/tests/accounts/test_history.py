@@ -21,7 +21,8 @@ KINDS = ("enrol", "enrol", "verify", "change", "upgrade", "remove", "remove", "r
 
 
 def whole(op, state, fresh):
-    """The reply of the whole operation, and the state after it, with this record if one is put."""
+    """The reply of the whole operation, and the state after it, with this record if it writes
+    one."""
     record, password, costs = state
     new = op.new_password if op.kind in ("change", "reset") else op.password
     put = fresh, new, op.costs
@@ -54,7 +55,8 @@ def after(op, state, claim):
 
 
 def some_order(account):
-    """Whether there is a legal order, by trying each; what had no answer may be left out."""
+    """Whether there is a legal order, by trying each; operations without an answer may be left
+    out."""
     ops = [it for it in account.operations if it.reply not in ("failed", "changed")]
     ops, seen = [it for it in ops if it.reply or it.attempts], set()
 
@@ -69,7 +71,7 @@ def some_order(account):
         for it in todo:
             claim = (it.before, it.after, it.reply) if it.reply else it.attempts[-1]
             new = after(it, state, claim) if it.called <= bound else None
-            # Each record is put once.
+            # Each record is written once.
             if new is None or (new[0] != state[0] and new[0] in stood):
                 continue
             if go(new, stood | {new[0]} - {None}, left - {it.id}):
@@ -82,7 +84,7 @@ def some_order(account):
 
 
 def made(rng):
-    """A small history: legal at first, and then bent a few times."""
+    """A small history: legal at first, and then altered a few times."""
     first = rng.choice([None, "r0"])
     account = Account(Operation.seed(first, "one", 1), Operation.end(None, 60.0))
     state = (first, "one" if first else None, 1)
@@ -137,7 +139,8 @@ def bend(rng, account):
 
 
 def add_lost_ones(rng, account, record):
-    """Some without answers, each at what the one before was to put; a way out at times."""
+    """Adds operations without answers, each at the record that the one before tried to write; at
+    times a removal ends the chain."""
     for _ in range(rng.randint(1, 3)):
         kind = rng.choice(["change", "change", "remove"] if record else ["enrol", "change"])
         word = rng.choice(["one", "one", "two"])
@@ -187,9 +190,9 @@ class Small(unittest.TestCase):
 
 
 def written(text):
-    """Operations as "NAME KIND CALLED-ANSWERED REPLY BEFORE>AFTER", and without an answer as "NAME
+    """Operations as "NAME KIND CALLED-ANSWERED REPLY BEFORE>AFTER", or, without an answer, as "NAME
     KIND CALLED BEFORE>AFTER ..", with each attempt; a dot is no record. A capital letter is a
-    record of the password "two", which a change to it has put."""
+    record of the password "two", which a change has written."""
     for line in filter(None, text.split("; ")):
         name, kind, span, *rest = line.split()
         called, _, answered = span.partition("-")
@@ -216,22 +219,23 @@ LOOKS = "; ".join(f"e{it} verify 1-2 yes x>x; l{it} verify 20-21 no Y>Y" for it 
 ENROLLED = "a enrol 1-2 enrolled .>x"
 GONE, RING = "and nothing replaced it", "replaced each other in a ring"
 LATE = "a was answered before b was called, and can come after it alone"
-# What stands at first and at the end, the operations, and those without an answer that took place.
+# The first and the last record, the operations, and those without an answer that took place.
 LEGAL = (
-    # Of an operation's attempts the last alone is open: those before were known not to be done.
+    # Of an operation's attempts only the last is open: the earlier ones surely took no effect.
     ("x", "z", "a change 1 x>y u>z; b upgrade 2-3 upgraded x>u", "a"),
-    # A record that a crash has taken may have been read, and nobody was told.
+    # A lost operation may have read a record that a crash then took: no answer named it.
     ("x", "w", "a change 1 x>y; b change 2 y>z; c change 10-11 replaced x>w", ""),
-    # What was told of wants all before it; what is gone went some way, which nobody saw.
+    # An answer about a record requires all records before it; a missing record was removed in some
+    # unseen way.
     ("x", "z", "a change 1 x>y; b change 2 y>z; c verify 10-11 yes z>z", "ab"),
     ("x", None, "a change 1 x>y; b remove 2 y>.; c verify 10-11 absent .>.", "ab"),
-    # Of several ways out the one that ends first.
+    # If several chains lead to a removal, the one that ends first counts.
     ("x", "w", "a remove 30 x>.; b change 1 x>y; c remove 2 y>.; d enrol 10-11 enrolled .>w", "bc"),
     ("x", "w", "a remove 20 x>.; b change 30 x>y; c remove 2 y>.; d enrol 22-23 enrolled .>w", "a"),
     # An answer and a call at one time may come in either order.
     ("x", "y", "a change 5-6 replaced x>y; b verify 4-5 yes x>x; c verify 5-5 yes y>y", ""),
 )
-# The same with what is said, and the operations that show it.
+# Illegal histories, with the reason, and the operations that show it.
 ILLEGAL = (
     ("x", "y", "a change 1 x>y u>z; b upgrade 2-3 upgraded x>u", "nobody put the record y", "end"),
     ("x", "z", "a change 1 x>y; b change 2-3 replaced x>z; c verify 4-5 yes y>y", "both", "a b"),
@@ -281,7 +285,8 @@ class Said(unittest.TestCase):
 
 class Logs(unittest.TestCase):
     def test_lines_of_a_killed_process(self):
-        """Its last line may be cut off; what it tried may have been done."""
+        """The last line of a killed process may be cut off; its last attempt may have taken
+        effect."""
         end = '{"event": "end", "key": 7, "time": 99, "record": "%s"}'
         lines = [
             '{"event": "seed", "key": 7, "record": "a", "password": "one", "costs": 1}',

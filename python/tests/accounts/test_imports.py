@@ -17,7 +17,8 @@ ANOTHER = "another record, which stays"
 
 class Imports(Commands):
     def test_batches(self):
-        """Whole ones, by lines of any end; of few statements, however many lines."""
+        """Batches are whole, whatever the line ends, and need few statements, however many
+        lines."""
         self.enterContext(mock.patch.multiple(_import, BATCH=400, SHARE=200, FEW=150))
         self.insert({f"user{it}@x": None for it in range(300)})
         lines = [f"user{number}@x {RECORD}" for number in range(1200)]
@@ -38,7 +39,7 @@ class Imports(Commands):
         self.assert_answers(("check user7@x", "one", "yes"))
 
     def test_a_batch_is_held_at_a_time(self):
-        """However long the file is, and the table that is exported."""
+        """The command holds one batch in memory, however long the file or the exported table is."""
         self.enterContext(mock.patch.multiple(_import, BATCH=500, SHARE=250))
         file = self.file(*(f"user{it:05} {RECORD}" for it in range(10_000)))
         size = os.path.getsize(file)
@@ -52,7 +53,7 @@ class Imports(Commands):
         self.assertLess(tracemalloc.get_traced_memory()[1], size / 2)
 
     def test_a_pipe(self):
-        """It is read once, and what it brought twice."""
+        """The command reads a pipe once, and its stored lines twice."""
         name = f"{self.server.path}.pipe"
         os.mkfifo(name)
         lines = "".join(f"user{it} {RECORD}\n" for it in range(3000))
@@ -62,7 +63,8 @@ class Imports(Commands):
         writer.join()
 
     def test_a_file_that_is_shortened_meanwhile(self):
-        """It is said, with what was added."""
+        """If the file is shortened meanwhile, the error says so, with the count of added
+        accounts."""
         self.enterContext(mock.patch.multiple(_import, BATCH=500, SHARE=250))
         file = self.file(*(f"user{it:05} {RECORD}" for it in range(1200)))
         put, size = _import.Import.put, os.path.getsize(file)
@@ -77,7 +79,7 @@ class Imports(Commands):
         self.assertRegex(error, r"had 1200 lines, and now has \d+|line \d+:")
 
     def test_names_that_come_twice(self):
-        """The first record of each counts, in a table that has none of them too."""
+        """The first record of each name counts, even in a table that has none of the names."""
         lines = (f"ann {RECORD}", f"b\u00e9 {TWO}", f"ann {TWO}", f"b\u00e9 {TWO}", f"cid {TWO}")
         said, error = self.streams("import", self.file(*lines), status=4)
         self.assertEqual(said, f"3 added, 1 there already, 1 with {ANOTHER}\n")
@@ -85,7 +87,7 @@ class Imports(Commands):
         self.assertEqual(self.rows(), {"ann": RECORD, "b\u00e9": TWO, "cid": TWO})
 
     def test_one_that_fails(self):
-        """Its batch is undone, the ones before it stay, and the lines are named."""
+        """A failing batch is undone, the batches before it stay, and the error names the lines."""
         self.enterContext(mock.patch.object(_import, "BATCH", 500))
         self.conn.execute(
             "CREATE TRIGGER tr BEFORE INSERT ON accounts WHEN NEW.name = 'user700'"
@@ -109,7 +111,7 @@ class Imports(Commands):
 
     @each(0, 1, 499, 500, 501, 1001)
     def test_a_bad_line_anywhere_imports_nothing(self, at):
-        """All lines are read before the first is put, past every batch too."""
+        """The command reads all lines, past every batch, before it adds the first."""
         good = [f"user{number} {RECORD}" for number in range(1001)]
         file = self.file(*good[:at], "ann garbage", *good[at:])
         self.assertIn(f"line {at + 1}:", self.run_command("import", file, status=6))
@@ -133,7 +135,7 @@ class Imports(Commands):
         ("ann $argon2id$v=19$m=hunter2", ""),
     )
     def test_what_is_wrong_with_a_line(self, bad, said):
-        """A check says it of a record as an import does, and neither says the record."""
+        """A check and an import report the same fault of a record, and neither shows the record."""
         found = self.run_command("import", self.file(f"user0 {RECORD}", bad), status=6)
         self.assertIn(f"line 2: {said}", found)
         self.assertEqual(self.rows(), {})
@@ -145,7 +147,7 @@ class Imports(Commands):
         self.assertNotIn("hunter2", found)
 
     def test_names_with_spaces(self):
-        """They may be meant, or be a field of another file: they are named."""
+        """Names with spaces may be meant, or be a field of another file: the import names them."""
         file = self.file(f"ann {RECORD}", f"ben lee {RECORD}", f"cid x {RECORD}")
         said, error = self.streams("import", file)
         self.assertEqual(said, "3 added, 0 there already\n")
@@ -165,7 +167,8 @@ class Imports(Commands):
 
 class Exports(Commands):
     def test_an_export_is_an_import(self):
-        """Of all accounts that have a record, and none is left out without a word."""
+        """An export has all accounts with a record; the command reports each account that it leaves
+        out."""
         rows = {"ann": RECORD, "b\u00e9 two": TWO, "cid": FOREIGN}
         self.insert({**rows, "none": None})
         said, error = self.streams("export")
@@ -182,7 +185,7 @@ class Exports(Commands):
         self.assertEqual({it["name"]: it["record"] for it in found}, {**rows, **odd})
 
     def test_a_name_that_is_another_line(self):
-        """It keeps its record where only a line would have it."""
+        """A name that reads as another line keeps its record out of an export's lines."""
         self.insert({"a\nroot": RECORD})
         _, error = self.streams("disable", "--show", "a\nroot", status=6)
         self.assertIn("add --json", error)
@@ -201,7 +204,7 @@ class Exports(Commands):
 
 
 class Json(Commands):
-    """The same answers, with the same statuses."""
+    """The answers as JSON, with the statuses of the plain ones."""
 
     def told(self, words, given="", status=0):
         said, _ = self.streams("--json", *words.split(), given=given, status=status)

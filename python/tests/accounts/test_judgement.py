@@ -26,7 +26,8 @@ class Upgrades(Base):
         *((ScryptHasher(4, 8, it), ScryptHasher(5, 8, 1), it == 2) for it in (2, 4)),
     )
     def test_what_goes_up(self, one, two, up):
-        """More memory for as much work, and more work in as much memory; and no way leads back."""
+        """An upgrade needs more memory for as much work, or more work in as much memory; no chain
+        of upgrades leads back."""
         record, accounts = one.hash("x"), self.accounts(two)
         self.put(record)
         self.assert_replies("upgrade ann y wrong", accounts)
@@ -38,7 +39,7 @@ class Upgrades(Base):
         self.assert_replies("upgrade ann x kept", self.accounts(one))
 
     def test_from_one_scheme_to_another(self):
-        """From costs that are listed alone."""
+        """A login moves a record to the other scheme only from listed costs."""
         self.put(ScryptHasher(log2_n=4).hash("one"))
         higher = ScryptHasher(log2_n=5)
         unlisted = (LOW, (), "$scrypt$ln=4,"), (higher, (), "$scrypt$ln=5,")
@@ -62,19 +63,20 @@ class Upgrades(Base):
 
 
 class Peppers(Base):
-    """of_engines.Operations has each operation under one."""
+    """Operations with peppers; of_engines.Operations tests each operation under one pepper."""
 
     OLD, NEW = (LOW.replace(secret=it) for it in (b"old", b"new"))
     BOTH = LOW.replace(secrets=[b"new", b"old"])
     NEW_OR_NONE = LOW.replace(secrets=[b"new", b""])
-    # Whoever rotates again before all have logged in.
+    # A service that rotates again before all users have logged in.
     OLDER, FOUR = LOW.replace(secret=b"older"), LOW.replace(secrets=[b"new", b"old", b"older", b""])
     # Records that are replaced at the next login, and the hashers that read them.
     ROTATED = ((OLD, BOTH), (LOW, NEW_OR_NONE), (ScryptHasher(4), NEW_OR_NONE))
     ROTATED += ((OLD, FOUR), (OLDER, FOUR), (LOW, FOUR))
 
     def test_a_record_is_of_one_secret(self):
-        """And of no other; nor is one for an INSERT, which has a salt of its own."""
+        """Each record is of one secret alone, also a record for an INSERT, which has its own
+        salt."""
         accounts = self.accounts(self.NEW)
         self.assert_replies("reset ann one replaced", accounts)
         records = {self.stands(), *(accounts.new_record("one") for _ in range(2))}
@@ -97,7 +99,7 @@ class Peppers(Base):
         )
     )
     def test_rotation(self, hashers, call):
-        """A right password replaces a record of an older secret, and a wrong one none."""
+        """A right password replaces a record of an older secret; a wrong password replaces none."""
         (old, hasher), (text, password) = hashers, call
         accounts, record = self.accounts(hasher), old.hash("one")
         self.put(record)
@@ -153,7 +155,7 @@ class Foreign(Base):
         self.assertIsNone(self.stands())
 
     def test_an_answer_is_true_false_or_none(self):
-        """All else would be as true as a yes: nothing is stored, and nobody is let in."""
+        """Any other answer would count as true: nothing is stored, and nobody is let in."""
 
         async def awaited(text, password):
             return True
@@ -188,7 +190,8 @@ class Foreign(Base):
 
 class ForeignTasks(OnSqliteTasks, Foreign):
     def test_hooks_of_asyncio(self):
-        """A coroutine function is awaited on the loop; a function is called in the executor."""
+        """AsyncAccounts awaits a coroutine function on the loop, and calls a function in the
+        executor."""
         threads = []
 
         async def awaited(text, password):
@@ -229,7 +232,8 @@ class ForeignTasks(OnSqliteTasks, Foreign):
 class Costs(Base):
     @each("ann", "bob", "nobody", "a\0b", "a\ud800")
     def test_each_look_costs_one_hash(self, name):
-        """Whether the name is known, has a record, or the password is right."""
+        """Each look costs one hash: for an unknown name, without a record, and for a wrong
+        password."""
         self.give("one")
         self.give(None, "bob")
         accounts = self.accounts()
@@ -241,7 +245,7 @@ class Costs(Base):
 
     @each((None, "enrol ann one"), (None, "reset ann one"), ("one", "reset ann two"))
     def test_a_new_record_costs_one_hash(self, stands, text):
-        """No dummy beside it, where the account had no record."""
+        """A new record costs one hash, without a dummy hash if the account had no record."""
         self.give(stands)
         with self.hashes(1):
             called(self.accounts(), text)

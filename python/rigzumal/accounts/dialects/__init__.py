@@ -1,6 +1,6 @@
 """The differences between databases: a file for each driver.
 
-Your own dialect is a subclass of `Dialect`; the class says what each part is for. The tests of
+Your own dialect is a subclass of `Dialect`, which documents each part. The tests of
 every engine, `python/tests/accounts/of_engines.py`, can run over it.
 """
 

@@ -40,7 +40,7 @@ class Verdict(enum.Enum):
 
 
 def is_of_driver(raised: BaseException) -> bool:
-    """Whether a driver or the network raised the error, and not a program."""
+    """Whether a driver or the network raised the error, and not the program."""
     if isinstance(raised, OSError):
         return True
     return any(kind.__name__ == "Error" for kind in type(raised).__mro__)
@@ -58,7 +58,7 @@ class Mode(NamedTuple):
 
     is_autocommit: bool
     has_transaction: bool
-    has_failed: bool = False  # the transaction: an error was swallowed in it
+    has_failed: bool = False  # whether the caller swallowed an error in the transaction
 
 
 class Dialect:
@@ -97,8 +97,8 @@ class Dialect:
     returns = False
     drivers: ClassVar[tuple[str, ...]] = ()
     execute_options: ClassVar[Mapping[str, Any]] = {}
-    # The comparison, the clause that locks a row until the transaction's end, and the one
-    # by which an INSERT leaves a row that exists.
+    # The comparison; the clause that locks a row until the transaction's end; and the clause of an
+    # INSERT that leaves an existing row as it is.
     _same, _lock, _unless_exists = "", "", " ON CONFLICT DO NOTHING"
 
     def __init__(self, table: str, key: str, record: str, key_type: type = str) -> None:
@@ -127,7 +127,7 @@ class Dialect:
     # ---- statements of many rows, each with its values
 
     def adding(self, lines: Sequence[Line]) -> Sequence[Any]:
-        """Adds accounts with their records, but for those that exist."""
+        """Adds accounts with their records, except accounts that exist."""
         rows = ", ".join([f"({self.mark}, {self.mark})"] * len(lines))
         sql = f"INSERT INTO {self.table} ({self.key}, {self.record}) VALUES {rows}"
         return (sql + self._unless_exists.format(k=self.key), *itertools.chain(*lines))
@@ -154,7 +154,8 @@ class Dialect:
         return None
 
     def rows_of(self, conn: Any, sql: str) -> Iterator[tuple[Any, ...]]:
-        """The rows of a statement without values, as they are read: a table may be large."""
+        """The rows of a statement without values, one by one as the server sends them: a table may
+        be large."""
         cursor = conn.cursor()
         cursor.execute(sql)
         yield from iter(cursor.fetchone, None)
@@ -163,18 +164,18 @@ class Dialect:
     # ---- names
 
     def quoted(self, name: str) -> str:
-        """A name of a table or a column, as a statement has it."""
+        """A name of a table or a column, quoted for a statement."""
         doubled = name.replace(self.quote, self.quote * 2)
         if self.mark == "%s":
             doubled = doubled.replace("%", "%%")
         return f"{self.quote}{doubled}{self.quote}"
 
     def alone(self, sql: str) -> str:
-        """A statement without values, in which no driver looks for marks."""
+        """A statement without values, in a form in which no driver looks for placeholders."""
         return sql.replace("%%", "%") if self.mark == "%s" else sql
 
     def check_key(self, key: object) -> None:
-        """Raises TypeError at a key that isn't of the column's type.
+        """Raises TypeError for a key of another type than the column's.
 
         MariaDB's `name = 0` finds every name that begins with no digit.
         """
@@ -189,7 +190,7 @@ class Dialect:
         return not isinstance(key, int) or -_BIGINT <= key < _BIGINT
 
     def check_new_key(self, key: object) -> None:
-        """Raises ValueError at a name that no new account gets; old ones may have it."""
+        """Raises ValueError for a name that no new account gets; existing accounts may have it."""
         if not isinstance(key, str):
             return
         bare = key.strip()
@@ -223,7 +224,7 @@ class Dialect:
             raise StoreFault(NO_TRANSACTION)
 
     async def prepare(self, session: Session) -> None:
-        """Sets in a session what an operation relies on, before its first use."""
+        """Prepares a session before its first use: the settings on which operations rely."""
 
     # ---- statements
 
@@ -236,7 +237,7 @@ class Dialect:
         return await session.execute(self.update, after, key, copy)
 
     async def put_at_once(self, session: Session, after: Copy, key: Key, copy: Copy) -> int:
-        """Writes a record by one statement that commits; the number of touched rows."""
+        """Writes a record by one statement that commits; returns the number of touched rows."""
         raise NotImplementedError
 
     async def commit(self, session: Session) -> None:
@@ -247,8 +248,8 @@ class Dialect:
         """Marks an open transaction before a caller's hook, for `is_held`."""
 
     async def is_held(self, session: Session) -> bool:
-        """Whether the transaction that is open is the one that was marked, if the engine lets a
-        hook begin another by one word."""
+        """Whether the open transaction is the marked one, where one word of a hook can begin
+        another."""
         return True
 
     async def settle(self, session: Session) -> None:
@@ -261,7 +262,7 @@ class Dialect:
     # ---- errors
 
     def verdict(self, raised: BaseException) -> Verdict:
-        """The meaning of a driver's error before COMMIT was sent."""
+        """The meaning of a driver's error that came before COMMIT was sent."""
         raise NotImplementedError
 
     def is_drivers(self, raised: BaseException) -> bool:
@@ -287,14 +288,14 @@ class Dialect:
         return ""
 
     def missing_name(self, raised: BaseException) -> str:
-        """The server's words if a table, a column or a right to it is missing; empty if not, as the
-        words may have a row."""
+        """The server's message if a table, a column or a right to it is missing. Otherwise it is
+        empty, since other messages may quote a row."""
         return ""
 
     # ---- tables
 
     def create(self) -> str:
-        """The statement that creates a table as it should be."""
+        """The statement that creates a table without faults."""
         kinds = {str: self.key_sql, int: "BIGINT", bytes: self.bytes_sql}
         key = f"{self.key} {kinds.get(self.key_type, 'UUID')} NOT NULL PRIMARY KEY"
         record = f"{self.record} VARCHAR({LONGEST_RECORD})"
@@ -333,13 +334,13 @@ class Dialect:
             yield error("key-not-unique", f"{text}: {said}")
 
     def _is_of_one_case(self, indexed: str) -> bool:
-        """Whether it is lower(key) or upper(key): there no two rows have one key either."""
+        """Whether an index is of lower(key) or upper(key): it too allows one row for each key."""
         name = rf"\(?[\"`\[]?{re.escape(self.key_name)}[\"`\]]?\)?"
         form = rf"(^|ON[^()]*\()(lower|upper)\({name}(::text)?\)\)?$"
         return bool(re.search(form, "".join(indexed.split()), re.I))
 
     def after_triggers(self, rows: Iterable[Sequence[object]]) -> Iterator[Fault]:
-        """The trial shows what a trigger before the write does to a record."""
+        """Leaves triggers that run before the write to the trial, which shows their effect."""
         for (name,) in rows:
             text = f"the trigger {name} may change what was written"
             yield warning("after-trigger", text)
@@ -369,9 +370,8 @@ class Dialect:
             yield warning("key-not-unicode", text)
 
     async def folded_names(self, session: Session) -> list[Fault]:
-        """Names that are one account by the key's column, and differ in a limit of attempts.
-
-        The column of a union has the collation of its first part, so no row is needed.
+        """Names that the key's column takes for one account, and a limiter of attempts for two. The
+        column of a union has the collation of its first part, so the test needs no row.
         """
         faults: list[Fault] = []
         none = f"SELECT {self.key} FROM {self.table} WHERE 1 = 0"
@@ -381,7 +381,7 @@ class Dialect:
             try:
                 ((is_same,),) = (await session.execute(self.alone(sql))).rows
             except Exception:
-                continue  # a column in ASCII has no accents
+                continue  # a column in ASCII holds no accents
             if is_same:
                 text = f"{self.key_name} confuses names that differ {how}"
                 faults.append(found("names-folded", text))

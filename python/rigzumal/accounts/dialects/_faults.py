@@ -9,8 +9,8 @@ from typing import Final
 
 
 class Severity(enum.Enum):
-    """An error loses acknowledged changes, answers wrongly or refuses a good operation; a
-    warning is good to know."""
+    """An error loses acknowledged changes, answers wrongly or refuses a good operation; a warning
+    is worth knowing."""
 
     ERROR = "error"
     WARNING = "warning"
@@ -21,7 +21,7 @@ class Fault:
     """A finding of `examine`."""
 
     severity: Severity
-    code: str  # its name in a word or two, such as "key-not-unique"
+    code: str  # its name in a few words, such as "key-not-unique"
     text: str  # for people
 
     @property

@@ -17,12 +17,12 @@ from rigzumal.accounts.dialects._faults import warning
 
 UNCOMMITTED: Final = "READ UNCOMMITTED: uncommitted records are read"
 NOBODYS_RECORD: Final = f"$argon2id$v=19$m=8,t=1,p=1$bm9ib2R5J3M${'A' * 43}"
-"""Stands within a transaction alone, in the place of no record."""
+"""A placeholder for "no record", within a transaction alone."""
 
 # 1213: a deadlock, or of Galera a certification that failed; 1205: a lock was waited
 # for in vain; 1020: changed since it was read; 3024: MySQL's max_execution_time.
 _AGAIN: Final = frozenset({1213, 1205, 1020, 3024})
-_TIME_IS_OVER: Final = 1969  # max_statement_time: at a COMMIT it tells nothing
+_TIME_IS_OVER: Final = 1969  # max_statement_time: after a COMMIT it proves nothing
 _NOTHING_DONE: Final = 1205
 _NO_SAVEPOINT: Final = 1305
 # 1290, 1836: it is read only; 1040, 1203: too many clients, or too many of this user.
@@ -38,7 +38,7 @@ _UNKNOWN: Final = frozenset({1021, 1026, 1030, 1180, 1181, _TIME_IS_OVER})
 # No such table or column, and no right to it.
 _MISSING: Final = (1146, 1054, 1142, 1143)
 _UNICODE: Final = ("utf8mb4", "utf16", "utf16le", "utf32")
-# A text that can't be compared with the column: its characters aren't in the column's set.
+# A text that the server can't compare with the column: its characters aren't in the column's set.
 _LACKS: Final = (1267, 3988)
 
 
@@ -57,10 +57,10 @@ class MariaDB(Dialect):
     quote = "`"
     key_sql = "VARCHAR(255) CHARACTER SET utf8mb4 COLLATE utf8mb4_nopad_bin"
     drivers = ("pymysql",)
-    # A plain SELECT under REPEATABLE READ, the default, reads what stood when the
-    # caller's transaction first read anything.
+    # Under REPEATABLE READ, the default, a plain SELECT reads the state at the first read of the
+    # caller's transaction.
     _lock = " FOR UPDATE"
-    # INSERT IGNORE would take a record that is cut off.
+    # INSERT IGNORE would store a truncated record.
     _unless_exists = " ON DUPLICATE KEY UPDATE {k} = {k}"
     _same = "CAST({r} AS BINARY) <=> CAST({m} AS BINARY)"
 
@@ -108,7 +108,7 @@ class MariaDB(Dialect):
         except Exception as raised:
             if _number(raised) != _TIME_IS_OVER:
                 raise
-        # It may have ended before the COMMIT, within it, or just after it.
+        # The statement may have ended before the COMMIT, within it, or just after it.
         await self.undo(session)
         stands = (await session.execute(self.select, key)).rows
         if stands == [(copy,)]:
@@ -127,19 +127,19 @@ class MariaDB(Dialect):
     async def put(self, session: Session, after: Copy, key: Key, copy: Copy) -> Result:
         if after != copy:
             return await super().put(session, after, key, copy)
-        # An UPDATE to what stands writes nothing, and its COMMIT waits for no disk.
+        # An UPDATE to an equal value writes nothing, and its COMMIT waits for no disk.
         other = None if copy is not None else NOBODYS_RECORD
         result = await session.execute(self.update, other, key, copy)
         if result.affected != 1:
             return result
         result = await session.execute(self.update, copy, key, other)
         if result.affected != 1:
-            # Never committed: what stands by now is no record of anybody's.
+            # Never committed: at this point the row holds nobody's record.
             raise StoreFault(ANOTHER_RECORD)
         return result
 
     async def hold(self, session: Session) -> None:
-        # A BEGIN of a hook's commits what is open, and the mark goes with it.
+        # A hook's BEGIN commits the open transaction, and the mark goes with it.
         await session.execute("SAVEPOINT rigzumal_also")
 
     async def is_held(self, session: Session) -> bool:
@@ -172,7 +172,7 @@ class MariaDB(Dialect):
         return super().lacks_key(raised, key) or _number(raised) in _LACKS
 
     def gave_up(self, raised: BaseException) -> bool:
-        # What the server answers to a COMMIT it has rolled back, but for these.
+        # After an error at COMMIT the server has rolled back, except after these.
         number = _number(raised)
         if number is None or number in _UNKNOWN:
             return False
@@ -256,7 +256,7 @@ def of_server(seen: dict[str, str]) -> Iterator[Fault]:
     for name in ("innodb_flush_log_at_trx_commit", "innodb_doublewrite"):
         if seen.get(name, "1") not in ("1", "ON"):
             yield not_durable(f"{name} is {seen[name]}: {CRASH_LOSES}")
-    # With a binary log, what isn't in it after a power cut is rolled back.
+    # With a binary log, the server rolls back a transaction that isn't in it after a power cut.
     if seen.get("log_bin") == "ON" and seen.get("sync_binlog") != "1":
         yield not_durable(f"sync_binlog is {seen.get('sync_binlog')}: {POWER_CUT_LOSES}")
     if seen.get("wsrep_on") == "ON" and not int(seen["wsrep_sync_wait"]) & 1:

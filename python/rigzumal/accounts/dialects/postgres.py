@@ -18,9 +18,9 @@ _AGAIN: Final = frozenset({"40001", "40P01", "55P03", "57014"})
 # 25006: a standby, or a session that only reads; 53300: it has too many clients.
 _ELSEWHERE: Final = frozenset({"25006", "53300"})
 # 08: the connection; 57P0x: the server stops, has crashed or starts; 25P03: the
-# transaction was idle for too long. Whatever was sent then may have been done.
+# transaction was idle for too long. The statement sent before such an error may have taken effect.
 _LOST: Final = ("08", "57P0", "25P03")
-_UNKNOWN: Final = "40003"  # the server doesn't know whether what was sent was done
+_UNKNOWN: Final = "40003"  # the server doesn't know the statement's outcome
 _LACKS: Final = ("22P05", "22021")  # characters that the server's encoding doesn't have
 # A text that a type doesn't take; and the server's function that reads an enum's names.
 _NO_VALUE: Final = "22P02"
@@ -40,8 +40,8 @@ STATEMENT_MODE: Final = (
 class Postgres(Dialect):
     """PostgreSQL by psycopg 3, blocking or asynchronous.
 
-    The UPDATE returns the record that it wrote, so that no second read is needed; the
-    effect of an AFTER trigger isn't seen so.
+    The UPDATE returns the record that it wrote, so that no second read is needed; RETURNING doesn't
+    show the effect of an AFTER trigger.
     """
 
     # Its own level, whatever the session's default is: under READ COMMITTED an UPDATE
@@ -52,9 +52,9 @@ class Postgres(Dialect):
     bytes_sql = "BYTEA"
     returns = True
     drivers = ("psycopg",)
-    # PgBouncer may give the next statement to a session that hasn't prepared it.
+    # PgBouncer may send the next statement to a session that hasn't prepared it.
     execute_options = {"prepare": False}
-    # Beside it others' rows may still refer to the account.
+    # With this level other tables' rows may still refer to the account.
     _lock = " FOR NO KEY UPDATE"
     _same = '{r}::text COLLATE "C" IS NOT DISTINCT FROM {m}::text'
 
@@ -87,16 +87,16 @@ class Postgres(Dialect):
             caught = raised
         if is_of_statements:
             raise StoreFault(STATEMENT_MODE)
-        # A standby never writes, and says so in its own way; it may be promoted.
+        # A standby never writes, and reports this by another code; it may be promoted.
         raise ConnectionError("the server is a standby") from caught
 
     def _at_once(self, t: str, k: str, r: str) -> str:
-        # If what stands isn't what was put, it divides by zero, and is undone.
+        # If the row has another value than the statement wrote, it divides by zero, and is undone.
         same = f'{r}::text COLLATE "C" = %s::text'
         size = f"octet_length({r}) = octet_length(%s::text)"
         update = self.update.rpartition(" RETURNING ")[0]
         one = f"(SELECT count(*) FROM {t} WHERE {k} = %s) = 1"
-        # Of a record that a trigger has made NULL neither is true or false.
+        # If a trigger has set the record to NULL, neither comparison is true or false.
         is_put = f"COALESCE({same} AND {size}, false)"
         return f"{update} AND {one} RETURNING 1 / {is_put}::int"
 
@@ -106,7 +106,8 @@ class Postgres(Dialect):
 
     def refuses_at_once(self, raised: BaseException) -> bool:
         # 25: the session only reads, and a transaction of ours doesn't; 42 and 0A: the
-        # server doesn't take the statement; 22012: what stands isn't what was put.
+        # server doesn't take the statement; 22012: the row has another value than the statement
+        # wrote.
         state = self.number(raised)
         return state[:2] in ("25", "42", "0A") or state == "22012"
 
@@ -137,9 +138,8 @@ class Postgres(Dialect):
         return done
 
     async def add_all(self, session: Session, lines: Sequence[Line]) -> list[str]:
-        """Adds lines with their records by COPY: "added", "there" or "another" for each.
-
-        It raises if the server kept another record than one that was added.
+        """Adds lines with their records by COPY; returns "added", "there" or "another" for each. It
+        raises an exception if the server stored another record than the line's.
         """
         for sql in self._came:
             await session.execute(sql)
@@ -219,8 +219,8 @@ class Postgres(Dialect):
         return super().lacks_key(raised, key) or self.number(raised) in _LACKS
 
     def gave_up(self, raised: BaseException) -> bool:
-        # What the server answers as an ERROR it has rolled back. After FATAL and PANIC
-        # it answers no more, and a commit may be in its log.
+        # After an ERROR the server has rolled back. After FATAL and PANIC it answers no more, and a
+        # commit may be in its log.
         state = self.number(raised)
         severity = getattr(getattr(raised, "diag", None), "severity_nonlocalized", None)
         if not state or state == _UNKNOWN or severity not in (None, "ERROR"):

@@ -25,10 +25,10 @@ class Sqlite(Dialect):
     """SQLite by sqlite3. The connections need a busy timeout of some seconds."""
 
     mark = "?"
-    quote = "`"  # what stands in double quotes is a text if no column has the name
+    quote = "`"  # SQLite reads a word in double quotes as a text if no column has that name
     drivers = ("sqlite3", "aiosqlite")
-    # Not deferred: a transaction that has read and then writes is refused at once, with
-    # no waiting, if another has written since.
+    # Not deferred: SQLite refuses at once, without waiting, a transaction that has read and then
+    # writes, if another has written since.
     begin = "BEGIN IMMEDIATE"
     key_sql = "TEXT"
     _same = "{r} COLLATE BINARY IS {m}"
@@ -45,7 +45,7 @@ class Sqlite(Dialect):
         return Mode(autocommit is True, has_transaction)
 
     def fresh(self, conn: Any) -> None:
-        # Of sqlite3's own this is all, and it is asked for each login.
+        # For sqlite3's own connections this is enough, and each login runs it.
         is_own = type(conn) is sqlite3.Connection
         if not is_own or conn.in_transaction or conn.isolation_level is not None:
             super().fresh(conn)
@@ -66,8 +66,8 @@ class Sqlite(Dialect):
         return Verdict.AGAIN if is_busy else Verdict.REFUSED
 
     def gave_up(self, raised: BaseException) -> bool:
-        # A constraint that is deferred is judged at COMMIT, and a full disk is found there:
-        # what marks the commit is written last, so it isn't there then.
+        # SQLite judges a deferred constraint, and finds a full disk, at COMMIT. It writes the mark
+        # of the commit last, so the mark is missing then.
         is_full = _is_of(raised, _FULL, "is full")
         return super().gave_up(raised) or isinstance(raised, sqlite3.IntegrityError) or is_full
 
@@ -139,7 +139,7 @@ class Sqlite(Dialect):
 
 
 def _is_of(raised: BaseException, codes: tuple[int, ...], text: str) -> bool:
-    """Whether an error is of these codes; before Python 3.11 its text alone tells."""
+    """Whether an error has one of these codes; before Python 3.11 only its text shows the code."""
     code = getattr(raised, "sqlite_errorcode", None)
     return text in str(raised) if code is None else code & 0xFF in codes
 
@@ -155,9 +155,9 @@ _PRAGMAS: Final = ("synchronous", "busy_timeout", "journal_mode", "read_uncommit
 
 
 def of_disk(path: str) -> Iterator[Fault]:
-    """A full disk, which the trial doesn't meet in WAL: there COMMIT alone writes.
+    """A full disk, which the trial doesn't find in WAL: there only COMMIT writes.
 
-    A user's quota can't be seen, nor the disk of a database in memory.
+    SQLite shows neither a user's quota nor the disk of a database in memory.
     """
     try:
         found = os.statvfs(path)

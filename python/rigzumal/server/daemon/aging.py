@@ -6,7 +6,7 @@ from dataclasses import dataclass
 from typing import NamedTuple, Optional
 
 SECONDS_A_DAY = 86400
-SHADOW = 9  # fields of a line of shadow(5); those without the last ones are taken too
+SHADOW = 9  # fields of a line of shadow(5); a line may lack the last ones
 OLD_SHADOW = 5  # with the last change, the least and the most days of a password
 NUMBER = re.compile(rb"[0-9]{0,9}")  # the C library refuses a sign too
 # What Dovecot's extra fields begin with that let a user in nowhere, or from some networks alone.
@@ -35,7 +35,7 @@ class Days(NamedTuple):
         return self.end != -1 and day >= self.end
 
     def is_too_old(self, day: int) -> bool:
-        """Whether the password can't even be changed any more."""
+        """Whether the password is so old that its user can't even change it."""
         is_bounded = self.changed != 0 and self.most != -1 and self.inactive != -1
         bound = max(self.most, self.inactive, self.most + self.inactive)
         return is_bounded and self.age(day) > bound
@@ -52,7 +52,7 @@ class Line:
     others: tuple[bytes, ...] = ()
 
     def days(self) -> Optional[Days]:
-        """The dates, none of which an htpasswd file has; None if one isn't a number."""
+        """The dates, which a line of an htpasswd file lacks; None if one isn't a number."""
         fields = self.others[: len(Days())]
         count = 2 + len(self.others)  # with the name and the record
         are_numbers = all(map(NUMBER.fullmatch, fields))
@@ -63,12 +63,13 @@ class Line:
         return Days(*(int(field) if field else -1 for field in fields))
 
     def is_of_dovecot(self) -> bool:
-        """Whether it is Dovecot's, by its home or an extra field, though it has nine fields too."""
+        """Whether the line is Dovecot's, which its home or an extra field shows: it may have nine
+        fields too."""
         home, extra = self.others[3], self.others[5]
         return b"/" in home or b"=" in extra
 
     def bar(self, day: int) -> str:
-        """The reason that bars the user, also after the move; empty if nothing does."""
+        """The reason that bars the user, also after the move; empty if there is none."""
         days = self.days()
         if days and days.has_ended(day):
             return "the account has expired"
@@ -79,7 +80,7 @@ class Line:
         return ""
 
     def why_shut(self, day: int) -> str:
-        """The reason that bars the user of this line; empty if a password may be right."""
+        """The reason that bars the line's user; empty if a password may be right."""
         if why := self.bar(day):
             return why
         days = self.days()

@@ -3,8 +3,8 @@
     appending.py PATH
 
 The program appends texts that come by the socket at its standard input, and answers each. The
-program runs in a process of its own: a thread that waits for a hung disk can't be ended, nor can
-its process.
+program runs in a process of its own: nothing ends a thread that waits for a hung disk, nor the
+process of such a thread.
 """
 
 import errno
@@ -16,12 +16,13 @@ import sys
 from contextlib import suppress
 from typing import BinaryIO
 
-SIZE = struct.Struct(">Q")  # comes before each text: how many bytes it has
-FAULT = struct.Struct(">H")  # is the answer: the system's number of a fault, or 0
+SIZE = struct.Struct(">Q")  # precedes each text: the number of its bytes
+FAULT = struct.Struct(">H")  # the answer: the system's number of a fault, or 0
 
 
 def status_of(path: str) -> os.stat_result:
-    """The status of a regular file: a pipe might keep the server waiting."""
+    """The status of a regular file; other files are refused, since a pipe might keep the server
+    waiting."""
     found = os.stat(path)
     if not stat.S_ISREG(found.st_mode):
         raise OSError(errno.EINVAL, "it isn't a regular file", path)
@@ -36,14 +37,14 @@ def private(path: str, flags: int) -> int:
 
 
 class GrowingFile:
-    """A private file, which is opened for each text: to rotate it, rename it."""
+    """A private file, which is opened for each text: an administrator rotates it by a rename."""
 
     def __init__(self, path: str) -> None:
         self.path = path
-        self.named = -1  # the inode whose name is on the disk
+        self.named = -1  # the inode of the file whose name is on the disk
 
     def append(self, text: bytes) -> None:
-        """Writes whole lines behind the last one, of which a fault may have left a part."""
+        """Writes whole lines behind the last whole line: a fault may have left a part of one."""
         with open(self.path, "ab+", buffering=0, opener=private) as file:
             found = os.fstat(file.fileno())
             end = os.pread(file.fileno(), 1, max(found.st_size - 1, 0))
@@ -65,7 +66,7 @@ class GrowingFile:
 
 
 def write_texts(file: GrowingFile, texts: BinaryIO, answers: socket.socket) -> None:
-    """Appends each text, and answers it, until no more come."""
+    """Appends and answers each text, until the input ends."""
     while len(size := texts.read(SIZE.size)) == SIZE.size:
         (count,) = SIZE.unpack(size)
         text, fault = texts.read(count), 0

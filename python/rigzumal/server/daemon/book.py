@@ -1,4 +1,4 @@
-"""The book: its process, which answers lines, and the turns of those who ask it."""
+"""The book: its process, which answers lines, and the turns of its users."""
 
 import asyncio
 import base64
@@ -24,8 +24,8 @@ EARLY = re.compile(rb"later ([1-9][0-9]{0,2})")  # the whole of it, with the sec
 LONGEST_WAIT = 900  # seconds
 NO_RECORD = b"none"  # the same of `show`
 NO_ACCOUNT = b"bad 5 noaccount"
-RETRY_SECONDS = 1.0  # from a process that couldn't start until the next one
-REST = 1.5  # of the time that a round of changes took
+RETRY_SECONDS = 1.0  # seconds between a failed start of a process and the next one
+REST = 1.5  # as a share of the time that a round of changes took
 LONGEST_REST = 0.1  # seconds
 
 
@@ -81,7 +81,7 @@ class Process(asyncio.SubprocessProtocol):
         self.stdin.write(b"%b %b\n" % (tag, b" ".join(words)))
 
     def pipe_data_received(self, _: int, data: bytes) -> None:
-        """Hands over the process's answers, and kills it at an answer without an end."""
+        """Passes on the process's answers, and kills the process if an answer doesn't end."""
         *lines, self.rest = (self.rest + data).split(b"\n")
         for line in lines:
             tag, _space, text = line.partition(b" ")
@@ -95,7 +95,7 @@ class Process(asyncio.SubprocessProtocol):
             self.kill()
 
     def connection_lost(self, _: object) -> None:
-        """The process has ended, and its last output has come."""
+        """Called when the process has ended, and its last output has arrived."""
         status = self.transport.get_returncode()
         self.ended.set_result(status if status >= 0 else 128 - status)
         for answer in self.pending.values():
@@ -114,7 +114,8 @@ class Process(asyncio.SubprocessProtocol):
 
 
 class Book:
-    """The answers of the book: from one process after another, since only one can have the file.
+    """The book's answers: they come from one process after another, since only one process can open
+    the file.
 
     While another program has the file (`lent`), lines wait for the next process.
     """
@@ -125,14 +126,14 @@ class Book:
         self.living = set[Process]()
         self.status = 0  # of the last process that ended
         self.waiting = list[tuple[tuple[bytes, ...], asyncio.Future[bytes]]]()
-        self.is_down = False  # the last process couldn't start: no line waits for the next one
-        self.is_ending = False  # no process is started any more
+        self.is_down = False  # the last process couldn't start, so no line waits for the next one
+        self.is_ending = False  # the server starts no process any more
         self.opened = 0.0  # the moment since which no line has waited for a process
         # With the status of its last process: that ended by itself, or the server ends.
         self.ended: asyncio.Future[int] = asyncio.get_running_loop().create_future()
 
     async def open(self) -> None:
-        """Starts its first process."""
+        """Starts the book's first process."""
         self.hand_over_to(await self.start_process())
 
     async def start_process(self) -> Process:
@@ -146,14 +147,14 @@ class Book:
         return process
 
     def note_end(self, process: Process, status: int) -> None:
-        """The book has ended if its process has, unless it was told to."""
+        """Marks the book as ended if its present process ended by itself."""
         self.living.discard(process)
         self.status = status
         if process is self.process and not self.ended.done():
             self.ended.set_result(status)
 
     def hand_over_to(self, process: Process) -> None:
-        """Hands all lines to a process from now on, first those that waited."""
+        """Sends all lines to a process from now on, first the waiting ones."""
         self.process, self.is_down = process, False
         self.opened = time.monotonic()
         waiting, self.waiting = self.waiting, []
@@ -161,7 +162,7 @@ class Book:
             process.ask(words, answer)
 
     def ask(self, *words: bytes) -> asyncio.Future[bytes]:
-        """The answer to a line; UNAVAILABLE if the book ends before it has one."""
+        """The answer to a line; UNAVAILABLE if the book ends before it answers."""
         answer: asyncio.Future[bytes] = asyncio.get_running_loop().create_future()
         if self.process is not None:
             self.process.ask(words, answer)
@@ -176,7 +177,7 @@ class Book:
         return self.ask(b"show", name)
 
     def is_lent(self) -> bool:
-        """Whether another program has the file."""
+        """Whether another program has the book's file."""
         return self.process is None
 
     def has_ended(self) -> bool:
@@ -185,10 +186,9 @@ class Book:
 
     @asynccontextmanager
     async def lent(self) -> AsyncIterator[int]:
-        """The file without a process, for one at a time.
-
-        The process answers the lines that it has, and ends with the status that comes. Lines that
-        come meanwhile wait for the next process, which has the file behind the loan.
+        """Lends the file, without a process on it, to one user at a time. The process answers its
+        open lines and ends, and the block gets its status. New lines wait for the next process,
+        which opens the file after the loan.
         """
         process, self.process = self.process, None
         assert process is not None
@@ -199,8 +199,8 @@ class Book:
             await self.reopen()
 
     async def reopen(self) -> None:
-        """Starts processes until one answers, or the server ends. The first that doesn't answer
-        refuses all waiting lines."""
+        """Starts processes until one answers, or the server ends. If the first doesn't answer, all
+        waiting lines are refused."""
         while not self.is_ending:
             if process := await self.process_that_answers():
                 self.hand_over_to(process)
@@ -214,7 +214,7 @@ class Book:
             self.ended.set_result(self.status)
 
     async def process_that_answers(self) -> Optional[Process]:
-        """A new process that has answered a line, so that it has opened the file; or none."""
+        """A new process that has answered a line, and so has opened the file; or none."""
         try:
             process = await self.start_process()
         except OSError as fault:
@@ -234,7 +234,7 @@ class Book:
             answer.set_result(UNAVAILABLE)
 
     def end(self) -> None:
-        """Lets the book's process end in order; no other one is started any more."""
+        """Lets the book's process end in order, and starts no other."""
         self.is_ending = True
         self.refuse_waiting()
         for process in self.living:
@@ -246,7 +246,7 @@ class Book:
 
 
 class Places:
-    """Places, for which users take turns: the one with the fewest has the next."""
+    """Places, for which users take turns: the user with the fewest gets the next."""
 
     def __init__(self, count: int) -> None:
         self.free = count
@@ -265,20 +265,20 @@ class Places:
         return place
 
     def give(self, user: Hashable, place: asyncio.Future[None]) -> None:
-        """Hands a free place to a user."""
+        """Gives a free place to a user."""
         if not place.cancelled():  # as the server ends
             self.free -= 1
             self.taken[user] += 1
             place.set_result(None)
 
     def release(self, user: Hashable) -> None:
-        """Frees a place, and hands it to the next user."""
+        """Frees a place, and gives it to the next user."""
         self.free += 1
         self.taken[user] -= 1
         self.give_next()
 
     def give_next(self) -> None:
-        """Hands the free places to the users whose turn it is."""
+        """Gives the free places to the users whose turn it is."""
         while self.free and self.users:
             user = min(self.users, key=self.taken.__getitem__)
             if self.free == 1 and self.taken[user]:
@@ -286,21 +286,21 @@ class Places:
             waiting = self.users.pop(user)
             self.give(user, waiting.popleft())
             if waiting:
-                self.users[user] = waiting  # whose next turn is behind the others'
+                self.users[user] = waiting  # the user's next turn comes after the others'
 
 
 class Rounds:
-    """Beside logins, changes go in rounds: all that hash, or one other; then a longer rest."""
+    """Beside logins, changes run in rounds: all that hash, or one other; then a longer rest."""
 
     def __init__(self, book: Book, is_busy: Callable[[], bool]) -> None:
         self.book = book
         self.is_busy = is_busy  # whether somebody logs in
-        self.gate = asyncio.Event()  # is open while no round goes on, and nobody rests
+        self.gate = asyncio.Event()  # is set while no round runs, and none has its rest
         self.gate.set()
         self.running = 0  # changes of this round
 
     async def ask(self, words: list[bytes], is_alone: bool) -> bytes:
-        """The answer to a change, which begins now, or in the next round."""
+        """The answer to a change, which runs in this round or in the next."""
         while self.is_busy() and not self.gate.is_set():
             await self.gate.wait()
             if not is_alone:
@@ -318,5 +318,5 @@ class Rounds:
 
     def end_rest(self) -> None:
         """Begins the next round."""
-        if not self.running:  # else the end of that round begins another rest
+        if not self.running:  # otherwise the end of that round begins another rest
             self.gate.set()

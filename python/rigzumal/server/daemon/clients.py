@@ -1,4 +1,4 @@
-"""The clients of the sockets: their lines are read, and the answers written."""
+"""The clients of the sockets: reads their lines, and writes the answers."""
 
 from __future__ import annotations
 
@@ -22,7 +22,7 @@ READ_SIZE = 4096  # bytes that are read at a time
 READ_SIZE_OF_TEXT = 65536  # the same of an import's text
 SEND_BUFFER = 16384  # bytes that may wait in the system for a client to read them
 TAG = re.compile(rb"[a-z0-9]{1,20}")
-NO_TAG = b"*"  # before the answer to a line that has none
+NO_TAG = b"*"  # before the answer to a line that needs no work of the book
 BAD_LINE, LONG = b"bad 11 line", b"bad 16 long"
 PAUSE_SECONDS = 0.001  # behind an answer without the book's work, times a user's clients
 
@@ -30,7 +30,7 @@ PAUSE_SECONDS = 0.001  # behind an answer without the book's work, times a user'
 class Client:
     """A client that sends lines, and gets an answer to each, in any order."""
 
-    no_room = b"* unavailable\n"  # what one is told that isn't let in
+    no_room = b"* unavailable\n"  # the answer to a client that isn't let in
 
     def __init__(self, service: Service, door: Door, sock: socket.socket, peer: Peer) -> None:
         self.service = service
@@ -39,7 +39,7 @@ class Client:
         self.pid = peer.pid
         self.uid = peer.uid
         self.user = peer.user
-        self.is_ending = False  # it takes no more requests
+        self.is_ending = False  # it accepts no more requests
         self.is_watched = False  # the loop tells when its socket can be read
         self.running = 0  # requests without an answer
         self.active = time.monotonic()  # when it last was answered
@@ -51,7 +51,8 @@ class Client:
         sock.setsockopt(socket.SOL_SOCKET, socket.SO_SNDBUF, SEND_BUFFER)
 
     async def run(self) -> None:
-        """Reads requests, and closes once they are answered, or nobody reads any more."""
+        """Reads requests. Closes the connection once they are answered, or if nobody reads any
+        more."""
         try:
             with suppress(OSError):
                 await self.read()
@@ -66,7 +67,8 @@ class Client:
                 self.socket.close()
 
     async def read(self) -> None:
-        """Passes each line on; of a long one the beginning, which is refused."""
+        """Passes each line on; of a line that is too long it passes the beginning, which is
+        refused."""
         text, is_rest = b"", False
         while more := await self.receive():
             text += more
@@ -97,7 +99,8 @@ class Client:
         return rest
 
     async def receive(self) -> bytes:
-        """Some bytes; none at the end. The socket stays watched: that takes sock_recv's time."""
+        """Some bytes; none at the end. The socket stays watched between two calls, which
+        saves the time that sock_recv spends on watching it."""
         self.received: asyncio.Future[bytes] = self.loop.create_future()
         if not self.is_watched:
             self.is_watched = True
@@ -129,8 +132,7 @@ class Client:
             await self.submit(tag, words)
 
     async def submit(self, tag: bytes, words: list[bytes], refusal: bytes = b"") -> None:
-        """Answers a request, or refuses it, once few enough others run, and it is this user's
-        turn."""
+        """Answers or refuses a request, once few enough others run and it is this user's turn."""
         await self.has_fewer(AT_ONCE)
         if self.is_ending:
             return
@@ -143,7 +145,7 @@ class Client:
             await self.pause()
 
     async def has_fewer(self, count: int) -> None:
-        """Returns once fewer requests run."""
+        """Waits until fewer requests run."""
         while self.running >= count:
             self.answered.clear()
             await self.answered.wait()
@@ -166,7 +168,7 @@ class Client:
                 self.end(socket.SHUT_RDWR)
 
     def has_gone(self) -> bool:
-        """Whether nobody reads its answers any more, though lines of it may still come."""
+        """Whether the client reads no answers any more; lines of the client may still come."""
         try:
             self.socket.send(b"")  # which fails then
         except OSError:
@@ -174,7 +176,7 @@ class Client:
         return False
 
     def end(self, how: int = socket.SHUT_RD) -> None:
-        """Accepts no more requests; by SHUT_RDWR those that run aren't answered either."""
+        """Accepts no more requests; with SHUT_RDWR running requests get no answer either."""
         self.is_ending = True
         with suppress(OSError):
             self.socket.shutdown(how)

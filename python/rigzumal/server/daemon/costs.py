@@ -6,7 +6,7 @@ from dataclasses import dataclass
 from typing import Optional
 
 USUAL = "$argon2id$v=19$m=65536,t=3,p=4"  # credkeep's new records, if --setting isn't given
-TIMES = 16  # what a line may bring is so many times the new records' costs
+TIMES = 16  # a line's costs may be this many times those of new records
 ARGON2 = re.compile(
     r"\$argon2(?:d|i|id)\$v=19\$m=([0-9]{1,7}),t=([0-9]{1,10}),p=[0-9]{1,3}(?:\$.*)?"
 )
@@ -17,7 +17,8 @@ GIB = 2**20  # in KiB
 
 @dataclass(frozen=True)
 class Costs:
-    """The memory of a hash, and its work: the memory that it goes over, each time. Both in KiB."""
+    """The memory of a hash, and its work: the sum of the memory over all passes. Both are in
+    KiB."""
 
     memory: int
     work: int

@@ -1,5 +1,5 @@
-"""The free space on the disks that a change writes to. A book that finds none ends, and so does the
-service of all its users."""
+"""The free space on the disks that a change writes to. If a book finds no space, it ends, and so
+does the service of all its users."""
 
 import os
 
@@ -10,9 +10,9 @@ FULL = b"bad 19 disk"  # the answer to a change that isn't tried
 
 
 def has_room(folder: str, needed: int = NEEDED) -> bool:
-    """Whether a change may be tried in a folder, as far as its filesystem tells.
+    """Whether a folder has room for a change, as far as its filesystem reports it.
 
-    Blocks that are reserved for root don't count, for root either. A user's quota can't be seen.
+    Blocks that are reserved for root don't count, even for root. A user's quota can't be seen.
     """
     try:
         found = os.statvfs(folder)

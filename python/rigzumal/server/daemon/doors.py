@@ -25,7 +25,7 @@ if TYPE_CHECKING:
 
 MOST_CLIENTS = 1024  # of a door
 MOST_WAITING = 64  # clients that wait to be let in, while none of them stays
-LAST_PLACES = 64  # of a door, for users that have none
+LAST_PLACES = 64  # of a door, for users without a place
 ACCEPTED_AT_ONCE = 16  # clients in a pass of the loop: then others have their turn
 FIRST_OF_SYSTEMD = 3  # the descriptor of its first socket: sd_listen_fds(3)
 PEER = struct.Struct("3i")  # of SO_PEERCRED: the peer's pid, uid and gid
@@ -42,7 +42,7 @@ class Peer:
 
     pid: int
     uid: int
-    user: tuple[str, str]  # whose turn it is: a door, and a share
+    user: tuple[str, str]  # the user whose turn it is: a door, and a share
 
 
 @dataclass(eq=False)
@@ -60,7 +60,8 @@ class Door:
     counts: Counter[Hashable] = field(default_factory=Counter)  # clients of each user
 
     def prepare(self) -> None:
-        """Finds systemd's socket; or its group, and locks the path of its own."""
+        """Finds systemd's socket; without one, finds the group, and locks the path of the door's
+        own socket."""
         if os.environ.get("LISTEN_PID") == str(os.getpid()):
             self.listener = self.socket_of_systemd()
             return
@@ -80,7 +81,7 @@ class Door:
         raise Problem(f"systemd handed over no stream socket with the name {self.name}")
 
     def lock(self) -> None:
-        """Creates its folder, and locks the path to the process's end."""
+        """Creates the socket's folder, and locks the path until the process ends."""
         folder = os.path.dirname(self.path)
         if not os.path.isdir(folder):
             os.mkdir(folder)
@@ -92,7 +93,7 @@ class Door:
             raise Problem(f"another server has {self.path}") from None
 
     def own_socket(self) -> socket.socket:
-        """A socket at its path, whose mode is set before it listens."""
+        """A socket at the door's path; its mode is set before it listens."""
         listener = socket.socket(socket.AF_UNIX)
         if pathlib.Path(self.path).is_socket():
             if listener.connect_ex(self.path) == 0:
@@ -114,7 +115,7 @@ class Door:
         return listener
 
     async def accept(self, service: Service, listener: socket.socket) -> None:
-        """Lets clients in; while none of them stays, few may wait before the others."""
+        """Lets clients in; while none of them stays, the queue at the socket is short."""
         with listener:
             while True:
                 try:
@@ -125,7 +126,7 @@ class Door:
                     await asyncio.sleep(0)
                 except OSError:  # no descriptor is free
                     await asyncio.sleep(0.1)
-                except Exception as fault:  # it costs one client, and never the socket
+                except Exception as fault:  # the fault costs one client, and never the socket
                     what = type(fault).__name__
                     log_seldom((self.name, what), "%s: a fault: %s", self.path, what)
 
@@ -136,14 +137,14 @@ class Door:
         return Peer(pid, uid, (self.name, share_of(owner_of(uid), pid)))
 
     def has_place(self, own: int) -> bool:
-        """Whether a user who has so many places may have one more: of those that the others leave
-        at most half, and of the last ones the first alone."""
+        """Whether a user with this many places may have one more: at most half of those that the
+        others leave, and of the last ones only a first."""
         taken = sum(self.counts.values())
         is_at_most_half = own + taken < MOST_CLIENTS - 1
         return is_at_most_half and (own == 0 or taken < MOST_CLIENTS - LAST_PLACES)
 
     def let_in(self, service: Service, sock: socket.socket) -> bool:
-        """Whether the connection gets a place of its user's; otherwise it is told so."""
+        """Whether the connection gets a place of its user; otherwise the client gets an answer."""
         with suppress(OSError):  # if nothing has come
             if not sock.recv(1, socket.MSG_PEEK):
                 sock.close()

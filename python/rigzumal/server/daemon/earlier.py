@@ -1,4 +1,4 @@
-"""The marks that earlier versions of the server kept beside the book, which now has them."""
+"""The marks that earlier versions of the server kept beside the book; now the book stores them."""
 
 from __future__ import annotations
 
@@ -12,16 +12,15 @@ from .journal import Marks, Problem, log
 if TYPE_CHECKING:
     from .service import Service
 
-# The marks that the book has, by the operations that make them, and the answers to these.
+# The marks that the book stores, by the operations that set them, and the answers to these.
 MARK_OF = {b"lock": LOCKED, b"expire": MUST_CHANGE}
 ANSWER_OF = {b"lock": b"locked", b"expire": b"expired"}
 
 
 async def take_in(service: Service) -> None:
-    """Puts the marks of FILE-locks into the book, and then removes the file.
-
-    After a fault, or a kill at any moment, the file is still there, and the next start does it
-    again: no socket is open before, so nobody has changed a mark.
+    """Writes the marks of FILE-locks to the book, and then removes the file. After a fault, or a
+    kill at any moment, the file still exists, and the next start repeats the step. No socket is
+    open before its end, so nobody has changed a mark.
     """
     path = f"{service.options.file}-locks"
     if not os.path.lexists(path):
@@ -45,7 +44,7 @@ async def take_in(service: Service) -> None:
 
 
 async def has_taken(service: Service, name: bytes, word: bytes) -> bool:
-    """Puts the mark of an operation into the book; false if no account can have the mark."""
+    """Writes the mark of an operation to the book; false if no account can have the mark."""
     if not NAME.fullmatch(name):  # such as one that is too long for a line
         return False
     row = await asyncio.shield(service.book.row(name))
@@ -62,7 +61,7 @@ async def has_taken(service: Service, name: bytes, word: bytes) -> bool:
 
 
 async def mark_in_old_file(service: Service, name: bytes, word: bytes) -> bytes:
-    """Marks a user whom an old htpasswd file alone has; the answer is empty for others."""
+    """Marks a user who is only in an old htpasswd file; the answer is empty for others."""
     if not service.foreign or not (await service.foreign.file.line(name)).record:
         return b""
     if word == b"expire":
@@ -72,5 +71,5 @@ async def mark_in_old_file(service: Service, name: bytes, word: bytes) -> bytes:
 
 
 async def ask(service: Service, *words: bytes) -> bytes:
-    """The book's answer, also if the start is cancelled meanwhile."""
+    """The book's answer, even if the start is cancelled meanwhile."""
     return await asyncio.shield(service.book.ask(*words))

@@ -18,17 +18,17 @@ from .service import Request, Service
 from .transfers import memory_file
 from .tries import Tries
 
-# Answers to a password after which the book has a record.
+# Answers to a password that leave a record in the book.
 HAS_RECORD = (b"yes", b"expired", b"same", b"replaced", b"upgraded", b"kept", b"enrolled")
-# The answers to operations that make a name, if the file has the name.
+# The answers to operations that add a name, if the file has the name.
 IF_NAME_IS_TAKEN = {b"account": b"bad 1 exists", b"rename": b"exists"}
-ENDS_RECORD = (b"disable", b"delete", b"rename", b"remove")  # leave none in the book
+ENDS_RECORD = (b"disable", b"delete", b"rename", b"remove")  # leave no record
 MARKS = (b"lock", b"unlock", b"expire")
 EXPIRED, FORGIVEN = b"expired", b"forgiven"  # the answers to `expire` and `forgive`
 
 
 class Foreign:
-    """Decides which of them the file judges, and which the book."""
+    """Decides whether the file or the book judges a user's password."""
 
     def __init__(self, service: Service, path: str) -> None:
         self.service = service
@@ -37,7 +37,8 @@ class Foreign:
         self.locks = WeakValueDictionary[bytes, asyncio.Lock]()  # of names, one request at a time
 
     async def answer(self, request: Request) -> bytes:
-        """The answer: a wrong password's for whom the file bars, else the book's or the file's."""
+        """The answer: that of a wrong password if the file bars the user, otherwise the book's or
+        the file's."""
         if request.word == b"list":
             return await self.service.ask(request)
         if request.word == b"marks":
@@ -49,7 +50,7 @@ class Foreign:
         name, question = request.words[1], request
         is_barred = await self.file.bars(name)
         if is_barred and request.operation.tries:
-            # As long as a wrong password takes: it counts as one, and nothing is changed.
+            # The answer takes as long as to a wrong password, counts as one, and changes nothing.
             words = [b"verify", name, *map(password_of_nobody, request.words[2:3])]
             question = replace(request, words=words)
         answer = await self.answer_unbarred(question)
@@ -58,7 +59,7 @@ class Foreign:
         return answer
 
     async def page_of_marks(self, request: Request) -> bytes:
-        """A page of `marks`, with a lock at those whom the file bars."""
+        """A page of `marks`, with a lock at users whom the file bars."""
         page = await self.service.ask(request)
         word, *items = page.split(b" ")
         if word != b"marks":
@@ -86,12 +87,12 @@ class Foreign:
         return answer
 
     async def with_locks(self, text: BinaryIO) -> BinaryIO:
-        """An export, with a lock at those whom the file bars."""
+        """An export, with a lock at users whom the file bars."""
         return await asyncio.to_thread(with_locks, text, await self.file.barred())
 
     async def answer_unbarred(self, request: Request) -> bytes:
-        """The answer: the book's, or the file's where the book lacks the name. A name that the file
-        may decide about has one request after another."""
+        """The book's answer, or the file's if the book lacks the name. Requests for a name that the
+        file may decide about run one after another."""
         word, name = request.words[:2]
         makes_name = word in IF_NAME_IS_TAKEN
         names = {name, request.words[-1]} if makes_name else {name}
@@ -107,7 +108,7 @@ class Foreign:
         return answer
 
     async def answer_in_turn(self, request: Request) -> bytes:
-        """The answer to a request, while no other one is asked about its names."""
+        """The answer to a request, while no other request for its names runs."""
         word, name = request.words[:2]
         if word in IF_NAME_IS_TAKEN and (await self.file.line(request.words[-1])).record:
             return IF_NAME_IS_TAKEN[word]
@@ -126,22 +127,22 @@ class Foreign:
         return answer
 
     async def prepare(self, request: Request, line: Line, row: bytes) -> bytes:
-        """Does the steps before the book's part; returns the answer if the book needn't be
-        asked."""
+        """Does the steps before the book's part; returns the answer if it needs no answer of the
+        book."""
         word, name = request.words[:2]
         if row == UNAVAILABLE or row.startswith(b"bad ") and row != NO_ACCOUNT:
             return row
         if word == b"rename" and line.record and not has_record(row):
-            return b"noaccount"  # it would leave the name to the file, without a lock
+            return b"noaccount"  # it would leave the decision to the file, without a lock
         if has_record(row) and self.file.is_expired(name) and word not in (b"show", *MARKS):
             if refusal := await self.finish_move(request):
                 return refusal
         if ends_record(word, row) and not await self.file.note_moved(name):
-            return UNAVAILABLE  # else the file decides, also once it is back
+            return UNAVAILABLE  # otherwise the file decides, also once it is readable again
         return b""
 
     async def finish_move(self, request: Request) -> bytes:
-        """Finishes a move behind `enrol`, where a kill may have cut it; returns a refusal."""
+        """Finishes a move that a kill may have interrupted after `enrol`; returns a refusal."""
         name = request.words[1]
         answer = await self.service.ask_besides(request, b"expire", name)
         if answer != EXPIRED:
@@ -155,7 +156,7 @@ class Foreign:
             await self.file.note_moved(request.words[1])
 
     async def answer_of_file(self, request: Request, line: Line, answer: bytes) -> bytes:
-        """The answer to a request for a user whom the file has, and the book lacks."""
+        """The answer to a request for a user who is in the file, and not in the book."""
         word, name = request.words[:2]
         if request.operation.tries:
             return await self.judge(request, line)
@@ -180,7 +181,7 @@ class Foreign:
         return answer
 
     def answer_to_known(self, name: bytes, line: Line) -> bytes:
-        """The answer to `known`, and to a right password, of whom nothing shuts out."""
+        """The answer to `known`, and to a right password, for a user whom nothing bars."""
         return b"expired" if self.file.must_change(name, line) else b"yes"
 
     async def is_locked(self, name: bytes) -> bool:
@@ -197,7 +198,7 @@ class Foreign:
             return request.operation.wrong
         self.tries.forgive(name)
         is_login = not request.operation.changes
-        if is_login and not self.service.has_room():  # the user moves another day
+        if is_login and not self.service.has_room():  # the user moves at a later login
             return self.answer_to_known(name, line)
         if refusal := await self.move(request, line):
             return refusal
@@ -206,10 +207,10 @@ class Foreign:
         return answer
 
     async def move(self, request: Request, line: Line) -> bytes:
-        """Puts a user's record into the book, whose record then decides; returns a refusal.
+        """Writes a user's record to the book, whose record then decides; returns a refusal.
 
-        A password that must be changed is noted before, since a kill behind `enrol` would leave a
-        record without the mark: `finish_move` sees the note.
+        If the password must be changed, the call notes that first: a kill after `enrol` would leave
+        a record without the mark. `finish_move` reads the note.
         """
         name, field = request.words[1:3]
         if line.must_change(today()) and not await self.file.expire(name):
@@ -227,12 +228,13 @@ class Foreign:
 
 
 def password_of_nobody(field: bytes) -> bytes:
-    """A password in place of one that may be right; what is no password as it is."""
+    """A wrong password in place of one that may be right; a field that is no password stays."""
     return field if password_of(field) is None else base64.b64encode(os.urandom(24))
 
 
 def ends_record(word: bytes, row: bytes) -> bool:
-    """Whether an operation takes a row's record, or the lock of a row without one, from a name."""
+    """Whether an operation removes a row's record from a name, or the lock of a row without a
+    record."""
     if word == b"rename":
         return has_record(row) or row.startswith(LOCKED)
     if word == b"remove":
@@ -241,7 +243,7 @@ def ends_record(word: bytes, row: bytes) -> bool:
 
 
 def row_with_lock(row: bytes) -> bytes:
-    """A row with a lock, also where there was no record, or no account; a refusal as it is."""
+    """The row with a lock, also without a record or an account; other refusals stay."""
     if row in (NO_ACCOUNT, NO_RECORD):
         return LOCKED
     if row.startswith((b"bad ", LOCKED)) or row == UNAVAILABLE:
@@ -260,7 +262,7 @@ def with_locks(text: BinaryIO, names: Collection[bytes]) -> BinaryIO:
 
 
 def answer_to_barred(request: Request, answer: bytes) -> bytes:
-    """The answer in place of this one for a user whom the file bars."""
+    """The answer to a user whom the file bars, in place of this one."""
     if request.word == b"show":
         return row_with_lock(answer)
     if answer not in (b"yes", b"no", b"expired"):

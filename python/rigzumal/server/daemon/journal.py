@@ -17,19 +17,19 @@ from .appending import FAULT, SIZE, GrowingFile, private
 
 log = logging.getLogger("credkeep-server")
 SELDOM = 3600.0  # seconds
-MOST_KEYS = 65536  # of messages that were logged, as far as they are remembered
-logged_at = dict[Hashable, float]()  # when log_seldom logged what
+MOST_KEYS = 65536  # the most keys of logged messages to remember
+logged_at = dict[Hashable, float]()  # the times at which log_seldom logged each key
 MARKED = re.compile(rb"([!-~]+)(?: ([a-z]+))? \d{4}-\d\d-\d\dT\d\d:\d\d:\d\dZ")
 MOST_LINES = 4096  # of a journal, that wait for its disk
-UNDOES = {b"unlock": b"lock", b"renew": b"expire"}  # a mark of these takes one back
+UNDOES = {b"unlock": b"lock", b"renew": b"expire"}  # a mark of these ends another
 
 
 class Problem(Exception):
-    """The reason why the server can't start, in a user's words."""
+    """The reason why the server can't start, in words for its administrator."""
 
 
 def log_seldom(key: Hashable, text: str, *values: object) -> None:
-    """Logs messages of one key once an hour."""
+    """Logs the messages of one key once an hour."""
     now = time.monotonic()
     if now >= logged_at.get(key, -SELDOM) + SELDOM:
         logged_at.pop(key, None)
@@ -40,12 +40,12 @@ def log_seldom(key: Hashable, text: str, *values: object) -> None:
 
 
 def forget_message(key: Hashable) -> bool:
-    """Has the next message of a key logged at once; false if none was logged."""
+    """Makes `log_seldom` log a key's next message at once; false if none was logged."""
     return logged_at.pop(key, None) is not None
 
 
 def utc(seconds: Optional[float] = None) -> str:
-    """A moment, or this one, as RFC 3339 has it, to the second."""
+    """A moment, by default the present one, in RFC 3339's form, to the second."""
     return time.strftime("%Y-%m-%dT%H:%M:%SZ", time.gmtime(seconds))
 
 
@@ -60,21 +60,21 @@ def notify(text: str) -> None:
 
 
 class Journal(GrowingFile):
-    """A file of lines. Those that come while it is written are written together."""
+    """A file of lines. The lines that arrive during a write are written together in the next."""
 
     def __init__(self, path: str) -> None:
         super().__init__(path)
         self.lines = list[bytes]()  # those that wait
         self.one_at_a_time = asyncio.Lock()
         self.open_lines = 0  # those that wait, and those that are written now
-        self.lacking = 0  # lines that it never got
+        self.lacking = 0  # lines that were never written
 
     def is_full(self) -> bool:
-        """Whether so many lines wait for its disk that it accepts no more."""
+        """Whether so many lines wait for the disk that the journal accepts no more."""
         return len(self.lines) >= MOST_LINES
 
     def add(self, line: bytes) -> asyncio.Future[bool]:
-        """Appends a line with those that come meanwhile; returns whether it is on the disk."""
+        """Appends a line, with others that arrive meanwhile; returns whether it is on the disk."""
         if self.is_full():
             text = "%s: its disk hangs: %d lines wait, and the next ones are left out"
             log_seldom((self.path, "full"), text, self.path, MOST_LINES)
@@ -89,7 +89,7 @@ class Journal(GrowingFile):
         return self.written
 
     async def write(self) -> bool:
-        """Writes all lines that wait once it is free; false if that fails."""
+        """Writes all waiting lines once no other write runs; false if that fails."""
         async with self.one_at_a_time:
             lines = self.lines
             self.lines = []
@@ -122,7 +122,7 @@ class Writer:
         return self.process.poll() is not None
 
     async def append(self, text: bytes) -> None:
-        """Lets the process write a text to the disk, one at a time."""
+        """Lets the process write a text to the disk; texts are written one at a time."""
         loop = asyncio.get_running_loop()
         await loop.sock_sendall(self.socket, SIZE.pack(len(text)) + text)
         answer = await loop.sock_recv(self.socket, FAULT.size)

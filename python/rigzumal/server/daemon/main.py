@@ -19,7 +19,7 @@ from .service import Service
 from .tally import metrics
 
 NEWEST_OPTION = "--tries"  # of credkeep's serve
-HASHES = 3  # of no account, at the start: the quickest tells how long a hash takes
+HASHES = 3  # of unknown names at the start: the quickest one measures a hash
 UNWATCHED_SECONDS = 30.0  # between two looks at the book, if systemd asks for no watchdog
 # After a signal to end: until a client that reads no answers is closed, until the lines that have
 # no answer are dropped, and until the book is killed.
@@ -31,7 +31,7 @@ KILLED_SECONDS = 1.0  # until a killed book is gone, unless a disk holds it up
 
 def main() -> int:
     logging.basicConfig(format="credkeep-server: %(message)s", level=logging.INFO)
-    logging.getLogger("asyncio").disabled = True  # what it says may quote a line
+    logging.getLogger("asyncio").disabled = True  # its text may quote a line
     os.umask(0o177)
     signal.signal(signal.SIGHUP, signal.SIG_IGN)
     resource.setrlimit(resource.RLIMIT_CORE, (0, 0))
@@ -92,8 +92,8 @@ def log_fault(_loop: asyncio.AbstractEventLoop, context: dict[str, Any]) -> None
 
 
 async def serve_clients(service: Service) -> None:
-    """Lets clients in once the book answers, and looks after them until it is cancelled."""
-    await asyncio.shield(service.book.ask(b"show", b"-"))  # an answer that nobody cancels
+    """Lets clients in once the book answers, and serves them until it is cancelled."""
+    await asyncio.shield(service.book.ask(b"show", b"-"))  # so that nobody cancels this answer
     await take_in(service)
     service.transfers.remove_copy()
     for door in service.options.doors:
@@ -112,8 +112,8 @@ async def serve_clients(service: Service) -> None:
 
 
 async def notify_once_answered(book: Book, beat: float) -> None:
-    """Tells systemd that the server is alive, in each beat in which the book answers or an import
-    has its file."""
+    """Tells systemd in each beat that the server is alive: the book answers, or an import has its
+    file."""
     answer = book.ask(b"show", b"-")
     while not answer.done():
         await asyncio.wait([answer], timeout=beat)
@@ -129,7 +129,7 @@ def beat_seconds() -> float:
 
 
 def end_idle_clients(service: Service, idle: float) -> None:
-    """Closes clients that for so many seconds neither sent a line nor read their answers."""
+    """Closes clients that neither sent a line nor read their answers for this many seconds."""
     for client in list(service.clients):
         is_waiting = client.running and not client.writing.locked()
         if client.active < time.monotonic() - idle and not is_waiting:
@@ -137,7 +137,8 @@ def end_idle_clients(service: Service, idle: float) -> None:
 
 
 async def end(service: Service) -> int:
-    """Ends the clients, each once it has its answers, then the book; returns its status."""
+    """Ends the clients, each once it has its answers, and then the book; returns the book's
+    status."""
     began = time.monotonic()
     notify("STOPPING=1")
     for task in service.accepting:
@@ -155,7 +156,7 @@ async def end(service: Service) -> int:
 
 
 async def wait_for_answers(service: Service, began: float) -> None:
-    """Waits until each client has its answers and has gone, up to the limit."""
+    """Waits until each client has its answers and is closed, up to the limit."""
     seconds = 0.0
     while (service.clients or service.tasks) and seconds <= LINES_SECONDS:
         await asyncio.sleep(0.01)
@@ -168,7 +169,7 @@ async def wait_for_answers(service: Service, began: float) -> None:
 
 
 async def end_book(book: Book, seconds: float) -> int:
-    """Ends the book in order, or kills it if that takes longer; returns its status."""
+    """Lets the book end in order, or kills it after this many seconds; returns its status."""
     book.end()
     await asyncio.wait([book.ended], timeout=seconds)
     if not book.ended.done():

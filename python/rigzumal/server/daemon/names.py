@@ -1,4 +1,4 @@
-"""Names as a client types them, and as the book has them."""
+"""Names: the form that a client types, and the form in the book."""
 
 import base64
 import hashlib
@@ -9,7 +9,7 @@ from .options import Options
 LONGEST_ADDRESS = 254  # bytes
 OF_AN_ADDRESS = re.compile(rb"e\.[a-z2-7]{30}")  # the form of its name in the book
 NOT_IN_ADDRESSES = re.compile(rb"[\0-\x20\x7f]")
-NO_NAME = b"@"  # which no book can have
+NO_NAME = b"@"  # a name that no book can have
 
 
 class Names:
@@ -20,7 +20,7 @@ class Names:
         self.folds_local_part = options.fold_local_part
 
     def of_book(self, name: bytes) -> bytes:
-        """The name by which the book has an account; NO_NAME for a name that is refused."""
+        """The name of an account in the book; NO_NAME for a refused name."""
         if not self.has_addresses:
             return name
         if OF_AN_ADDRESS.fullmatch(name):
@@ -34,7 +34,7 @@ class Names:
         return b"e." + base64.b32encode(digest)[:30].lower()
 
     def spelling(self, name: bytes) -> bytes:
-        """The one spelling of an address that may be typed in several; other names as they are."""
+        """The one spelling of an address that users may type in several; other names stay."""
         local, at, domain = name.rpartition(b"@")
         if not self.has_addresses or not at:
             return name

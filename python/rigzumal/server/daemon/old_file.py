@@ -1,4 +1,5 @@
-"""An htpasswd file, which the server never writes, and beside it HTPASSWD.moved, which it does."""
+"""An htpasswd file, which the server never writes, and HTPASSWD.moved, which it writes beside the
+file."""
 
 import asyncio
 import re
@@ -11,34 +12,34 @@ from .journal import Marks, log, log_seldom
 from .names import Names
 from .schemes import why_unknown
 
-STILL_SECONDS = 0.1  # for which a file that is read doesn't change
-MOST_LOOKS = 20  # until it is read all the same
+STILL_SECONDS = 0.1  # seconds for which a file must not change before it is read
+MOST_LOOKS = 20  # looks at a changing file until it is read all the same
 MOST_TOLD = 20  # names in a line of the log
 MUST_CHANGE = b"expire"  # the mark in HTPASSWD.moved of who must change before they move
 
 
 class OldFile:
-    """The file, read again once it has changed. HTPASSWD.moved names the users who have left it,
-    and of the others those who must change the password."""
+    """The file, which is read again once it has changed. HTPASSWD.moved names the users who have
+    left the file, and other users who must change the password."""
 
     def __init__(self, path: str, names: Names) -> None:
         self.path = path
         self.names = names
         self.version: tuple[int, ...] = ()
-        self.lines = dict[bytes, Line]()  # none while the file can't be read
-        self.last_lines = self.lines  # as they were when it could be, for those whom it bars
+        self.lines = dict[bytes, Line]()  # empty while the file can't be read
+        self.last_lines = self.lines  # the last ones that were read, for the users whom they bar
         self.reading = asyncio.Lock()
         self.moved = Marks(f"{path}.moved")
         self.moved.append(b"")
         self.read()
 
     def read(self) -> None:
-        """Reads the file, and logs who can't move."""
+        """Reads the file, and logs the users who can't move."""
         version = version_at_rest(self.path)
         lines, stuck = dict[bytes, Line](), list[str]()
         for user, record, *others in users_in(self.path):
             name, line = self.names.of_book(user), Line(record, tuple(others))
-            if name in lines:  # of two lines of a name the first decides
+            if name in lines:  # of two lines with one name the first decides
                 continue
             lines[name] = line
             if record and not self.has_moved(name) and (why := why_stuck(name, line)):
@@ -53,7 +54,8 @@ class OldFile:
             log.warning(text, self.path, len(stuck), len(lines), users, dots)
 
     async def refresh(self) -> None:
-        """Reads the file again if it has changed; without it the book decides, but on its bars."""
+        """Reads the file again if it has changed. If it is gone, the book decides about everything
+        but its bars."""
         async with self.reading:
             try:
                 if version_of(self.path) != self.version:
@@ -64,7 +66,7 @@ class OldFile:
                 self.version = ()
 
     async def line(self, name: bytes) -> Line:
-        """The file's line of a name that hasn't moved, or one without a record."""
+        """The file's line of a name that hasn't moved; otherwise a line without a record."""
         await self.refresh()
         return Line() if self.has_moved(name) else self.lines.get(name, Line())
 
@@ -95,18 +97,19 @@ class OldFile:
         return self.is_expired(name) or await self.moved.put(name, MUST_CHANGE)
 
     def must_change(self, name: bytes, line: Line) -> bool:
-        """Whether the right password of a name's line must be changed."""
+        """Whether the user of a name's line must change a right password."""
         return line.must_change(today()) or self.is_expired(name)
 
 
 def version_of(path: str) -> tuple[int, ...]:
-    """The marks of a file, which differ once it has been written or replaced."""
+    """The metadata of a file, which change with each write or replacement."""
     status = status_of(path)
     return status.st_ino, status.st_size, status.st_mtime_ns, status.st_ctime_ns
 
 
 def version_at_rest(path: str) -> tuple[int, ...]:
-    """The version of a file that no longer changes: htpasswd empties it, and writes it again."""
+    """The version of a file once it no longer changes: htpasswd empties the file, and then writes
+    it."""
     version = version_of(path)
     for _ in range(MOST_LOOKS):
         time.sleep(STILL_SECONDS)
@@ -124,12 +127,12 @@ def users_in(path: str) -> list[list[bytes]]:
 
 
 def printable(name: bytes) -> str:
-    """A name as the log may have it."""
+    """A name in a form that is safe in the log."""
     return re.sub(rb"[^!-~]", b"?", name).decode()
 
 
 def why_stuck(name: bytes, line: Line) -> str:
-    """The reason why a user can't move; empty if they can."""
+    """The reason why a user can't move; empty if the user can."""
     if not NAME.fullmatch(name):
         return "no name of a book"
     return why_unknown(line.record) or line.why_shut(today())

@@ -27,7 +27,7 @@ def number(word: str, most: int) -> int:
 
 
 def option(text: str, metavar: str = "", default: object = "", most: int = 10**9 - 1) -> Any:
-    """A field of Options that the command line sets; without a value it is a flag."""
+    """A field of Options that the command line sets; an option without a value is a flag."""
     if not metavar:
         return field(default=False, metadata={"help": text, "action": "store_true"})
     text += f" ({default})" if default != "" else ""
@@ -40,7 +40,7 @@ LINE = f"a line's record may need; {TIMES} times --setting's if not given"
 
 @dataclass
 class Options:
-    """The values of the command line, or else these."""
+    """The values of the command line, with these defaults."""
 
     file: str = ""
     doors: list[Door] = field(default_factory=list)
@@ -65,14 +65,14 @@ class Options:
     fold_local_part: bool = option("fold the part before the @ too")
 
     def bound(self) -> None:
-        """Bounds a line's costs where no option does: a costly record holds up everybody."""
+        """Bounds a line's costs if no option does: a costly record holds up everybody."""
         costs = costs_of(self.setting or USUAL)
         if costs:  # credkeep refuses what is no setting
             self.most_memory = self.most_memory or size_of(TIMES * costs.memory)
             self.most_work = self.most_work or size_of(TIMES * costs.work)
 
     def workers(self) -> int:
-        """The lines that the book hashes at once: one more, for another user."""
+        """The number of lines that the book hashes at once: with one more, for another user."""
         return 1 + min(self.at_once or len(os.sched_getaffinity(0)), MOST_AT_ONCE)
 
     def book_words(self) -> list[str]:

@@ -1,4 +1,4 @@
-"""The records of an htpasswd file, judged as nginx judges them."""
+"""Judges the records of an htpasswd file as nginx judges them."""
 
 import ctypes.util
 import hashlib
@@ -11,7 +11,7 @@ from passlib.hash import apr_md5_crypt
 from .book import password_of
 
 CRYPT_DATA = 131232  # bytes of crypt_r's own in the oldest libraries, which need most
-BCRYPT, LONGEST_BCRYPT = (b"$2a$", b"$2b$", b"$2y$"), 72  # bytes: it ignores all behind
+BCRYPT, LONGEST_BCRYPT = (b"$2a$", b"$2b$", b"$2y$"), 72  # bytes: crypt ignores all behind
 # Without DES, to which the first eight letters of a password are all of it.
 CRYPT = (*BCRYPT, b"$1$", b"$5$", b"$6$", b"$7$", b"$gy$", b"$y$")
 APACHE = b"$apr1$"

@@ -28,12 +28,12 @@ if TYPE_CHECKING:
 
 DENIED = b"denied"
 SHORT = b"short"
-# The answers to `known`, by what a row begins with.
+# The answers to `known`, by the beginning of a row.
 KNOWN = {b"$": b"yes", LOCKED: b"absent", MUST_CHANGE: b"expired"}
 KNOWN |= {NO_RECORD: b"absent", NO_ACCOUNT: b"noaccount"}
 TURNS = 8  # places for lines that are taken in a pass of the loop
 LOOKS, CHANGES = 16, 128  # places for lines that change nothing, and for quick changes
-SYNC_SECONDS = 0.01  # that a change waits for the disk, more or less
+SYNC_SECONDS = 0.01  # about how long a change waits for the disk
 REFUSALS = (b"noaccount", b"bad ", LATER)  # change nothing; a name may be a password
 MOST_LOGINS_TIMED = 16
 
@@ -77,17 +77,17 @@ class Service:
         self.hashes = Places(options.workers())
         self.changes = Places(CHANGES)
         self.looks = Places(LOOKS)
-        self.logins = 0  # that the book is asked for
+        self.logins = 0  # the logins that wait for the book's answer
         self.rounds = Rounds(self.book, lambda: self.logins > 0)
-        self.hash_seconds = 1.0  # what a hash takes if nothing else waits
-        self.login_seconds = deque[float](maxlen=MOST_LOGINS_TIMED)  # what the last logins took
+        self.hash_seconds = 1.0  # the time of a hash if nothing else waits
+        self.login_seconds = deque[float](maxlen=MOST_LOGINS_TIMED)  # the times of the last logins
         self.timing: Optional[asyncio.Future[Any]] = None  # the hashes of the start
         self.clients = dict[Client, asyncio.Task[None]]()
         self.accepting = list[asyncio.Task[None]]()  # a task for each door
         self.tasks = set[asyncio.Task[None]]()  # a task for each request
         self.audit = AuditLog(options.audit)
         if options.audit:
-            self.audit.append(b"")  # which fails now if it can't be written
+            self.audit.append(b"")  # opened now, so that the start fails if it can't be written
         self.upgrading = asyncio.Lock()
         self.transfers = Transfers(self)
         self.answer = self.ask  # or an old file's, where the book lacks the name
@@ -101,7 +101,7 @@ class Service:
     # ---- a request comes
 
     def submit(self, client: Client, tag: bytes, words: list[bytes]) -> bytes:
-        """Begins to process a request, or returns the answer that the server itself has."""
+        """Begins to process a request, or returns the server's own answer."""
         while len(words) < 2:  # an operation, and one field at least
             words.append(b"")
         if what := why_denied(client.door, words):
@@ -118,7 +118,7 @@ class Service:
         return b""
 
     def begin(self, answering: Coroutine[Any, Any, None]) -> None:
-        """Begins a task, for whose end the server's own waits."""
+        """Begins a task; the server's own end waits for the task's."""
         task = asyncio.ensure_future(answering)
         self.tasks.add(task)
         task.add_done_callback(self.tasks.discard)
@@ -129,13 +129,13 @@ class Service:
         log_seldom(values, "denied at %s to uid %d: %s", *values)
 
     def with_names_of_book(self, words: list[bytes]) -> list[bytes]:
-        """The words of a request, with its names as the book has them."""
+        """The words of a request, with its names in the book's form."""
         word, *fields = words
         count = OPERATIONS[word].names
         return [word, *map(self.names.of_book, fields[:count]), *fields[count:]]
 
     def own_answer(self, words: list[bytes]) -> bytes:
-        """The server's answer to a request for which the book needn't be asked, or nothing."""
+        """The server's own answer to a request that needs no answer of the book, or nothing."""
         operation = OPERATIONS[words[0]]
         if len(b" ".join(words)) + 1 > LONGEST:  # with names that became longer
             return LONG
@@ -146,7 +146,8 @@ class Service:
         return b""
 
     def answer_to_new_password(self, field: bytes) -> bytes:
-        """The answer to one that is refused; empty for others, and for what is no password."""
+        """The answer to a refused new password; empty for others, and for a field that is no
+        password."""
         password = password_of(field)
         if password is None:  # which the book refuses
             return b""
@@ -163,8 +164,8 @@ class Service:
     # ---- it is answered
 
     async def process(self, request: Request) -> None:
-        """Answers a request, and notes the answer: that of a change before the client gets it, and
-        that of a login afterwards, so that a slow disk holds up no login."""
+        """Answers a request, and notes the answer in the audit log. A change is noted before the
+        client gets the answer, and a login afterwards, so that a slow disk holds up no login."""
         client, operation = request.client, request.operation
         answer = await self.answer_in_turn(request)
         if seconds := seconds_to_wait(answer):
@@ -173,10 +174,10 @@ class Service:
         noted = b"disabled" if operation.changes and b":" in answer else answer
         self.tally.count(operation, request.name, noted.decode(), seconds)
         if seconds:
-            # After the time of a hash: names that the book lacks take that too.
+            # After the time of a hash: the answer to a name that the book lacks takes as long.
             await asyncio.sleep(random.choice(self.login_seconds or [self.hash_seconds]))
         if operation.changes and not await self.note(request, noted):
-            answer = UNAVAILABLE  # nobody says that a change was made that isn't noted
+            answer = UNAVAILABLE  # no answer reports a change that isn't noted
         await client.reply(request.tag, answer, seconds)
         client.running -= 1
         client.answered.set()
@@ -186,8 +187,8 @@ class Service:
             await self.upgrade(request)
 
     async def answer_in_turn(self, request: Request) -> bytes:
-        """The answer to a request, once it has a place; nothing for one that changes nothing, and
-        whose client has gone by then."""
+        """The answer to a request, once it has a place; nothing if it changes nothing, and its
+        client has ended by then."""
         client, came = request.client, time.monotonic()
         async with client.queues[request.places]:  # one of its requests waits at a time
             await request.places.take(client.user)
@@ -200,8 +201,8 @@ class Service:
             request.places.release(client.user)
 
     async def answer_if_room(self, request: Request) -> bytes:
-        """The answer to a request. A change isn't tried if it finds no room, or if so many lines
-        wait for the audit log that it can't be noted."""
+        """The answer to a request. The server doesn't try a change without room on the disks, or if
+        so many lines wait for the audit log that it can't note the change."""
         if request.operation.changes and self.audit.is_full():
             return UNAVAILABLE
         if request.operation.changes and not self.has_room():
@@ -209,8 +210,8 @@ class Service:
         return await self.answer(request)
 
     def has_room(self) -> bool:
-        """Whether the disks have room for a change: one that finds none ends the book, or is stored
-        and not noted."""
+        """Whether the disks have room for a change: without room a change would end the book, or be
+        stored and not noted."""
         full = [path for path, folder in self.folders.items() if not has_room(folder)]
         for path in full:
             text = "%s: its disk has under %d KiB left, so the book isn't changed"
@@ -234,8 +235,8 @@ class Service:
         return await self.book.ask(*request.words)
 
     async def log_in(self, *words: bytes) -> bytes:
-        """The answer to a login. The quickest one that the book lacks tells the time of a hash of
-        the costs of new records."""
+        """The answer to a login. The quickest login with a name that the book lacks measures the
+        time of a hash at the costs of new records."""
         began = time.monotonic()
         self.logins += 1
         answer = await self.book.ask(*words)
@@ -250,13 +251,13 @@ class Service:
         return answer
 
     async def ask_besides(self, request: Request, *words: bytes) -> bytes:
-        """The book's answer to a further line of a request, which is audited too."""
+        """The book's answer to a further line of a request; the audit log gets the line too."""
         answer = await self.book.ask(*words)
         await self.note(replace(request, words=list(words)), answer)
         return answer
 
     async def upgrade(self, request: Request) -> None:
-        """Upgrades a record of other costs, after its password was right; one at a time."""
+        """Upgrades a record of other costs after a right password; upgrades run one at a time."""
         if self.upgrading.locked() or not self.has_room():
             return
         async with self.upgrading:
@@ -270,7 +271,7 @@ class Service:
     # ---- the audit log
 
     async def note(self, request: Request, answer: bytes) -> bool:
-        """Adds an answered change or a right password to the audit log; false if it can't."""
+        """Adds an answered change, or a right password, to the audit log; false if that fails."""
         if not self.audit.path or not self.is_noted(request, answer):
             return True
         client, (word, *fields) = request.client, request.words
@@ -283,7 +284,7 @@ class Service:
         return await self.audit.add(json.dumps(entry).encode())
 
     def is_noted(self, request: Request, answer: bytes) -> bool:
-        """Whether the audit log has such an answer."""
+        """Whether the audit log gets such an answer."""
         operation = request.operation
         if operation.is_transfer:
             return True
@@ -304,7 +305,7 @@ def answer_to_known(row: bytes) -> bytes:
 
 
 def why_denied(door: Door, words: list[bytes]) -> str:
-    """The part of a request that its socket doesn't allow, as the log names it; empty if none."""
+    """The part of a request that its socket doesn't allow, in words for the log; empty if none."""
     word = words[0]
     if word not in OPERATIONS:
         return "an unknown operation"

@@ -15,7 +15,7 @@ from .options import Options, folder_of
 from .protocol import ANSWERS, NO_ANSWER, RIGHT, Operation
 
 Note = TypeVar("Note")
-EXPIRED = "expired"  # what `expire` is answered, and a right password that must be changed
+EXPIRED = "expired"  # the answer to `expire`, and to a right password that must be changed
 FORGIVEN = "forgiven"
 REMEMBERED = 65536  # names
 MOST_SHOWN, LONGEST_STATS = 1000, 4096  # names in an answer, letters of one
@@ -58,18 +58,18 @@ COUNTED = [*(count for metric in METRICS for count in metric.counts), "book"]  #
 
 @dataclass(frozen=True)
 class Wait:
-    """What a try that was too early was told: the seconds that were left at this moment."""
+    """The wait that a try was answered: its seconds, and the moment of that answer."""
 
     seconds: int
     told: float
 
     def rest(self) -> int:
-        """How many of them are left now."""
+        """The seconds that are left now."""
         return max(0, math.ceil(self.seconds - (time.monotonic() - self.told)))
 
 
 def remember(notes: "OrderedDict[str, Note]", name: str, note: Note) -> None:
-    """Notes the last thing of a name, and forgets the oldest of too many names."""
+    """Stores a name's last note, and forgets the oldest names if there are too many."""
     notes[name] = note
     notes.move_to_end(name)
     if len(notes) > REMEMBERED:
@@ -80,15 +80,15 @@ class Tally:
     """The answers of a server since its start, counted."""
 
     def __init__(self, options: Options) -> None:
-        self.tries = options.tries  # that may fail until the next has to wait
+        self.tries = options.tries  # tries that may fail until the next has to wait
         self.book, self.doors = folder_of(options.file).name, options.doors
         self.counts, self.waited = Counter[str](), 0.0
         self.logins = OrderedDict[str, float]()
-        self.early = OrderedDict[str, Wait]()  # the last wait that was told at each name
+        self.early = OrderedDict[str, Wait]()  # the last wait of each name that a try was answered
 
     def count(self, kind: Operation, name: str, answer: str, seconds: int = 0) -> None:
-        """Counts an answer to a request for a name, which may have to wait for so many seconds;
-        and logs what the answer tells of a wait."""
+        """Counts an answer to a request for a name, with the seconds of its wait; and logs the
+        wait."""
         if answer == LATER.decode():
             self.counts["later"] += 1
             remember(self.early, name, Wait(seconds, time.monotonic()))
@@ -114,14 +114,14 @@ class Tally:
                 remember(self.logins, name, time.time())
 
     def end_wait(self, name: str, why: str) -> None:
-        """Notes that a name has to wait no more, and logs it if its wait was logged."""
+        """Notes that a name's wait has ended, and logs the end if the wait was logged."""
         self.early.pop(name, None)
         if forget_message((LATER, name)):
             log.info("%s has to wait no more: %s", name, why)
 
     def waits(self) -> list[str]:
-        """The names whose last try was told to wait, for longer than until now, and that weren't
-        forgiven since; each as NAME:SECONDS, with the rest."""
+        """The names with a try that was too early, a wait that isn't over, and no login or
+        `forgive` since: each as NAME:SECONDS, with the seconds that are left."""
         early = self.early.items()
         return [f"{name}:{rest}" for name, wait in early if (rest := wait.rest())]
 

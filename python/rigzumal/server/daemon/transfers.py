@@ -1,8 +1,8 @@
 """Whole books through a socket: an import, an export and a backup.
 
 credkeep does each of them. An import needs the book's file: the book's process ends in order, lines
-wait, and the next process starts behind the import. An export, a backup and an import that is only
-tried are of a copy, which credkeep makes beside the file while the book is served.
+wait, and the next process starts after the import. An export, a backup and a trial of an import use
+a copy, which credkeep writes beside the file while the book is served.
 """
 
 from __future__ import annotations
@@ -26,7 +26,7 @@ from .protocol import IMPORT_OPTIONS, LONGEST_TEXT, ONLY_TRIED
 if TYPE_CHECKING:
     from .service import Request, Service
 
-LONGEST_FAULTS = 1 << 20  # bytes that are kept of what credkeep writes on standard error
+LONGEST_FAULTS = 1 << 20  # kept bytes of credkeep's standard error
 PIECE = 65536  # bytes that are read or sent at a time
 # The room that an import may need, times its text: the file grows, and its log before.
 ROOM_FOR_TEXT = 4
@@ -37,7 +37,7 @@ KILLED_FIRST = "1000"  # of proc(5), oom_score_adj
 
 
 def memory_file() -> BinaryIO:
-    """A file without a name, which no disk that hangs holds up."""
+    """A file in memory, without a name: no hanging disk holds it up."""
     return open(os.memfd_create("credkeep-server"), "w+b")
 
 
@@ -56,7 +56,7 @@ class Result:
     faults: bytes = b""
 
     def answer(self, tag: bytes) -> Iterator[bytes]:
-        """The answer, in pieces: a line that has the sizes of both texts, and then these."""
+        """The answer, in pieces: a line with the sizes of both texts, and then the texts."""
         left = self.output.seek(0, os.SEEK_END)
         yield b"%b ended %d %d %d\n" % (tag, self.status, left, len(self.faults))
         self.output.seek(0)
@@ -72,7 +72,7 @@ class Result:
 
 
 class Incoming:
-    """The text of an import, as far as it has come."""
+    """The text of an import, as far as it has arrived."""
 
     def __init__(self, request: Request, size: int) -> None:
         self.request = request
@@ -80,7 +80,7 @@ class Incoming:
         self.text = memory_file()
 
     def take(self, data: bytes) -> bytes:
-        """Keeps the bytes of the text, and returns those behind it."""
+        """Stores the bytes of the text, and returns the bytes behind the text."""
         own, rest = data[: self.missing], data[self.missing :]
         self.text.write(own)
         self.missing -= len(own)
@@ -94,14 +94,14 @@ class Transfers:
         self.service = service
         self.file = service.options.file
         self.copy = f"{self.file}-transfer"
-        self.has_import = False  # one, whose text comes, or which waits or runs
+        self.has_import = False  # an import whose text arrives, or that waits or runs
         self.one_at_a_time = asyncio.Lock()
         self.running: Optional[asyncio.subprocess.Process] = None
 
     # ---- what a client asks for
 
     def submit(self, request: Request) -> bytes:
-        """Begins a request, or returns the answer."""
+        """Begins a request, or returns its answer."""
         word, *fields = request.words
         if self.service.audit.is_full():
             return UNAVAILABLE
@@ -115,7 +115,7 @@ class Transfers:
         return b""
 
     def submit_import(self, request: Request, fields: list[bytes]) -> bytes:
-        """Asks the client for the text, by the answer `send`; or returns another answer."""
+        """Asks the client for the text by the answer `send`, or returns another answer."""
         size, *options = fields
         are_known = all(option.decode(errors="replace") in IMPORT_OPTIONS for option in options)
         if not re.fullmatch(rb"[0-9]{1,12}", size) or not are_known:
@@ -134,31 +134,32 @@ class Transfers:
         return b"send %d" % int(size)
 
     def has_room(self, size: int) -> bool:
-        """Whether the disks have room for a change, and the book's for so many bytes more."""
+        """Whether the disks have room for a change, and the book's disk for this many bytes
+        more."""
         folder = self.service.folders[self.file]
         return self.service.has_room() and has_room(folder, size + NEEDED)
 
     def drop(self, incoming: Incoming) -> None:
-        """Forgets a text that didn't come to its end."""
+        """Drops a text that didn't arrive to its end."""
         incoming.text.close()
         self.has_import = False
 
     def begin(self, request: Request, text: Optional[BinaryIO]) -> None:
-        """Begins a request; an import goes on if its client has gone."""
+        """Begins a request; an import goes on even if its client ends."""
         request.client.running += 1
         self.service.begin(self.process(request, text))
 
     # ---- it is done
 
     async def process(self, request: Request, text: Optional[BinaryIO]) -> None:
-        """Does a request, and answers it. A fault costs this request, and never the service."""
+        """Runs and answers a request. A fault costs this request, and never the service."""
         client = request.client
         try:
             result = await self.result(request, text)
             if await self.is_noted(request, result):
                 await client.write(result.answer(request.tag))
             else:
-                await client.reply(request.tag, UNAVAILABLE)  # nobody says what isn't noted
+                await client.reply(request.tag, UNAVAILABLE)  # no answer reports what isn't noted
         except Exception as fault:
             log.error("%s: a fault: %s", request.word.decode(), type(fault).__name__)
             await client.reply(request.tag, UNAVAILABLE)
@@ -174,7 +175,7 @@ class Transfers:
         return await self.service.note(request, result.first_line() if is_import else b"ok")
 
     async def result(self, request: Request, text: Optional[BinaryIO]) -> Result:
-        """The result of a request, which waits until no other credkeep runs."""
+        """The result of a request, which runs once no other credkeep runs."""
         try:
             async with self.one_at_a_time:
                 if self.service.book.has_ended():
@@ -191,7 +192,7 @@ class Transfers:
                 self.has_import = False
 
     async def import_text(self, request: Request, text: Optional[BinaryIO]) -> Result:
-        """Imports into the book, whose lines wait meanwhile."""
+        """Imports the text into the book, whose lines wait meanwhile."""
         words = self.import_words(request)
         text = await self.with_names_of_book(text)
         async with self.service.book.lent() as status:
@@ -204,7 +205,7 @@ class Transfers:
         return result
 
     async def use_copy(self, request: Request, text: Optional[BinaryIO]) -> Result:
-        """Does a request on a copy, while the book is served."""
+        """Runs a request on a copy, while the book is served."""
         try:
             backup = await self.run(self.file, "backup", self.copy)
             if backup.status:
@@ -219,14 +220,14 @@ class Transfers:
             self.remove_copy()
 
     async def export_copy(self) -> Result:
-        """The lines of the copy, with a lock at those whom an old file bars."""
+        """The lines of the copy, with a lock at users whom an old file bars."""
         result = await self.run(self.copy, "export")
         if self.service.foreign:
             result.output = await self.service.foreign.with_locks(result.output)
         return result
 
     def remove_copy(self) -> None:
-        """Removes the copy, or what a kill left of it."""
+        """Removes the copy, or the rest of one that a kill left."""
         for path in (self.copy, f"{self.copy}-wal", f"{self.copy}-new"):
             try:
                 os.unlink(path)
@@ -238,7 +239,7 @@ class Transfers:
     # ---- credkeep
 
     def import_words(self, request: Request) -> list[str]:
-        """The words of credkeep's import: no record may need more than one in a line may."""
+        """The words of credkeep's import, with the bounds on a record's costs that lines have."""
         options = self.service.options
         words = ["import", *(option.decode() for option in request.words[2:])]
         if options.most_memory:
@@ -248,7 +249,7 @@ class Transfers:
         return words
 
     async def with_names_of_book(self, text: Optional[BinaryIO]) -> Optional[BinaryIO]:
-        """The text of an import, with its addresses as the book has them."""
+        """The text of an import, with its addresses in the book's form."""
         if text is None or not self.service.options.mail_names:
             return text
         return await asyncio.to_thread(with_names_of_book, text, self.service.names)
@@ -277,7 +278,7 @@ class Transfers:
         return result
 
     def kill(self) -> None:
-        """Kills the credkeep that runs: an import that is killed has done all, or nothing."""
+        """Kills the running credkeep: a killed import has imported all lines, or none."""
         if self.running is not None and self.running.returncode is None:
             with suppress(ProcessLookupError):
                 os.kill(self.running.pid, signal.SIGKILL)
@@ -288,13 +289,13 @@ def is_only_tried(request: Request) -> bool:
 
 
 def have_killed_first(pid: int) -> None:
-    """Has the system kill a process before the server, where memory runs out."""
+    """Makes the system kill this process before the server when memory runs out."""
     with suppress(OSError), open(f"/proc/{pid}/oom_score_adj", "w") as file:
         file.write(KILLED_FIRST)
 
 
 async def beginning_of(stream: asyncio.StreamReader) -> bytes:
-    """The whole lines at the beginning of a stream, which is read to its end."""
+    """The whole lines at the beginning of a stream; the stream is read to its end."""
     text, left_out = b"", 0
     while more := await stream.read(PIECE):
         if len(text) < LONGEST_FAULTS:
@@ -309,7 +310,7 @@ async def beginning_of(stream: asyncio.StreamReader) -> bytes:
 
 
 def with_names_of_book(text: BinaryIO, names: Names) -> BinaryIO:
-    """The lines of an import, with the addresses before their first colons as a book has them."""
+    """The lines of an import; the addresses before their first colons are in the book's form."""
     written = memory_file()
     text.seek(0)
     for line in text:

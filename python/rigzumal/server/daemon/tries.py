@@ -1,7 +1,6 @@
-"""Failed tries at users of an old file, whom the book lacks: it counts those at its own accounts.
-
-The rules are the book's. Requests for such a user go one at a time, so no try is judged beside
-another at the same name.
+"""Failed tries at users of an old file who aren't in the book: the book counts those at its own
+accounts. The rules are the book's. Requests for such a user run one at a time, so no two tries at
+one name are judged at once.
 """
 
 import math
@@ -11,7 +10,7 @@ from dataclasses import dataclass
 from .book import LONGEST_WAIT
 
 FORGOTTEN = 86400.0  # seconds
-COUNTED_BEYOND = 10  # the limit, by which the wait is the longest
+COUNTED_BEYOND = 10  # the limit at which the wait is longest
 
 
 @dataclass(frozen=True)
@@ -30,12 +29,12 @@ class Tries:
         self.failed = dict[bytes, Failed]()
 
     def count(self, name: bytes) -> int:
-        """The number of failures in a row, which a day without another ends."""
+        """The number of failures in a row; a day without a failure ends the row."""
         failed = self.failed.get(name)
         return failed.count if failed and time.monotonic() < failed.last + FORGOTTEN else 0
 
     def rest(self, name: bytes) -> int:
-        """For how many seconds more the next try has to wait."""
+        """The seconds that the next try still has to wait."""
         count = self.count(name)
         if count < self.limit:
             return 0

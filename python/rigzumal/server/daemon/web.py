@@ -1,4 +1,5 @@
-"""HTTP for nginx's auth_request and its like: Basic comes in, and a status goes out."""
+"""HTTP for nginx's auth_request and similar clients: reads Basic credentials, and sends a
+status."""
 
 import base64
 import re
@@ -18,11 +19,12 @@ METHODS = (b"GET", b"HEAD")
 LONGEST_HEAD = 8192  # bytes
 BASIC = re.compile(rb"basic +([A-Za-z0-9+/]+={0,2})", re.I)
 NAME = re.compile(rb"[!-~\x80-\xff]+")
-TAG = b"1"  # of each request: one is answered at a time
+TAG = b"1"  # of each request: the server answers one at a time
 
 
 def credentials(headers: Sequence[tuple[bytes, bytes]]) -> Optional[tuple[bytes, bytes]]:
-    """The name in a request's one Authorization, and the password as a line has it: RFC 7617."""
+    """The name in a request's only Authorization (RFC 7617), and the password in the form of a
+    line's field."""
     values = [value for name, value in headers if name == b"authorization"]
     found = BASIC.fullmatch(values[0]) if len(values) == 1 else None
     if found is None:
@@ -69,7 +71,7 @@ class WebClient(Client):
             await self.respond(fault.error_status_hint)
 
     async def answer_requests(self) -> None:
-        """Answers those that have come."""
+        """Answers the requests that have arrived."""
         while not self.is_ending:
             request = self.http.next_event()
             if not isinstance(request, h11.Request):
@@ -101,7 +103,7 @@ class WebClient(Client):
         await self.respond(meaning.http, seconds)
 
     async def respond(self, status: int, seconds: int = 0) -> None:
-        """Sends a status, and goes on with the next request if there may be one."""
+        """Sends a status, and prepares for the next request if the connection allows one."""
         headers: list[tuple[str, Any]] = [("Content-Length", "0"), *HEADERS.get(status, ())]
         if status == 200:
             headers.append(("Remote-User", self.service.names.spelling(self.name)))

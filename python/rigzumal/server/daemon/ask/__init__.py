@@ -1,4 +1,4 @@
-"""credkeep-ask(1): credkeep's words, with passwords that are asked for at the terminal, unseen.
+"""credkeep-ask(1): credkeep's commands; the program asks for passwords at the terminal, unseen.
 
 Like all of `daemon` it imports nothing of the rest of rigzumal, so that bin/credkeep-ask can run it
 alone.

@@ -31,7 +31,7 @@ COMMANDS |= {
 OPTIONS = {"show": ("--record",), "import": IMPORT_OPTIONS}
 # The marks of an account in an answer, and how they are told.
 MARKS = {"~": "expired", "!": "locked"}
-# Answers to `check` that let nobody in, though the same words are answers to what was done.
+# Answers to `check` that let nobody in; from other commands the same words mean success.
 NO_LOGIN = ("expired", "locked")
 LISTS = ("list", "marks", "stats", "waits")  # commands whose answers are names, and no refusals
 
@@ -76,7 +76,7 @@ class Commands:
         return self.server.ask(command, *names)
 
     def add(self, name: str) -> str:
-        """Adds an account with a record, or the first record of one."""
+        """Adds an account with a record, or the first record of an account."""
         known = self.server.ask("known", name)
         if known in ("yes", "expired"):
             return "exists"
@@ -91,7 +91,7 @@ class Commands:
             raise
 
     def with_password(self, command: str, name: str) -> str:
-        """Checks or resets a password, of an account that exists."""
+        """Checks or resets the password of an existing account."""
         known = self.server.ask("known", name)
         if known == "absent" and command == "check":
             return "locked" if self.is_locked(name) else known
@@ -101,11 +101,12 @@ class Commands:
         return self.server.ask("verify" if command == "check" else command, name, field)
 
     def is_locked(self, name: str) -> bool:
-        """Whether an account is locked, as far as the socket tells."""
+        """Whether an account is locked, as far as the socket shows it."""
         return "!" in marks_of(self.server.send("show", name))
 
     def items(self, command: str) -> str:
-        """A line for each item of an answer; standard error gets the number of those left out."""
+        """Prints a line for each item of an answer; standard error gets the number of items left
+        out."""
         items = self.server.ask(command).split()[1:]
         if items and items[-1].startswith("more="):
             more = items.pop().removeprefix("more=")
@@ -113,7 +114,7 @@ class Commands:
         return "\n".join(items)
 
     def marks(self, names: list[str]) -> str:
-        """The marks of all names, or of one, a line each."""
+        """Prints the marks of all names, or of one, in a line each."""
         if not names:
             found = self.server.pages("marks")
         else:
@@ -125,7 +126,7 @@ class Commands:
         return "\n".join(f"{name}:{MARKS[mark]}" for name, mark in told)
 
     def show(self, name: str, is_whole: bool) -> str:
-        """A record's costs, or all of it, behind the marks."""
+        """Prints a record's costs, or the whole record, behind the marks."""
         said = self.server.ask("show", name)
         marks = marks_of(said)
         if said in ("none", marks):
@@ -151,7 +152,7 @@ class Commands:
         return self.server.run_with(text, "import", str(len(text)), *options)
 
     def backup(self, file: str) -> int:
-        """Writes a copy of the book beside its place, from where credkeep renames it like any
+        """Writes a copy of the book beside its destination, to which credkeep renames it as any
         backup."""
         end_in_order()
         folder = os.path.dirname(os.path.abspath(file))

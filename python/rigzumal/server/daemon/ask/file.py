@@ -16,7 +16,7 @@ VALUED = ("--wait", "--setting")  # options that have a value behind them
 
 @dataclass(frozen=True)
 class Words:
-    """The meaning of a command line for credkeep: the part that matters here."""
+    """The part of a command line for credkeep that matters here."""
 
     file: str = ""
     command: str = ""
@@ -49,7 +49,7 @@ def become_credkeep(words: list[str]) -> NoReturn:
 
 
 def tell_left_out(file: str) -> None:
-    """Says that a backup leaves out the locks that an earlier server kept beside the book."""
+    """Reports that a backup leaves out the locks that an earlier server kept beside the book."""
     if os.path.exists(f"{file}-locks"):
         text = f"{file}-locks has locks of an earlier credkeep-server, which the copy lacks"
         print(f"credkeep-ask: {text}: start credkeep-server once before", file=sys.stderr)
@@ -58,8 +58,8 @@ def tell_left_out(file: str) -> None:
 def ask_credkeep(words: list[str]) -> int:
     """Runs credkeep with the words, and returns its status.
 
-    Before passwords are asked for it looks for the account: where none would help, its answer is
-    told at once.
+    The call looks for the account before it asks for passwords. Where no password would help, it
+    prints credkeep's answer at once.
     """
     meant = meaning_of(words)
     if meant.command == "backup":

@@ -19,12 +19,12 @@ HEAD = """usage: credkeep-ask FILE COMMAND .., as credkeep(1) has them
 
 SOCKET is that of an administrator, the path or the name of the book (users). COMMAND is one of
 """
-WIDTH = 22  # of a command with what stands behind it
+WIDTH = 22  # the width of a command with its fields
 HELP = frozenset({"-h", "--help"})
 
 
 def usage() -> str:
-    """The text of help, with a line for each command of a server."""
+    """The help text, with a line for each command for a server."""
     commands = [(f"{word} {command.words}", command.text) for word, command in COMMANDS.items()]
     return HEAD + "\n".join(f"  {words:{WIDTH}}{text}" for words, text in commands)
 

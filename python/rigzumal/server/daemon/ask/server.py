@@ -11,11 +11,11 @@ from ..protocol import ANSWERS
 
 from .terminal import end, end_unwritten
 
-SECONDS = 60.0  # until a line is answered
+SECONDS = 60.0  # seconds until a line is answered
 AT_ONCE = 1000  # names of a page
 PIECE = 65536  # bytes of a book that are written at a time
 TAG = "1"
-# Refusals that an administrator's command tells by the word alone.
+# Refusals of which an administrator's command prints the word alone.
 PLAIN = ("bad 1 exists", "bad 5 noaccount")
 
 
@@ -36,7 +36,7 @@ class Server:
 
     def send(self, *words: str) -> str:
         """The answer to a line, a refusal too."""
-        with suppress(OSError):  # a server that has gone answers nothing
+        with suppress(OSError):  # a server that has ended answers nothing
             self.socket.sendall(f"{TAG} {' '.join(words)}\n".encode())
         return self.answer()
 
@@ -85,17 +85,17 @@ class Server:
         return self.copy_result(self.ask(operation), output)
 
     def run_with(self, text: bytes, *words: str) -> int:
-        """The same for an operation that reads a text; standard output gets the answer."""
+        """Requests an operation of credkeep that reads a text; standard output gets the answer."""
         self.socket.settimeout(None)
         said = self.ask(*words)
         if said != f"send {len(text)}":
             end(5, f"{self.path}: no answer of a server: {said:.40}")
-        with suppress(OSError):  # a server that has gone answers nothing
+        with suppress(OSError):  # a server that has ended answers nothing
             self.socket.sendall(text)
         return self.copy_result(self.answer(), sys.stdout.buffer)
 
     def copy_result(self, said: str, output: BinaryIO) -> int:
-        """Copies what credkeep wrote on both streams, and returns its status."""
+        """Copies the output of credkeep on both streams, and returns its status."""
         word, *numbers = said.split(" ")
         if word != "ended" or len(numbers) != 3 or not all(map(str.isdecimal, numbers)):
             end(5, f"{self.path}: no answer of a server: {said:.40}")
@@ -105,7 +105,7 @@ class Server:
         return status
 
     def copy(self, size: int, output: BinaryIO) -> None:
-        """Copies so many bytes that the server sends."""
+        """Copies this many bytes from the server."""
         try:
             while size:
                 piece = self.piece(min(size, PIECE))
@@ -116,7 +116,7 @@ class Server:
             end_unwritten()
 
     def piece(self, most: int) -> bytes:
-        """Some bytes that the server sends."""
+        """Some bytes from the server."""
         piece = b""
         with suppress(OSError):
             piece = self.answers.read(most)
@@ -126,5 +126,5 @@ class Server:
 
 
 def as_said_here(text: str) -> str:
-    """A sentence behind the program's name."""
+    """A sentence with the program's name before it."""
     return text[0].lower() + text[1:].rstrip(".")

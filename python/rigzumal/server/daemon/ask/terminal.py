@@ -24,14 +24,14 @@ def end(status: int, text: str = "") -> NoReturn:
 
 
 def end_by(number: int, _: object) -> NoReturn:
-    """Ends the program, and by the first signal alone, so that the echo comes back."""
+    """Ends the program by the first signal alone, so that the echo comes back."""
     for signal_number in SIGNALS:
         signal.signal(signal_number, signal.SIG_IGN)
     sys.exit(128 + number)
 
 
 def end_in_order() -> None:
-    """From now on a signal ends the program with its last steps."""
+    """Makes a signal, from now on, run the program's last steps before its end."""
     for number in SIGNALS:
         signal.signal(number, end_by)
 
@@ -56,7 +56,7 @@ def unseen() -> Iterator[int]:
 
 
 def read_line(terminal: int, prompt: str) -> bytes:
-    """A line that is typed, without its end."""
+    """The line that the user types, without its end."""
     os.write(terminal, prompt.encode())
     line = b""
     while not line.endswith(b"\n"):
