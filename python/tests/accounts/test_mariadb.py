@@ -35,8 +35,8 @@ class OnMariaDB(engines.OnMariaDB, Base):
 
     @each("BEGIN", "START TRANSACTION", "COMMIT; BEGIN", "CREATE TABLE made (i INT); BEGIN")
     def test_a_hook_that_begins(self, words):
-        """Which commits what the operation has begun, and its row's lock is gone: a TypeError, and
-        no record was written."""
+        """A hook's BEGIN commits the operation's open transaction, and releases the lock on its
+        row. The hook gets a TypeError, and no record is written."""
         self.execute("DROP TABLE IF EXISTS made")
         calls, accounts = [], self.accounts(patience=60.0)
 
@@ -56,7 +56,7 @@ class OnMariaDB(engines.OnMariaDB, Base):
 
     @each(1267, 3988)
     def test_a_trigger_that_refuses_as_a_key_is_refused(self, number):
-        """Examine sees that no record is written."""
+        """`examine` finds a trigger under which no record can be written."""
         self.create()
         self.give("one")
         self.execute(
@@ -71,7 +71,7 @@ class OnMariaDB(engines.OnMariaDB, Base):
 
     @each((1305, False), (2013, None), (1317, None))
     def test_a_mark_that_is_asked_for(self, number, is_held):
-        """A missing mark differs from a broken connection, after which all is done again."""
+        """A missing mark differs from a broken connection, after which the operation runs again."""
         error = servers.pymysql.err.OperationalError(number, "planted")
         asked = self.dialect.is_held(scripted(error))
         if is_held is None:
@@ -82,7 +82,7 @@ class OnMariaDB(engines.OnMariaDB, Base):
             self.assertIs(run(asked), is_held)
 
     def test_a_hook_with_savepoints(self):
-        """Which are its own, and go back as far as it says."""
+        """A hook may use savepoints of its own, and roll back to them."""
 
         def also(conn, reply):
             for sql in ("SAVEPOINT one", "UPDATE users SET record = 'x'", "ROLLBACK TO one"):
@@ -91,7 +91,7 @@ class OnMariaDB(engines.OnMariaDB, Base):
         self.assert_replies("login ann one yes; change ann one two replaced", also=also)
 
     def test_uncommitted_reads(self):
-        """Refused by a look and by a commit, of one statement or of a transaction."""
+        """A look and a commit refuse READ UNCOMMITTED, in one statement and in a transaction."""
         connect = self.setting("SET SESSION TRANSACTION ISOLATION LEVEL READ UNCOMMITTED")
         accounts, kept = self.accounts(connect=connect), connect()
         self.addCleanup(kept.close)
@@ -101,13 +101,14 @@ class OnMariaDB(engines.OnMariaDB, Base):
         for act, *given in (
             (accounts.login, "ann", "one"),
             *((accounts.commit, it) for it in worked),
-            *((prepare,), (prepare,)),  # a connection that was refused is refused again
+            *((prepare,), (prepare,)),  # a refused connection is refused again
         ):
             self.assertRaisesRegex(StoreFault, "READ UNCOMMITTED", act, *given)
         self.assertIn("READ UNCOMMITTED", self.said(accounts))
 
     def test_a_connection_is_asked_once(self):
-        """For its level; Python gives another the number of one that is gone: it is asked anew."""
+        """The dialect asks a connection for its level once. A new connection with the id of an old
+        one is asked too."""
         for _ in range(3):
             conn = self.connect()
             with self.statements("SHOW"):
@@ -117,7 +118,7 @@ class OnMariaDB(engines.OnMariaDB, Base):
             del conn
 
     def test_a_statement_that_was_ended_at_its_commit(self):
-        """max_statement_time may be over as the COMMIT is done: the row tells."""
+        """max_statement_time may end as the COMMIT takes effect: the row shows the outcome."""
         over = self.again.__class__(1969, "max_statement_time exceeded")
         for stands, expected in (("new", None), ("old", OSError), ("other", ConnectionError)):
             session = scripted(over, Result([], 0), Result([(stands,)], 1))
@@ -131,7 +132,7 @@ class OnMariaDB(engines.OnMariaDB, Base):
             self.assertEqual(session.execute.call_args_list[1], mock.call("ROLLBACK"))
 
     def test_texts_that_come_as_bytes(self):
-        """Named by each operation and by `examine`, before anything is hashed."""
+        """Each operation, and `examine`, reports texts that come as bytes, before any hash."""
         accounts = self.accounts(connect=self.setting(use_unicode=False))
         for act, *given in (
             (accounts.login, "ann", "one"),
@@ -142,7 +143,7 @@ class OnMariaDB(engines.OnMariaDB, Base):
                 self.assertRaisesRegex(StoreFault, "use_unicode is False", act, *given)
 
     def test_rows_are_read_as_they_are_sent(self):
-        """Nothing has kept them all."""
+        """The command reads rows as the server sends them, and never holds all of them."""
         large = "SELECT CONCAT('user', seq), REPEAT('x', 500) FROM seq_1_to_9000"
         self.execute(f"INSERT INTO users {large}")
         tracemalloc.start()
@@ -161,7 +162,7 @@ class OnMariaDB(engines.OnMariaDB, Base):
         self.assertIs(accounts.commit(slow).reply, Reply.CHANGED)
 
     def test_names_that_the_server_cuts_off(self):
-        """Where it isn't strict, a begun operation leaves nothing."""
+        """If a server that isn't strict cuts off a name, the operation leaves nothing behind."""
         self.execute("DROP TABLE IF EXISTS accounts")
         self.execute(MariaDB("accounts", "name", "record").create())
         ((mode,),) = self.server.as_root("SELECT @@global.sql_mode")
@@ -177,7 +178,8 @@ class OnMariaDB(engines.OnMariaDB, Base):
                 self.assertEqual(self.execute("SELECT * FROM accounts"), [])
 
     def test_what_examine_says_of_a_session(self):
-        """With a binary log, what isn't in it after a power cut is rolled back, so it is synced."""
+        """After a power cut the server rolls back transactions that the binary log lacks, so the
+        log must be synced."""
         seen = dict(self.execute("SHOW SESSION VARIABLES"))
         fine = {"sql_mode": "STRICT_ALL_TABLES", "log_bin": "ON", "sync_binlog": "1"}
         self.assertTrue(set(fine) <= set(seen))
@@ -199,8 +201,8 @@ class OnMariaDB(engines.OnMariaDB, Base):
         ("SET touched", "SIGNAL SQLSTATE '45000'; SET touched", True),
     )
     def test_a_statement_that_the_server_does_not_take(self, old, new, is_again):
-        """As MySQL: it is asked once, and then transactions do it. A failure after the UPDATE
-        undoes it within the statement, and a transaction does it."""
+        """A server such as MySQL refuses the statement once, and then transactions do the changes.
+        A failure after the UPDATE undoes it within the statement, and a transaction follows."""
         self.give("one")
         self.dialect = self.another_dialect()
         self.dialect.at_once = self.dialect.at_once.replace(old, new, 1)
@@ -214,7 +216,8 @@ class OnMariaDB(engines.OnMariaDB, Base):
         self.assertTrue(self.is_right("two"))
 
     def test_what_is_shown_early(self):
-        """A fault where looks aren't confirmed: --confirm is for examine and torture too."""
+        """An early shown commit is a fault if looks aren't confirmed; examine and torture have
+        --confirm too."""
         said = "log_bin is OFF: a crash may lose a change by which a login was answered"
         others = {"log_bin": "ON"}, {"log_bin": "OFF", "wsrep_on": "ON"}
         for seen in ({"log_bin": "OFF"}, {}, *others):
@@ -234,7 +237,7 @@ class OnMariaDB(engines.OnMariaDB, Base):
             self.assertEqual(made._table.confirm, confirm)
 
     def test_the_two_updates(self):
-        """A record between them is never committed."""
+        """A record between the two UPDATEs is never committed."""
         refused = (1, 0, StoreFault), (1, 2, StoreFault)
         for first, second, wanted in ((0, None, 0), (2, None, 2), (1, 1, 1), *refused):
             session = scripted(Result([], first), Result([], second))

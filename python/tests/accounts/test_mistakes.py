@@ -1,5 +1,5 @@
-"""Mistakes as people type them, in Python and at a shell, and the words that each message has: who
-reads it alone knows what to type."""
+"""Common mistakes, in Python and at a shell, and the words that each message must have: the message
+alone shows its reader what to type."""
 
 import asyncio
 import concurrent.futures
@@ -24,7 +24,7 @@ HASHERS = (
     (lambda: LOW.verify(FOREIGN, "one"), InvalidRecordError, "none of argon2d, argon2i, argon2id"),
     (lambda: LOW.verify("md5$a$b", "one"), InvalidRecordError, "does not begin with '\\$'"),
     (lambda: LOW.verify(f"argon2{RECORD}", "one"), InvalidRecordError, "not begin with '\\$'"),
-    # 41 letters, which are base64 of nothing, whatever they are
+    # 41 letters, which are never base64
     (lambda: LOW.verify(RECORD[:-2], "one"), InvalidRecordError, "the tag is not base64 of 4 to"),
     (lambda: LOW.verify(f"{RECORD} ", "one"), InvalidRecordError, "a space or a line end after it"),
     (lambda: LOW.hash(None), TypeError, "expected bytes or str, not NoneType"),
@@ -42,7 +42,7 @@ HASHERS = (
     (lambda: rigzumal.argon2(b"x", b"salt"), TypeError, "'time_cost', 'memory_cost'"),
     (lambda: rigzumal.scrypt(b"x", b"salt", n=16, r=8, p=1), TypeError, "argument 'n'"),
 )
-# What a user of another library looks for, and hasn't: Python names the class.
+# Names of other libraries that ours lack: Python's error names the class.
 NOT_THERE = ("verify_and_update", "needs_rehash", "check")
 
 
@@ -76,14 +76,15 @@ class InPython(Base):
             self.assertRaisesRegex(AttributeError, f"no attribute '{name}'", getattr, of, name)
 
     def test_answers_that_are_no_truth(self):
-        """A right password is None at verify_and_rehash; a Reply is none of both."""
+        """verify_and_rehash returns None for a right password; a Reply is neither true nor
+        false."""
         self.assertIsNone(LOW.verify_and_rehash(RECORD, "one"))
         reply = self.accounts().login("ann", "two")
         self.assertRaisesRegex(TypeError, "compare with Reply.YES", bool, reply)
         self.assertNotEqual(reply, False)
 
     def test_calls_of_accounts(self):
-        """Python's own words name what is missing, and what is too many."""
+        """Python's own errors name missing arguments, and those too many."""
         accounts, pool = self.accounts(), PerThread(self.no_connection)
         for act, words in (
             (lambda: accounts.login(email="ann", password="one"), "argument 'email'"),
@@ -122,7 +123,7 @@ class InPython(Base):
         self.assertRaisesRegex(InvalidRecordError, "^(?!.*first)", LOW.verify, "one", "two")
 
     def test_pools(self):
-        """Each kind of accounts names its own, and not what it refuses."""
+        """Each kind of accounts names the pools that it accepts, and not the refused one."""
 
         async def not_asked():
             raise AssertionError
@@ -164,7 +165,7 @@ class InPython(Base):
         self.assertNotIn(RECORD[-20:], str(raised.exception))
 
     def test_a_blocking_driver_for_tasks(self):
-        """Its connection is closed, which no task would do."""
+        """The check closes the connection of a blocking driver, since no task would."""
         made = []
 
         def connect():
@@ -234,7 +235,7 @@ class AtAShell(support.Commands):
         ("hash --pass=hunter2", "an unknown option, which isn't shown; is --passes meant?"),
         ("accounts --database sqlite:///x add ann --pass hunter2", "isn't shown; is --passes"),
         ("hash --hunter2", "an unknown option, which isn't shown\n"),
-        # Options of other commands alone.
+        # Options that only other commands have.
         ("calibrate --time 3", "an unknown option, which isn't shown\n"),
         ("calibrate --passes 3", "an unknown option, which isn't shown\n"),
         ("hash --threads 2", "an unknown option, which isn't shown\n"),
@@ -251,7 +252,7 @@ class AtAShell(support.Commands):
 
     @each(("64", "write 64M for MiB"), ("64K", ""), ("8M", ""), ("8192", ""), ("8191", "8191M"))
     def test_a_size_without_a_unit(self, memory, said):
-        """Which is KiB, and one that is low is a mistake, more often than not."""
+        """A size without a unit is in KiB, and a low one is more often a mistake."""
         words = f"hash --memory {memory} --passes 1 --lanes 1"
         record, found = self.typed(*words.split())
         self.assertIn("$argon2id$", record)
@@ -270,7 +271,7 @@ class AtAShell(support.Commands):
 
     @each(("check ada", "x"), ("change ada", "x\ny"))
     def test_a_record_of_another_scheme(self, words, given):
-        """A shell has no hook to give."""
+        """A record of another scheme, at the shell, which has no hook."""
         self.insert({"ada": FOREIGN})
         _, found = self.streams(*words.split(), given=given, status=5)
         self.assertIn("the record's scheme is 2y, and the scheme is none of argon2d, ", found)

@@ -1,5 +1,5 @@
 """Names and passwords that no new account gets, at each door; accounts that have such a name; and
-what is hashed of a password that was typed."""
+the bytes of a typed password that are hashed."""
 
 import inspect
 import unicodedata
@@ -20,7 +20,7 @@ GOOD = ("ada", "ada lovelace", "\u00e9", "0", "a\ufeff", "\u200bada")
 
 
 class Name(str):
-    """As a framework's text that is marked safe."""
+    """A subclass of str, such as a framework's text that is marked as safe."""
 
 
 class NewNames(Commands):
@@ -77,7 +77,8 @@ class NewNames(Commands):
 
     @each(*(name for name, _ in NAMES))
     def test_accounts_that_have_one_by_now(self, name):
-        """They log in, are reset, get another name, and are deleted."""
+        """Existing accounts with such names log in, get a new password or another name, and are
+        deleted."""
         accounts = self.accounts()
         self.execute("INSERT INTO users (name) VALUES (%s)", name)
         self.assertIs(accounts.reset(name, "one"), Reply.ENROLLED)
@@ -90,7 +91,7 @@ class NewNames(Commands):
 
     @each("a\0b", "a\udcff")
     def test_names_that_no_column_holds(self, name):
-        """No account has one, so none gets it, and none is deleted."""
+        """No account has such a name, so none gets it, and none is deleted."""
         for words in (("add", name), ("rename", "ada", name)):
             said = self.command(*words, given="one", status=1)
             self.assertEqual(said, "rigzumal: the column can't hold this name\n")
@@ -143,7 +144,8 @@ class Rules(Base):
         ({"least_length": 0}, None, ""),
     )
     def test_a_new_one_is_long_enough(self, rule, refused, taken):
-        """In characters, whatever their bytes; a present one may be shorter."""
+        """A new password has a least number of characters, whatever their bytes; a present one may
+        be shorter."""
         accounts, before = self.set_up(**rule), self.stands()
         said = "at least 8 characters" if rule else "at least 1 character$"
         for setter in () if refused is None else self.setters(accounts):
@@ -157,7 +159,8 @@ class Rules(Base):
         *(({"least_length": 2, "prepare": opaque_string}, it) for it in ("x", "x\ty", "x" * 257)),
     )
     def test_no_row_is_read_for_a_refused_one(self, rules, refused):
-        """Nor is anything hashed, and no text is shown."""
+        """For a refused password no row is read and nothing is hashed, and the error doesn't show
+        the password."""
         for setter in self.setters(self.over(self.no_connection, **rules)):
             with self.hashes(0), self.assertRaises(ValueError) as raised:
                 setter(refused)

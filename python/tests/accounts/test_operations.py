@@ -47,8 +47,8 @@ class Operations(Base):
             self.assertIs(accounts.change("ann", other, "new"), Reply.WRONG, other)
 
     def test_changed_after_so_many_tries(self):
-        """An upgrade that was never stored is no yes; an operation without a change is answered as
-        read."""
+        """A login whose upgrade never got stored isn't YES; an operation without a change answers
+        from the record that it read."""
         accounts, turns = self.accounts(HIGH, tries=3), []
 
         def changed():
@@ -75,7 +75,8 @@ class Operations(Base):
         *(("copy", it, "copy", StoreFault) for it in (0, -1, 2)),
     )
     def test_what_an_update_found(self, copy, count, stands, reply):
-        """A record that is gone as its row is read; a driver without counts; a key of two rows."""
+        """A record that is replaced while its row is read; a driver without counts; a key of two
+        rows."""
         ticket = Ticket(Request(Kind.RESET, "ann", "", "x"), copy)
         session = scripted(*[Result([], count), Result([(stands,)], 1)] * 2)
         job = self.accounts()._table.compare(session, Worked(ticket, Reply.REPLACED, "new"))
@@ -85,13 +86,13 @@ class Operations(Base):
             self.assertEqual(run(job), Answer(reply, stands, stands))
 
     def test_replicas_may_lag(self):
-        """A copy that is gone is no answer: the primary is looked at."""
+        """A replaced copy gives no answer: the operation reads the primary."""
         stale = SqliteFile().connect()
         self.addCleanup(stale.close)
         stale.execute(self.dialect.create())
         accounts = self.accounts(replica=lambda: contextlib.nullcontext(stale))
         one, none = [("ann", LOW.hash("old"))], [("ann", None)]
-        # What has no record there, or no row, may have one by now.
+        # An account without a record or a row at the replica may have one at the primary.
         for rows, password, calls in (
             (one, "new", "verify ann old no; verify ann new yes"),
             (one, "new", "change ann old x wrong; change ann new newer replaced"),
@@ -111,14 +112,15 @@ class Operations(Base):
 
     @each("verify ann one yes", "login ann one yes", "change ann one one replaced")
     def test_copies_are_read_from_the_replica(self, text):
-        """One look each, and everything else at the primary."""
+        """Each operation reads its copy from the replica; everything else runs at the primary."""
         uses = mock.Mock(side_effect=lambda name: contextlib.nullcontext(self.conn))
         primary, replica = (functools.partial(uses, it) for it in ("primary", "replica"))
         self.assert_replies(text, self.over(primary, replica=replica))
         self.assertEqual(uses.mock_calls, [mock.call("replica"), mock.call("primary")])
 
     def test_a_late_replica_costs_one_hash(self):
-        """The primary's record is then judged, and not looked at again."""
+        """If the replica lags, the operation judges the primary's record, and doesn't read it
+        again."""
         stale = sqlite3.connect(":memory:", isolation_level=None)
         self.addCleanup(stale.close)
         stale.execute("CREATE TABLE users (name TEXT PRIMARY KEY, record TEXT)")
@@ -128,7 +130,7 @@ class Operations(Base):
             self.assert_replies("verify ann one yes", self.accounts(replica=replica))
 
     def test_a_replica_that_is_down(self):
-        """Logins go on at the primary, and so do changes."""
+        """If the replica is down, logins and changes go on at the primary."""
         away = mock.Mock(side_effect=ConnectionRefusedError("nobody there"))
         accounts = self.accounts(replica=away, patience=0.0)
         self.assert_replies("login ann one yes; verify ann two no", accounts)
@@ -137,7 +139,8 @@ class Operations(Base):
 
     @each("upgrade ann one upgraded", "change ann one x replaced", "reset ann x replaced", ENROLLED)
     def test_salts_are_the_systems_random_bytes(self, calls):
-        """Sixteen for each record: by them one knows whether a lost COMMIT was done."""
+        """Each record has sixteen random bytes of salt, which show whether a lost COMMIT took
+        effect."""
         self.give("one")
         accounts, drawn = self.accounts(HIGH), bytes([len(calls)]) * 16
         with mock.patch.object(os, "urandom", return_value=drawn) as urandom:
@@ -163,7 +166,7 @@ class Operations(Base):
 
     @each((0.0, 1), (11.0, 2))
     def test_a_pool_that_waits_itself(self, patience, count):
-        """It isn't asked again once `patience` is over, by a login either."""
+        """No operation, not even a login, asks the pool again once `patience` is over."""
         clock, uses = [100.0], []
 
         def pool():
@@ -179,7 +182,7 @@ class Operations(Base):
                 self.assertEqual(len(uses), count)
 
     def test_a_login_whose_upgrade_waited(self):
-        """A server that only reads is looked at once more, and the hash isn't lost."""
+        """A login reads once more from a server that only reads, and its hash isn't wasted."""
         clock, accounts = [100.0], self.accounts(HIGH, patience=1.0)
         reads = sqlite3.OperationalError("database is locked")
         accounts._table.change = mock.AsyncMock(return_value=Undone(reads))
@@ -193,7 +196,8 @@ class Operations(Base):
         self.assertTrue(101.0 <= clock[0] < 101.9, clock)
 
     def test_an_unknown_upgrade_is_waited_for_once(self):
-        """COMMIT had no answer, and no server is there any more: for both one patience."""
+        """COMMIT had no answer, and then no server answers: the login waits one `patience` for
+        both."""
         clock, accounts = [100.0], self.losing(True, 9999, hasher=HIGH, patience=1.0)
 
         async def pause(runtime, seconds):
@@ -215,7 +219,7 @@ class Operations(Base):
         self.assertTrue(101.0 <= clock[0] < 102.0, clock)
 
     def test_a_connection_that_is_not_rolled_back_is_given_up(self):
-        """The server wants the transaction anew, and ROLLBACK fails."""
+        """The server undid the transaction, and ROLLBACK fails: the connection is closed."""
         made = []
         accounts = self.accounts(connect=lambda: made.append(self.connect()) or made[-1])
         busy, table = sqlite3.OperationalError("database is locked"), accounts._table
@@ -225,7 +229,8 @@ class Operations(Base):
         self.assertEqual(len(made), 2)
 
     def test_a_constraint_that_is_judged_at_commit(self):
-        """SQLite leaves the transaction open: it is rolled back, and said at once."""
+        """SQLite leaves the transaction open: the operation rolls back, and raises the error at
+        once."""
         self.conn.execute("CREATE TABLE known (record TEXT UNIQUE)")
         self.table("TEXT REFERENCES known (record) DEFERRABLE INITIALLY DEFERRED")
         self.give("one")
@@ -259,7 +264,7 @@ class Tasks(engines.OnSqliteTasks, Base):
     """Tests of coroutines alone."""
 
     def test_a_hash_holds_up_no_task(self):
-        """It runs in another thread, one operation's beside the next one's."""
+        """Hashes run in other threads, those of two operations side by side."""
         accounts, threads = self.accounts().core, set()
         work = accounts._judge.work
         both = threading.Barrier(2, timeout=LONGEST)
@@ -278,7 +283,7 @@ class Tasks(engines.OnSqliteTasks, Base):
         self.assertNotIn(threading.main_thread(), threads)
 
     def test_rows_of_ones_own(self):
-        """`also` may be awaited: its row is committed with the reply, or not at all."""
+        """AsyncAccounts awaits `also`, whose row is committed with the reply or not at all."""
         self.conn.execute("CREATE TABLE sessions (reply TEXT)")
         accounts, told = self.accounts(), []
 
@@ -309,7 +314,7 @@ class Tasks(engines.OnSqliteTasks, Base):
         self.assertEqual(told, [*rows, "replaced"])
 
     def test_a_hook_that_raises_stopiteration(self):
-        """`next` of nothing, in a hook of any kind: no task waits for ever."""
+        """A hook of any kind raises StopIteration, and no task waits for ever."""
 
         def foreign(record, password):
             return next(iter(()))
@@ -333,7 +338,7 @@ class Tasks(engines.OnSqliteTasks, Base):
                 asyncio.run(asyncio.wait_for(login, LONGEST))
 
     def test_a_nested_call(self):
-        """It is refused within `also`; a task that was begun there may go on after it."""
+        """A nested call is refused within `also`; a task that begins there may go on after it."""
         accounts, tasks = self.accounts().core, []
 
         async def later(over):

@@ -1,4 +1,4 @@
-"""Pools, and what they do at a connection's way back."""
+"""Pools, and their work when a connection comes back."""
 
 import asyncio
 import itertools
@@ -18,12 +18,12 @@ BUSY = sqlite3.OperationalError("database is locked")
 
 
 class Alarm(BaseException):
-    """As a timeout of gevent, or an interrupt."""
+    """A BaseException, such as a timeout of gevent or an interrupt."""
 
 
 class Pool:
-    """A pool over one connection, blocking and for asyncio, by what it does after an exception. One
-    that raises another does as a rollback that fails on a broken connection."""
+    """A pool over one connection, blocking and for asyncio, by its behaviour after an exception. A
+    pool that raises another exception acts as a rollback that fails on a broken connection."""
 
     def __init__(self, way, conn, interrupt=Alarm):
         self.way, self.conn, self.interrupt = way, conn, interrupt
@@ -58,7 +58,7 @@ INTERRUPTS = (Alarm, asyncio.CancelledError)
 
 
 class OfThreads(engines.OnSqlite):
-    """Accounts over a pool of some way."""
+    """Accounts over a pool of this behaviour."""
 
     way, interrupt = "rolls_back", Alarm
 
@@ -68,7 +68,7 @@ class OfThreads(engines.OnSqlite):
 
 
 class OfTasks(OfThreads, engines.OnSqliteTasks):
-    """The same for asyncio."""
+    """AsyncAccounts over a pool of this behaviour."""
 
 
 class Endings:
@@ -76,7 +76,7 @@ class Endings:
 
     @each(*((it, StoreFault) for it in WAYS), *(("is_interrupted", it) for it in INTERRUPTS))
     def test_a_fault_is_said(self, way, wanted):
-        """The caller gets a job's exception, and an interrupt above it."""
+        """The caller gets a job's exception, and an interrupt rather than that."""
         self.way, self.interrupt = way, wanted
         accounts = self.accounts()
         self.conn.execute("ALTER TABLE users RENAME TO gone")
@@ -88,7 +88,8 @@ class Endings:
 
     @each(*itertools.product((*WAYS, "is_interrupted"), INTERRUPTS))
     def test_an_interrupt_is_no_lost_connection(self, way, interrupt):
-        """It comes through, whatever the pool makes of it; nothing is sent again."""
+        """An interrupt reaches the caller whatever the pool does with it, and nothing is sent
+        again."""
         self.way, self.interrupt = way, interrupt
         accounts = self.accounts()
         accounts._table.before_commit = mock.Mock(side_effect=interrupt)
@@ -98,20 +99,20 @@ class Endings:
 
     @each(*INTERRUPTS)
     def test_an_interrupt_at_the_way_back(self, interrupt):
-        """It comes through where the work is done, too."""
+        """An interrupt reaches the caller even if the work is done."""
         self.way, self.interrupt = "is_interrupted_at_any_end", interrupt
         self.assertRaises(interrupt, self.accounts().verify, "ann", "one")
 
     @each((True, "one"), (False, "two"))
     def test_an_interrupt_after_a_lost_answer(self, before, right):
-        """The change is settled by nobody."""
+        """After an interrupt nobody finds out the outcome of a lost COMMIT."""
         self.way = "is_interrupted"
         self.give("one")
         self.assertRaises(Alarm, self.losing(before).change, "ann", "one", "two")
         self.assertTrue(self.is_right(right))
 
     def test_a_pool_that_gives_nothing(self):
-        """A pool's exception before a job was begun comes through, and nothing was done."""
+        """A pool's exception before the start of a job reaches the caller, and nothing was done."""
 
         class Shut(Pool):
             __enter__ = mock.Mock(side_effect=RuntimeError("the pool is shut"))
@@ -132,12 +133,13 @@ globals().update(
 
 
 class Openings(Base):
-    """PerUse: no connection outlives its task, whenever that is cancelled."""
+    """PerUse: no connection outlives its task, whenever the task is cancelled."""
 
     @each("opening", "using", "closing")
     def test_one_that_is_cancelled(self, place):
-        """As it is opened, used or closed: in the end it is closed. `connect` answers what can be
-        awaited, and is no coroutine, as aiosqlite's."""
+        """A task is cancelled while its connection opens, works or closes; in the end the
+        connection is closed. `connect` returns an awaitable that is no coroutine, as aiosqlite's
+        does."""
         closed = mock.Mock()
 
         async def act():
@@ -174,7 +176,8 @@ class Openings(Base):
         closed.assert_called_once_with()
 
     def test_few_are_opened_at_a_time(self):
-        """Each holds the loop up for its part, and what else is ready waits for all."""
+        """Few connections open at a time: each holds up the loop for a while, and other ready tasks
+        wait for all."""
         opening, most = [], []
 
         async def connect():
@@ -194,7 +197,8 @@ class Openings(Base):
 
 class OnePerThread(Base):
     def test_a_pool_that_is_closed(self):
-        """By its error's name, or its base's: psycopg_pool's is a lost connection's kind."""
+        """A closed pool is known by the name of its error, or of the error's base: psycopg_pool's
+        is a kind of lost connection."""
         closed = type("PoolClosed", (sqlite3.OperationalError,), {})
         ours = type("OurPoolIsClosed", (closed,), {})
         connect = mock.Mock()
@@ -207,7 +211,7 @@ class OnePerThread(Base):
             self.assertEqual(connect.call_count, 1)
 
     def forked(self, act):
-        """The status of a child that does this."""
+        """The status of a forked child that runs this function."""
         pid = os.fork()
         if pid == 0:
             try:
@@ -217,7 +221,7 @@ class OnePerThread(Base):
         return os.waitstatus_to_exitcode(os.waitpid(pid, 0)[1])
 
     def test_a_forked_child_makes_its_own(self):
-        """It uses and closes none that its parent made, and lets go of none."""
+        """A forked child uses, closes and drops no connection of its parent."""
         ended = []
 
         class Connection:
@@ -245,8 +249,8 @@ class OnePerThread(Base):
             self.assertIs(conn, mine)
 
     def interrupted(self, number, act):
-        """Does this, with an exception before this instruction of the pool's, as a signal's handler
-        raises it; whether the pool made fewer."""
+        """Calls this function, and raises an exception before this instruction of the pool, as a
+        signal's handler does. Returns whether the pool ran fewer instructions."""
         left = [number]
 
         def trace(frame, event, arg):
@@ -262,14 +266,14 @@ class OnePerThread(Base):
             sys.settrace(trace)
             act()
         except Alarm as alarm:
-            return False, alarm  # which a report of errors may keep, with its frames
+            return False, alarm  # a report of errors may keep it, with its frames
         finally:
             sys.settrace(None)
         return True, None
 
     def test_an_interrupt_at_any_instruction(self):
-        """The thread's next use is as any other, on a connection that nothing is left open on, and
-        no other connection stays."""
+        """After an interrupt at any instruction the thread's next use works, on a connection
+        without an open transaction, and no other connection stays open."""
         made, kept = [], []
         connect = lambda: made.append(self.connect()) or made[-1]
         pool, is_over = PerThread(connect), False
@@ -291,7 +295,7 @@ class OnePerThread(Base):
             self.assertRaises(sqlite3.ProgrammingError, conn.execute, "SELECT 1")
 
     def test_a_use_within_another(self):
-        """Each has a connection of its own, and the thread keeps one."""
+        """A use within another has its own connection, and the thread keeps one of the two."""
         pool = PerThread(self.connect)
         with pool() as one:
             with pool() as other:
@@ -304,8 +308,8 @@ class OnePerThread(Base):
 
     @each(None, KeyError)
     def test_the_outer_use_ends(self, kind):
-        """Its connection is closed, however it ends, though a traceback keeps the use itself; the
-        thread's own stays."""
+        """The connection of the outer use is closed, however the use ends, even if a traceback
+        keeps the use. The thread's own connection stays."""
         pool = PerThread(self.connect)
         outer = pool()
         one = outer.__enter__()
@@ -328,7 +332,8 @@ class OnePerThread(Base):
         conn.close.assert_called_once_with()
 
     def test_a_connection_is_given_up_after_an_exception(self):
-        """After those, too, by which a thread is interrupted and a task cancelled; it is closed."""
+        """A pool closes a connection after any exception, also after an interrupt and a cancelled
+        task."""
         pool = PerThread(self.connect)
         self.assert_given_up(pool, KeyError, KeyboardInterrupt, asyncio.CancelledError, Alarm)
         with self.assertRaises(KeyError), pool() as conn:

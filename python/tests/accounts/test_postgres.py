@@ -27,7 +27,8 @@ class OnPostgres(engines.OnPostgres, Base):
             self.execute(sql)
 
     def test_a_constraint_that_is_judged_at_commit(self):
-        """The server has rolled back: nothing is sent again, nor is it unknown."""
+        """The server has rolled back: the operation sends nothing again, and the outcome isn't
+        unknown."""
         when = "ON users DEFERRABLE INITIALLY DEFERRED"
         refuses = "RAISE EXCEPTION USING MESSAGE = NEW.record;"
         self.trigger(refuses, f"CREATE CONSTRAINT TRIGGER tr AFTER UPDATE {when}")
@@ -42,7 +43,8 @@ class OnPostgres(engines.OnPostgres, Base):
 
     @each("22P02", "22021", "22P05")
     def test_a_trigger_that_refuses_as_a_key_is_refused(self, state):
-        """Such as one that reads a setting as a number: examine sees that no record is written."""
+        """A trigger fails as a refused key does, for example on reading a setting as a number:
+        `examine` finds that no record can be written."""
         self.create()
         self.give("one")
         self.trigger(f"RAISE EXCEPTION SQLSTATE ''{state}'';")
@@ -53,7 +55,8 @@ class OnPostgres(engines.OnPostgres, Base):
         self.assertIn(state, str(fault))
 
     def test_row_security_without_a_policy(self):
-        """It shows a role no row, and each login would be one of no account."""
+        """Row security without a policy hides all rows from a role, so each login would be
+        NO_ACCOUNT."""
         said = "row security shows this role no row"
         self.execute("ALTER TABLE users ENABLE ROW LEVEL SECURITY")
         role = self.of_role("SELECT, UPDATE")
@@ -78,7 +81,7 @@ class OnPostgres(engines.OnPostgres, Base):
 
     @each("uuid", "kinds")
     def test_a_policy_that_reads_no_row(self, kind):
-        """A session that can't read its own setting is a fault, and no name that doesn't exist."""
+        """A session that can't read its own setting is a fault, and not an unknown name."""
         self.execute("DROP TYPE IF EXISTS kinds CASCADE")
         self.execute("CREATE TYPE kinds AS ENUM ('ann')")
         self.create()
@@ -102,7 +105,8 @@ class OnPostgres(engines.OnPostgres, Base):
         "CREATE CONSTRAINT TRIGGER tr AFTER UPDATE ON users DEFERRABLE INITIALLY DEFERRED",
     )
     def test_a_trigger_that_warns(self, when):
-        """As an auditing one may: each change is stored once, and its COMMIT is believed."""
+        """A trigger, for example one for auditing, warns: each change is stored once, and its
+        COMMIT counts."""
         self.execute("DROP TABLE IF EXISTS audit")
         self.execute("CREATE TABLE audit (record text)")
         self.create()
@@ -124,7 +128,8 @@ class OnPostgres(engines.OnPostgres, Base):
             self.assertEqual(self.execute("SELECT count(*) FROM audit"), [(made,)])
 
     def test_a_trigger_that_comes_after(self):
-        """RETURNING doesn't see what it writes, so `examine` has to name it."""
+        """RETURNING doesn't show the effect of an AFTER trigger, so `examine` has to report the
+        trigger."""
         self.trigger(
             "IF pg_trigger_depth() = 1 THEN UPDATE users SET record = upper(record); END IF;"
             " RETURN NULL;",
@@ -136,7 +141,8 @@ class OnPostgres(engines.OnPostgres, Base):
 
     @each("READ UNCOMMITTED", "READ COMMITTED", "REPEATABLE READ", "SERIALIZABLE", "")
     def test_levels_of_a_callers_transaction(self, level):
-        """A change with an old snapshot wouldn't see the sessions that it has to end."""
+        """A change with an old snapshot wouldn't see the sessions that it has to end, so its level
+        is refused."""
         is_refused = level in ("REPEATABLE READ", "")  # which is this session's own
         accounts, caller = self.accounts(), self.another()
         self.execute("SET default_transaction_isolation = 'repeatable read'", conn=caller)
@@ -153,7 +159,8 @@ class OnPostgres(engines.OnPostgres, Base):
 
     def test_a_commit_that_answers_rollback(self):
         """A caller that swallows a statement's error has a failed transaction, whose COMMIT raises
-        nothing: that is a fault at once, and nothing was done or is looked for."""
+        nothing. The operation raises a fault at once, and looks for no outcome: nothing was
+        done."""
         accounts, calls = self.accounts(patience=60.0), []
 
         def swallows(conn, reply):
@@ -176,7 +183,7 @@ class OnPostgres(engines.OnPostgres, Base):
     # ---- imports and exports
 
     def test_rows_are_read_as_they_are_sent(self):
-        """After the first one the statement isn't at its end, so nothing has kept them all."""
+        """After the first row the statement isn't at its end, so nothing holds all rows."""
         self.execute("INSERT INTO users SELECT 'user' || it FROM generate_series(1, 9) AS it")
         made, connect = [], lambda: made.append(self.connect()) or made[-1]
         rows = _import.Rows(PerThread(connect), self.dialect).every()
@@ -184,7 +191,7 @@ class OnPostgres(engines.OnPostgres, Base):
         self.assertEqual(made[0].info.transaction_status.name, "ACTIVE")
         self.assertEqual([*rows], [(f"user{it}", None) for it in range(1, 10)])
 
-    # Names as people have them, and as nobody should; one is in the table without a record, one
+    # Ordinary names, and names that nobody should have. One is in the table without a record, one
     # with this record, and one with another.
     NAMES = (
         "ann",
@@ -202,7 +209,7 @@ class OnPostgres(engines.OnPostgres, Base):
     )
 
     def imported(self, connect, lines, **sizes):
-        """The words for these lines, written in batches of so many; and the records then."""
+        """The outcomes of these lines in batches of this size, and the records afterwards."""
         self.create()
         for name, record in (("there", RECORD), ("none", None), ("other", TWO)):
             self.put(record, name)
@@ -213,7 +220,8 @@ class OnPostgres(engines.OnPostgres, Base):
         return words, self.execute("SELECT name, record FROM users ORDER BY name"), importing.copies
 
     def test_a_large_batch_is_copied(self):
-        """With the answers of line by line, names that come twice among them."""
+        """A large batch is copied, with the same outcomes as line by line, even for repeated
+        names."""
         lines = [(name, record) for record in (RECORD, TWO, RECORD) for name in self.NAMES]
         wanted, stands, _ = self.imported(self.connect, lines, SHARE=1000)
         self.assertEqual(wanted[:12], ["added"] * 9 + ["there", "added", "another"])
@@ -237,7 +245,7 @@ class OnPostgres(engines.OnPostgres, Base):
 
     @each("number", "name", "made", "came", "put")
     def test_columns_of_any_name_are_copied(self, name):
-        """The table's own may have those of the tables that a copy passes through."""
+        """The table's columns may have the names of those in the tables that a copy uses."""
         self.dialect = self.another_dialect(key=name)
         self.execute("DROP TABLE users")
         self.execute(f"CREATE TABLE users ({name} text PRIMARY KEY, record text, more int)")
@@ -247,8 +255,8 @@ class OnPostgres(engines.OnPostgres, Base):
         self.assertTrue(words.copies)
 
     def test_what_can_not_be_copied(self):
-        """By a role that makes no temporary table, or past a trigger that makes another record: it
-        is undone, and put by the statements of every engine."""
+        """A role may create no temporary table, or a trigger writes another record: the copy is
+        undone, and the statements for all engines follow."""
         lines = [(f"user{it}", RECORD) for it in range(40)]
         connect = self.of_role("SELECT, INSERT, UPDATE")
         self.execute("REVOKE TEMPORARY ON DATABASE postgres FROM PUBLIC")
@@ -271,7 +279,7 @@ class OnPostgres(engines.OnPostgres, Base):
 
     @contextlib.contextmanager
     def cancelled_waits(self):
-        """Waits for a standby are cancelled, as by a person; then none is needed."""
+        """Cancels waits for a standby, as a person may; afterwards the server needs no standby."""
         stop, cancelled, killer = threading.Event(), [], self.another()
         sql = "SELECT pg_cancel_backend(pid) FROM pg_stat_activity"
         self.server.set(synchronous_standby_names="nobody")
@@ -292,8 +300,8 @@ class OnPostgres(engines.OnPostgres, Base):
             thread.join()
 
     def does_wait(self):
-        """Whether a COMMIT waited, and was cancelled: settings come to the server one after
-        another of its processes."""
+        """Whether a COMMIT waited, and was cancelled: a new setting reaches the server's processes
+        one by one."""
         notices, conn = [], self.another()
         conn.add_notice_handler(lambda it: notices.append(it.severity))
         self.execute("CREATE TABLE IF NOT EXISTS waits ()", conn=conn)
@@ -301,7 +309,8 @@ class OnPostgres(engines.OnPostgres, Base):
         return "WARNING" in notices
 
     def test_a_wait_for_the_standby_that_is_cancelled(self):
-        """COMMIT answers with a warning: what was put isn't safe, and never passes."""
+        """COMMIT answers with a warning: the new record isn't safe, and the change never counts as
+        done."""
         with self.cancelled_waits() as cancelled, self.assertRaises(OutcomeUnknown):
             are_over = property(lambda waits: len(cancelled) > 1)
             with mock.patch.object(_connections.Waits, "are_over", are_over):
@@ -309,7 +318,8 @@ class OnPostgres(engines.OnPostgres, Base):
         self.assertGreater(len(cancelled), 1)
 
     def test_it_waits_for_the_standby(self):
-        """A look answers by what may not be there; a confirmed one never does."""
+        """A plain look may answer from a record that the standby lacks; a confirmed look never
+        does."""
         plain, confirming = self.accounts(), self.accounts(confirm=True, patience=0.5)
         with self.cancelled_waits() as cancelled:
             self.assertIs(plain.verify("ann", "one"), Reply.YES)
@@ -336,14 +346,14 @@ class OnPostgres(engines.OnPostgres, Base):
         asyncio.run(act())
 
     def torture(self, table, **given):
-        """The verdict's accounts; the table goes again."""
+        """The accounts of a torture's verdict; the table is dropped afterwards."""
         self.addCleanup(self.execute, f"DROP TABLE IF EXISTS {table}")
         with tempfile.TemporaryDirectory() as folder:
             given = {"processes": 4, "folder": pathlib.Path(folder), **given}
             return torture.Torture(self.server.url, table, **given).run()
 
     def test_a_torture_has_tasks_of_asyncio(self):
-        """In every fourth process; some of them are cancelled."""
+        """Every fourth process of a torture has tasks of asyncio, some of which are cancelled."""
 
         def broken(accounts):
             if isinstance(accounts, AsyncAccounts):

@@ -19,7 +19,7 @@ from rigzumal.accounts.dialects import MySQL, Verdict
 
 class Arguments(Base):
     def test_pools_and_hashers(self):
-        """Of another kind they are refused as Accounts are built, and named."""
+        """Accounts refuse a pool or a hasher of the wrong kind at once, and name it."""
         engine = type("Engine", (), {"connect": self.no_connection})()
         for kind, pool in ((Accounts, "PerThread"), (AsyncAccounts, "PerUse")):
             for given in (self.conn, engine, "sqlite:///x"):
@@ -43,7 +43,7 @@ class Arguments(Base):
         self.accounts(tries=1, patience=0.0)
 
     def test_words_for_kinds(self):
-        """They would be none of the kinds; no connection is asked for."""
+        """A word in place of a Kind is refused, before any connection is used."""
         accounts = self.accounts(connect=self.no_connection)
         for kind in ("change", "CHANGE", 3, None, Reply.REPLACED):
             with self.subTest(kind=kind):
@@ -55,7 +55,8 @@ class Arguments(Base):
                 Sqlite("users", "name", "record", kind)
 
     def test_pools_that_lend_no_connection(self):
-        """A connection's own `with` doesn't close it, and the other kind's lends nothing."""
+        """Pools that lend no connection: a connection, whose `with` doesn't close it, and a pool of
+        the other kind."""
 
         async def awaited():
             return self.conn
@@ -94,7 +95,8 @@ class Arguments(Base):
 
     @each((str, "a\0"), (str, "\ud800"), (int, 2**63), (int, -(2**63) - 1))
     def test_keys_that_no_column_holds(self, key_type, key):
-        """They are asked of no server, whatever their copy is said to be."""
+        """No operation asks a server for a key that no column holds, whatever copy the caller
+        passes."""
         dialect = self.another_dialect(key_type=key_type)
         accounts = self.accounts(dialect=dialect, connect=self.no_connection)
         self.assertIs(accounts.login(key, "x"), Reply.NO_ACCOUNT)
@@ -107,7 +109,7 @@ class Arguments(Base):
         self.conn.execute("ROLLBACK")
 
     def test_columns_that_do_not_exist(self):
-        """SQLite reads "emial" as a text, whose own name would be an account of that record."""
+        """SQLite would read a missing column "emial" as a text, and take that for the record."""
         self.give("one", "emial")
         for names in ({"key": "emial"}, {"record": "recrod"}):
             accounts = self.accounts(dialect=self.another_dialect(**names))
@@ -118,7 +120,7 @@ class Arguments(Base):
         self.assertTrue(self.is_right("one", "emial"))
 
     def test_names_of_subclasses_of_str(self):
-        """Each is the text that it holds, whatever its class shows: `str` of this one is
+        """A name of a subclass of str is the text that it holds, even if its `str` shows
         another."""
         key = enum.Enum("Role", {"ANN": "ann"}, type=str).ANN
         accounts = self.accounts()
@@ -138,7 +140,7 @@ class Arguments(Base):
 
     @each("one", "", "$2b$of another scheme", None)
     def test_a_password_that_nobody_can_have_is_a_wrong_one(self, stands):
-        """Anybody may try such a password: it is answered after one hash, and not raised."""
+        """Anybody may try such a password: the call answers after one hash, and raises nothing."""
         hook = mock.Mock(side_effect=AssertionError("it was asked"))
         accounts = self.accounts(HIGH, foreign=hook)
         record = stands if stands and stands[0] == "$" else self.give(stands)
@@ -168,22 +170,22 @@ class Arguments(Base):
 
 
 class Error(Exception):
-    """A driver's."""
+    """A driver's error."""
 
 
 def of_states(states, severity=None):
-    """The exceptions of psycopg for these."""
+    """The exceptions of psycopg for these states."""
     diag = mock.Mock(severity_nonlocalized=severity)
     return [mock.Mock(sqlstate=it, diag=diag) for it in states.split()]
 
 
 def of_numbers(*numbers):
-    """The exceptions of PyMySQL for these."""
+    """The exceptions of PyMySQL for these numbers."""
     return [Error(number, "in words") for number in numbers]
 
 
 def of_codes(*codes):
-    """The exceptions of sqlite3 for these: the code counts, whatever the text says."""
+    """The exceptions of sqlite3 for these codes: the code counts, whatever the text says."""
     for code, text in itertools.product(codes, ("database is locked", "disk I/O error")):
         error = sqlite3.OperationalError(text)
         error.sqlite_errorcode = code
@@ -214,7 +216,7 @@ OF_MARIADB = (
     ([Error()], Verdict.REFUSED, False),
     ([ConnectionResetError()], Verdict.LOST, False),
 )
-# Before Python 3.11 an error of SQLite has its text alone.
+# Before Python 3.11 an error of SQLite has only its text.
 LOCKED, MISSING, FULL = map(
     sqlite3.OperationalError,
     ("database is locked", "no such table: x", "database or disk is full"),
@@ -229,7 +231,8 @@ OF_SQLITE = (
 class Errors(Base):
     @each((Postgres, OF_POSTGRES), (MariaDB, OF_MARIADB), (MySQL, OF_MARIADB), (Sqlite, OF_SQLITE))
     def test_what_they_mean(self, kind, rows):
-        """Each before a COMMIT, and whether one that it answers was undone."""
+        """The meaning of each error before a COMMIT, and whether a COMMIT that it answers was
+        undone."""
         dialect = kind("t", "k", "r")
         for errors, verdict, gave_up in rows:
             for error in errors:
@@ -243,7 +246,7 @@ class Errors(Base):
         for (autocommit, level), wanted in cases.items():
             conn = mock.Mock(in_transaction=False, autocommit=autocommit, isolation_level=level)
             self.assertEqual(self.dialect.mode(conn).is_autocommit, wanted)
-        # There a transaction is open at all times, which isn't what is wrong.
+        # There a transaction is always open, which isn't the fault.
         conn = mock.Mock(in_transaction=True, autocommit=False)
         self.assertRaisesRegex(StoreFault, "have to be in autocommit", self.dialect.fresh, conn)
 
@@ -254,7 +257,8 @@ class Errors(Base):
         ("NOTICE", "HINWEIS", "exec_stmt_raise", False),
     )
     def test_a_warning_in_the_servers_language(self, severity, word, function, raised):
-        """It is known by its severity, which no language changes, and by who warns."""
+        """The dialect knows the warning by its severity, which no language changes, and by its
+        source."""
         named = {"severity": word, "severity_nonlocalized": severity, "source_function": function}
         notice = mock.Mock(sqlstate="01000", **named)
         session = scripted(Result([], 0, "COMMIT"))
@@ -285,7 +289,7 @@ class Errors(Base):
         ("x" * 5000, "xxx"),
     )
     def test_unavailable_says_why(self, text, said):
-        """In the server's words, and without a password of the DSN."""
+        """`Unavailable` has the server's message, without the password of the DSN."""
         connect = mock.Mock(side_effect=ConnectionError(text))
         accounts = self.accounts(dialect=MariaDB("t", "k", "r"), connect=connect, patience=0.0)
         with self.assertRaises(Unavailable) as raised:
@@ -302,7 +306,8 @@ class Errors(Base):
         (sqlite3.OperationalError, Verdict.LOST, Unavailable),
     )
     def test_no_row_in_what_is_raised(self, error, verdict, kind):
-        """As PostgreSQL's detail has the row that failed: of a statement its number alone."""
+        """An exception has only a statement's error number, since PostgreSQL's detail quotes the
+        failed row."""
         accounts = self.accounts(patience=0.0)
         text = "Failing row contains (ann, $argon2id$secret)"
         accounts._table.compare = mock.Mock(side_effect=error(text))
@@ -319,7 +324,7 @@ class Errors(Base):
         (Kind.RESET, "", "secret two"),
     )
     def test_no_secret_is_shown(self, kind, password, new):
-        """In an unknown outcome, nor in a repr."""
+        """Neither OutcomeUnknown nor any repr shows a secret."""
         self.give("secret one")
         accounts, request = self.losing(before=False), Request(kind, "ann", password, new)
         accounts._put_again = mock.Mock(side_effect=RuntimeError("x"))

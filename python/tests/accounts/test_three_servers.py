@@ -61,7 +61,7 @@ class ThreeServers(unittest.TestCase):
         self.assertFalse(first.log_in("nobody@example.org", "two"))
 
     def test_accounts_without_a_record(self):
-        """No row that is there is theirs, removed or invited."""
+        """A sign-up takes no existing row, of a removed or of an invited account."""
         shop = self.web_server()
         self.assertTrue(shop.sign_up(ADA, "one"))
         with self.server.connect() as conn:
@@ -93,7 +93,8 @@ class ThreeServers(unittest.TestCase):
         self.assertTrue(shop.log_in(ann, "secret"))
 
     def test_addresses_that_nobody_gets(self):
-        """They are a ValueError before anything is hashed, and so is a password that can't be."""
+        """Such an address raises a ValueError before any hash, and so does an impossible
+        password."""
         shop = self.web_server()
         for name in NO_ADDRESSES:
             with self.subTest(name=name):

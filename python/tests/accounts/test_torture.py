@@ -1,4 +1,4 @@
-"""A torture: the kills of its processes, its notes and its verdicts."""
+"""A torture: the kills of its processes, its logs and its verdicts."""
 
 import contextlib
 import io
@@ -44,7 +44,7 @@ class Tortures(Base):
     # ---- kills
 
     def test_the_command(self):
-        """However short it is, somebody was killed, and the table goes again."""
+        """However short the run is, it kills a process, and drops the table afterwards."""
         said = self.command("--processes=2", "--kill")
         self.assertTrue(said.startswith("legal: "), said)
         (killed,) = re.findall(r", (\d+) killed, seed \d+\n", said)
@@ -55,7 +55,7 @@ class Tortures(Base):
 
     @each(*_torture.WAYS)
     def test_kills_before_a_commit(self, way):
-        """Each process ends between its first UPDATE and COMMIT: nothing was done."""
+        """Each process is killed between its first UPDATE and COMMIT: nothing was stored."""
         self.logs = pathlib.Path(f"{self.server.path}.{way}")
         with mock.patch.object(_torture, "RISK", 1.0):
             with mock.patch.object(_torture.random, "random", return_value=0.9):
@@ -67,7 +67,8 @@ class Tortures(Base):
         self.assertEqual([it for it in self.operations(accounts) if it.makes_change], [])
 
     def test_kills_after_a_commit(self):
-        """Each ends between its first COMMIT and the answer: it was done, unseen."""
+        """Each process is killed between its first COMMIT and the answer: the change is stored,
+        unanswered."""
 
         def tried(log, *given):
             log.risk = 0.0
@@ -89,8 +90,8 @@ class Tortures(Base):
         *((it, "parts") for it in ("begin", "work", "commit")),
     )
     def test_everything_is_called(self, name, way):
-        """The whole, one with a statement of its own, the parts, a caller's transaction
-        and the login; an exception of a process is a fault."""
+        """A torture calls whole operations, some with a statement of their own, operations in
+        parts, in a caller's transaction, and logins. An exception of a process is a fault."""
 
         broken = lambda accounts: setattr(accounts, name, mock.Mock(side_effect=RuntimeError))
         mix = {"login" if name == "login" else "change": 1}
@@ -124,7 +125,7 @@ class Tortures(Base):
     # ---- what is judged
 
     def test_logs(self):
-        """One of a run alone, and files that are none."""
+        """The command judges the logs of one run, and refuses files that aren't logs."""
         self.command("--processes=2", f"--logs={self.logs}")
         said = commanded(command.main, *self.logs.iterdir())
         self.assertTrue(said.startswith("legal: "), said)
@@ -134,7 +135,8 @@ class Tortures(Base):
             self.assertRaises(ValueError, command.main, [str(file)])
 
     def test_the_end_is_read_where_it_is_said(self):
-        """After a failover that is another server than the first."""
+        """The torture reads the end where --end says: after a failover, at another server than the
+        first."""
         end = f"{self.server.path}.end"
         with contextlib.closing(sqlite3.connect(end)) as conn:
             conn.execute("CREATE TABLE ended (name TEXT PRIMARY KEY, record TEXT)")
@@ -155,11 +157,12 @@ class Tortures(Base):
         self.assertIn("no process was killed", said)
 
     def test_one_that_is_refused(self):
-        """Status 4, what contradicts what, and the table and the logs stay."""
+        """A refused run ends with status 4, prints the contradiction, and keeps the table and the
+        logs."""
         compare = Table.compare
 
         async def lies(table, session, worked):
-            """Says that it was put, and puts nothing."""
+            """Reports that the record was written, and writes nothing."""
             if not worked.reply.makes_change:
                 return await compare(table, session, worked)
             return Answer(worked.reply, worked.ticket.copy, worked.after)

@@ -1,9 +1,9 @@
-"""Django's own tests of its hashers and of all that is in auth, over Rigzumal.
+"""Runs Django's own tests of its hashers and of auth over Rigzumal.
 
     python3 django_own.py FOLDER-OF-DJANGO'S-SOURCE
 
-Its stock User compares, as by RIGZUMAL_USER_COMPARES. FRAMEWORKS_POSTGRES=PORT takes PostgreSQL in
-the place of SQLite.
+Its stock User compares, as with RIGZUMAL_USER_COMPARES. FRAMEWORKS_POSTGRES=PORT selects PostgreSQL
+instead of SQLite.
 """
 
 import os
@@ -20,7 +20,7 @@ import runtests
 from settings import DATABASES, PORT, ROOM, TEMPLATES
 
 BACKEND = "rigzumal.django.backends.CompareAndSetBackend"
-# What fails by these settings, and why.
+# The tests that fail under these settings, and the reasons.
 EXPECTED = {
     "test_username_non_unique": "names that aren't unique are an error to Django only if"
     " its own backend is the one that is used, else a warning",
@@ -30,7 +30,7 @@ if django.VERSION < (5, 1):
     EXPECTED["test_view_user_password_is_readonly"] = "it takes a record for MD5's, of three parts"
 if django.VERSION >= (4, 2):
     EXPECTED["test_check_password_fake_runtime"] = "its mock of `encode` makes no record"
-# The tests want PBKDF2 in front, and the others by their algorithms.
+# The tests require PBKDF2 first, and the others by their algorithms.
 OURS = [f"{scheme}PasswordHasher" for scheme in ("Argon2", "Scrypt")]
 global_settings.PASSWORD_HASHERS = [
     *(it for it in global_settings.PASSWORD_HASHERS if not it.endswith(tuple(OURS))),
@@ -69,12 +69,12 @@ from django.contrib.auth.models import User
 from rigzumal.django.users import make_comparing
 
 make_comparing(User)
-# Its tests put the backend that they try behind the settings' own.
+# Django's tests add the backend under test behind those of the settings.
 test_auth_backends.BaseModelBackendTest.backend = BACKEND
 
 
 class Runner(DiscoverRunner):
-    """Django's, which is content with the failures that are expected."""
+    """Django's runner, which accepts the expected failures."""
 
     def suite_result(self, suite, result, **kwargs):
         names = (it.id().partition(" ")[0] for it, _ in result.failures + result.errors)

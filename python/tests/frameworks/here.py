@@ -1,5 +1,5 @@
-"""The places of the package and the tests: read first by each test, so that they are found by it
-and by the processes that it starts."""
+"""The paths of the package and the tests. Each test imports this first, so that the test and its
+processes find them."""
 
 import os
 import pathlib

@@ -1,4 +1,4 @@
-"""The login page as its tests serve it, and what a browser sends, by hand.
+"""The login page as its tests serve it, and the requests of a browser, written by hand.
 
 DATABASE may name a PostgreSQL.
 """
@@ -49,7 +49,7 @@ class Browser:
             return answer.status_code, answer.headers, answer.get_data(as_text=True)
 
     def ask(self, method, path, form=None, headers=()):
-        """The answer's status; its text, its headers and its cookie are kept."""
+        """Sends a request and returns the status; stores the answer's text, headers and cookie."""
         given = {"Cookie": self.cookie, **dict(headers)}
         if form is not None:
             given["Content-Type"] = "application/x-www-form-urlencoded"
@@ -108,7 +108,7 @@ def twice(new, again=None):
 
 
 class Page(Case):
-    """A page that has counted no try yet, and an account of this test, with its browser."""
+    """A page without counted tries, an account of this test, and its browser."""
 
     def setUp(self):
         super().setUp()
@@ -117,7 +117,7 @@ class Page(Case):
         self.assertEqual(self.ann.sign_up(self.name), 303)
 
     def at(self, moment):
-        """As late as this, for a `with`."""
+        """Sets the clock to this time, for a `with`."""
         return mock.patch.object(store.time, "time", lambda: moment)
 
     def opens(self, password, name=None):
@@ -126,7 +126,7 @@ class Page(Case):
 
 
 class Served(Case):
-    """The program that is started, in a folder of its own."""
+    """The program as its own process, in a folder of its own."""
 
     seconds = 900
 
@@ -138,7 +138,7 @@ class Served(Case):
 
     @contextlib.contextmanager
     def started(self, **env):
-        """The process, and its port; a setting of None isn't given."""
+        """Starts the process; returns it with its port. A setting of None is left out."""
         given = {**os.environ, "PORT": "0", "MEMORY": "64", "DATABASE": str(self.database), **env}
         given = {name: value for name, value in given.items() if value is not None}
         with open(self.folder / "log", "ab") as log:

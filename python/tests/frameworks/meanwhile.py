@@ -1,4 +1,4 @@
-"""Records that cost little, and what another process does at the wrong moment."""
+"""Records of low costs, and acts of another process at the wrong moment."""
 
 import contextlib
 import functools
@@ -28,7 +28,7 @@ def cheap(memory=64):
 
 
 class Cheap:
-    """A case whose new records are cheap, and which asks what is so of its user, `ann`."""
+    """A case whose new records are cheap, with questions about its user, `ann`."""
 
     around = contextlib.nullcontext
 
@@ -38,19 +38,20 @@ class Cheap:
         self.enterContext(cheap())
 
     def right(self, password):
-        """Whether the password is one of the record that stands."""
+        """Whether the password is that of the row's record."""
         return is_right(self.ann, password)
 
     def reset(self, password):
         reset_elsewhere(self.ann, password)
 
     def lost(self, turns=1, password="old"):
-        """Another process puts a record of this password before so many UPDATEs, for a `with`."""
+        """Another process writes a record of this password before each of this many UPDATEs, for a
+        `with`."""
         return before_update(lambda: self.reset(password), turns)
 
 
 class Ann(Cheap):
-    """The same of a stock User, whose password is "old"."""
+    """A case with a stock User, `ann`, whose password is "old"."""
 
     given = {}
 
@@ -60,7 +61,7 @@ class Ann(Cheap):
 
 
 def signed_up(model, password="old", **given):
-    """A user as a view has her: read from the database."""
+    """A new user, read from the database as in a view."""
     made = model(**given)
     made.set_password(password)
     made.save()
@@ -68,13 +69,13 @@ def signed_up(model, password="old", **given):
 
 
 def connected(case, signal, handler, sender):
-    """Has a handler hear of a model's saves until the end of a test."""
+    """Connects a handler to a model's saves until the end of a test."""
     signal.connect(handler, sender=sender)
     case.addCleanup(signal.disconnect, handler, sender=sender)
 
 
 def awaited(call, *given, **named):
-    """The answer of a call, as an asynchronous view awaits it."""
+    """The answer of a call that is awaited as in an asynchronous view."""
 
     async def view():
         return await call(*given, **named)
@@ -83,7 +84,7 @@ def awaited(call, *given, **named):
 
 
 def meanwhile(act):
-    """Does `act` once, after the next password was judged, for a `with`."""
+    """Calls `act` once, after the next password was judged, for a `with`."""
     verify, left = Argon2PasswordHasher.verify, [act]
 
     def judge(hasher, password, encoded):
@@ -97,7 +98,7 @@ def meanwhile(act):
 
 @contextlib.contextmanager
 def before_update(act, turns=1):
-    """Does `act` before each of the next UPDATEs of a user, for a `with`."""
+    """Calls `act` before each of the next UPDATEs of a user, for a `with`."""
     left = [act] * turns
 
     def run(execute, sql, params, many, context):
@@ -116,7 +117,7 @@ def rows(user):
 
 
 def unseen():
-    """The statements that aren't among the UPDATEs that are waited for, for a `with`."""
+    """The statements of a `with`, except the UPDATEs before which `act` is called."""
     return mock.patch.object(connections["default"], "execute_wrappers", [])
 
 
@@ -138,7 +139,7 @@ def stands(user):
 
 
 def is_right(user, password):
-    """Whether the password is one of the record in the row."""
+    """Whether the password is that of the row's record."""
     return hashers.check_password(getattr(user, "pepper", "") + password, stands(user))
 
 
@@ -151,7 +152,8 @@ def undone():
 
 
 class Router:
-    """Reads and writes these databases, and looks at its model, as Django's page shows."""
+    """A router that reads and writes these databases, and looks at its model, as Django's page
+    shows."""
 
     def __init__(self, read, write):
         self.read, self.write = read, write
@@ -170,7 +172,7 @@ BACKEND = backends.CompareAndSetBackend()
 
 
 def log_in(by, field=None):
-    """The backend's answer; the user gets the record at which the session is to end."""
+    """The backend's answer; the user gets the record whose change ends the session."""
 
     def act(user):
         given = {field or user.USERNAME_FIELD: user.get_username()}
@@ -187,7 +189,7 @@ def save(user):
 
 
 LOGINS = {
-    # Django's login view passes on what was typed as `username`, whatever a model calls it.
+    # Django's login view passes the typed name as `username`, whatever the model's field is called.
     "authenticate": log_in(authenticate, "username"),
     "aauthenticate": log_in(functools.partial(awaited, BACKEND.aauthenticate)),
 }

@@ -1,6 +1,5 @@
-"""The tests' project of Django, with its databases: read first by each test of Django.
-
-FRAMEWORKS_POSTGRES=PORT takes PostgreSQL in the place of SQLite.
+"""The tests' project of Django, with its databases; each test of Django imports it first.
+FRAMEWORKS_POSTGRES=PORT selects PostgreSQL instead of SQLite.
 """
 
 import atexit
@@ -22,14 +21,14 @@ from django.test import utils
 
 
 def hurry(connection, **_):
-    """No test loses power: SQLite waits for no disk."""
+    """Makes SQLite wait for no disk, since no test loses power."""
     if connection.vendor == "sqlite":
         connection.cursor().execute("PRAGMA synchronous = OFF")
 
 
 connection_created.connect(hurry)
 
-run_checks()  # which reads the URLs, and what they register, as `manage.py test` does
+run_checks()  # which reads the URLs, and runs their registrations, as `manage.py test` does
 utils.setup_test_environment()
 _databases = utils.setup_databases(0, False)
 atexit.register(utils.teardown_databases, _databases, 0)

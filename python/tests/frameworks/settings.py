@@ -1,4 +1,4 @@
-"""Settings of the tests. FRAMEWORKS_POSTGRES=PORT takes PostgreSQL in place of SQLite."""
+"""Settings of the tests. FRAMEWORKS_POSTGRES=PORT selects PostgreSQL instead of SQLite."""
 
 import os
 import tempfile
@@ -40,5 +40,5 @@ SECRET_KEY = "of the tests"
 DEFAULT_AUTO_FIELD = "django.db.models.AutoField"
 USE_TZ = True
 STATIC_URL = "/static/"
-# The tables are made as the models are, since a model of the tests inherits from one of auth's.
+# The tables are created from the models, since a model of the tests inherits from one of auth's.
 MIGRATION_MODULES = {name: None for name in ("admin", "auth", "contenttypes", "sessions")}

@@ -31,7 +31,8 @@ VALIDATORS = "django.contrib.auth.password_validation.password_changed"
 
 class Operations(Ann, TestCase):
     def test_one_column_is_written_and_validators_hear_of_new_passwords(self):
-        """An upgrade is none, and neither is a removed password."""
+        """A change writes one column and calls the validators; an upgrade and a removed password
+        call none."""
         User.objects.update(email="new@example.org")
         with cheap(memory=128), mock.patch(VALIDATORS) as told:
             passwords.check_password(self.ann, "old")
@@ -51,7 +52,7 @@ class Operations(Ann, TestCase):
 
 class Files(Ann, TestCase):
     def test_files_of_a_login(self):
-        """docs/ARCHITECTURE.md has those that a login passes, once Django has begun."""
+        """docs/ARCHITECTURE.md lists the files that a login enters, once Django is loaded."""
 
         def log_in():
             self.assertEqual(authenticate(username="ann", password="old"), self.ann)
@@ -80,7 +81,7 @@ class Reports(Cheap, TransactionTestCase):
         self.ben = Person.objects.create_user("ben", password=OLD)
 
     def check(self, act, fault):
-        """No frame shows a secret; those of the tests themselves are none of ours."""
+        """No frame shows a secret; the frames of the tests themselves don't count."""
         found = None
         try:
             act()
@@ -191,7 +192,7 @@ class Logins(Ann, TestCase):
             self.assertRaises(OperationalError, authenticate, username=name, password="old")
 
     def test_who_may_log_in(self):
-        """A subclass says it, and whoever was inactive may come back."""
+        """A subclass decides who may log in, and an inactive user may become active again."""
 
         class AllowAll(backends.CompareAndSetBackend):
             def user_can_authenticate(self, user):
@@ -203,7 +204,8 @@ class Logins(Ann, TestCase):
 
     @each(*itertools.product((OURS, THEIRS), ([OURS, THEIRS], [THEIRS, OURS], [OURS], [THEIRS])))
     def test_sessions_of_djangos_backend(self, begun, listed):
-        """They go on while it is listed behind ours, and end when it isn't."""
+        """Sessions of Django's backend go on while it is listed behind ours, and end when it
+        isn't."""
         self.client.force_login(self.ann, backend=begun)
         with override_settings(AUTHENTICATION_BACKENDS=listed):
             self.assertIs(get_user(self.client).is_authenticated, begun in listed)
@@ -219,7 +221,8 @@ class Databases(Cheap, TestCase):
         return hashers.check_password(password, self.there().password)
 
     def test_the_database_that_is_written(self):
-        """Not the one that is read, whose copy lags."""
+        """A login uses the database that is written, and not the one that is read, whose copy
+        lags."""
         with override_settings(DATABASE_ROUTERS=[Router("default", "other")]):
             ann = User.objects.db_manager("other").create_user("ann", password="old")
             with cheap(memory=128):
@@ -231,7 +234,7 @@ class Databases(Cheap, TestCase):
             self.assertEqual(lagging.password, self.there().password)
 
     def test_a_router_that_looks_at_its_model(self):
-        """Also for a user as a request has it."""
+        """A router may look at its model, also for the lazy user of a request."""
         with override_settings(DATABASE_ROUTERS=[Router("other", "other")]):
             User.objects.create_user("ann", password="old")
             ann = SimpleLazyObject(lambda: User.objects.get(username="ann"))

@@ -30,7 +30,7 @@ except ImportError:
     psycopg = None
 
 THEIRS, OURS = "django.contrib.auth.backends.", "rigzumal.django.backends.CompareAndSetBackend"
-# Backends, and what is said of them: of a stock User, and if it compares.
+# Backends, and the messages about them: for a stock User, and for one that compares.
 NO_CLASS = f"{__name__}.urlpatterns"
 UPGRADING = [THEIRS + "ModelBackend", THEIRS + "AllowAllUsersModelBackend"]
 BACKENDS = [
@@ -45,7 +45,7 @@ OUR_ARGON2, OUR_SCRYPT = (
     f"rigzumal.django.hashers.{it}PasswordHasher" for it in ("Argon2", "Scrypt")
 )
 ARGON2, PBKDF2 = (f"django.contrib.auth.hashers.{it}PasswordHasher" for it in ("Argon2", "PBKDF2"))
-# Hashers: of two of one name Django asks the later, so its own would judge our records.
+# Hashers: if two have one name, Django asks the later, so its own would judge our records.
 HASHERS = [
     *((it, []) for it in ([OUR_SCRYPT], ["meanwhile.Argon2"], [OUR_ARGON2, PBKDF2])),
     ([OUR_ARGON2, ARGON2, "meanwhile.Argon2"], []),
@@ -87,7 +87,7 @@ MYSQL = [
 
 
 class Checks(unittest.TestCase):
-    """With a stock User: of its own it is warned by W007, which is left out here."""
+    """The checks with a stock User, without W007, which warns of such a User."""
 
     def found(self):
         found = [it for it in run_checks(tags=["security"]) if it.id.startswith("rigzumal.")]
@@ -126,7 +126,7 @@ class Checks(unittest.TestCase):
                 self.assertIn(listed[-1], self.found()[0].msg)
 
     def test_a_database_whose_hashers_are_wrong(self):
-        """The look at the records says nothing more."""
+        """If the hashers of a database are wrong, the look at its records adds no message."""
         with override_settings(PASSWORD_HASHERS=[OUR_ARGON2, "nowhere.Hasher"]):
             self.assertEqual([*checks.unlisted_hashers(databases=["default"])], [])
 
@@ -185,7 +185,7 @@ class Checks(unittest.TestCase):
         self.assertEqual([it.msg.split()[2] for it in found], list(routes))
 
     def test_no_urls(self):
-        """A project may have none, and no setting for them."""
+        """A project may have no URLs, and no setting for them."""
         with override_settings():
             del settings.ROOT_URLCONF
             self.assertEqual(self.ids(), [])
@@ -220,7 +220,7 @@ urlpatterns = [
 class Projects(unittest.TestCase):
     @each((djangos_admin, False, False), (djangos_admin, True, True), (our_admin, True, False))
     def test_the_admin_of_the_setting(self, owner, compares, is_replaced):
-        """It takes the place of Django's very own, and leaves a project's own."""
+        """The setting's admin replaces Django's own, and leaves a project's own."""
         registered = owner.UserAdmin(User, admin.site)
         registry = mock.patch.dict(admin.site._registry, {User: registered})
         with registry, override_settings(RIGZUMAL_USER_COMPARES=compares):
@@ -229,7 +229,8 @@ class Projects(unittest.TestCase):
         self.assertEqual(found, "ran" if is_replaced else owner.__name__)
 
     def test_without_the_app(self):
-        """Hashers, backends and the admin's app refuse it: its settings would be idle."""
+        """Hashers, backends and the admin's app refuse a project without the app, whose settings
+        would have no effect."""
         code = (
             "from django.conf import settings\n"
             "settings.configure(INSTALLED_APPS={apps}, SECRET_KEY='x', USE_TZ=True,\n"
@@ -263,7 +264,7 @@ class Records(Cheap, TestCase):
         return [it.msg for it in run_checks(databases=["default"]) if it.id == "rigzumal.W011"]
 
     def test_a_project_that_has_users(self):
-        """The settings of one hasher lock out who has Django's default."""
+        """Settings with one hasher lock out users who have a record of Django's default."""
         User.objects.create_user("new", password="secret")
         User.objects.create_user("none")
         ann = User.objects.create(username="ann")
@@ -291,7 +292,8 @@ class Records(Cheap, TestCase):
                 self.assertEqual(self.found(), [])
 
     def test_no_table_and_no_column(self):
-        """Before the tables are created, and of a model without a password."""
+        """The checks find nothing before the tables are created, and for a model without a
+        password."""
         User.objects.create(username="ann", password="topsecret$1")
         with mock.patch.object(User._meta, "db_table", "not_made_yet"):
             self.assertEqual(self.found(), [])

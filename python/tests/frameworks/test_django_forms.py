@@ -52,8 +52,8 @@ class Forms(Ann, TestCase):
         (djangos_forms.AdminPasswordChangeForm, BY_ADMIN, None),
     )
     def test_each(self, form, given, code):
-        """It sets the password, unless another was set after the form was validated. With a model
-        that compares, Django's own forms raise an exception."""
+        """Each form sets the password, unless another was set after the form was validated. With a
+        model that compares, Django's own forms raise an exception."""
         with comparing() if code is None else contextlib.nullcontext():
             found = self.valid(form, given)
             if code:
@@ -70,7 +70,8 @@ class Forms(Ann, TestCase):
 
     @each((False, 2), (True, 4))
     def test_a_change_costs_two_hashes(self, is_reset, hashes):
-        """As Django's: the old password is judged once, if its record is still there."""
+        """A change costs two hashes, as Django's: it judges the old password once, if its record is
+        still in the row."""
         self.reset("old")
         with mock.patch.object(rigzumal, "argon2", side_effect=rigzumal.argon2) as hashed:
             form = forms.PasswordChangeForm(User.objects.get(), GIVEN)
@@ -99,7 +100,8 @@ class Forms(Ann, TestCase):
         self.assertTrue(self.right(NEW))
 
     def test_the_admins_button_that_takes_a_password_away(self):
-        """Django 5.1 and later have it, and clean it to this."""
+        """The admin's button that removes a password exists from Django 5.1 on, and cleans to
+        this."""
         form = self.valid(forms.AdminPasswordChangeForm, BY_ADMIN)
         form.cleaned_data["set_usable_password"] = False
         form.save()
@@ -107,7 +109,7 @@ class Forms(Ann, TestCase):
 
 
 class Views(Ann, TestCase):
-    """By Django's client: a fault of the server would be raised."""
+    """The views, through Django's client, which would raise a fault of the server."""
 
     given = {"is_staff": True}
 
@@ -123,7 +125,8 @@ class Views(Ann, TestCase):
 
     @each("/accounts/password_change/", "/admin/password_change/")
     def test_a_change(self, change):
-        """A form that fails undoes no reset either: Django's own upgrades as it judges."""
+        """A form that fails undoes no reset either; Django's own form would upgrade the old
+        record."""
         bad = {**GIVEN, "new_password2": "another"}
         for given, text in ((GIVEN, "old password was entered incorrectly"), (bad, "")):
             self.reset("old")
@@ -157,7 +160,7 @@ class Views(Ann, TestCase):
         self.assertTrue(self.right(NEW))
 
     def test_a_view_and_a_middleware_that_go_on_with_the_user(self):
-        """They save her after the change."""
+        """A view and a middleware save the user after the change."""
         with override_settings(MIDDLEWARE=[*settings.MIDDLEWARE, "urls.last_seen"]):
             self.client.post("/accounts/password_change/", GIVEN)
             self.assertTrue(self.right(NEW))
@@ -169,13 +172,13 @@ class Views(Ann, TestCase):
 
 
 class ComparingViews(Views):
-    """The same with a stock User that compares: by the setting, RIGZUMAL_USER_COMPARES."""
+    """The views with a stock User that compares, by the setting RIGZUMAL_USER_COMPARES."""
 
     around = comparing
 
 
 class RoutedViews(Views):
-    """The same with a router that looks at its model."""
+    """The views with a router that looks at its model."""
 
     databases = {"default", "other"}
 
@@ -184,7 +187,7 @@ class RoutedViews(Views):
 
 
 class AtomicViews(Views):
-    """The same within a transaction for each request."""
+    """The views within a transaction for each request."""
 
     def around():
         return mock.patch.dict(connections["default"].settings_dict, ATOMIC_REQUESTS=True)
@@ -240,7 +243,8 @@ class Admin(Ann, TestCase):
         self.assertEqual(User.objects.get(pk=self.ann.pk).email, "a@new.org")
 
     def test_it_sets_a_password(self):
-        """And shows an error if it was changed meanwhile; then no error stays."""
+        """The admin sets a password, and shows an error if the password was changed meanwhile; the
+        next form has none."""
         change = f"{self.page}password/"
         self.assertEqual(self.client.get(change).status_code, 200)
         with self.lost(password="reset"):
@@ -255,7 +259,8 @@ class Admin(Ann, TestCase):
         self.assertTrue(is_right(User.objects.get(username="ben"), NEW))
 
     def test_a_form_of_a_projects_own_sets_the_password(self):
-        """Its field is the password's, and it says so by `changed_data`."""
+        """A project's own form sets the password: its field is the password's, and `changed_data`
+        has it."""
         form = mock.Mock(changed_data=["password"])
         self.ann.set_password("by a form")
         admin.site._registry[User].save_model(None, self.ann, form, True)
@@ -271,7 +276,7 @@ class Admin(Ann, TestCase):
 
 
 class ComparingAdmin(Admin):
-    """The same with a stock User that compares."""
+    """The admin with a stock User that compares."""
 
     around = comparing
 

@@ -42,7 +42,8 @@ def change(user, new):
 
 
 class Written(Cheap):
-    """The facts of each way to write a password; `model` says whose, and `writes` which ways."""
+    """The facts of each way to write a password, for the users of `model` and the ways in
+    `writes`."""
 
     writes = [set_, set_twice]
 
@@ -54,7 +55,8 @@ class Written(Cheap):
         return self.model.objects.get(username="ann", **given)
 
     def test_a_transaction_that_is_tried_again(self):
-        """A deadlock in the first turns, as databases' manuals ask to try again."""
+        """A deadlock in the first turns: the transaction runs again, as the databases' manuals
+        require."""
         for write in (*self.writes, change):
             self.reset("old")
             self.ann.refresh_from_db()
@@ -103,7 +105,7 @@ class Compared(Written):
     writes = [*Written.writes, save, save_one_field]
 
     def lose(self, user, new=None, **how):
-        """A save, perhaps of a new password, that is lost: nothing is written."""
+        """A lost save, perhaps of a new password, writes nothing."""
         if new:
             user.set_password(new)
         before = stands(user)
@@ -147,7 +149,8 @@ class Compared(Written):
         ]
 
     def test_a_user_is_compared_with_what_was_read_or_written(self):
-        """In an open transaction, since a TestCase is one, as in life."""
+        """A save compares with the record that was read or written, here within the open
+        transaction of a TestCase."""
         unusable = "set_unusable_password"
         changes = (unusable,), ("set_password", "mine")
         for way, (change, *new) in itertools.product(self.ways(), changes):
@@ -196,14 +199,14 @@ class Compared(Written):
         for fields in (None, ["password"], iter(["email", "password"])):
             self.lose(self.ann, update_fields=fields)
         self.assertEqual(self.again().email, "a@old.org")
-        self.ann.save(update_fields=["email"])  # what else is to be saved, can be
+        self.ann.save(update_fields=["email"])  # other fields can be saved
         self.assertEqual(self.again().email, "a@new.org")
         self.ann.refresh_from_db()
         save(self.ann, "new")()
         self.assertTrue(self.right("new"))
 
     def test_a_save_after_a_bulk_update_of_the_same_record(self):
-        """Nobody else changed anything: the row has the record that is saved."""
+        """No other process changed anything: the row already has the record that is saved."""
         self.ann.set_password("new")
         self.model.objects.bulk_update([self.ann], ["password"])
         self.ann.email = "a@new.org"
@@ -256,14 +259,14 @@ class OfUser(Compared, TestCase):
 
 
 class Committed(Compared, TransactionTestCase):
-    """The same with real transactions, on databases' own rollbacks."""
+    """The mixin under real transactions and the databases' own rollbacks."""
 
     model = Person
     databases = {"default", "other"}
     there = Person.objects.db_manager("other")
 
     def test_what_runs_at_the_commit(self):
-        """A callback that saves the user, before this app's own has run."""
+        """A callback saves the user at the commit, before the callback of this app has run."""
 
         def stamp():
             self.ann.first_name = "committed"
@@ -303,8 +306,8 @@ class Committed(Compared, TransactionTestCase):
 
     @override_settings(DATABASE_ROUTERS=[Router("other", "other")])
     def test_a_lost_save_in_a_transaction_of_another_database(self):
-        """That transaction goes on, as a view's under ATOMIC_REQUESTS does, which shows its form
-        again; and so does one of the first database."""
+        """The transaction of the other database goes on, and so does one of the first: under
+        ATOMIC_REQUESTS a view shows its form again."""
         self.there.create(pk=self.ann.pk, username="ann", password=self.ann.password)
         ann = self.there.get()
         self.there.update(password="another")
@@ -318,7 +321,8 @@ class Committed(Compared, TransactionTestCase):
 
     @override_settings(DATABASE_ROUTERS=[Router("default", "default")])
     def test_a_new_user_of_another_database_is_remembered_there(self):
-        """Under `using`, whatever the router says: a later save compares with that."""
+        """A new user is remembered in the database of `using`, whatever the router says: a later
+        save compares with that record."""
         ben = Person(username="ben", password="first")
         ben.save(using="other")
         self.there.update(password="reset")
@@ -327,7 +331,7 @@ class Committed(Compared, TransactionTestCase):
         self.assertEqual(self.there.get().password, "reset")
 
     def test_nobody_is_told_of_a_password_that_was_never_put(self):
-        """After a lost save, nor after the user was read anew."""
+        """No validator hears of a password after a lost save, or after the user was read anew."""
         self.reset("reset")
         with mock.patch("django.contrib.auth.password_validation.password_changed") as told:
             self.lose(self.ann, "new")

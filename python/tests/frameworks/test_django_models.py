@@ -1,4 +1,4 @@
-"""A model with the mixin beside Django's own: it is the same in all but races, and a model's own
+"""Compares a model with the mixin with Django's own: they differ only in races, and a model's own
 methods are called."""
 
 import itertools
@@ -21,7 +21,7 @@ from rigzumal.django import passwords, users
 
 
 def beside(expected):
-    """A test that a scenario ends so, with the mixin and without it."""
+    """A test that a scenario has this end, with the mixin and without it."""
 
     def decorated(scenario):
         def test(self):
@@ -36,7 +36,7 @@ def beside(expected):
 
 
 class AsDjangos(Cheap, TransactionTestCase):
-    """All that has nothing to do with races is as with AbstractUser alone."""
+    """Apart from races, a model behaves as with AbstractUser alone."""
 
     @beside([None] * 4 + [{"password"}] * 2 + [{"email"}] * 2 + [{"email", "password"}] * 2)
     def test_signals(self, model, ann):
@@ -68,7 +68,7 @@ class AsDjangos(Cheap, TransactionTestCase):
 
     @beside(True)
     def test_who_is_gone(self, model, ann):
-        """A save inserts her again, unless it is to be an UPDATE."""
+        """A save of a deleted user inserts her again, unless it must be an UPDATE."""
         ann.set_password("new")
         model.objects.all().delete()
         for how in ({"force_update": True}, {"update_fields": ["password"]}):
@@ -111,7 +111,8 @@ class AsDjangos(Cheap, TransactionTestCase):
 
     @beside(None)
     def test_a_save_is_one_statement(self, model, ann):
-        """Of another field also in a transaction, as under ATOMIC_REQUESTS."""
+        """A save is one statement; so is a save of another field in a transaction, as under
+        ATOMIC_REQUESTS."""
         with self.assertNumQueries(1):
             ann.save()
         ann.set_password("new")
@@ -125,13 +126,15 @@ class AsDjangos(Cheap, TransactionTestCase):
 
     @beside(("(models.Model,)", None))
     def test_a_migration_names_what_it_does_of_djangos(self, model, ann):
-        """So the package can be removed again, and no migration needs an edit."""
+        """A migration names Django's bases, so the package can be removed without an edit of any
+        migration."""
         state = ModelState.from_model(model)
         return MigrationWriter.serialize(state.bases)[0], state.options.get("verbose_name")
 
     @beside(True)
     def test_a_migration_that_names_the_mixin_is_read(self, model, ann):
-        """As those of a project whose model had it before it was an abstract model."""
+        """Old migrations name the mixin, from before it was an abstract model, and are still
+        read."""
         name, state = model._meta.model_name, ProjectState()
         state.add_model(ModelState.from_model(model))
         mixed = state.models["users_app", name]
@@ -167,7 +170,7 @@ class OwnMethods(Cheap, TestCase):
         self.assertFalse(self.again().has_usable_password())
 
     def test_a_set_that_failed_leaves_no_password(self):
-        """Neither in the user nor for the validators of the next save."""
+        """A failed set leaves no password in the user, nor for the validators of the next save."""
         before = self.ann.password
         for error, save in ((passwords.RecordChanged(), "lost"), (OSError("no"), "broken")):
             with mock.patch.object(AbstractUser, "save", side_effect=error):

@@ -52,7 +52,7 @@ def cases(model, is_raised):
     has_mixin = issubclass(model, CompareAndSetMixin)
     for act in sorted(acts if has_mixin else acts - OF_MIXIN.keys()):
         yield act, None, None
-        # A save of who is gone inserts, as Django's.
+        # A save of a deleted user inserts a row, as Django's does.
         others = ["reset", OLD, GONE] if act != "save" else ["reset", OLD]
         at = ["before"] if act in SETS else ["before", meanwhile]
         writes = act in {**CHANGES, **SETS} or is_raised and act != "verify"
@@ -115,7 +115,8 @@ class Races(Cheap, TransactionTestCase):
 
     @each(*itertools.product((User, Person, Peppered), ("authenticate", "check", "change")))
     def test_how_often(self, model, act):
-        """An operation that is lost seven times is done, and one that is lost eight times isn't."""
+        """An operation that loses seven times takes effect, and one that loses eight times
+        doesn't."""
         for turns in (TRIES - 1, TRIES):
             user = self.signed_up(model)
             again = before_update(lambda: reset_elsewhere(user, OLD), turns)
@@ -130,7 +131,8 @@ class Races(Cheap, TransactionTestCase):
 
     @each(*(User, Person) * 20)
     def test_threads(self, model):
-        """By connections of their own: a change or a reset is done, and nothing undoes it."""
+        """Threads with their own connections: a change or a reset takes effect, and nothing undoes
+        it."""
         user, barrier = self.signed_up(model), threading.Barrier(6)
         verify = Argon2PasswordHasher.verify
 

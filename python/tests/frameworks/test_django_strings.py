@@ -41,7 +41,7 @@ class Strings(unittest.TestCase):
 
     @unittest.skipIf(argon2_cffi is None, "needs Python's module argon2")
     def test_argon2_both_ways(self):
-        """Servers with each hasher, by turns: at most one record is replaced."""
+        """If servers with our hasher and Django's take turns, at most one record is replaced."""
         theirs, ours, alike = hashers.Argon2PasswordHasher(), Argon2(), Argon2()
         alike.hash_len = argon2_cffi.DEFAULT_HASH_LENGTH  # 16 before 21.2, then 32
         theirs.memory_cost, theirs.time_cost, theirs.parallelism = 64, 1, 1
@@ -60,7 +60,7 @@ class Strings(unittest.TestCase):
                 self.assertLessEqual(made, 1)
 
     def test_records_of_other_programs(self):
-        """Of Argon2's reference program, and of Django 4.0's own tests."""
+        """Records of Argon2's reference program, and of Django 4.0's own tests."""
         front, hasher = "m=65536,t=2,p=1$c29tZXNhbHQ", Argon2PasswordHasher()
         for record in (
             f"argon2$argon2i${front}$9sTbSlTio3Biev89thdrlKKiCaYsjjYVJxGAL3swxpQ",
@@ -90,7 +90,8 @@ class Strings(unittest.TestCase):
             self.assertIs(hasher.verify("Secret", record), False, size)
 
     def test_a_subclass_that_wraps_old_hashes(self):
-        """As Django's page "Password management" has it: its algorithm, and its encode."""
+        """A subclass wraps old hashes as on Django's page "Password management", by its own
+        `algorithm` and `encode`."""
         md5 = hashers.MD5PasswordHasher()
         digest = md5.encode("secret", "seasalt").rpartition("$")[2]
 
@@ -108,7 +109,7 @@ class Strings(unittest.TestCase):
             return Wrapped()
 
         for hasher, number in ((wrapped(Argon2), "time_cost"), (wrapped(Scrypt), "work_factor")):
-            # Of the data migration, and of a new user.
+            # Records of the data migration, and of a new user.
             migrated = hasher.encode_md5(digest, "seasalt")
             for record in (migrated, hasher.encode("secret", "seasalt")):
                 self.assertTrue(record.startswith(f"{hasher.algorithm}$"))
@@ -123,7 +124,7 @@ class Strings(unittest.TestCase):
             self.assertIs(hasher.must_update(record), True)
 
     def test_broken(self):
-        """Every password is wrong, and nothing of the record is shown."""
+        """With a broken record every password is wrong, and nothing of the record is shown."""
         self.enterContext(cheap())
         argon2, scrypt = Argon2(), Scrypt()
         good = argon2.encode("secret", "somesaltsomesalt")
@@ -197,7 +198,8 @@ class Strings(unittest.TestCase):
             self.assertIs(hasher.must_update(record), is_old, record)
 
     def test_the_numbers_are_djangos(self):
-        """Of its newest: those of a service that sets none. Its records fit, and are new."""
+        """The default numbers are those of the newest Django, whose records fit, and count as
+        new."""
         ours = Argon2PasswordHasher
         self.assertEqual((ours.time_cost, ours.memory_cost, ours.parallelism), (2, 102400, 8))
         self.assertEqual(ours.hash_len, 32)
@@ -211,7 +213,8 @@ class Strings(unittest.TestCase):
             self.assertFalse(hasher.must_update(record))
 
     def test_scrypts_p_is_that_of_the_django_that_runs(self):
-        """Otherwise each server would replace the other's records, by turns."""
+        """scrypt's p is that of the installed Django: otherwise servers would replace each other's
+        records by turns."""
         own = getattr(hashers, "ScryptPasswordHasher", None)
         self.assertEqual(ScryptPasswordHasher.parallelism, own.parallelism if own else 5)
         for theirs, p in ((None, 5), (1, 1), (3, 3)):
@@ -221,7 +224,7 @@ class Strings(unittest.TestCase):
             self.assertEqual(ours.parallelism, p)
 
     def test_all_of_the_tag_is_compared(self):
-        """At one speed, wherever the first difference is."""
+        """A check compares the whole tag, at one speed, wherever the first difference is."""
         compare = mock.patch("hmac.compare_digest", side_effect=hmac.compare_digest)
         for hasher in (Argon2(), Scrypt()):
             record = hasher.encode("secret", "seasalt")

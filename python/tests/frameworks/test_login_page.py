@@ -1,5 +1,5 @@
-"""examples/login_page as an application: what its forms answer, whose session lasts how long, and
-which tries are refused. DATABASE may name a PostgreSQL."""
+"""examples/login_page as an application: the answers of its forms, the ends of sessions, and the
+refused tries. DATABASE may name a PostgreSQL."""
 
 import hashlib
 import itertools
@@ -24,7 +24,7 @@ from tests.helpers import common_folder, each
 PASSWORDS = ("new password new-password", "again password new-password")
 EMOJI, UMLAUT = "\N{GRINNING FACE}", "ä"
 GUESSED = "first that attackers guess"
-# A field of a form of Ann's that is refused, and the error that it shows.
+# A field of Ann's form with a refused value, and the error that the form shows.
 REFUSED = [
     ("/login", {"password": NEW}, "password", login_page.NO),
     ("/login", {"name": '<"Ann">', "password": GUESS}, "password", login_page.NO),
@@ -55,7 +55,7 @@ REFUSED = [
 
 
 def fields(text, attribute=""):
-    """The names of the fields that are seen and have an attribute."""
+    """The names of the visible fields with an attribute."""
     return re.findall(f'<input id="([a-z]+)"[^>]*{attribute}', text)
 
 
@@ -66,7 +66,7 @@ class Forms(Page):
         ("/change", ["old password current-password", *PASSWORDS]),
     )
     def test_fields(self, path, wanted):
-        """The attributes that a keeper of passwords, and a reader of screens, need."""
+        """The attributes that password managers and screen readers need."""
         self.ann.ask("GET", path)
         text, form = self.ann.text, '<input id="(.*?)".* type="(.*?)".* autocomplete="(.*?)"'
         self.assertEqual([" ".join(it) for it in re.findall(form, text)], wanted)
@@ -79,7 +79,7 @@ class Forms(Page):
         self.assertEqual(hidden in text, path == "/change")
 
     def test_refused(self):
-        """The error is at its field; the name is shown again, and no password."""
+        """The form shows the error at its field, and the name again, and never a password."""
         for path, form, field, error in REFUSED:
             with self.subTest(path=path, form=form):
                 browser = self.ann if path == "/change" else Browser()
@@ -98,7 +98,7 @@ class Forms(Page):
         self.assertTrue(self.opens(OLD))
 
     def test_passwords(self):
-        """As they were typed, and in RFC 8265's form of it: NFC, and one kind of space."""
+        """A password counts in RFC 8265's form of the typed text: NFC, and one kind of space."""
         alike = [EMOJI * 61 + "abcd", UMLAUT * 120 + "abcd", "xyz" * 85 + "x", "  a b c  "]
         pairs = [("caf\u00e9 caf\u00e9", "cafe\u0301\u00a0cafe\u0301"), *zip(alike, alike)]
         for number, (one, two) in enumerate([*pairs, pairs[0][::-1]]):
@@ -113,7 +113,7 @@ class Forms(Page):
                 self.assertFalse(self.opens(one, name))
 
     def test_unknown_names(self):
-        """One page, and one hash of the store's own costs, whether there is the name or not."""
+        """Known and unknown names get the same page, after one hash at the store's own costs."""
         work, pages, none = Judge.work, set(), ("no name", "\N{KELVIN SIGN}", "")
         names = (self.name, f"no{self.name}", *none)
         for name, password in itertools.product(names, (NEW, "x" * 300)):
@@ -168,7 +168,8 @@ class Sessions(Page):
         self.assertNotIn("Strict-Transport-Security", browser.headers)
 
     def test_who_is_in(self):
-        """Of the browser that acts, a copy of its cookie, and two of this account and another."""
+        """The sessions that go on after each act: of the acting browser, of a copy of its cookie,
+        and of two others."""
         self.assertEqual(Browser().sign_up(f"b{self.name}"), 303)
         for act, left in (
             (lambda own: own.ask("GET", "/logout"), "own copy account another"),
@@ -199,7 +200,7 @@ class Sessions(Page):
             self.assertEqual(left, [])
 
     def test_note(self):
-        """A change is told once, and to its browser."""
+        """The page reports a change once, to the browser that made it."""
         self.assertEqual(Browser().ask("GET", "/?changed"), 303)
         for path in ("/", "/?changed", "/?note=changed"):
             self.ann.ask("GET", path)
@@ -212,7 +213,7 @@ class Sessions(Page):
         self.assertEqual((self.opens(OLD), self.opens(NEW)), (False, True))
 
     def test_session_and_change_are_one(self):
-        """A failure between them leaves neither."""
+        """A session and a change are stored together: a failure between them leaves neither."""
         fault = mock.patch.object(store.Store, "_begin_session", side_effect=OSError("no"))
         with fault, self.assertLogs("login_page") as logged:
             self.assertEqual(self.ann.change(), 500)
@@ -221,7 +222,8 @@ class Sessions(Page):
 
     @unittest.skipIf("DATABASE" in os.environ, "needs no variable DATABASE")
     def test_file(self):
-        """For its owner alone, with what SQLite puts beside it; committed to the disk."""
+        """Only its owner can read the file and SQLite's files beside it; commits are synced to the
+        disk."""
         folder, file = pathlib.Path(DATABASE).parent, common_folder() / "old.db"
         for path in (folder, *folder.iterdir()):
             self.assertEqual(stat.S_IMODE(path.stat().st_mode) & 0o077, 0, path)
@@ -235,7 +237,7 @@ class Sessions(Page):
 
     @unittest.skipUnless("DATABASE" in os.environ, "needs the variable DATABASE")
     def test_connections_that_are_closed(self):
-        """No visitor sees it."""
+        """A closed connection causes no visitor an error."""
         import psycopg
 
         for act, *given in (("is_in",), ("login", self.name, OLD), ("change", OLD, OLD)):
@@ -253,13 +255,13 @@ class Limits(Page):
         return Browser().login(name, NEW)
 
     def refused_after(self, limit, act, right=200):
-        """So many tries are answered, and one more is refused."""
+        """This many tries are answered, and one more is refused."""
         found = [act(turn) for turn in range(limit + 1)]
         self.assertEqual(found, [right] * limit + [429])
 
     def test_accounts(self):
-        """A name counts, however it is typed, known or not, and so does each text that is none. The
-        owner, who is logged in, isn't shut out of a change, which forgives this account alone."""
+        """Tries count for a name however it is typed, known or not, and for a text that is no name.
+        The logged-in owner can still change the password, which forgives this account alone."""
         names, other = (self.name, self.name.upper(), f" {self.name} "), f"b{self.name}"
         self.assertEqual(Browser().sign_up(other), 303)
         self.refused_after(10, lambda turn: self.guess(names[turn % 3]))
@@ -272,7 +274,7 @@ class Limits(Page):
         self.assertEqual((self.opens(OLD, other), self.guess(other)), (False, 429))
 
     def test_a_stolen_session(self):
-        """It has ten guesses of the old password, and its owner has others."""
+        """A stolen session has ten guesses of the old password, and the owner has ten more."""
         owner = Browser()
         self.assertEqual(owner.login(self.name, OLD), 303)
         self.refused_after(10, lambda turn: self.ann.change(old=NEW))
@@ -285,8 +287,9 @@ class Limits(Page):
             self.assertTrue(self.opens(OLD))
 
     def test_addresses(self):
-        """Right logins aren't counted. Fifty wrong ones of an address are, whatever the name, and
-        taken names: whoever asks for the names that exist guesses too. So are its sign-ups."""
+        """Right logins don't count. Fifty wrong ones of an address do, whatever the name, and so do
+        tries to sign up with a taken name, which are guesses too. An address's sign-ups count as
+        well."""
         taken = {"name": self.name, **twice(NEW)}
         guess = lambda office, turn: office.login(f"x{turn}{self.name}", NEW)
         for act in (guess, lambda office, turn: office.post("/signup", **taken)):
@@ -304,7 +307,7 @@ class Limits(Page):
         self.assertEqual(office.login(self.name, OLD), 303)
 
     def test_when_to_try_again(self):
-        """A try counts for a quarter of an hour, and one that was refused doesn't."""
+        """A try counts for a quarter of an hour; a refused try doesn't count."""
         begun, guesser = time.time(), Browser()
         for minute, status in enumerate([200] * 10 + [429] * 5):
             with self.at(begun + 60 * minute):
@@ -323,8 +326,8 @@ class Limits(Page):
             self.refused_after(10, lambda turn: self.guess(self.name))
 
     def test_tries_count_before_the_hash(self):
-        """Many at once are no more than one after another, and those too many cost nothing: no
-        hash, no connection, and nothing that is written."""
+        """As many tries at once are answered as one after another. Each further try costs no hash,
+        no connection and no write."""
         work = mock.patch.object(Judge, "work", autospec=True, side_effect=Judge.work)
         with work as worked, ThreadPoolExecutor(20) as pool:
             found = list(pool.map(self.guess, [self.name] * 20))
@@ -337,7 +340,8 @@ class Limits(Page):
         self.assertEqual(connected.mock_calls, [])
 
     def test_accounts_that_exist(self):
-        """Nobody signs up for one, nor for one without a record: it was removed, or invited."""
+        """Nobody signs up with the name of an existing account, even of one without a record,
+        removed or invited."""
         STORE._do("DELETE FROM account")
         STORE._do("INSERT INTO account VALUES ('ann', NULL)")
         self.assertIsNone(STORE.sign_up("ann", "evil password", "old"))
@@ -346,7 +350,8 @@ class Limits(Page):
 
 
 class Style(unittest.TestCase):
-    """Visible parts, by WCAG 2.2: 1.4.11 of the focus, and a button where colours are forced."""
+    """The contrast of visible parts, by WCAG 2.2: 1.4.11 for the focus, and a button under forced
+    colours."""
 
     def setUp(self):
         style = (EXAMPLE / "static/style.css").read_text()
@@ -364,7 +369,7 @@ class Style(unittest.TestCase):
         return 0.2126 * red + 0.7152 * green + 0.0722 * blue
 
     def test_focus(self):
-        """The ring has 3 to 1 at least, in light and dark."""
+        """The focus ring has a contrast of at least 3 to 1, in light and dark."""
         (name,) = re.findall(r"outline: \dpx solid var\((--\w+)\)", self.rules[":focus-visible"])
         for ground, colours in self.looks:
             lights = [self.luminance(it) + 0.05 for it in (ground, colours[name])]
@@ -372,5 +377,5 @@ class Style(unittest.TestCase):
                 self.assertLess(3, max(lights) / min(lights))
 
     def test_button(self):
-        """Its border is transparent, and forced colours give it theirs."""
+        """A button's border is transparent, so forced colours can colour it."""
         self.assertRegex(self.rules["button"], r"\bborder: 1px solid transparent;")

@@ -67,7 +67,8 @@ class Walk(Served):
         self.addCleanup(self.browser.quit)
 
     def picture(self, name):
-        """At two widths, if PICTURES asks for it; and nothing is wider than the page."""
+        """Takes a picture at two widths if PICTURES asks for it; nothing may be wider than the
+        page."""
         for width in (640, 1280):
             self.browser.set_window_size(width, 900)
             html = self.browser.find_element(CSS, "html[lang=en]")
@@ -76,7 +77,8 @@ class Walk(Served):
                 self.browser.save_screenshot(f"{PICTURES}/login-page-{name}-{width}.png")
 
     def form(self, name, *errors):
-        """The errors are seen; the first one's field, or else the first field, has the focus."""
+        """The errors are visible, and the field of the first error, or else the first field, has
+        the focus."""
         fields = self.browser.find_elements(CSS, FIELDS)
         self.assertTrue(all(it.accessible_name for it in fields))
         shown = [it for it in self.browser.find_elements(CSS, ".error") if it.is_displayed()]

@@ -1,4 +1,4 @@
-"""examples/login_page as the program that is started, on waitress."""
+"""examples/login_page as a program, on waitress."""
 
 import contextlib
 import itertools
@@ -45,7 +45,8 @@ class Program(Served):
             self.assertNotIn(secret, (self.folder / "log").read_text())
 
     def test_refused_settings(self):
-        """Each by its name, in one line; no password of an address is shown, and no folder made."""
+        """A line names each refused setting, shows no password of an address, and no folder is
+        created."""
         taken = self.enterContext(socket.create_server(("127.0.0.1", 0)))
         for name, value, said in (
             ("MEMORY", "64M", "MEMORY has to be a number from 32 to 2097152, not '64M'"),
@@ -77,7 +78,8 @@ class Program(Served):
                 self.assertEqual(made, set())
 
     def test_requests(self):
-        """No file but the style is sent: neither a source, nor what is kept. A form is short."""
+        """The program sends no file but the style, neither a source nor its data. It refuses a long
+        form."""
         files = ("login_page.py", "store.py", "templates/frame.html", "README.md")
         self.assertTrue(all((EXAMPLE / it).exists() for it in files))
         fronts = ("/", "/../", "/%2e%2e/", "/..%2f")
@@ -116,8 +118,8 @@ class Program(Served):
             self.assertIn("out of date", ann.text)
 
     def test_servers_in_front(self):
-        """X-Forwarded-For and -Proto are the client's word, unless PROXY names who says them. Two
-        servers have one token of a browser if they share a SECRET."""
+        """X-Forwarded-For and -Proto count only from the address in PROXY. Two servers accept one
+        token of a browser if they share a SECRET."""
         tokens = []
         for secret, proxy in (("", None), ("", None), ("shared", None), ("shared", "127.0.0.1")):
             with self.subTest(proxy=proxy), self.started(SECRET=secret, PROXY=proxy) as (_, port):
@@ -134,8 +136,8 @@ class Program(Served):
         self.assertEqual(tokens[2], tokens[3])
 
     def test_slow_clients_hold_no_thread(self):
-        """Connections that send a line and no more, beside idle ones, and more of both than there
-        may be: the page keeps its limit, and goes on when idle ones have ended."""
+        """Slow and idle connections, more than the limit of both, hold no thread: the page keeps
+        its limit, and goes on once idle ones have ended."""
         begun = b"POST /login HTTP/1.1\r\nHost: x\r\nContent-Length: 100\r\n\r\n"
         with self.started() as (process, port), contextlib.ExitStack() as held:
             for many in (100, 210):
@@ -149,7 +151,8 @@ class Program(Served):
             self.ends(process)
 
     def test_a_login_that_is_worked_is_answered(self):
-        """At SIGTERM; its costs are high enough that the signal comes amid the hash."""
+        """At SIGTERM a running login is still answered; its costs are so high that the signal comes
+        amid the hash."""
         with self.started(MEMORY="16384") as (process, port):
             ann, statuses = Remote(port), []
             self.assertEqual(ann.sign_up("ann"), 303)

@@ -31,7 +31,7 @@ def postgres():
 
 
 class Runs(unittest.TestCase):
-    """Each has to end with status 0."""
+    """Runs that must end with status 0."""
 
     def run_python(self, *words, **env):
         room = self.enterContext(tempfile.TemporaryDirectory(prefix="rigzumal-"))

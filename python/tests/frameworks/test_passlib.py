@@ -1,4 +1,4 @@
-"""rigzumal.passlib by passlib's own tests, in full, and what it has of its own."""
+"""rigzumal.passlib under all of passlib's own tests, and its own features."""
 
 import contextlib
 import functools
@@ -27,7 +27,7 @@ ours, our_scrypt = rigzumal.passlib.argon2, rigzumal.passlib.scrypt
 
 
 class Named:
-    """passlib's tests with a reason of ours, where one is of what no handler of ours is."""
+    """passlib's tests; a skip of a kind of handler that we lack gets our own reason."""
 
     def skipTest(self, reason):
         raise lacking(f"another kind of handler: {reason}")
@@ -66,7 +66,7 @@ class Scrypt(Named, scrypt_tests._scrypt_test):
 
 class Ours(unittest.TestCase):
     def test_the_defaults(self):
-        """Those of RFC 9106's second choice, whatever passlib's are."""
+        """The defaults are RFC 9106's second choice, whatever passlib's are."""
         record = ours.hash("secret")
         self.assertRegex(record, r"^\$argon2id\$v=19\$m=65536,t=3,p=4\$.{22}\$.{43}$")
 
@@ -81,7 +81,8 @@ class Ours(unittest.TestCase):
 
     @each(ours.using(memory_cost=64, time_cost=1), our_scrypt.using(rounds=4))
     def test_a_password_is_all_of_its_bytes(self, handler):
-        """As many as passlib takes, in UTF-8 or not; and none are a password too."""
+        """A password is all of its bytes, up to passlib's limit, in UTF-8 or not; no bytes are a
+        password too."""
         for password in (b"\xff" * 4096, ""):
             record = handler.hash(password)
             self.assertTrue(handler.verify(password, record))
@@ -100,7 +101,8 @@ class Ours(unittest.TestCase):
 
     @each(ours.using(memory_cost=64, time_cost=1), our_scrypt.using(rounds=4))
     def test_no_frame_shows_a_password(self, handler):
-        """Whatever a call raises; passlib's own frames have it under names that reports hide."""
+        """No frame shows a password, whatever a call raises; passlib's own frames have it under
+        names that reports hide."""
         record = handler.hash("topsecret")
         hashes, verifies = handler.hash, functools.partial(handler.verify, hash=record)
         library = mock.Mock(wraps=_library._library)
@@ -129,7 +131,7 @@ class Ours(unittest.TestCase):
 
     @each("", "import passlib.hash; passlib.hash.argon2; passlib.hash.scrypt")
     def test_they_are_registered_by_one_call(self, front):
-        """Also after passlib's own were loaded."""
+        """One call registers both handlers, also after passlib's own were loaded."""
         said = run(sys.executable, "-W", "ignore", "-c", front + REGISTERED)
         self.assertEqual(said.split()[-4:], ["rigzumal"] * 4)  # after passlib's own warning
 

@@ -11,7 +11,7 @@ admin.site.register(User, UserAdmin)
 
 
 def later(request):
-    """A view of a project's own, which goes on with the user after a change."""
+    """A project's own view, which uses the user after a change."""
     changed = passwords.change_password(request.user, request.POST["old"], request.POST["new"])
     request.user.first_name = "later"
     request.user.save()
@@ -19,7 +19,7 @@ def later(request):
 
 
 def last_seen(get_response):
-    """A middleware as many projects have: it saves the user after each request."""
+    """A middleware, common in projects, that saves the user after each request."""
 
     def answer(request):
         response = get_response(request)

@@ -1,4 +1,4 @@
-"""argon2-cffi's own tests, with its names over Rigzumal.
+"""Runs argon2-cffi's own tests, with its names over Rigzumal.
 
     python3 argon2_cffi_own.py FOLDER-OF-ARGON2-CFFI'S-SOURCE
 
@@ -15,7 +15,7 @@ import pytest
 
 from rigzumal import argon2_cffi
 
-# What fails, and why. A name stands for all tests whose names begin with it.
+# The tests that fail, and the reasons. A name stands for all tests whose names begin with it.
 EXPECTED = {
     "test_legacy.py::": "the functions that argon2-cffi calls legacy aren't there",
     "test_low_level.py::TestVerify::test_wrong_arg_type": "a TypeError whose text isn't cffi's",
@@ -34,7 +34,7 @@ NUMBERS = types.SimpleNamespace(**{f"ARGON2_MIN_{name}": it for name, it in LEAS
 
 
 class Expected:
-    """Has pytest expect these failures, and say why."""
+    """Makes pytest expect these failures, with their reasons."""
 
     def pytest_collection_modifyitems(self, items):
         for item in items:

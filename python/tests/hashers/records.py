@@ -1,6 +1,6 @@
 """The parts that the tests of the hashers share: the package's place, records of other programs,
-quick hashers, counts of the library's calls, and runs of Python apart. Each test reads it first, so
-that the package is found by it and by the processes that it starts."""
+quick hashers, counts of the library's calls, and runs of Python apart. Each test imports this
+module first, so that the test and its processes find the package."""
 
 import base64
 import os
@@ -42,6 +42,6 @@ def verdict(hasher, record, password):
 
 
 def noted_library():
-    """The library, which notes each call as a mock does, for a `with`."""
+    """The library with calls that are recorded as by a mock, for a `with`."""
     noted = mock.Mock(wraps=rigzumal._library._library)
     return mock.patch.object(rigzumal._library, "_library", noted)

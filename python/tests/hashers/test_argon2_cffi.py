@@ -1,5 +1,5 @@
-"""rigzumal.argon2_cffi beside the argon2-cffi that is installed: what one makes the other reads,
-and the answers and messages are the same. Its own tests: argon2_cffi_own.py."""
+"""Compares rigzumal.argon2_cffi with the installed argon2-cffi: each reads the other's hashes, and
+answers and messages are the same. argon2_cffi_own.py runs argon2-cffi's own tests."""
 
 import array
 import dataclasses
@@ -24,7 +24,7 @@ COSTS = {"time_cost": 1, "memory_cost": 64, "parallelism": 2}
 
 
 def encoded(costs, salt, tag):
-    """A hash of this salt and tag, whoever may refuse it."""
+    """A hash with this salt and tag, which a library may refuse."""
     return "$".join(("$argon2id$v=19", costs, unpadded(salt), unpadded(tag)))
 
 
@@ -74,7 +74,7 @@ class LowLevel(Same):
         self.same(verify, hashed, password, kind)
 
     def test_long_hashes_are_verified(self):
-        """With salts and tags that no record has, as they are and damaged."""
+        """Hashes with salts and tags longer than any record's are verified, whole and damaged."""
         for salt, size in ((b"s" * 49, 32), (b"s" * 64, 16), (b"somesalt", 65), (b"s" * 300, 300)):
             for version, kind in itertools.product((16, 19), KINDS):
                 given = (b"x", salt, 1, 16, 2, size, theirs.Type[kind], version)
@@ -137,7 +137,8 @@ class Hashers(Same):
         ({"version": 17}, "There is no such version of Argon2"),
     )
     def test_what_is_refused_here_alone(self, named, said):
-        """Numbers that libargon2 takes, and the proved code doesn't, and a version of neither."""
+        """Refused here alone: numbers that libargon2 accepts and the proved code doesn't, and an
+        unknown version."""
         given = {"secret": b"x", "salt": b"somesalt", "hash_len": 32, "type": ours.Type.ID}
         given.update(time_cost=1, memory_cost=8, parallelism=1)
         for call in (ours.low_level.hash_secret, ours.low_level.hash_secret_raw):
@@ -146,7 +147,7 @@ class Hashers(Same):
             self.assertEqual(str(raised.exception), said)
 
     def test_a_salt_may_be_given(self):
-        """As any bytes."""
+        """A caller may pass the salt as any bytes."""
         salt, hasher = b"sixteen of salt.", ours.PasswordHasher(1, 8, 1)
         wanted = theirs.low_level.hash_secret(b"x", salt, 1, 8, 1, 32, theirs.Type.ID)
         for holds in (bytes, bytearray, memoryview, lambda it: array.array("B", it)):
@@ -159,7 +160,8 @@ class Hashers(Same):
 
     @each(OLD + "\0", "$argon2id$\ud800", "$argon2id$\xe9", "\ud800")
     def test_what_no_hash_can_be(self, text):
-        """A zero byte and text that isn't ASCII are no hash, for each call, and a ValueError."""
+        """Each call raises ValueError for a hash with a zero byte, or with text that isn't
+        ASCII."""
         hasher, invalid = ours.PasswordHasher(**COSTS), ours.exceptions.InvalidHash
         self.assertTrue(issubclass(invalid, ValueError))
         for call in (hasher.check_needs_rehash, ours.extract_parameters):
@@ -194,7 +196,8 @@ class Parameters(Same):
             self.same(values, text)
 
     def test_numbers_of_the_profiles(self):
-        """RFC 9106, section 4, and what argon2-cffi's documentation says of the others."""
+        """The profiles have the numbers of RFC 9106, section 4, and the others those of
+        argon2-cffi's documentation."""
         for name, passes, memory, lanes, salt, tag in (
             ("RFC_9106_LOW_MEMORY", 3, 64 * 1024, 4, 16, 32),
             ("RFC_9106_HIGH_MEMORY", 1, 2 * 1024 * 1024, 4, 16, 32),
@@ -212,8 +215,7 @@ class Parameters(Same):
         self.assertEqual(ours.extract_parameters(hashed), ours.profiles.CHEAPEST)
 
     def test_defaults(self):
-        """Those of argon2-cffi since its version 21.2, which say RFC 9106's second
-        recommendation."""
+        """The defaults are argon2-cffi's since version 21.2: RFC 9106's second recommendation."""
         hashed = ours.PasswordHasher().hash("x")
         self.assertTrue(hashed.startswith("$argon2id$v=19$m=65536,t=3,p=4$"), hashed)
         self.assertEqual(ours.profiles.get_default_parameters(), ours.extract_parameters(hashed))
@@ -241,5 +243,6 @@ class Exceptions(unittest.TestCase):
         self.assertEqual(other.number, made.number)
 
     def test_those_that_a_program_makes(self):
-        """The number is that of the fault, as rigzumal.h has it: 10 of another password."""
+        """An exception that a program creates has the fault's number in rigzumal.h: 10 for another
+        password."""
         self.assertEqual(ours.exceptions.VerifyMismatchError("text").number, 10)

@@ -1,4 +1,5 @@
-"""Tests of the calibration, by machines that take as long as a rule says: no clock is read."""
+"""Tests of the calibration over simulated machines, whose times follow a rule: no test reads a
+clock."""
 
 import contextlib
 import io
@@ -55,8 +56,9 @@ class Trials(unittest.TestCase):
         (linear(1 / 512), 250, 65536, 4, (65536, 7), 4),
     )
     def test_the_last(self, machine, target, memory, lanes, wanted, threads=1):
-        """As many passes as the time allows, and more by threads; with one that is too slow, less
-        memory, to the least one at the end, which comes soon where memory costs nothing."""
+        """The result has as many passes as the time allows, and more with threads. If one pass is
+        too slow, it has less memory, down to the least, which comes soon if memory costs
+        nothing."""
         last = tried(machine, target, memory, lanes, threads)[-1].hasher
         self.assertEqual((last.memory_cost, last.time_cost), wanted)
 
@@ -69,7 +71,7 @@ class Trials(unittest.TestCase):
 
 
 class Safety(unittest.TestCase):
-    """The least costs unless lower ones are asked for: OWASP's."""
+    """OWASP's costs are the least, unless the caller allows lower ones."""
 
     @each(
         *((*it, True) for it in ((19456, 2), (47104, 1), (65536, 3))),
@@ -128,7 +130,7 @@ class Shell(unittest.TestCase):
         (EACH_WORD, (70, 32768, 3, 2, True), "m=32768,t=4,p=3", None),
     )
     def test_each_word_counts(self, words, asked, costs, advice):
-        """Costs that take too long are said."""
+        """Each word of the command counts, and a message reports costs that take too long."""
         calls, output, faults = self.asked(*words.split())
         self.assertEqual((calls, output), ([asked], f"$argon2id$v=19${costs}\n"))
         self.assertEqual("least costs" in faults, advice is not None)

@@ -33,7 +33,7 @@ def scrypt(password, salt=b"somesalt", **named):
     return rigzumal.scrypt(password, salt, **{"log2_n": 1, "r": 1, "p": 1, **named})
 
 
-# What hashes, with a password and perhaps a pepper.
+# Calls that hash, with a password and perhaps a pepper.
 HASHING = (
     *((it.hash, TYPED) for it in (LEAST, PEPPERED, ROTATING, SCRYPT, CFFI)),
     *((it.verify, ARGON2, TYPED) for it in (LEAST, PEPPERED, ROTATING, SCRYPT, CFFI)),
@@ -43,7 +43,7 @@ HASHING = (
     (low_level.verify_secret, ARGON2.encode(), DATA, low_level.Type.ID),
     (low_level.verify_secret, LONG_SALT.encode(), DATA, low_level.Type.ID),
 )
-# What is refused before it, with what is wrong in the call.
+# Calls that are refused before the hash, with the fault of the call.
 REFUSED = (
     *((it.hash, TYPED, {"salt": b"x" * 99}) for it in (LEAST, PEPPERED, ROTATING, SCRYPT)),
     *((it.hash, TYPED, {"salt": TYPED}) for it in (LEAST, PEPPERED, ROTATING, SCRYPT, CFFI)),
@@ -70,7 +70,7 @@ REFUSED = (
 
 
 def refusing(outcome):
-    """A library whose calls that hash end so: by a fault's number, or by an exception."""
+    """A library whose hashing calls return this fault's number, or raise this exception."""
 
     def refuses(*given):
         if isinstance(outcome, int):
@@ -86,7 +86,7 @@ def refusing(outcome):
 
 
 def failing(module, words):
-    """A function of a module, which says these words once another has failed, with its password."""
+    """A function of a module that raises this text after another has failed, with its password."""
     names = {"__name__": module}
     code = [
         "def fails(own):",
@@ -103,7 +103,7 @@ def failing(module, words):
 
 class Frames(unittest.TestCase):
     def assert_hidden(self, call, *given):
-        """The call raises, and neither a frame nor a text has its arguments."""
+        """The call raises an exception, and neither a frame nor a text shows its arguments."""
         named = given[-1] if isinstance(given[-1], dict) else {}
         raised = None
         try:
@@ -115,7 +115,8 @@ class Frames(unittest.TestCase):
 
     @each(_library.MEMORY, _library.NO_RANDOM, 27, KeyboardInterrupt("planted"))
     def test_what_the_library_refuses(self, outcome):
-        """For lack of memory, of random bytes, and by an interrupt amid the call."""
+        """Frames are empty after a lack of memory or random bytes, and after an interrupt amid the
+        call."""
         for call in HASHING:
             with self.subTest(call=call), mock.patch.object(
                 _library, "_library", refusing(outcome)
@@ -133,7 +134,7 @@ class Frames(unittest.TestCase):
                 self.assert_hidden(hasher.verify, ARGON2, TYPED)
 
     def test_what_a_caller_handles_keeps_its_variables(self):
-        """They are its own, whatever is raised meanwhile."""
+        """A caller's handled exception keeps its variables, whatever is raised meanwhile."""
 
         def fails(own):
             raise KeyError
@@ -152,11 +153,11 @@ class Frames(unittest.TestCase):
 
     @each("raise ValueError", "raise ValueError from error", "raise ValueError from None")
     def test_what_an_exception_came_of(self, words):
-        """Its frames are emptied too, whichever way it is noted."""
+        """The frames of an exception's cause are emptied too, whichever way it is chained."""
         self.assert_hidden(_hidden.hidden(failing("rigzumal.planted", words)), TYPED)
 
     def test_exceptions_that_came_of_each_other(self):
-        """They are gone through once, and are all emptied."""
+        """Exceptions that are each other's cause are visited once, and all emptied."""
 
         def called(password):
             raised = [self.raised_by("rigzumal.planted", password) for _ in range(3)]
@@ -167,7 +168,7 @@ class Frames(unittest.TestCase):
         self.assert_hidden(_hidden.hidden(called), TYPED)
 
     def raised_by(self, module, password):
-        """The exception of a function of a module, whose variable is the password."""
+        """The exception of a module's function, in which a variable holds the password."""
         try:
             failing(module, "raise")(password)
         except KeyError as error:
@@ -175,7 +176,7 @@ class Frames(unittest.TestCase):
             return error
 
     def test_frames_of_other_modules(self):
-        """`hidden_below` empties whatever is below; `hidden` leaves a hook's own."""
+        """`hidden_below` empties all frames below; `hidden` leaves those of a hook."""
         for hide, shows in ((_hidden.hidden_below, False), (_hidden.hidden, True)):
             try:
                 hide(failing("of_another", "raise"))(TYPED)
@@ -186,13 +187,13 @@ class Frames(unittest.TestCase):
 
     @each(LEAST.hash, LEAST.verify, rigzumal.argon2, opaque_string, low_level.hash_secret)
     def test_names_and_texts_stay(self, call):
-        """As `help` shows them."""
+        """A wrapped function keeps its name and its text for `help`."""
         code = getattr(call, "__wrapped__").__code__
         self.assertEqual(call.__name__, code.co_name)
         self.assertTrue(call.__doc__)
 
     def test_modules_whose_names_begin_alike(self):
-        """They are a caller's, whose hooks keep their variables."""
+        """Modules whose names only begin like ours are a caller's, and keep their variables."""
         try:
             _hidden.hidden(failing("rigzumal_shop", "raise"))(TYPED)
         except KeyError as error:
@@ -201,7 +202,7 @@ class Frames(unittest.TestCase):
             self.fail("it raises nothing")
 
     def raised_with(self, held):
-        """The exception of a function, in no file of a test, whose variable is this."""
+        """The exception of a function outside of the tests' files, with this variable."""
         names = {}
         exec(compile("def called(new): raise KeyError", "a module", "exec"), names)
         try:
@@ -210,7 +211,8 @@ class Frames(unittest.TestCase):
             return shown(error, TYPED)
 
     def test_the_search_finds_what_is_there(self):
-        """In a variable of any kind, but not under a name that a report hides."""
+        """The search finds a secret in a variable of any kind, but not under a name that a report
+        hides."""
         structure = _library.StepInputs(new_password=DATA)
         buffer, odd = ctypes.create_string_buffer(DATA), types.SimpleNamespace(x=TYPED)
         for held in (TYPED, DATA, bytearray(DATA), structure, buffer, [{"x": (DATA,)}], odd):

@@ -1,5 +1,5 @@
-"""Tests of Python's hashers: each kind, size and input, beside what Debian's argon2 program and
-hashlib make."""
+"""Tests of Python's hashers: each kind, size and input, against Debian's argon2 program and
+hashlib."""
 
 import array
 import hashlib
@@ -60,7 +60,8 @@ class Verifying(unittest.TestCase):
         self.assertEqual(found, [True, False, False, False, False])
 
     def test_a_secret_is_rfc_9106s(self):
-        """Rotation, of test_values.py, has who reads such a record."""
+        """The secret is RFC 9106's K; Rotation in test_values.py tests which hashers read such a
+        record."""
         record = SMALL.replace(secret=b"pepper").hash("password", salt=b"somesalt")
         tag = rigzumal.argon2("password", b"somesalt", secret=b"pepper", **COSTS)
         self.assertEqual(record.rsplit("$", 1)[1], unpadded(tag))
@@ -137,7 +138,8 @@ class Inputs(unittest.TestCase):
         self.assertRaises(ValueError, LEAST.verify, record, no_text)
 
     def test_scrypt_is_hashlibs(self):
-        """Keys, passwords and salts of every length, and a record."""
+        """scrypt equals hashlib's, for keys, passwords and salts of every length, and in a
+        record."""
         lengths = (0, 1, 63, 64, 65, 127, 128, 129, 255, 256, 257, 300, 1000, 5000, 100_000)
         inputs = [bytes(it * 37 % 251 for it in range(length)) for length in lengths]
         given = [(it, b"salt", 32) for it in inputs] + [(b"password", it, 32) for it in inputs]
@@ -177,7 +179,7 @@ class Opaque(unittest.TestCase):
         ("my cat is a \u0009by", "the password has a character that can't be typed"),
     )
     def test_examples_of_the_rfc(self, text, said):
-        """Its table 2, and the texts that it refuses."""
+        """The examples of RFC 8265's table 2, and the texts that the RFC refuses."""
         if said:
             self.assertRaisesRegex(ValueError, f"^{said}$", opaque_string, text)
         else:
@@ -187,19 +189,20 @@ class Opaque(unittest.TestCase):
     def test_each_keyboard_makes_the_same(self, text):
         made = {opaque_string(unicodedata.normalize(it, text)) for it in ("NFC", "NFD")}
         self.assertEqual(len(made), 1)
-        self.assertEqual(opaque_string(*made), *made)  # once and for all
+        self.assertEqual(opaque_string(*made), *made)  # a second application changes nothing
 
     @each(
         *("\0", "\n", "\r", "\x7f", "\x85", "\u00ad", "\u202e", "\u2028", "\ufeff"),
         *("\ue000", "\ufdd0", "\U0010ffff", "\ud800", "\u0378", "\u115f", "\u3164"),
         *("\u034f", "\u17b4", "\u180e", "\u0640", "\U000e0041", "\U000e0100", "\ufe00"),
-        # The exceptions of RFC 5892, section 2.6, and both ends of what nobody sees or types alone.
+        # The exceptions of RFC 5892, section 2.6, and both ends of the ranges that nobody sees or
+        # types alone.
         *("\u07fa", "\u302e", "\u302f", *"\u3031\u3032\u3033\u3034\u3035", "\u303b"),
         *("\u1100", "\u11ff", "\u17b5", "\u180b", "\u180f", "\ua960", "\ua97c", "\ud7b0"),
         *("\ud7fb", "\ufe0d", "\uffa0", "\U000e01ef"),
     )
     def test_what_nobody_types(self, odd):
-        """And no text is in what is raised."""
+        """Characters that nobody types are refused, and the exception shows no text."""
         with self.assertRaises(ValueError) as raised:
             opaque_string(f"hunter{odd}2")
         self.assertNotIn("hunter", str(raised.exception))

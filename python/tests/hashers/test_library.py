@@ -1,5 +1,5 @@
-"""Tests of where the library is looked for, of what it keeps, and of argon2-cffi's own tests over
-it."""
+"""Tests of the search for the library, of the memory that it keeps, and of argon2-cffi's own tests
+over it."""
 
 import importlib
 import inspect
@@ -17,7 +17,7 @@ from tests.needs import need_variable
 
 
 def loaded(named, **env):
-    """The libraries that Python maps where this one is named."""
+    """The libraries that Python maps if RIGZUMAL_LIBRARY names this one."""
     script = "import rigzumal; print(open('/proc/self/maps').read())"
     output = python("-c", script, RIGZUMAL_LIBRARY=str(named), **env)
     return {it.split()[-1] for it in output.splitlines() if "librigzumal" in it}
@@ -28,7 +28,7 @@ class Places(unittest.TestCase):
         self.room = pathlib.Path(self.enterContext(tempfile.TemporaryDirectory()))
 
     def test_a_missing_library(self):
-        """A package without its library says how to build it, and what packs it that it can't."""
+        """A package without its library raises an error that says how to build it."""
         shutil.copytree(PYTHON / "rigzumal", self.room / "rigzumal")
         clean = {"PYTHONPATH": str(self.room), "LD_LIBRARY_PATH": "", "RIGZUMAL_LIBRARY": ""}
         script = "try:\n    import rigzumal\nexcept ImportError as fault:\n    print(fault)"
@@ -42,7 +42,7 @@ class Places(unittest.TestCase):
 
     @each(("own", "python/rigzumal"), ("made", "c/out"))
     def test_the_package_comes_first(self, package, library):
-        """It loads its own library before that of a make beside it, which is no library here."""
+        """The package loads its own library before one of make beside it, which is broken here."""
         room = self.room / package
         shutil.copytree(PYTHON / "rigzumal", room / "python/rigzumal")
         (room / "c/out").mkdir(parents=True)
@@ -70,7 +70,8 @@ class Places(unittest.TestCase):
 class OldPythons(unittest.TestCase):
     @each((2, 7, 18), (3, 6, 15), (3, 8, 20))
     def test_import(self, version):
-        """One line says which Python it needs, at the command too."""
+        """On an older Python one line names the version that the package needs, at the command
+        too."""
         old = f"import sys; sys.version_info = {version}; sys.version = '1.2.3 (of a test)'; "
         for command in ("import rigzumal", "import runpy; runpy.run_module('rigzumal')"):
             output = python("-c", old + command, status=1)

@@ -1,5 +1,5 @@
-"""Strings of other programs: what they write is read here, and what is written here some of them
-read. Nothing is tried of a program that isn't installed."""
+"""Strings of other programs: our code reads them, and some of the programs read ours. A program
+that isn't installed is left out."""
 
 import ctypes
 import ctypes.util
@@ -20,8 +20,8 @@ PASSWORDS = [b"password", b"x", "pässwörd 密码".encode(), b" two  spaces ", 
 LONGER = [b"", bytes(range(256)), b"\0", b"\xff" * 65, b"correct horse battery staple"]
 MIB = 1 << 20
 
-# Memory in KiB, passes, lanes, bytes of salt and of tag: the ends of what is read, 1000 KiB, of
-# which some aren't used, and more lanes and passes.
+# Memory in KiB, passes, lanes, bytes of salt and tag: the ends of the ranges, 1000 KiB, of which
+# some aren't used, and more lanes and passes.
 ARGON2 = [(8, 1, 1, 8, 32), (256, 2, 1, 16, 4), (1000, 3, 3, 47, 24), (4096, 2, 4, 48, 64)]
 ARGON2_WIDE = [(2040, 1, 255, 16, 32), (8, 1000, 1, 16, 32), (65536, 3, 4, 16, 32)]
 # ln, r, p, bytes of salt and of tag.
@@ -30,12 +30,12 @@ SCRYPT += [(15, 1, 1, 47, 32), (16, 2, 3, 16, 24), (16, 8, 1, 16, 32), (1, 255, 
 
 
 def other(password):
-    """Another one. It isn't longer: to scrypt `x` and `x` with a zero byte are the same."""
+    """Another password. It isn't longer, since scrypt treats `x` and `x` with a zero byte alike."""
     return password[:-1] + bytes([password[-1] ^ 1]) if password else b"x"
 
 
 def salt_of(size):
-    """Its text has `+` and `/` too."""
+    """A salt whose base64 has `+` and `/` too."""
     return bytes(255 - at % 256 for at in range(size))
 
 
@@ -47,7 +47,8 @@ def by_program(kind, version, numbers, password):
 
 
 def argon2_by_passlib(kind, version, numbers, password):
-    """A string of version 0x10 is written only after another one's settings, and without `v=`."""
+    """A string of version 0x10; passlib writes it only from another string's settings, and without
+    `v=`."""
     from passlib.hash import argon2
 
     m, t, p, salt, tag = numbers
@@ -95,7 +96,7 @@ class OfPasslib(Judged):
     def setUp(self):
         need_module("argon2", "passlib")
         self.enterContext(warnings.catch_warnings())
-        warnings.simplefilter("ignore")  # what these modules say of themselves
+        warnings.simplefilter("ignore")  # the versions that these modules report
 
     def test_read(self):
         self.check_argon2(argon2_by_passlib, PASSWORDS + LONGER)
@@ -104,7 +105,8 @@ class OfPasslib(Judged):
 
 
 class Further(Judged):
-    """Programs that write strings of a password, some with a prefix of their own before the `$`."""
+    """Programs that write strings from a password, some with a prefix of their own before the
+    `$`."""
 
     def check_both_ways(self, texts, says):
         for text in texts:
@@ -115,7 +117,7 @@ class Further(Judged):
             kind = Type[it.scheme.removeprefix("argon2").upper()]
             hasher = PasswordHasher(it.passes, it.memory, it.lanes, **sizes, type=kind)
             made, tried = hasher.hash(b"correct horse"), (b"correct horse", other(b"correct horse"))
-            # That program takes a string that was written here for what it is.
+            # That program accepts our string.
             self.assertEqual([says(made, password) for password in tried], [True, False])
 
     def test_libsodium(self):
@@ -135,7 +137,7 @@ class Further(Judged):
             text = ctypes.create_string_buffer(text.encode(), 128)
             return sodium.crypto_pwhash_str_verify(text, password, wide(len(password))) == 0
 
-        # of argon2i it makes three passes at least
+        # for argon2i it computes at least three passes
         self.check_both_ways([made(1, 3, 8 * MIB), made(2, 1, 8 * MIB), made(2, 2, 64 * MIB)], says)
 
     def test_php(self):

@@ -1,4 +1,4 @@
-"""Tests of what is refused, and of the exceptions that say so."""
+"""Tests of refusals, and of their exceptions."""
 
 import copy
 import itertools
@@ -25,7 +25,8 @@ class Refusals(unittest.TestCase):
         (26, rigzumal.NoRandomError),
     )
     def test_each_number_has_its_exception(self, number, kind):
-        """Which is the same when it is copied or comes from another process."""
+        """Each number has its exception, which survives a copy, and the way from another
+        process."""
         with self.assertRaises(rigzumal.RigzumalError) as raised:
             _library.raise_fault(number)
         made = raised.exception
@@ -35,7 +36,7 @@ class Refusals(unittest.TestCase):
         self.assertIsNone(_library.raise_fault(0))
 
     def refused(self, kind, word, call, *given, message=None, **named):
-        """By an exception that is the same when it is copied."""
+        """The call raises this exception, whose copy is equal."""
         with self.assertRaises(kind) as raised:
             call(*given, **named)
         for fault in (raised.exception, pickle.loads(pickle.dumps(raised.exception))):
@@ -48,7 +49,8 @@ class Refusals(unittest.TestCase):
         (ARGON2 * 9, "toolong"),
     )
     def test_texts(self, text, word, message=None):
-        """A number out of its range is named with the range, and nothing else of the text."""
+        """The message names a number out of its range, with the range, and nothing else of the
+        text."""
         for call in (lambda it: SMALL.verify(it, "x"), SMALL.check_needs_rehash, rigzumal.parts):
             self.refused(rigzumal.InvalidRecordError, word, call, text, message=message)
 
@@ -69,7 +71,7 @@ class Refusals(unittest.TestCase):
         (ScryptHasher, SCRYPT_COSTS, "salt_len", 1, 48, "salt"),
     )
     def test_numbers_of_a_hasher(self, kind, given, name, least, most, word):
-        """Each is refused as the hasher is built, by its name, its range and its fault."""
+        """The constructor refuses each wrong number, with its name, its range and its fault."""
         for number in (least, most):
             self.assertEqual(getattr(kind(**{**given, name: number}), name), number)
         for number in (least - 1, most + 1, -1):
@@ -83,7 +85,8 @@ class Refusals(unittest.TestCase):
         *(ScryptHasher(*it) for it in ((1, 1, 1, 4, 1), (15, 1, 1, 64, 48), (1, 255, 255))),
     )
     def test_what_a_hasher_takes_the_library_takes(self, hasher):
-        """At the ends of each range that a test has the memory and the time for."""
+        """The library accepts all numbers that a hasher accepts, tested at the ends of each
+        affordable range."""
         self.assertTrue(hasher.verify(hasher.hash("x"), "x"))
 
     @each(

@@ -20,7 +20,7 @@ NO_MILLISECONDS = ("9.9", "0", "-5", "60001", "nan", "inf", "x", "1e9")
 
 
 def run(words, given=""):
-    """The status of a command, and what it wrote on either stream."""
+    """The status of a command, and its output on both streams."""
     return ended([*COMMAND, *(words.split() if isinstance(words, str) else words)], given)
 
 
@@ -112,7 +112,8 @@ class Shell(unittest.TestCase):
                 self.assertEqual((status, text in shown.splitlines()[-1]), (6, True), shown)
 
     def test_no_traceback(self):
-        """At Ctrl-C, at the end of a terminal's input, and where nothing can be read or written."""
+        """No traceback comes at Ctrl-C, at the end of a terminal's input, or from streams that
+        fail."""
         with tempfile.TemporaryDirectory() as room:
             accounts = ["accounts", "--database", f"sqlite:///{room}/a.db"]
             self.assertEqual(run([*accounts, "init"])[0], 0)
@@ -127,7 +128,7 @@ class Shell(unittest.TestCase):
         with open("/dev/full", "wb") as full:
             done = ended([sys.executable, *making], "x", stdout=full)
         self.assertEqual(done, (2, "", "rigzumal: No space left on device\n"))
-        for words in (making, ["-u", *making]):  # a reader has gone, as of a pipe to `head`
+        for words in (making, ["-u", *making]):  # a reader has ended, such as `head` behind a pipe
             reading, writing = os.pipe()
             os.close(reading)
             with self.subTest(words=words), open(writing, "wb") as gone:
@@ -149,7 +150,8 @@ class Shell(unittest.TestCase):
         *((f"calibrate --threads {it}", "--threads") for it in ("0", "-1", "x")),
     )
     def test_refused_words(self, words, text):
-        """Each is named, unless it may be a password; none ends in a traceback."""
+        """The error names each refused word, unless it may be a password; no run ends in a
+        traceback."""
         status, out, fault = run(words, "secret")
         self.assertEqual((status, out), (1, ""))
         self.assertIn(text, fault)

@@ -1,4 +1,4 @@
-"""Tests of hashers as values, and of what the library is asked for: threads and salts."""
+"""Tests of hashers as values, and of the threads and salts in their calls of the library."""
 
 import concurrent.futures
 import contextlib
@@ -43,7 +43,8 @@ class Defaults(unittest.TestCase):
 
     @each("rigzumal", "rigzumal.argon2_cffi")
     def test_modules_that_take_long_are_not_imported(self, name):
-        """Beside ctypes and enum all are small: twice argon2-cffi's time at most."""
+        """Apart from ctypes and enum only small modules are imported: the time is at most twice
+        argon2-cffi's."""
         front = f"import sys; sys.path[:0] = [{str(PYTHON)!r}]"
         script = f"{front}; import {name}; print(*sys.modules)"
         found = set(python("-I", "-S", "-c", script).split())
@@ -112,14 +113,15 @@ SCRYPT = ScryptHasher(log2_n=4)
 
 
 class Rotation(unittest.TestCase):
-    """Peppers that change: verified with any, made with the first."""
+    """Peppers that rotate: any of them verifies, and new records use the first."""
 
     OLD, NEW = (SMALL.replace(secret=it) for it in (b"old", b"new"))
     BOTH = SMALL.replace(secrets=[b"new", bytearray(b"old")])
     NEW_OR_NONE = SMALL.replace(secrets=[b"new", b""])
     FOUR = SMALL.replace(secrets=[b"new", b"newest but one", b"old", b""])
 
-    # Who made a record, who reads it, and whether it is right and is made anew.
+    # The hasher that wrote a record, the one that reads it, and whether it is right and is
+    # replaced.
     @each(
         (BOTH, BOTH, True, False),
         (BOTH, NEW, True, False),  # a new one is of the first
@@ -137,7 +139,8 @@ class Rotation(unittest.TestCase):
         *((it.replace(salt_len=17), it, True, True) for it in (SMALL, NEW, SCRYPT)),
     )
     def test_records_of_each(self, maker, hasher, is_right, is_old):
-        """Verified, and made anew by the first secret and at the hasher's costs."""
+        """Records of each secret are verified, and replaced under the first secret and the hasher's
+        costs."""
         record = maker.hash("x")
         self.assertIs(verdict(hasher, record, "x"), is_right)
         self.assertIs(verdict(hasher, maker.hash("y"), "x"), False)
@@ -163,7 +166,8 @@ class Rotation(unittest.TestCase):
         self.assertEqual(library.rigzumal_check_from.call_count, tried)
 
     def test_the_first_is_the_secret(self):
-        """So that who refuses hashers with a secret refuses these."""
+        """`secret` is the first of the secrets, so code that refuses a secret refuses these hashers
+        too."""
         self.assertEqual((self.BOTH.secret, self.BOTH.secrets), (b"new", (b"new", b"old")))
         again = self.BOTH.replace(secrets=[b"newer", b"new"])
         self.assertEqual((again.secret, again.secrets), (b"newer", (b"newer", b"new")))
@@ -176,7 +180,7 @@ class Rotation(unittest.TestCase):
         {"secret": b"", "secrets": [b"x"]},
     )
     def test_bad_secrets(self, bad):
-        """An empty one is what an unset variable gives, and would be no pepper at all."""
+        """An empty secret, as from an unset variable, would be no pepper at all."""
         self.assertRaisesRegex(ValueError, "secret", PasswordHasher, **bad)
         self.assertRaisesRegex(ValueError, "secret", SMALL.replace, **bad)
         self.assertRaises(ValueError, self.BOTH.replace, secret=b"other")
@@ -187,7 +191,7 @@ class Rotation(unittest.TestCase):
 class Threads(unittest.TestCase):
     @each({}, {"threads": 1}, {"threads": 3}, {"threads": 200})
     def test_those_that_are_asked_for(self, given):
-        """One if none are."""
+        """A hasher uses the threads that the caller sets, by default one."""
         names = ("record", "check") * 2 + ("argon2",)
         with noted_library() as library:
             for secret in (None, b"pepper"):
@@ -209,7 +213,8 @@ class Threads(unittest.TestCase):
         self.assertEqual(made["rigzumal_check_from"], 255)  # as many as there are lanes
 
     def test_one_hasher_serves_many(self):
-        """At once: the calls don't hold the interpreter's lock, as those of a PyDLL do."""
+        """Many threads use one hasher at once: unlike a PyDLL's, the calls release the
+        interpreter's lock."""
         self.assertNotIsInstance(rigzumal._library._library, ctypes.PyDLL)
         with concurrent.futures.ThreadPoolExecutor(8) as pool:
             made = pool.map(lambda _: SMALL.hash("password", salt=b"somesalt"), range(160))

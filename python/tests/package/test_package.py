@@ -1,4 +1,4 @@
-"""Tests of the package as it is installed and packed, and of how its sources look. Debian's
+"""Tests of the installed and the packed package, and of its types. Debian's
 packages for all of them: python3-venv, mypy, black, python3-django, python3-passlib, python3-flask.
 """
 
@@ -23,7 +23,7 @@ FILES = sorted(
     for it in (PYTHON / "rigzumal").rglob("*")
     if it.is_file() and it.suffix != ".pyc"
 )
-# Below a prefix that no Python knows, where the system's would look in its own.
+# A prefix that no Python knows; the system's Python would look in its own.
 INSTALLED = run(
     "/usr/bin/python3",
     "-c",
@@ -33,7 +33,7 @@ OTHERS = {
     *("bin/rigzumal", "share/man/man1/rigzumal.1", "share/bash-completion/completions/rigzumal"),
     *("share/zsh/site-functions/_rigzumal", "share/fish/vendor_completions.d/rigzumal.fish"),
 }
-# The folders that install made, for uninstall: no package has them.
+# The folders that install created, for uninstall: no package has this list.
 NOTED = "share/rigzumal/folders"
 SCRIPTS = {"postinst": "py3compile", "prerm": "py3clean"}
 HASHES = (
@@ -55,7 +55,7 @@ def make(*words):
 
 
 def check_hashing(python, env, room):
-    """A Python hashes by the package below the folder."""
+    """A Python hashes with the package below this folder."""
     output = run(python, "-c", HASHES, env=env, at=ROOM)
     assert output.startswith("True ") and str(room) in output, output
 
@@ -75,7 +75,7 @@ def check_record(wheel):
 
 
 def new_environment(name):
-    """A virtual environment with nothing in it."""
+    """An empty virtual environment."""
     room = ROOM / name
     try:
         run(sys.executable, "-m", "venv", room)
@@ -86,7 +86,7 @@ def new_environment(name):
 
 class Package(unittest.TestCase):
     def test_installed(self):
-        """Python over what `make install` put there, and where DESTDIR says."""
+        """Python uses the files of `make install`, with and without DESTDIR."""
         prefix, room = ROOM / "installed", ROOM / "destination"
         make("install", f"PREFIX={prefix}")
         make("install", f"DESTDIR={room}", "PREFIX=/opt/rigzumal")
@@ -151,7 +151,7 @@ class Package(unittest.TestCase):
         self.assertTrue(run(*emulated, env=env, at=ROOM).startswith("True "))
 
     def test_editable(self):
-        """`pip install -e` has the folder itself imported, and leaves nothing after its removal."""
+        """After `pip install -e` Python imports the folder itself; a removal leaves nothing."""
         room = new_environment("editable")
         python = room / "bin/python"
         run(room / "bin/pip", "install", "-q", "--no-index", "-e", PYTHON, env=CLEAN)
@@ -188,7 +188,7 @@ class Package(unittest.TestCase):
         run("mypy", "--strict", cache, "rigzumal", at=PYTHON)
 
     def test_types_of_a_reply(self):
-        """mypy names a reply of accounts that is used as a truth value."""
+        """mypy reports a reply of accounts that is used as a truth value."""
         need("mypy")
         file = ROOM / "let_in.py"
         file.write_text(LETS_IN)
@@ -198,7 +198,7 @@ class Package(unittest.TestCase):
         self.assertIn(":4: error:", found)
 
     def test_types_of_the_login_page(self):
-        """mypy --strict, as far as libraries that have no stubs here let it."""
+        """mypy --strict accepts the login page, as far as libraries without stubs allow."""
         need("mypy")
         need_module("flask")
         # Of waitress it knows that there are stubs, which nobody needs to have.

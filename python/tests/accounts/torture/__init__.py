@@ -1,11 +1,11 @@
-"""Many processes at once on one database, whose answers are judged.
+"""Runs many processes at once on one database, and judges their answers.
 
     /usr/bin/python3 python/tests/accounts/torture --database URL --processes 8 --kill
     /usr/bin/python3 python/tests/accounts/torture LOG..
 
-They do operations on a few accounts of a table made for it, under costs that are next to nothing.
-`history` decides whether what they were answered is one legal history, of logs as `logs` describes
-them; the second command judges logs alone.
+The processes run operations on a few accounts of a new table, at costs of next to nothing.
+`history` decides whether their answers are one legal history, from the logs that `logs` describes.
+The second command only judges logs.
 """
 
 from torture._torture import Torture

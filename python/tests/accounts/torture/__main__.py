@@ -1,5 +1,5 @@
-"""The command, whose words `torture` has. Status 4 is an illegal history, or one that shows
-nothing."""
+"""The command; the package describes its words. Status 4 means an illegal history, or one that
+shows nothing."""
 
 import argparse
 import os
@@ -32,7 +32,8 @@ def parser():
 
 
 def fault_of(made):
-    """Runs it; what is wrong with its history, and nothing if it is legal and shows enough."""
+    """Runs a torture; returns the fault of its history, or nothing if it is legal and shows
+    enough."""
     accounts = made.run()
     if not logs.is_legal(accounts, f", {made.killed} killed, seed {made.seed}"):
         return f"the table stays, and the logs: {made.folder}"
@@ -45,7 +46,7 @@ def fault_of(made):
 
 
 def main(words=None):
-    """Runs the command, and answers its exit status."""
+    """Runs the command, and returns its exit status."""
     given = vars(parser().parse_args(words))
     paths, folder = given.pop("log"), given["folder"]
     if paths:

@@ -46,23 +46,23 @@ class Torture:
     """The load on a database, as the command has it, or as tests alter it."""
 
     url: str
-    table: str = "rigzumal_torture"  # made, and dropped again if the history is legal
+    table: str = "rigzumal_torture"  # created, and dropped again if the history is legal
     processes: int = 8  # with a connection each
     seconds: float = 60.0
     accounts: int = 4  # rows
     # By SIGKILL now and then, and between an UPDATE and its COMMIT or a COMMIT and its
     # answer; others are started. One at least is killed if any tries a change.
     kill: bool = False
-    folder: Optional[pathlib.Path] = None  # of the logs; one is made if it is left out
+    folder: Optional[pathlib.Path] = None  # of the logs; without it a new one is created
     replica: Optional[str] = None  # another database for the copies, which may lag
-    end_url: Optional[str] = None  # where what stands at the end is read
+    end_url: Optional[str] = None  # the database in which the last records are read
     mix: Mapping[str, int] = dataclasses.field(default_factory=lambda: dict(MIX))
     ways: tuple[str, ...] = WAYS  # of doing an operation; a login has its own
     tasks: int = 4  # in the processes of asyncio; some are cancelled
     every: int = 4  # of so many processes one is of asyncio, on PostgreSQL
     patience: float = 30.0
     confirm: bool = False
-    alter: Optional[Callable[[Any], None]] = None  # a test may break what is used
+    alter: Optional[Callable[[Any], None]] = None  # a test may break the class that is used here
     settings: tuple[str, ...] = ()  # SQL for each blocking connection to begin with
     killed: int = 0  # how many processes were killed
     started: int = 0  # how many processes were started
@@ -70,10 +70,10 @@ class Torture:
     seed: int = dataclasses.field(default_factory=lambda: random.SystemRandom().getrandbits(32))
 
     def run(self):
-        """Runs it, and returns what was logged.
+        """Runs the torture, and returns its logs.
 
         Raises:
-            StoreFault: the table is there already, or a process ended by an exception.
+            StoreFault: the table exists already, or a process ended by an exception.
         """
         self.folder = self.folder or pathlib.Path(tempfile.mkdtemp(prefix="torture-"))
         self.folder.mkdir(exist_ok=True)
@@ -93,7 +93,7 @@ class Torture:
         conn.close()
 
     def dialect(self):
-        """A dialect for the table, of whatever engine is there."""
+        """A dialect for the table, of the database's engine."""
         return self._kind(self.table, "name", "record", str)
 
     @functools.cached_property
@@ -131,7 +131,7 @@ class Torture:
             top.write("end", key=name, time=time.monotonic_ns(), record=record)
 
     def _load(self, names):
-        """Runs the processes; returns how many ended by an exception.
+        """Runs the processes; returns the number of those that ended by an exception.
 
         If processes are to be killed, the first one is at its first change.
         """
@@ -158,7 +158,7 @@ class Torture:
         return faults
 
     def _start(self, number, names, end, risk):
-        """A process by fork, so that it begins at once; no connection is open here."""
+        """Starts a process by fork, so that it begins at once; no connection is open here."""
 
         self.started += 1
 
@@ -172,12 +172,12 @@ class Torture:
 
 
 async def done(said):
-    """The answer, awaited if it must be."""
+    """The answer, awaited if necessary."""
     return await said if inspect.isawaitable(said) else said
 
 
 class Logged(Operations):
-    """Operations that are written down in `log`, with `memory` as costs; `last` is the answer."""
+    """Operations that write to `log`, with `memory` as their costs; `last` is the answer."""
 
     _name = ""
 
@@ -186,7 +186,7 @@ class Logged(Operations):
 
     @contextmanager
     def call(self, request):
-        """Logs a call, and what is put into the list within as its answer."""
+        """Logs a call and its answer, which the block puts into the list."""
         said = []
         name = self._name = self.log.begin(request, self.memory)
         try:
@@ -205,25 +205,25 @@ class Logged(Operations):
 
 
 class LoggedAccounts(Logged, Accounts):
-    """Over a blocking driver."""
+    """Logged operations over a blocking driver."""
 
 
 class LoggedAsyncAccounts(Logged, AsyncAccounts):
-    """For asyncio."""
+    """Logged operations for asyncio."""
 
 
 def _looks(conn, reply):
-    """A statement of a caller's own: over asyncio it is awaited."""
+    """A caller's own statement, which is awaited over asyncio."""
     cursor = conn.cursor()
     said = cursor.execute("SELECT 1")
     return said if inspect.isawaitable(said) else cursor.fetchall()
 
 
 class Worker:
-    """One process of it."""
+    """One process of the torture."""
 
     def __init__(self, torture, number, risk):
-        LOGGER.disabled = True  # its warnings are what a torture is made of
+        LOGGER.disabled = True  # a torture causes its warnings on purpose
         self.torture, name = torture, f"{number}-{os.getpid()}"
         self.log = logs.Log(torture.folder / f"log-{name}", name, risk)
         self.database = Database(torture.url, number)
@@ -244,7 +244,7 @@ class Worker:
             kind, key = rng.choices(kinds, weights)[0], rng.choice(names)
             costs = (LOW, HIGH) if kind in ("upgrade", "login") else (LOW,)
             asked = accounts[rng.choice(costs)]
-            # A task that is cancelled is one more whose answer never comes.
+            # A cancelled task is one more whose answer never comes.
             seconds = HASTY if self.is_awaited and rng.random() < 0.1 else PATIENT
             one, two = rng.choice(PASSWORDS), rng.choice(PASSWORDS)
             way = "login" if kind == "login" else rng.choice(self.torture.ways)
@@ -260,7 +260,8 @@ class Worker:
     # ---- the ways of doing an operation
 
     async def _login(self, accounts, request):
-        """Logged as its parts, and as its caller is told: as a verify at what it leaves."""
+        """A login, logged as the parts of an upgrade, and as its caller sees it: as a verify at the
+        record that it leaves."""
         with accounts.call(request) as said:
             reply = await done(accounts.login(request.key, request.password))
             stands = accounts.last.after
@@ -278,7 +279,7 @@ class Worker:
             said.append(await done(accounts.commit(worked)))
 
     async def _within(self, accounts, request):
-        """In a transaction of the caller's."""
+        """An operation in the caller's transaction."""
         dialect, name = accounts._dialect, accounts._table.name
 
         async def job(session):
@@ -301,7 +302,7 @@ class Worker:
                 pool = accounts._connections.primary
                 said.append(await accounts._runtime.use(pool, job))
             except Exception as error:
-                # What fails before COMMIT was sent is known to be undone.
+                # An operation that fails before COMMIT was sent is surely undone.
                 if not is_of_driver(error) or dialect.verdict(error) is Verdict.REFUSED:
                     raise
                 raise Unavailable(name(error)) from error

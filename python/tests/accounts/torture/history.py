@@ -1,4 +1,4 @@
-"""Decides whether the answers are those of one legal history of each account.
+"""Decides whether each account's answers are those of one legal history.
 
 A history is legal if each operation can be given one moment between its call and its answer, so
 that every reply, and the record after it, is what the whole operation does at the record that
@@ -15,9 +15,9 @@ stood, if and only if none of its calls is after one of the other's answers. The
 all if and only if each two have an order. Sorting apart, this takes time in proportion to the
 history.
 
-What an operation without an answer was about to commit is no evidence that it read what stood: a
-crash may take away what nobody was answered by. It took place exactly if what was answered wants
-it: a record that somebody was told of had been put, and one that is gone had been replaced.
+The attempt of an operation without an answer doesn't prove that the record which it read was
+stored: a crash may lose a record that no answer named. It took place exactly if what was answered
+wants it: a record that somebody was told of had been put, and one that is gone had been replaced.
 """
 
 from __future__ import annotations
@@ -34,7 +34,7 @@ NO_EFFECT = frozenset({"failed", "changed"})
 
 
 class Attempt(NamedTuple):
-    """A change that was about to be committed."""
+    """A change before its COMMIT."""
 
     before: Record
     after: Record
@@ -78,11 +78,11 @@ class Operation:
 
     @property
     def password_after(self):
-        """The password of the record that this operation put."""
+        """The password of the record that this operation wrote."""
         return self.new_password if self.kind in ("change", "reset") else self.password
 
     def took_place(self, end):
-        """Notes that its last attempt was stored before the end, and its answer was lost."""
+        """Notes that the operation's last attempt was stored before the end, without an answer."""
         self.before, self.after, self.reply = self.attempts[-1]
         self.answered, self.found_out = end, True
 
@@ -111,7 +111,7 @@ def conflict(events):
 
 
 def possible(it, record, maker):
-    """The replies that an operation may have at a record that the maker put."""
+    """The replies that an operation may have at a record that `maker` wrote."""
     if record is None:
         return {"enrolled" if it.kind in ("enrol", "reset") else "absent"}
     if it.kind in ("enrol", "reset"):
@@ -191,7 +191,8 @@ class _Records:
         return spans + [_Span(it.answered, it.called, it.id) for it in self.at_none]
 
     def _walk(self, record, maker):
-        """A chain's span and number of records, if the earliest moments are in time."""
+        """A chain's span and number of records; refuses a chain whose earliest moments are too
+        late."""
         moment = latest = -math.inf if maker is None else maker.called
         first = math.inf if maker is None else maker.answered
         late = maker
@@ -237,10 +238,8 @@ class Account:
 
 
 class Illegal(Exception):
-    """There is no legal history, and the reason.
-
-    The part has no legal order, whatever others were done beside it; without any one of
-    its operations the rest has one.
+    """There is no legal history, with the reason. `part` has no legal order, whatever other
+    operations ran beside it; without any one of its operations the rest has one.
     """
 
     def __init__(self, reason, part):
@@ -296,15 +295,16 @@ def _settle(account):
             it.took_place(end)
             todo.append(it.before)
     for record, maker in _unreplaced(account).items():
-        # Of several ways out the one whose last call is first, since nobody was told of what
-        # stood between.
+        # If several chains lead to a removal, the one whose last call is first counts: no answer
+        # named a record between.
         ways = _ways_out(record, maker, at)
         for it in min(ways, key=lambda way: max(it.called for it in way), default=()):
             it.took_place(end)
 
 
 def _ways_out(record, maker, at, way=()):
-    """Each way from a record to none, of operations without an answer, by where they were tried."""
+    """Each chain of operations without an answer from a record to none, by the records at which
+    they were tried."""
     for it in at[record]:
         last = it.attempts[-1]
         if it in way or it.reply or last.reply not in possible(it, record, maker):
@@ -316,14 +316,14 @@ def _ways_out(record, maker, at, way=()):
 
 
 def _unreplaced(account):
-    """The records that are gone though nothing replaced them, with their makers."""
+    """The missing records that no operation replaced, with the operations that wrote them."""
     changes = [it for it in (account.seed, *account.operations) if it.makes_change]
     replaced = {it.before for it in changes} | {account.end.before}
     return {it.after: it for it in changes if it.after and it.after not in replaced}
 
 
 def _complete(account, events):
-    """Refuses a record that nobody put, and one that is gone and wasn't replaced."""
+    """Refuses a record that no operation wrote, and a missing one that none replaced."""
     put = {it.after for it in events if it.makes_change}
     for it in events:
         if it.before is not None and it.before not in put:
@@ -334,7 +334,8 @@ def _complete(account, events):
 
 
 def _shrunk(events):
-    """A part that has no legal order, and has one without any one of its operations."""
+    """A part without a legal order that has one as soon as any one of its operations is left
+    out."""
     part, size = list(events), max(len(events) // 2, 1)
     while size:
         start = 0

@@ -1,4 +1,4 @@
-"""The logs of what was asked and answered, as `history` takes them.
+"""The logs of calls and answers, in the form that `history` reads.
 
 The logs are lines of JSON, of any number of processes and of one clock (CLOCK_MONOTONIC):
 
@@ -27,7 +27,7 @@ from torture.history import Account, Attempt, Operation, verdict
 class Log:
     """The log of one process.
 
-    At this risk it kills itself at its own worst moments: between an UPDATE and its
+    With this probability the process kills itself at its worst moments: between an UPDATE and its
     COMMIT, and between a COMMIT and its answer.
     """
 
@@ -36,7 +36,7 @@ class Log:
         self._name, self._count, self.risk = name, 0, risk
 
     def begin(self, request, memory):
-        """Writes a call; the answer is its name."""
+        """Writes a call; returns its id."""
         self._count += 1
         name = f"{self._name}-{self._count}"
         words = ("password", "new_password")
@@ -54,7 +54,7 @@ class Log:
             self._dare()
 
     def answered(self, name, answer):
-        """Writes what was answered, at which record and with which after it."""
+        """Writes an answer, with the record at which it was judged and the record after it."""
         if answer.reply.makes_change:
             self._dare()
         records = {"before": answer.before, "after": answer.after}
@@ -77,10 +77,9 @@ EVENTS = ("seed", "end", "call", "try", "answer")
 
 
 def read(paths):
-    """The accounts' histories out of the logs of all processes.
-
-    The last line of a file may be unfinished, as by a killed process. Of any other that is none of
-    the format, or an account whose first or last record is in none, it raises ValueError.
+    """The accounts' histories, read from the logs of all processes. A killed process may leave an
+    unfinished last line. Any other line outside of the format raises ValueError, and so does an
+    account without a first or last record.
     """
     accounts, operations = {}, {}
     try:
@@ -141,7 +140,7 @@ def summary(accounts):
 
 
 def is_legal(accounts, more=""):
-    """Prints the verdict, and how much was judged."""
+    """Prints the verdict, with the counts; returns whether the history is legal."""
     found = verdict(accounts)
     legal = f"legal: {summary(accounts.values())}{more}"
     print(f"illegal: {found}" if found else legal)

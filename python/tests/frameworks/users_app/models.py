@@ -31,11 +31,11 @@ class Groupless(AbstractUser):
 
 
 class Plain(Groupless):
-    """A model of one's own as Django has it: the mixin is compared with it."""
+    """A custom model in Django's own form, for a comparison with the mixin."""
 
 
 class Person(CompareAndSetMixin, Groupless):
-    """A model of one's own, with the mixin."""
+    """A custom model with the mixin."""
 
 
 class Pupil(CompareAndSetMixin, Plain):
@@ -45,7 +45,7 @@ class Pupil(CompareAndSetMixin, Plain):
 
 
 class Methods:
-    """A model's methods of its own: they add a pepper, and a change is noted."""
+    """A model's own methods: they add a pepper, and note a change."""
 
     pepper = "pepper "
 
@@ -68,15 +68,15 @@ class Counted(models.Model):
 
 
 class Peppered(Methods, CompareAndSetMixin, Counted, Groupless):
-    """Methods of its own, in front of the mixin."""
+    """A model with its own methods in front of the mixin."""
 
 
 class Unreached(CompareAndSetMixin, Methods, Counted, Groupless):
-    """Methods of its own behind the mixin, which would pass them over."""
+    """A model with its own methods behind the mixin, which would skip them."""
 
 
 class Unmixed(Methods, Counted, Groupless):
-    """Methods of its own without the mixin."""
+    """A model with its own methods and without the mixin."""
 
 
 class OnlyActive(UserManager):
@@ -93,7 +93,7 @@ class Hidden(Groupless):
 
 
 class ByMail(AbstractBaseUser):
-    """Named by an address, without is_active and permissions."""
+    """A user model whose name is an address, without is_active and permissions."""
 
     mail = models.EmailField(unique=True)
     objects = BaseUserManager()
