@@ -18,7 +18,7 @@ def timed(work, *given):
 
 
 def rate(work, seconds, at_once):
-    """Calls a second, of so many threads, each with one call after another."""
+    """Calls a second of this many threads, each with one call after another."""
     start = time.perf_counter()
 
     def works(_):

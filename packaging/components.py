@@ -1,5 +1,5 @@
 #!/usr/bin/env python3
-"""Lists the compiled code of others in our packages, with its licences: for `make dist`, the wheel
+"""Lists the compiled code of others in our packages, with its licences, for `make dist`, the wheel
 and Debian's packages.
 
     python3 components.py copyright PACKED       a package's file copyright, with their notices
@@ -24,7 +24,7 @@ HERE = pathlib.Path(__file__).resolve().parent
 VERSION = (HERE.parent / "VERSION").read_text().strip()
 KNOWN = json.loads((HERE / "components.json").read_text())
 PROGRAMS = ("credbook", "credkeep")
-# The parts with proved code in what is packed.
+# The parts with proved code in each package.
 PARTS = {
     "rigzumal": ("librigzumal", *PROGRAMS),
     "wheel": ("librigzumal",),
@@ -46,7 +46,7 @@ OURS = {
 
 
 def crates_in(packed: str) -> list[dict[str, Any]]:
-    """The crates of the toolchain of which compiled code is packed."""
+    """The crates of the toolchain whose compiled code is packed."""
     wanted = {*PARTS[packed]}
     return [it for it in KNOWN["crates"] if wanted & {*it["in"]}]
 
@@ -86,7 +86,7 @@ def described(crate: dict[str, Any]) -> dict[str, Any]:
 
 
 def package(about: dict[str, Any]) -> dict[str, Any]:
-    """An SPDX package with what each of ours says."""
+    """An SPDX package with the fields that all of ours share."""
     unknown = {"downloadLocation": NOBODY, "filesAnalyzed": False, "licenseConcluded": NOBODY}
     return {**about, **unknown}
 
@@ -110,13 +110,13 @@ def related(one: str, how: str, other: str) -> dict[str, str]:
 
 
 def source_date() -> int:
-    """The time that stands in what is packed."""
+    """The time that packed files bear."""
     done = subprocess.run([HERE / "source-date"], stdout=subprocess.PIPE, check=True)
     return int(done.stdout)
 
 
 def spdx(packed: str, files: dict[str, bytes]) -> bytes:
-    """An SPDX 2.3 document of what is packed, with these of its files."""
+    """An SPDX 2.3 document of a package, with these of its files."""
     name = f"{packed}-{VERSION}"
     listed = [file_of(at, *it) for at, it in enumerate(sorted(files.items()))]
     crates = [described(it) for it in crates_in(packed)]

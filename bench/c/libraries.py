@@ -12,7 +12,7 @@ PASSWORD, SALT, SIZE = b"password", b"sixteen of salt.", 32
 INPUTS = (PASSWORD, len(PASSWORD), SALT, len(SALT))
 NUMBER, WIDE, LENGTH, TEXT = ctypes.c_uint32, ctypes.c_ulonglong, ctypes.c_size_t, ctypes.c_char_p
 DATA = [TEXT, LENGTH]
-ROOM = object()  # where a call is given the room that it writes into
+ROOM = object()  # marks the buffer that a call writes
 
 
 class Numbers(ctypes.Structure):
@@ -40,7 +40,7 @@ def libsodium():
 
 
 def need_initialised(sodium):
-    """sodium_init answers 1 if it was called before."""
+    """Initialises libsodium; sodium_init returns 1 if it was called before."""
     if sodium.sodium_init() != 1:
         sys.exit("libsodium isn't initialised")
 
@@ -54,7 +54,7 @@ def made(call, *given):
 
 
 def rigzumal_argon2(ours, most_threads=1):
-    """With a thread for each lane, up to so many."""
+    """Argon2 with a thread for each lane, up to this many."""
     call = ours.rigzumal_argon2_threads
     call.argtypes = [*DATA, ctypes.POINTER(Numbers), *DATA * 4, NUMBER]
     none = (None, 0, None, 0)
@@ -73,7 +73,7 @@ def original_argon2(original):
 
 
 def sodium_argon2(sodium):
-    """It has one lane."""
+    """libsodium's Argon2, which has one lane."""
     need_initialised(sodium)
     call = sodium.crypto_pwhash
     call.argtypes = [TEXT, WIDE, TEXT, WIDE, TEXT, WIDE, LENGTH, ctypes.c_int]

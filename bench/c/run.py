@@ -5,22 +5,22 @@ settings.
     make -C c && /usr/bin/python3 bench/c/run.py [--times N] [--pages WHOSE]
                                     [--callers N [N ..]] [--small] [--other LIBRARY]
 
-All are called from this one process in turn, N times over; the best wall time of each is printed,
-and the least processor time where libargon2 has threads. libargon2 gets as many threads as lanes;
-libsodium has one lane only; ours works on the caller's thread. The run compares their tags, which
-must be equal. A library that isn't installed has an empty column. Ours clears its stack, and its
-memory before it frees it. --other names another librigzumal.so.1, such as one that was built before
-a change: the run prints the ratio of both, by the best times and by the median of the turns.
+One process calls all of them in turn, N times over. It prints the best wall time of each, and the
+least processor time where libargon2 has threads. libargon2 gets as many threads as lanes; libsodium
+has one lane only; ours works on the caller's thread. The run compares their tags, which must be
+equal. A library that isn't installed has an empty column. Ours clears its stack, and its memory
+before it frees it. --other names another librigzumal.so.1, such as one that was built before a
+change: the run prints the ratio of both, by the best times and by the median of the turns.
 
-WHOSE huge pages there are: `own`, where a library asks for them, as ours does; `none`, as where the
-system allows none; or for `all`, with a shim before mmap and malloc's own setting. At the end the
+WHOSE says who gets huge pages: `own`, a library that asks for them, as ours does; `none`, as on a
+system that allows none; or `all`, by a shim before mmap and malloc's own setting. At the end the
 run prints the amount of memory in huge pages.
 
-With --callers Argon2 alone is timed, ours also with a thread a lane, by so many callers at once:
-threads that begin at the same moment, and make two tags one after another. A cell has the best and
-the median of the N times, in milliseconds a tag: the wall time of all callers over the number of
-their tags, and behind it the processor time. --small times memories for which the library starts no
-thread, in a build that starts them whatever the memory is.
+--callers times Argon2 alone, ours also with a thread for each lane, by this many callers at once:
+threads that begin at the same moment, and compute two tags one after another. A cell has the best
+and the median of the N times, in milliseconds a tag: the wall time of all callers over the number
+of their tags, and behind it the processor time. --small times memories for which the library starts
+no thread, in a build that starts them whatever the memory is.
 """
 
 import argparse
@@ -98,8 +98,8 @@ def spread(name):
 
 
 def threads_over_libargon2(part):
-    """A column: ours, with threads where there are lanes for them, by the best times and by the
-    medians."""
+    """A column: the ratio of ours, with threads if there are several lanes, by the best times and
+    by the medians."""
 
     def cell(row):
         ours, theirs = row.get("threads") or row["ours"], row.get("libargon2")
@@ -144,7 +144,7 @@ CALLERS_COLUMNS = {
 
 
 def print_table(what, columns, rows, times):
-    """Rows are named by their first columns, and have a call for each library."""
+    """Prints a table: its first columns name a row, which has a call for each library."""
     found = take_turns(rows, times)
     print_head([*what, *columns])
     for names, row in found.items():
@@ -185,12 +185,12 @@ def argon2_ways(ours, sodium):
 
 
 def calls(ways, call, *setting):
-    """A row's ways, those that are there."""
+    """The calls of a row, for the installed libraries."""
     return {name: functools.partial(call, way, *setting) for name, way in ways.items() if way}
 
 
 def argon2_calls(ways, call, *setting):
-    """Threads are for several lanes, and libsodium has one."""
+    """The calls of a row of Argon2: threads need several lanes, and libsodium has one."""
     lanes = setting[-1]
     fits = {"threads": lanes > 1, "libsodium": lanes == 1}
     return calls({name: way for name, way in ways.items() if fits.get(name, True)}, call, *setting)
@@ -212,7 +212,7 @@ def without_least_memory(room):
 
 
 def have_pages(whose):
-    """Runs this process with such pages; those for all need a new process, over the shim."""
+    """Runs this process with such pages; pages for all need a new process, over the shim."""
     if whose == "none" and ctypes.CDLL(None).prctl(PR_SET_THP_DISABLE, 1, 0, 0, 0) != 0:
         sys.exit("the system doesn't let a process do without huge pages")
     shim = os.environ.get("LD_PRELOAD", "")
@@ -273,7 +273,7 @@ def tables(ours, other):
 
 
 def table_of_callers(ours, other, callers, settings):
-    """Argon2 by so many callers at once, in the same form."""
+    """Argon2 by this many callers at once, as a table of the same form."""
     ways = {
         **argon2_ways(ours, libsodium()),
         "threads": libraries.rigzumal_argon2(ours, most_threads=255),

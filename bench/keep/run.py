@@ -37,13 +37,13 @@ rows = sqlite3.connect(sys.argv[1]).execute('SELECT name, record FROM account')
 rows = dict(rows)"""
 TABLE = "CREATE TABLE account (name TEXT NOT NULL PRIMARY KEY, record TEXT) STRICT"
 BCRYPT = ("htpasswd", "-b", "-B", "-C", "4")
-# How many lines of a kind are timed at once.
+# The number of lines of a kind that are timed at once.
 LINES = 1000
 SHOWN = 200_000
 
 
 def run(*words: str | pathlib.Path, given: str = "", status: int = 0) -> float:
-    """The seconds of a program with this input. The program must end with this status."""
+    """Runs a program with this input to this status; returns the seconds."""
     nothing = subprocess.DEVNULL
     with tempfile.TemporaryFile() as text:
         text.write(given.encode())
@@ -90,7 +90,7 @@ class Sample:
         exported = subprocess.run(
             [program, self.book, "export"], capture_output=True, text=True, check=True
         ).stdout
-        # A change puts the second: SQLite writes nothing if a row stays as it is.
+        # A change writes the second record: SQLite writes nothing if a row stays as it is.
         self.record, self.changed = (line.split(":")[1] for line in exported.split())
         run(*BCRYPT, "-c", self.users, "n0", PASSWORD)
         bcrypt = self.users.read_text().strip().split(":")[1]
@@ -101,7 +101,7 @@ class Sample:
         self.users.write_text("".join(f"{name}:{bcrypt}\n" for name in self.names))
 
     def some(self, count: int) -> list[str]:
-        """So many names out of all, in random order."""
+        """This many names out of all, in random order."""
         return random.Random(7).choices(self.names, k=count)
 
 
@@ -110,8 +110,8 @@ def ours(sample: Sample, turns: int) -> dict[str, str]:
     program, book, one = sample.program, sample.book, sample.names[0]
     best = lambda *words, **given: min(run(program, *words, **given) for _ in range(turns))
     opened = best(book, "show", "nobody", status=4)
-    # A database with a table too many is refused once sqlite has looked at it, before a row is
-    # read.
+    # credkeep refuses a database with a second table once sqlite has opened it, before it reads a
+    # row.
     refused = best(sample.other, "list", status=5)
     with Service(program, book, "serve", "--tagged", "--setting", CHEAP) as service:
         service.ask("t show nobody")

@@ -12,7 +12,7 @@ from tests.credkeep import books
 
 
 class Service(books.Service):
-    """The process may run for as long as a benchmark does."""
+    """A service whose process may run for as long as a benchmark does."""
 
     def __init__(self, *command: str | pathlib.Path) -> None:
         super().__init__([*map(str, command)])
@@ -47,6 +47,6 @@ class Service(books.Service):
         return count / (time.perf_counter() - start)
 
     def peak_mb(self) -> float:
-        """The most memory that it held so far."""
+        """The most memory that the service has held so far."""
         status = pathlib.Path(f"/proc/{self.process.pid}/status").read_text()
         return int(status.partition("VmHWM:")[2].split()[0]) / 1024

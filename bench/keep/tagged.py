@@ -3,9 +3,9 @@
 
     bench/keep/tagged.py [--seconds S] [--sync MS] [PROGRAM]
 
-Changes a second, with the cheapest costs, of 1, 4, 16 and 64 clients who wait for each answer, on
-a disk whose syncs take MS longer than they do (4 if it isn't said), which strace adds. Run it on a
-machine that does nothing else. bench/server times verifies.
+Measures changes a second, with the cheapest costs, of 1, 4, 16 and 64 clients who wait for each
+answer. strace makes each sync of the disk MS longer (by default 4). Run it on a machine that does
+nothing else. bench/server times verifies.
 """
 
 import argparse
@@ -33,8 +33,8 @@ class Book:
         subprocess.run([*self.words, "init"], check=True)
 
     def changes_a_second(self, clients: int, pause: float) -> float:
-        """Of so many clients, each with an account of its own, who send a line once the one before
-        it is answered."""
+        """Changes a second of this many clients, each with its own account, who send a line once
+        the previous one is answered."""
 
         def after(tag: str, answer: str) -> str:
             assert answer in ("enrolled", "removed")

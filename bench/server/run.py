@@ -29,7 +29,7 @@ FIELD = field_of(WORD.encode())
 
 
 async def at_socket(clients: int, seconds: float) -> float:
-    """Verifies a second of so many clients."""
+    """Verifies a second of this many clients."""
     end, counts = time.perf_counter() + seconds, [0] * clients
 
     async def one(number: int) -> None:
@@ -46,7 +46,7 @@ async def at_socket(clients: int, seconds: float) -> float:
 
 
 def by_pam(service: str, clients: int, seconds: float) -> float:
-    """Logins a second of so many clients, ten by each run of pamtester."""
+    """Logins a second of this many clients, ten by each run of pamtester."""
     words, given = ["pamtester", service, "ada", *["authenticate"] * 10], f"{WORD}\n" * 10
     ten = lambda: subprocess.run(words, input=given, text=True, capture_output=True, check=True)
     return 10 * rate(ten, seconds, clients)

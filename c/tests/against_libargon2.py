@@ -2,9 +2,9 @@
 
     /usr/bin/python3 tests/against_libargon2.py OURS THEIRS SEED [TURNS]
 
-Each of the 22 calls runs on both. Their answers, and all bytes that they could write, are the same,
-as is the memory that they ask of a context's callbacks. What the original takes and ours refuses is
-listed in src/libargon2.c: there the answer is the one that is listed, and nothing is written.
+Each of the 22 calls runs on both. Their answers must be the same, and all bytes that they could
+write, and their requests to a context's callbacks. src/libargon2.c lists the calls that only ours
+refuses: these return the listed answer, and write nothing.
 """
 
 import base64
@@ -51,7 +51,7 @@ LANES_TOO_MANY, MEMORY_TOO_MUCH, NO_VERSION = -17, -15, -26
 
 
 def refused_here(text):
-    """The number that refuses a string here, which the original takes, or none."""
+    """The number by which ours refuses a string that the original accepts, or none."""
     form = r"\$argon2\w+(?:\$v=(\d+))?\$m=(\d+),t=\d+,p=(\d+)\$([^$]*)\$([^$]*)"
     found = re.fullmatch(form, text)
     if found is None:
@@ -65,7 +65,7 @@ def refused_here(text):
 
 
 def is_costly(text):
-    """Whether a string that is right would be hashed for long."""
+    """Whether a check of the string would hash for a long time."""
     found = re.search(r"m=(\d+),t=(\d+),", text)
     if found is None:
         return False
@@ -88,8 +88,8 @@ class Comparison:
         self.answers, self.refused = {}, {}
 
     def same(self, call, *given, refused=None):
-        """The answers are the same, of one of ours or of a call that the libraries have; but what
-        the original hashes is refused by the number given, if one is."""
+        """The answers of both libraries must be the same; but if a number is given, ours refuses by
+        that number the call that the original hashes."""
         one, other = (
             getattr(lib, call)(*given) if isinstance(call, str) else call(lib, *given)
             for lib in (self.ours, self.theirs)
@@ -97,7 +97,7 @@ class Comparison:
         answer, wanted = (it[0] if isinstance(it, tuple) else it for it in (one, other))
         if refused is not None and wanted in HASHED:
             self.refused[refused] = self.refused.get(refused, 0) + 1
-            # what could be written is as it was made: all of one byte
+            # the output is unchanged: all of one byte
             is_good = answer == refused and (answer is one or len(set(one[1])) == 1)
         else:
             is_good = one == other
@@ -176,8 +176,8 @@ def compare_memory_beyond_ours(ours):
 
 
 def compare_refused_contexts(ours):
-    """A context that only the proved code refuses: by its number, with nothing written or cleared,
-    whatever the flags."""
+    """A context that only the proved code refuses: the answer is its number, and nothing is written
+    or cleared, whatever the flags."""
     for lanes, memory, version, wanted in (
         (256, 4096, 0x13, LANES_TOO_MANY),
         (1000, 8000, 0x13, LANES_TOO_MANY),
@@ -196,7 +196,7 @@ def compare_refused_contexts(ours):
                 sys.exit(f"a context of {lanes}, {memory}, {version}: {answer}, {sizes}, {calls}")
 
 
-# What is wrong with a call of two lanes.
+# The faults of a call of two lanes.
 FAULTS = (
     *({"null": name} for name in "opsxa"),
     {"tag_size": 3},
@@ -215,7 +215,7 @@ FAULTS = (
 
 
 def compare_kept_memory(ours):
-    """An area is kept and given back once, or none is kept: Debian's has no such calls."""
+    """Our library keeps an area and frees it once, or keeps none; Debian's has no such calls."""
     keep, trim, found = ours.rigzumal_libargon2_keep, ours.rigzumal_libargon2_trim, []
     for most in (0, 2**26):
         found += [keep(most), trim()]
@@ -226,7 +226,7 @@ def compare_kept_memory(ours):
 
 
 def compare_pairs_of_faults(comparison):
-    """Of two faults the original's first one is answered."""
+    """Of two faults our call returns the original's first."""
     for one, other in itertools.combinations(FAULTS, 2):
         null = one.get("null", "") + other.get("null", "")
         it = Inputs.plain(**{**one, **other, "null": null})
@@ -237,7 +237,7 @@ def compare_pairs_of_faults(comparison):
 
 
 def compare_memory_askew(ours):
-    """Memory that no number can lie in is freed, and is as none."""
+    """Memory at an address where no number can be stored is freed, and counts as none."""
     arena = ctypes.create_string_buffer(ARENA)
     it = Inputs.plain(callbacks="gives")
     for askew in (1, 2, 4):
@@ -249,7 +249,8 @@ def compare_memory_askew(ours):
 
 
 def hashed_to(lib, size):
-    """A tag of so many bytes with its string, and the answers to the right password and another."""
+    """A tag of this many bytes with its string, and the answers to the right password and
+    another."""
     raw = ctypes.create_string_buffer(b"\x5a" * 70008, 70008)
     encoded = ctypes.create_string_buffer(b"\x5a" * 100_000, 100_000)
     room = (ctypes.addressof(encoded), 100_000)
@@ -286,7 +287,7 @@ def compare_long_password(ours, theirs):
 
 
 def compare_long_sizes(comparison):
-    """Sizes of over 32 bits, off which nothing may be cut: the bytes aren't there to be read."""
+    """Sizes of over 32 bits, which no call may truncate: the bytes can't be read."""
     long = 2**32 + 8
     for password, salt, tag in ((long, 8, 32), (8, long, 32), (8, 8, long), (long, long, long)):
         for encoded in (None, ctypes.create_string_buffer(600)):

@@ -20,14 +20,14 @@ COMPILER = os.environ.get("CC", "cc" if IS_NATIVE else f"{TRIPLET}-gcc")
 # Whether programs of this machine can load the library.
 IS_HOST = IS_NATIVE and "musl" not in COMPILER
 OUT = TOP / os.environ.get("OUT", "out" if IS_NATIVE else f"out/{ARCH}")
-# Where tests/arm64/root.sh puts another processor's Python and libargon2.
+# The folder of another processor's Python and libargon2, from tests/arm64/root.sh.
 ROOT = pathlib.Path("/") if IS_NATIVE else OUT / "root/at"
 ORIGINAL = ROOT / f"usr/lib/{TRIPLET}/libargon2.so.1"
 OURS = {"LD_LIBRARY_PATH": str(OUT)}
 ALL_WARNINGS = "-Wall -Wextra -Wpedantic -Werror"
 WARNINGS = ["-std=c11", "-g", "-pthread", "-Iinclude", "-Isrc", "-Itests", f"-Itests/{ARCH}"]
 WARNINGS += os.environ.get("TEST_WARNINGS", ALL_WARNINGS).split()
-# qemu-user tells the system nothing of what madvise asks for.
+# qemu-user doesn't pass madvise on to the system.
 WARNINGS += [] if IS_NATIVE else ["-DHAS_ADVICE=false"]
 # No sanitizer is for another processor or C library.
 SANITIZED = ["-O1", "-fsanitize=address,undefined", "-fno-sanitize-recover=all"] * IS_HOST
@@ -39,21 +39,21 @@ LIBARGON2 = [it for it in C_FILES if it.startswith("src/libargon2")]
 OTHERS = {"src/build.c", "src/x86_64.c", "src/arm64.c"} - {f"src/{ARCH}.c"}
 SOURCES = [it for it in C_FILES if it not in {*LIBARGON2, *OTHERS}]
 SOURCES += [str(OUT / f"{build}.o") for build in BUILDS]
-# What needs none of the builds.
+# Tests that need none of the builds.
 WITHOUT_BUILDS = ["src/secrets.c", f"src/{ARCH}.c", "tests/no_builds.c"]
 VALGRIND = "valgrind -q --error-exitcode=9 --leak-check=full --errors-for-leak-kinds=all".split()
 
-# Has tags of every size worked in threads where a call asks for them.
+# Makes calls that ask for threads use them for tags of every size.
 IN_THREADS = "-DLEAST_SHARED_MEMORY=1"
 JOBS = [IN_THREADS, "tests/jobs.c", "tests/given_system.c"]
 
-# A folder for what the tests build, and what a command wrote, in the library's folder.
+# A folder for the tests' builds; and runs of commands in the library's folder, with their output.
 ROOM = helpers.common_folder()
 run = functools.partial(helpers.run, at=TOP)
 
 
 def need_host():
-    """Skips a test of what is for this machine's processor and C library alone."""
+    """Skips a test that needs a library for this machine's processor and C library."""
     if not IS_HOST:
         raise lacking("a processor and a C library of this machine")
 
@@ -64,7 +64,7 @@ def need_glibc():
 
 
 def toolchain():
-    """The toolchain's folder, or this one where there is none."""
+    """The toolchain's folder, or this one without a toolchain."""
     return pathlib.Path(run("rt", "doc").strip()).parent if shutil.which("rt") else TOP
 
 
@@ -80,13 +80,13 @@ def wraps(sources):
     return [f"-Wl,--wrap={call}" for call in re.findall(r"^WRAP\([^,]+, (\w+),", text, re.M)]
 
 
-# What says how a program is linked, or which build it has: no file of the library depends on it.
+# Flags that choose a program's linking or its build; no file of the library depends on them.
 OF_LINKING = ("-Wl,", "-static", "-DGIVEN=")
 
 
 @functools.cache
 def object_of(source, options, cc):
-    """A file of the library, which is compiled once for all programs that want it so."""
+    """A file of the library, compiled once for all programs with these flags."""
     target = ROOM / f"{pathlib.Path(source).stem}-{len(list(ROOM.iterdir()))}.o"
     run(cc, *WARNINGS, *options, "-c", source, "-o", target)
     return target
@@ -115,8 +115,8 @@ def python(*words, env=None, at=TOP):
 
 
 def run_sanitized(*words):
-    """Runs a Python, told where a library of all C under the sanitizers is: all lanes are worked in
-    threads. The memory that Python hands to it is guarded too."""
+    """Runs a Python with the path of a library whose C is under the sanitizers and works all lanes
+    in threads. The sanitizers guard the memory that Python passes too."""
     library = ROOM / "sanitized.so"
     if not library.exists():
         flags = [*WARNINGS, *SANITIZED, IN_THREADS, "-fPIC", "-shared", "-Wl,-Bsymbolic"]
@@ -140,6 +140,6 @@ def need_build(build):
 
 
 def sources_for(build):
-    """The sources, of whose builds one is chosen."""
+    """The sources of which the library chooses a build."""
     need_build(build)
     return [f"-DGIVEN=build_{build}", "tests/given_build.c", *SOURCES]

@@ -1,13 +1,13 @@
-"""Which branches and addresses depend on secrets, as valgrind's memcheck finds them."""
+"""The branches and addresses that depend on secrets, which valgrind's memcheck finds."""
 
 import re
 
 from harness import IN_THREADS, LIBARGON2
 from harness import built, need, need_file, need_host, run, sources_for
 
-# Which functions may branch on secrets or read at addresses that depend on them, in each call of
-# tests/jobs.c for tags of a kind: Argon2id's second half and scrypt's table do by their
-# definitions.
+# The functions that may branch on secrets or read at addresses that depend on them, in each call of
+# tests/jobs.c for tags of a kind: Argon2id's second half and scrypt's table depend on them by
+# definition.
 SECRET_CALLS = {
     ("rigzumal_argon2, small", "i"): [],
     ("rigzumal_argon2, small", "old"): [],
@@ -25,7 +25,7 @@ SECRET_CALLS = {
     ("rigzumal_record_threads", "i"): [],
     ("rigzumal_step of an enrol", "i"): [],
     ("argon2_hash, a string of a long tag", "i"): [],
-    # A text is cut at its '$', and is told from one that isn't base64.
+    # A text is cut at its '$', and its letters are compared with base64's.
     ("rigzumal_record_fault", "i"): [
         "strlen",
         "cred_phc::pieces::",
@@ -66,7 +66,7 @@ def errors_of(log):
 
 
 def errors_in(program, name, kind="i", *looks):
-    """The errors of one call: as many as valgrind counts."""
+    """The errors of one call, as many as valgrind counts."""
     log = run("valgrind", "--error-limit=no", program, name, kind, *looks)
     errors = errors_of(log)
     if f"from {len(errors)} contexts" not in log:
@@ -75,7 +75,7 @@ def errors_in(program, name, kind="i", *looks):
 
 
 def check_leaks(build):
-    """No branch and no address depends on a secret in a build, but where that is by design."""
+    """Tests that in a build no branch and no address depends on a secret, except by design."""
     need("valgrind")
     need_host()
     need_file("/usr/include/valgrind/memcheck.h")

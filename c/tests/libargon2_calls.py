@@ -1,4 +1,4 @@
-"""The calls of argon2.h with random inputs, good and bad, and all that they write."""
+"""The calls of argon2.h with random inputs, good and bad, and all of their output."""
 
 import ctypes
 import mmap
@@ -48,8 +48,8 @@ FREE = ctypes.CFUNCTYPE(None, ctypes.POINTER(ctypes.c_uint8), ctypes.c_size_t)
 
 
 class Callbacks:
-    """A context's functions for memory, which note what they are called with. They give what isn't
-    zero, or nothing; what they get back is to be zero."""
+    """A context's functions for memory, which note their arguments. They return memory that isn't
+    zero, or none; memory that comes back must be zero."""
 
     def __init__(self, gives, askew=0):
         self.gives, self.askew, self.calls, self.held = gives, askew, [], {}
@@ -62,7 +62,7 @@ class Callbacks:
             place = ctypes.addressof(room) + -ctypes.addressof(room) % 16 + self.askew
             self.held[place] = room
             memory[0] = ctypes.cast(place, ctypes.POINTER(ctypes.c_uint8))
-        return 77  # which is passed over
+        return 77  # which the calls ignore
 
     def _free(self, memory, size):
         place = ctypes.addressof(memory.contents)
@@ -102,7 +102,7 @@ class Inputs:
 
     @classmethod
     def plain(cls, **changes):
-        """Good ones of two lanes, but for these."""
+        """Good inputs of two lanes, except for these."""
         it = cls(random.Random(1))
         it.salt, it.password, it.secret, it.associated = b"somesalt", b"password", b"x", b"y"
         it.null, it.flags, it.callbacks, it.overlap, it.version = "", 0, "", 0, 0x13
@@ -112,7 +112,7 @@ class Inputs:
 
 
 def zeros(size):
-    """The address of so many zero bytes, of which the system has no page until they are read."""
+    """The address of this many zero bytes; the system has no page for them until a read."""
     flags = mmap.MAP_PRIVATE | mmap.MAP_ANONYMOUS | 0x4000  # MAP_NORESERVE
     return ctypes.c_char.from_buffer(mmap.mmap(-1, size, flags=flags))
 

@@ -28,8 +28,8 @@ CALLS.rattle_lock_range.argtypes = [ctypes.c_int, ctypes.c_int16, OFFSET, OFFSET
 
 class Calls(unittest.TestCase):
     def test_memory(self):
-        """Blocks of each size, in any order; of no bytes there is one too, and a refused size
-        leaves the block as it was."""
+        """Blocks of each size, also of no bytes, in any order; a refused size leaves the block as
+        it was."""
         block, other, before = CALLS.rattle_alloc(0, 16), CALLS.rattle_alloc(24, 8), b""
         ctypes.memmove(other.at, b"x" * 24, 24)
         for size in (0, 1, 100, 70000, 40, 0, 300, 0):
@@ -56,8 +56,8 @@ class Calls(unittest.TestCase):
         self.assertEqual(CALLS.rattle_errno(), errno.EINTR)
 
     def test_words(self):
-        """A word with room for it, with none to spare, and with less: then the room has its front.
-        Nothing behind that is written."""
+        """A word in a buffer that is larger, of its size, and smaller: then the buffer gets the
+        word's front. Nothing is written behind the buffer."""
         words = [os.fsencode(it) for it in sys.orig_argv]
         for at, word in enumerate(words):
             for room in range(len(word) + 3):
@@ -69,8 +69,8 @@ class Calls(unittest.TestCase):
             self.assertEqual(CALLS.rattle_arg(at, None, 0), -1)
 
     def test_locks(self):
-        """A range that one open of a file has locked is refused to another in the same process,
-        wherever both are in the file, until it is released."""
+        """A range that one open file description has locked is refused to another of the same
+        process until its release, wherever both are in the file."""
         at, size = 1 << 30, 512
 
         def lock(file, kind, start=at, size=size):

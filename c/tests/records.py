@@ -1,5 +1,5 @@
-"""The calls that make tags, records and checks, at all sizes and at bad input, with a secret and
-threads and without."""
+"""The calls for tags, records and checks, at all sizes and at bad input, with and without a secret
+and threads."""
 
 import ctypes
 import errno
@@ -24,7 +24,8 @@ LOST = {name: getattr(N, f"NULL_{name.upper()}") for name in INPUTS}
 
 class Records(unittest.TestCase):
     def test_room(self):
-        """A record into each room up to one that it fits into: nothing is written, or all of it."""
+        """A record into buffers of each size up to its own: the call writes nothing, or all of the
+        record."""
         end = len(RECORD) + 1
         for room in range(end + 2):
             wanted = (N.OK, RECORD) if room >= end else (N.NO_ROOM, "")
@@ -34,8 +35,8 @@ class Records(unittest.TestCase):
         self.assertEqual(written_text("record", *given), (N.OK, RECORD))
 
     def test_sizes_and_numbers(self):
-        """Tags and keys of each size, and one number that is bad: the others are read by the proved
-        code alone."""
+        """Tags and keys of each size, and one bad number, read by C: only the proved code reads the
+        others."""
         argon2 = (b"password", b"somesalt", (None, 0), (None, 0))
         scrypt = (b"password", b"salt")
         for size in (*range(201), 2000):
@@ -109,8 +110,8 @@ class Records(unittest.TestCase):
                 self.assertEqual(found, (fault, ""), (costs, salt, tag_size, secret, threads))
 
     def test_lost_inputs(self):
-        """A password, a secret or data that is lost makes no record and checks none. A salt that is
-        lost makes no tag; a new record has a random one, and a check reads none."""
+        """With a lost password, secret or data no record is written or checked. With a lost salt no
+        tag is computed; a new record has a random salt, and a check reads none."""
         for (name, fault), threads in itertools.product(LOST.items(), (1, 2)):
             with self.subTest(name, threads=threads):
                 good = {"password": "password", "salt": "somesalt", "threads": threads}
@@ -123,7 +124,7 @@ class Records(unittest.TestCase):
                     self.assertEqual((made, call("check_from", record, given)), (wanted, wanted))
 
     def test_lost_inputs_by_place(self):
-        """The same of the calls that have their inputs in places: of several the first is named."""
+        """Lost inputs in the calls with positional inputs: the fault names the first of several."""
         good = {"password": b"password", "salt": b"somesalt", "secret": b"", "associated": b""}
         for at, (name, fault) in enumerate(LOST.items()):
             given = {**good, **dict.fromkeys(INPUTS[at:], (None, 32))}
@@ -145,7 +146,7 @@ class Records(unittest.TestCase):
                 self.assertEqual(answer, fault, name)
 
     def test_long_inputs(self):
-        """An input of 2^32 bytes, which are never read."""
+        """An input of 2^32 bytes, which no call reads."""
         plain = {name: "somebyte" for name in INPUTS}
         for name in INPUTS:
             given = inputs(**plain, **{f"{name}_size": LONG}, threads=2)
@@ -166,11 +167,11 @@ class Records(unittest.TestCase):
 
 
 class Salts(unittest.TestCase):
-    """One that the library draws is what getrandom gives, all of it and in its order, whatever the
-    pieces; where getrandom gives nothing there is no record."""
+    """Generated salts are the bytes of getrandom, all of them and in their order, whatever the
+    pieces. If getrandom fails, no record is written."""
 
     def record_of(self, piece, costs, salt_size, **others):
-        """A record whose salt comes in pieces of so many bytes, or not at all, and the salt."""
+        """A record whose salt comes in pieces of this many bytes, or not at all, and the salt."""
         given, draws = bytearray(), itertools.count(1)
 
         @GETRANDOM
@@ -190,7 +191,7 @@ class Salts(unittest.TestCase):
         return written_text("record_from", N.TEXT_SIZE, 16, costs, asked), bytes(given)
 
     def test_salts(self):
-        """Of each size, with and without a secret, on one thread and on two."""
+        """Salts of each size, with and without a secret, on one thread and on two."""
         for secret, threads, costs in itertools.product((None, "x"), (1, 2), (ARGON2, SCRYPT)):
             if secret and costs == SCRYPT:
                 continue

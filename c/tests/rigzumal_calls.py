@@ -1,5 +1,5 @@
-"""The calls of rigzumal.h over the library that LIBRARY names in the environment, and what a call
-may write: nothing behind its end, and nothing at all with a fault."""
+"""The calls of rigzumal.h over the library that the variable LIBRARY names. A call may write
+nothing behind its output, and nothing at all with a fault."""
 
 import ctypes
 import os
@@ -27,7 +27,8 @@ SCRYPT_RECORD = "$scrypt$ln=8,r=8,p=1$YmVucyBzYWx0$+KFelNIG2qBCL4ql+mf/Ah1wLJw+N
 
 
 def call(name, *given):
-    """The answer of a call: bytes go with their size, as do pairs of a pointer and a size."""
+    """The answer of a call: bytes are passed with their size, as are pairs of a pointer and a
+    size."""
     words = []
     for it in given:
         if isinstance(it, (bytes, tuple)):
@@ -43,7 +44,7 @@ def call(name, *given):
 
 
 def written(name, room, *given):
-    """The answer of a call that writes into so much room, and the bytes that it wrote there."""
+    """The answer of a call that writes into a buffer of this size, and the bytes that it wrote."""
     buffer = ctypes.create_string_buffer(UNTOUCHED * (room + 1), room + 1)
     answer = call(name, (buffer, room), *given)
     if buffer.raw[room:] != UNTOUCHED:
@@ -54,7 +55,8 @@ def written(name, room, *given):
 
 
 def written_text(name, room, *given):
-    """The same of a text, behind whose end nothing is written."""
+    """The answer of a call that writes a text, and the text; nothing may be written behind its
+    end."""
     answer, data = written(name, room, *given)
     text, end, rest = data.partition(b"\0")
     if answer == N.OK and (room and not end or rest.strip(UNTOUCHED)):
@@ -85,7 +87,7 @@ StepInputs = structure(
 
 
 def inputs(kind=Inputs, **given):
-    """Inputs by name: those of bytes with their size, unless the call names one."""
+    """Inputs by name: bytes with their size, unless the call names a size."""
     made = kind()
     for name, value in given.items():
         value = value.encode() if isinstance(value, str) else value

@@ -1,5 +1,5 @@
-"""Steps: each operation at each copy of a record, by the proved call and, with a secret or threads,
-by the one in C."""
+"""Steps: each operation at each copy of a record, by the proved call, and by the call in C with a
+secret or threads."""
 
 import ctypes
 import itertools
@@ -22,7 +22,8 @@ def step(operation, copy, password, new_password, setting, room=N.TEXT_SIZE):
 
 
 def step_from(operation, copy, password, new_password, setting, room=N.TEXT_SIZE, **others):
-    """The same of the one in C, with a secret or threads."""
+    """The step in C, with a secret or threads: the answer, the record that it wrote, and the
+    reply."""
     reply, given = ctypes.c_uint32(NO_REPLY), inputs(StepInputs, operation=operation, **others)
     given.copy, given.setting = (pair(it)[0] for it in (copy, setting))
     given.password, given.password_size = password
@@ -37,7 +38,7 @@ def pair(text):
 
 class Steps(unittest.TestCase):
     def check_steps(self, secret, threads):
-        """Each operation at each copy: the reply, and the record that is written if one is."""
+        """Each operation at each copy: the reply, and the record if the step writes one."""
 
         def made(password, costs):
             given = inputs(password=password, secret=secret)
@@ -72,7 +73,7 @@ class Steps(unittest.TestCase):
             self.check_steps(secret, threads)
 
     def test_lost_inputs(self):
-        """A password or a secret that has a size and no bytes is refused, whatever the copy."""
+        """A step refuses a password or a secret that has a size and no bytes, whatever the copy."""
         lost, good = (None, 8), pair("password")
         for operation, copy, secret, threads in itertools.product(
             OPERATIONS, (None, RECORD), (None, "pepper"), (1, 2)
@@ -94,8 +95,8 @@ class Steps(unittest.TestCase):
             self.assertEqual(found, (N.NULL_PASSWORD, "", NO_REPLY))
 
     def test_beside_the_proved_one(self):
-        """An empty secret changes no tag: so with it, and with threads, each step is the proved
-        one's, with good inputs and with bad ones."""
+        """An empty secret changes no tag. So with it, and with threads, each step equals the proved
+        one, at good and at bad inputs."""
         passwords = ("password", "another", None, "x" * 257)
         settings = (None, "", "x", COSTS, COSTS + "z", CHEAP, COSTS.replace("2id", "2i"))
         settings += (COSTS.replace("256", "7"), SCRYPT, RECORD)
@@ -116,8 +117,8 @@ class Steps(unittest.TestCase):
                 self.assertEqual(step_from(*given, secret=""), wanted, given)
 
     def test_secrets(self):
-        """Another secret is another password, and scrypt has none: neither a setting, whatever the
-        password, nor a copy."""
+        """Under another secret every password is wrong. scrypt has no secret: its
+        settings are refused, whatever the password, and so are its copies."""
         for operation, copy, setting, wanted in (
             (N.VERIFY, RECORD, None, (N.OK, "", N.REPLY_NO)),
             (N.CHANGE, RECORD, SCRYPT, (N.SCHEME, "", NO_REPLY)),

@@ -1,4 +1,4 @@
-"""Tests of each call, of the choice of a build, and of what the libraries show."""
+"""Tests of each call, of the choice of a build, and of the exported symbols."""
 
 import re
 import unittest
@@ -7,7 +7,7 @@ from harness import ALL_WARNINGS, BUILDS, JOBS, LIBARGON2, ORIGINAL, OUT, ROOM, 
 from harness import TOP, WITHOUT_BUILDS, built, need, need_host, run, sources_for, toolchain
 
 
-# The build that processors are to run, as qemu calls them.
+# The build that each processor must run, by qemu's names.
 PROCESSORS = {
     "v1": "qemu64 core2duo Penryn",
     "v2": "Nehalem Westmere SandyBridge IvyBridge",
@@ -15,7 +15,7 @@ PROCESSORS = {
 }
 LEVEL_2 = "sse3 ssse3 sse4.1 sse4.2 cx16 popcnt lahf-lm".split()
 LEVEL_3 = "avx avx2 bmi1 bmi2 f16c fma abm movbe xsave".split()
-# What the code of a level has, and that of no older one.
+# Instructions that the code of a level has, and that of no older level.
 INSTRUCTIONS = {"v1": "%xmm", "v2": "pshufb", "v3": "%ymm", "v4": r"mm(1[6-9]|2\d|3[01])\b"}
 # Bits of leaf 7 and of XCR0: qemu has no such processor.
 LEVEL_4 = {"avx512f": 16, "avx512dq": 17, "avx512cd": 28, "avx512bw": 30, "avx512vl": 31}
@@ -23,15 +23,14 @@ STATES = {"sse": 1, "avx": 2, "k0 to k7": 5, "zmm0 to zmm15": 6, "zmm16 to zmm31
 
 
 def processor(*flags, kept=None):
-    """The test of which build is chosen, in a system that keeps some registers, as XCR0 has
-    them."""
+    """The test of the chosen build, on a system that saves these registers, by XCR0."""
     system = [] if kept is None else [f'-DREAD_KEPT_REGISTERS="mov ${kept}, %0; mov $0, %1"']
     return built("processor", ["-O2", "-static", *flags, *system], WITHOUT_BUILDS)
 
 
 class Calls(unittest.TestCase):
     def test_layout(self):
-        """clang-format leaves the sources as they are, those of the PAM module too."""
+        """clang-format changes no source, of the PAM module either."""
         need("clang-format")
         folders = ("include", "programs", "src", "tests", "pam/tests")
         sources = [it for folder in folders for it in (TOP / folder).rglob("*.[ch]")]
@@ -44,7 +43,7 @@ class Calls(unittest.TestCase):
                 run(built("calls", [*SANITIZED, *JOBS], LIBARGON2 + sources_for(build)))
 
     def test_processors(self):
-        """Each build is chosen where every feature of its level is there."""
+        """The library chooses each build if the processor has every feature of its level."""
         need_host()
         need("qemu-x86_64")
         program = processor()
@@ -59,8 +58,8 @@ class Calls(unittest.TestCase):
             self.assertEqual(chosen, "v2", f"a system that keeps the registers {kept}")
 
     def test_processors_with_avx512(self):
-        """The newest build is chosen where every feature of its level is there, the system keeps
-        its registers, and the toolchain could make it."""
+        """The library chooses the newest build if the processor has every feature of its level, the
+        system saves its registers, and the toolchain could build it."""
         need_host()
         every, lacking = 0xE7, "-Itests/x86_64/lacking"
         program = processor(lacking, kept=every)
@@ -100,7 +99,7 @@ class Calls(unittest.TestCase):
             run(built("calls", ["-O2", *JOBS], LIBARGON2 + SOURCES, compiler))
 
     def test_header_in_cpp(self):
-        """The header is one of C++ too."""
+        """The header compiles as C++ too."""
         need_host()
         need("c++")
         source, program = ROOM / "header.cc", ROOM / "header"
@@ -109,7 +108,7 @@ class Calls(unittest.TestCase):
         run(program)
 
     def test_ignored_answers(self):
-        """Compilers warn of each call of which a program ignores the fault, and of no other use."""
+        """Compilers warn if a program ignores the fault of a call, and of no other use."""
         header = (TOP / "include/rigzumal.h").read_text()
         calls = re.findall(r"^int (rigzumal_\w+)\(([^;]*)\)", header, re.MULTILINE)
         lines = [f"{name}({', '.join('0' for _ in given.split(','))})" for name, given in calls]
@@ -146,7 +145,7 @@ class Calls(unittest.TestCase):
         self.assertEqual(manual, header)
 
     def test_symbols(self):
-        """The libraries show their calls and no others: those of the header, and the original's."""
+        """The libraries export the calls of their headers, and no other symbols."""
 
         def shown(library):
             words = ("nm", "-D", "--defined-only", "--without-symbol-versions", library)

@@ -1,4 +1,4 @@
-"""Tests of libargon2.so.1 beside Debian's, by itself and under its users."""
+"""Tests of libargon2.so.1 against Debian's, by itself and under programs that use it."""
 
 import re
 import shutil
@@ -9,7 +9,7 @@ from harness import HERE, IS_NATIVE, ORIGINAL, OURS, OUT, ROOM
 from harness import lacking, need, need_host, need_module, need_original, python, run
 from harness import run_sanitized
 
-# Fewer under qemu-user, which gives no memory of threads back.
+# Fewer under qemu-user, which frees no memory of threads.
 TURNS = () if IS_NATIVE else ("10",)
 
 
@@ -20,7 +20,8 @@ class Libargon2(unittest.TestCase):
         python(HERE / "against_libargon2.py", OUT / "libargon2.so.1", ORIGINAL, "1", *TURNS)
 
     def test_against_libargon2_sanitized(self):
-        """The same with our C under the sanitizers and all lanes in threads, over other calls."""
+        """The original's answers, with our C under the sanitizers and all lanes in threads, over
+        other calls."""
         need_original()
         run_sanitized("against_libargon2.py", ROOM / "sanitized.so", ORIGINAL, "2", *TURNS)
 

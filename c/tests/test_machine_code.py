@@ -9,13 +9,13 @@ import unittest
 from harness import BUILDS, OUT, need, need_file, need_native, run
 
 OBJDUMP = "objdump"
-# An instruction that multiplies vectors, and how many of them a G has.
+# An instruction that multiplies vectors, and the number of them in a G.
 MULTIPLIES = re.compile(r"\tv?pmuludq\b")
 OF_A_BLOCK = {"v1": 256, "v2": 256, "v3": 128, "v4": 64}
-# One that puts a vector on the stack, and one that prefetches.
+# An instruction that stores a vector on the stack, and one that prefetches.
 SPILLS = re.compile(r"\tv?mov\w+ +%[xyz]mm\d+,[^,(]*\(%r[sb]p")
 PREFETCHES = re.compile(r"\t(prefetch\w+) +(0x[0-9a-f]+)?\(")
-# What a G prefetches: these lines of a block, for reading, into all caches.
+# The prefetches of a G: these lines of a block, for reading, into all caches.
 LINES = [("prefetcht0", line) for line in range(0, 512, 64)]
 # What is found in each build: instructions of a G, of which so many put a vector on the stack, and
 # how far apart multiplications are, of the nearest quarter. With the steps of two lists in turn
@@ -29,8 +29,8 @@ MOST = {
 
 
 def functions(build):
-    """The instructions of each function that makes blocks of the memory: it has G. The one that
-    makes blocks of addresses is another."""
+    """The instructions of each function that computes blocks of the memory, and so contains G; the
+    function for blocks of addresses is left out."""
     code = run(OBJDUMP, "-d", "--no-show-raw-insn", OUT / f"{build}.o")
     code = re.sub(r"(?s)\n[0-9a-f]+ <cred_argon::block::compress>:.*?(?=\n\n)", "", code)
     all_lines = [

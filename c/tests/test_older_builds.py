@@ -1,4 +1,4 @@
-"""Tests of what depends on secrets in the builds for older processors: some minutes each."""
+"""Tests of the dependence on secrets in the builds for older processors: some minutes each."""
 
 import unittest
 
@@ -7,7 +7,7 @@ from leaks import check_leaks
 
 class OlderBuilds(unittest.TestCase):
     def test_v1(self):
-        """No branch and no address depends on a secret, but where that is by design."""
+        """No branch and no address depends on a secret, except by design."""
         check_leaks("v1")
 
     def test_v2(self):

@@ -1,4 +1,4 @@
-"""Tests of what is installed and packed of the library."""
+"""Tests of the installed and the packed library."""
 
 import os
 import re
@@ -41,7 +41,7 @@ foreach(wanted {wanted})
   message("${{wanted}} is found: ${{rigzumal_FOUND}}")
 endforeach()
 """
-# What a program may ask for, and whether this version is that.
+# The versions that a program may require, and whether this version meets them.
 ASKED = {
     "0.1": True,
     VERSION: True,
@@ -56,7 +56,7 @@ ASKED = {
 
 class Package(unittest.TestCase):
     def check_program(self, prefix, libdir, *options):
-        """A program built by pkg-config over what is installed in a folder."""
+        """Builds a program by pkg-config over the library installed in a folder, and runs it."""
         env = {
             "PKG_CONFIG_PATH": str(prefix / libdir / "pkgconfig"),
             "LD_LIBRARY_PATH": str(prefix / libdir),
@@ -73,7 +73,7 @@ class Package(unittest.TestCase):
         run(runnable(ROOM / "of-installed"), env=env)
 
     def test_installed(self):
-        """The files that `make install` puts into folders of any name; they work after a move."""
+        """`make install` installs its files into folders of any name; they work after a move."""
         need("pkg-config")
         for libdir in ("lib", "lib/of this"):
             prefix = ROOM / f"installed in {libdir.replace('/', ' ')}"
@@ -89,8 +89,8 @@ class Package(unittest.TestCase):
         self.check_program(moved, "lib", "--define-prefix")
 
     def test_cmake(self):
-        """A program built by CMake over what `make install` put there, with either library, after
-        the folder was moved; and which versions are found."""
+        """CMake builds a program over the installed files, with either library, after a move of the
+        folder; and finds the right versions."""
         need_host()
         need("cmake")
         prefix, room = ROOM / "installed for CMake", ROOM / "cmake"
@@ -110,7 +110,7 @@ class Package(unittest.TestCase):
             run(room / "out" / f"threads-{kind}")
 
     def test_rebuilt(self):
-        """Each file whose source has other bytes is built again, and nothing else, whatever the
+        """make rebuilds each file whose source has other bytes, and nothing else, whatever the
         times of the files: a copy proves nothing again."""
         need_host()
         room = ROOM / "copied"
@@ -180,15 +180,16 @@ class Package(unittest.TestCase):
                 self.assertEqual(left, with_others, folder)
 
     def test_static(self):
-        """A program that needs no shared library, over the archive."""
+        """The archive links into a program that needs no shared library."""
         flags = ["-static", "-Iinclude", "-pthread"]
         run(COMPILER, *flags, "tests/threads.c", OUT / "librigzumal.a", "-o", ROOM / "static")
         run(runnable(ROOM / "static"))
 
     @each("librigzumal.so.1", "libargon2.so.1")
     def test_hardened(self, name):
-        """The memory that the loader writes is read-only before the first call, and no stack can be
-        run. No program's own functions with names of libargon2's are called by the libraries."""
+        """The memory that the loader writes is read-only before the first call, and no stack is
+        executable. The libraries call none of a program's own functions with names of
+        libargon2's."""
         said = run("readelf", "-W", "-d", "-l", OUT / name)
         for form in ("BIND_NOW|FLAGS_1.*NOW", "SYMBOLIC", "GNU_RELRO", "GNU_STACK .* RW +0x"):
             self.assertRegex(said, form)

@@ -11,12 +11,12 @@ from harness import run_sanitized, toolchain
 
 
 FAST = ["-O2"]
-# Over stand-ins for what is proved.
+# Tests over stand-ins for the proved code.
 LANES = ["src/lanes.c", *WITHOUT_BUILDS]
 HEAP = ["src/heap.c", "src/process.c"]
 ALL = LIBARGON2 + SOURCES
 
-# A program, its flags, what is linked to it, and its words.
+# A program, its flags, the files linked to it, and its words.
 PROGRAMS = (
     ("heap", SANITIZED, HEAP),
     ("areas", ["-O1"], ["src/process.c"]),
@@ -33,7 +33,7 @@ PROGRAMS = (
 )
 
 MIB = 1024 * 1024
-# How many MiB are kept after scrypt of 16, 32 and 64 MiB, Argon2 of 80, and scrypt of 128.
+# The MiB that are kept after scrypt of 16, 32 and 64 MiB, Argon2 of 80, and scrypt of 128.
 KEPT = """
 import ctypes, sys
 library, size = ctypes.CDLL(sys.argv[1]), ctypes.c_size_t
@@ -45,7 +45,7 @@ for costs in (*scrypts[:3], "argon2id$v=19$m=81920", scrypts[3]):
     assert not library.rigzumal_record(text, size(513), *given)
     print(library.rigzumal_trim() >> 20, end=" ")
 """
-# The same after a record of one MiB, which an area is kept of.
+# The same after a record of one MiB, for which an area is kept.
 ONE_KEPT = """
 #include <rigzumal.h>
 #include <stdio.h>
@@ -57,7 +57,7 @@ int main(void) {
     return fault;
 }
 """
-# A library that is loaded, called and unloaded again leaves no area mapped.
+# A library leaves no area mapped after a load, a call and an unload.
 UNLOADED = """
 import _ctypes, ctypes, re, sys
 def areas():
@@ -90,8 +90,8 @@ class Programs(unittest.TestCase):
     """Each row of PROGRAMS is a test too, below: `-k heap` runs that of heap.c."""
 
     def test_program_calls(self):
-        """The calls of C by programs that a C compiler links, and the calls of the toolchain by
-        those of rt: the same."""
+        """The calls of C in programs that a C compiler links act as the toolchain's calls in
+        programs of rt."""
         need_glibc()
         of_toolchain = [toolchain() / f"c/lib{it}_c.a" for it in ("os", "libc")]
         for sources in (["programs/calls.c"], of_toolchain):

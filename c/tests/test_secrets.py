@@ -1,4 +1,5 @@
-"""Tests of what is left of secrets after a call, and of what depends on them."""
+"""Tests of secrets: the bytes that a call leaves, and the branches and addresses that depend on
+secrets."""
 
 import hashlib
 import struct
@@ -8,7 +9,7 @@ from harness import ARCH, BUILDS, IN_THREADS, IS_NATIVE, WITHOUT_BUILDS
 from harness import built, need, need_glibc, need_host, run, sources_for
 from leaks import JOBS, check_leaks
 
-# How many bytes the vectors have of processors, as qemu calls them.
+# The bytes of a processor's vectors, by qemu's names.
 REGISTERS = {
     "x86_64": {"qemu64": 16, "Haswell": 32},
     "arm64": {"cortex-a57": 16, "neoverse-n1": 16, "a64fx": 64, "max": 64},
@@ -28,8 +29,8 @@ class Secrets(unittest.TestCase):
                     run(built(name, [*JOBS, "-Wl,-z,lazy", *flags], linked), *words, **options)
 
     def test_cleared_memory(self):
-        """No secret is left after a call. While a tag is worked in parts nothing is left of the
-        cleared inputs, nor of the hash of the jobs' inputs, as RFC 9106 has it."""
+        """No secret is left after a call. While a tag is computed in parts, nothing is left of the
+        cleared inputs, nor of RFC 9106's hash of the jobs' inputs."""
         password, secret = (bytes((a * at + b) % 256 for at in range(n)) for n, a, b in VAULT)
         parts = [struct.pack("<6I", 3, 40, 64, 1, 0x13, 2)]
         for it in (password, b"sixteen of salt.", secret, b""):
@@ -37,8 +38,8 @@ class Secrets(unittest.TestCase):
         self.of_each_build("cleared", hashlib.blake2b(b"".join(parts)).hexdigest())
 
     def test_stacks(self):
-        """Each call on as small a stack as the header says, and in a thread with 32 KiB; what is
-        cleared of the stack is a fifth more than any uses."""
+        """Each call runs on the smallest stack that the header allows, and in a thread with 32 KiB.
+        A call clears a fifth more of the stack than any call uses."""
         need_glibc()  # for contexts of other stacks
         self.of_each_build("stacks", env={"LD_BIND_NOT": "1"})
 
@@ -47,8 +48,8 @@ class Secrets(unittest.TestCase):
         run(built("registers", ["-O2"], WITHOUT_BUILDS))
 
     def test_fewer_registers(self):
-        """The same on a processor without narrow forms, and where the system keeps fewer: none that
-        isn't kept is used."""
+        """Registers on a processor without narrow forms, and on systems that save fewer: no call
+        uses a register that isn't saved."""
         if not IS_NATIVE:
             need_host()
         lacking = ["-Itests/x86_64/lacking", '-DCLEAR_NARROW(n)="ud2\\n\\t"']
@@ -58,7 +59,7 @@ class Secrets(unittest.TestCase):
             run(built("registers", ["-O2", *system], WITHOUT_BUILDS))
 
     def test_registers_on_processors(self):
-        """The same on processors that have fewer, and on ones with SVE."""
+        """Registers on processors that have fewer, and on ones with SVE."""
         words = [built("registers", ["-O2", "-static"], WITHOUT_BUILDS)]
         if IS_NATIVE:
             need("qemu-x86_64")

@@ -1,5 +1,5 @@
-"""The calls that read a text and hash nothing: records, costs and settings, good and bad, which of
-them need a rehash, and the words for faults."""
+"""The calls that read a text and hash nothing: records, costs and settings, good and bad; the need
+of a rehash; and the words for faults."""
 
 import ctypes
 import re
@@ -65,7 +65,7 @@ OTHERS = {
     "$argon2id$v=19$m=8,t=1,p=1$": N.SALT,
 }
 
-# What the words for a fault say, in the order of their numbers.
+# The words for faults, in the order of their numbers.
 MEANINGS = (
     "no fault|field|argon2id and scrypt|version|form of the scheme|outside its range|the salt|"
     "the tag|out of memory|512 bytes|another password|room|kind of Argon2|version of Argon2|"
@@ -85,7 +85,7 @@ def parts(text):
 
 class Texts(unittest.TestCase):
     def check_explained(self, text, fault, words=None):
-        """A fault in words, which are cut off where the room ends."""
+        """A fault in words, which are cut off at the end of the buffer."""
         words = words or LIBRARY.rigzumal_strerror(fault).decode()
         for room in (N.TEXT_SIZE, 5, 1):
             buffer = ctypes.create_string_buffer(b"\x5a" * (room + 1), room + 1)
@@ -94,7 +94,7 @@ class Texts(unittest.TestCase):
             self.assertEqual(buffer.raw[room:], b"\x5a")
 
     def check_fault(self, text, said):
-        """Its fault, as it is read for its parts and as it is explained."""
+        """The fault of a text, from the call for its parts and from the one that explains it."""
         fault, words = (N.RANGE, said) if isinstance(said, str) else (said, None)
         self.assertEqual(parts(text), (fault, (99,)), text)
         self.check_explained(text, fault, words)
@@ -123,7 +123,7 @@ class Texts(unittest.TestCase):
             self.assertEqual(call("check_with_secret", text, b"x", b"secret"), fault, text)
 
     def test_long_texts(self):
-        """Those that are too long for any, and those near to them."""
+        """Texts that are too long for any record, and texts of nearly that length."""
         self.assertEqual(call("record_fault", "$" * 599), N.TOO_LONG)
         for size in range(480, 600):
             self.check_fault("$" * size, N.SCHEME if size < N.TEXT_SIZE else N.TOO_LONG)
@@ -136,7 +136,7 @@ class Texts(unittest.TestCase):
             self.assertEqual(call("needs_rehash", RECORD, one_too_many, 8, 32), fault)
 
     def test_long_costs(self):
-        """The same of costs and salts, which are joined."""
+        """Costs and salts that together are too long, or nearly."""
         good = "$argon2id$v=19$m=16,t=1,p=2"
         for size in range(1, 1100):
             costs = good[:size].ljust(size, "0")
@@ -180,8 +180,8 @@ class Texts(unittest.TestCase):
             self.assertEqual(found, wanted, (record, costs, salt_size, tag_size))
 
     def test_words(self):
-        """Each fault has its own word, its name in the header, and its meaning says what is
-        wrong."""
+        """Each fault has its own word, which is its name in the header, and a meaning that
+        describes the fault."""
         faults = re.search(r"enum rigzumal_fault {(.*?)};", HEADER, re.S)[1]
         names = re.findall(r"RIGZUMAL_(\w+?)(?:_FAULT)? = (\d+)", faults)
         self.assertEqual([int(number) for _, number in names], list(range(len(MEANINGS))))

@@ -1,6 +1,6 @@
-"""The calls that take their inputs by name, with threads beside those without, which answer and
-write the same: over random numbers and inputs, now and then bad, and with threads refused at
-random. A record is that of its tag, with salts and tags of every size."""
+"""Compares the calls with named inputs, with and without threads: answers and output must be the
+same, over random numbers and inputs, now and then bad, and with threads refused at random. A record
+must be that of its tag, with salts and tags of every size."""
 
 import ctypes
 import platform
@@ -26,8 +26,8 @@ def some_bytes():
 
 
 def tag_from(size, costs, given):
-    """The answer and the output of the call for a tag; of 2^32 bytes and more there is no such
-    room."""
+    """The answer and the output of the call for a tag; for 2^32 bytes and more there is no such
+    buffer."""
     if size < 2**32:
         return written("argon2_from", size, numbers(*costs), given)
     room = ctypes.create_string_buffer(64)
@@ -36,16 +36,16 @@ def tag_from(size, costs, given):
 
 class WithThreads(unittest.TestCase):
     def same(self, made, given):
-        """The answer and the output of a call, which are the same with one thread and with
+        """The answer and the output of a call, which must be the same with one thread and with
         several."""
         one, several = (made(inputs(**given, threads=it)) for it in (1, draw.randint(2, 9)))
         self.assertEqual(one, several, given)
         return one
 
     def check_refusals(self, record, given):
-        """A record of which any letter of the tag is another one is of another password, or no
-        record if it is the last and has bits of no byte. So it is once an input is one byte
-        shorter."""
+        """If any letter of its tag changes, a record is of another password, or no record if the
+        last letter then has bits of no byte. With an input shorter by one byte it is of another
+        password too."""
         for at in range(record.rindex("$") + 1, len(record)):
             other = record[:at] + ("B" if record[at] == "A" else "A") + record[at + 1 :]
             allowed = (N.MISMATCH, N.TAG)[: 1 + (at == len(record) - 1)]

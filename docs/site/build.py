@@ -1,5 +1,5 @@
 #!/usr/bin/env python3
-"""Builds the site of these pages in out/html, by Debian's Sphinx; `make html` does.
+"""Builds the site of these pages in out/html, by Debian's Sphinx, for `make html`.
 
     /usr/bin/python3 docs/site/build.py [FOLDER]                 (FOLDER: out)
 
@@ -85,7 +85,7 @@ def all_pages():
 
 
 def lay_out(stage):
-    """Writes what Sphinx reads."""
+    """Writes the input of Sphinx."""
     shutil.rmtree(stage, ignore_errors=True)
     for name, text in all_pages().items():
         (stage / name).parent.mkdir(parents=True, exist_ok=True)

@@ -11,9 +11,9 @@ project = html_title = "Rigzumal"
 version = release = (TOP / "VERSION").read_text().strip()
 html_theme, html_theme_path = "theme", [str(HERE)]
 html_show_copyright = html_show_sphinx = html_copy_source = False
-# The search works in a folder that no server serves, where a page can't fetch others.
+# The search works without a server too, where a page can't fetch others.
 html_show_search_summary = False
-# Two hyphens are an option's.
+# Two hyphens begin an option, and stay.
 smartquotes = False
 extensions = ["myst_parser", "sphinx.ext.autodoc", "sphinx.ext.napoleon"]
 extensions += ["docstrings", "manuals", "sources"]
@@ -22,7 +22,7 @@ source_suffix = {".md": "markdown", ".rst": "restructuredtext"}
 # Anchors as forges make them, and links to a line of a source.
 myst_heading_anchors = 4
 myst_url_schemes = ("http", "https", "source")
-# Lines of a console, and a sample's two dots, are no code that a lexer knows.
+# No lexer knows lines of a console, or the two dots of a sample.
 suppress_warnings = ["misc.highlighting_failure"]
 
 # In docstrings `this` is code.

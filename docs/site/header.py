@@ -5,7 +5,7 @@ import re
 TITLE = "C reference"
 # A structure may have the name of a call, as in C.
 TAGS, TAGS_END = ".. c:namespace-push:: struct_of", ".. c:namespace-pop::"
-# What compilers read alone, and the guards.
+# Lines for compilers alone, and the guards.
 SKIPPED = ("#if", "#include", "#endif")
 
 

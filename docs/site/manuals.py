@@ -60,7 +60,7 @@ class Manual(Directive):
         return self.top.children
 
     def add(self, line):
-        """A line of text: of a term, of code, or of the paragraph."""
+        """Adds a line of text to a term, to code, or to the paragraph."""
         found = inline(line)
         if self.term:
             self.term.extend(found)
@@ -81,7 +81,7 @@ class Manual(Directive):
         self.end_list("")
 
     def end_list(self, _):
-        """A paragraph begins in the section; within code it is an empty line."""
+        """Begins a paragraph in the section; within code adds an empty line."""
         if self.code:
             self.add("")
         else:
@@ -91,7 +91,7 @@ class Manual(Directive):
         self.text = None
 
     def begin_item(self, words):
-        """An item, whose term is here or in the next line."""
+        """Begins an item, whose term is here or in the next line."""
         if not (self.section.children and isinstance(self.section[-1], nodes.definition_list)):
             self.section.append(nodes.definition_list())
         self.term, self.at, self.text = nodes.term(), nodes.definition(), None

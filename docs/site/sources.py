@@ -26,7 +26,7 @@ PAGE = """<!doctype html>
 
 
 def find(app, doctree, page):
-    """Has each link of a page lead to a page of a source."""
+    """Makes each link of a page lead to a page of a source."""
     for link in doctree.findall(nodes.reference):
         uri = link.get("refuri", "")
         if uri.startswith(SCHEME):

@@ -23,8 +23,8 @@ class SamplesTest(TestCase):
         self.assertTrue(User.objects.get().check_password(password))
 
     def test_settings(self):
-        """The page's hashers alone log in, since argon2-cffi isn't there; nothing is amiss, the
-        URLs have Django's names, and the admin knows the model."""
+        """Only the page's hashers work, since argon2-cffi isn't installed. The checks find nothing,
+        the URLs have Django's names, and the admin knows the model."""
         for algorithm in ("argon2", "scrypt"):
             hasher = type(hashers.get_hasher(algorithm))
             self.assertEqual(hasher.__module__, "rigzumal.django.hashers")
@@ -37,7 +37,7 @@ class SamplesTest(TestCase):
             self.assertTrue(theirs.__module__.startswith("rigzumal.django."), theirs)
 
     def test_a_guess_at_a_record_of_old_costs(self):
-        """It stays, and the right password alone replaces it."""
+        """A guess leaves a record of old costs; only the right password replaces it."""
         old = hashers.make_password("first", hasher="pbkdf2_sha256")
         for login in (
             lambda password: authenticate(username="ann", password=password),
@@ -59,7 +59,7 @@ class SamplesTest(TestCase):
         self.assertIn("$m=19456,t=2,p=1$", User.objects.get().password)
 
     def test_wrapped_records(self):
-        """They let in by the right password alone, which rehashes."""
+        """Wrapped records accept only the right password, which rehashes."""
         md5 = hashers.MD5PasswordHasher
         listed = [f"{md5.__module__}.{md5.__qualname__}", "people.hashers.Argon2OverMD5"]
         for salt in (md5().salt(), "abcde"):
@@ -91,7 +91,7 @@ class SamplesTest(TestCase):
             self.assertStored(right)
 
     def test_changed(self):
-        """The page's way to say that the password was changed meanwhile."""
+        """The page's message if the password was changed meanwhile."""
         told = []
         form = SimpleNamespace(add_error=lambda *given: told.append(given))
         self.user.set_password("mine")

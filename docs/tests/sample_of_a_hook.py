@@ -16,7 +16,7 @@ SHA512 = htpasswd_context.hash(PASSWORD, scheme="sha512_crypt", rounds=1000)
 SCHEMES = ("apr_md5_crypt", "ldap_sha1", "des_crypt")
 RECORDS = {it: htpasswd_context.hash(PASSWORD, scheme=it) for it in SCHEMES}
 RECORDS |= {"bcrypt": BCRYPT, "sha512_crypt": SHA512, "ours": LOW.hash(PASSWORD)}
-# No password is right for one of these.
+# Records at which every password is wrong.
 LOCKED = {"star": "*", "mark": "!", "locked": f"!{BCRYPT}", "plain": PASSWORD.decode()}
 
 

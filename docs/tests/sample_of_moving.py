@@ -23,7 +23,7 @@ BCRYPT = bcrypt.hashpw(PASSWORD, bcrypt.gensalt(4)).decode()
 LONG = PASSWORD.ljust(100, b"x")  # of which bcrypt takes 72 bytes
 SSHA = ldap_context.hash(PASSWORD, scheme="ldap_salted_sha1")
 CRYPT = ldap_context.hash(PASSWORD, scheme="ldap_sha512_crypt", rounds=1000)
-# No password is right for one of these, nor the record itself.
+# Records at which every password is wrong, the record's own text too.
 SHUT = {"star": "*", "mark": "!", "locked": f"!{BCRYPT}", "nothing": "", "plain": "secret"}
 SHUT |= {"none": None, "cut": BCRYPT[:-9], "shut": f"{{CRYPT}}!{CRYPT[7:]}", "nol": "nologin"}
 
@@ -35,7 +35,7 @@ OPEN = {
     "dan": f"shadowExpire: -1\nloginShell: /bin/sh\nuserPassword: {SSHA}",
     "due": f"shadowLastChange: 20000\nshadowMax: 99999\nuserPassword: {SSHA}",
     "till": f"pwdStartTime: 20200101000000Z\npwdEndTime: 99991231000000Z\nuserPassword: {SSHA}",
-    "{ARGON2}ann": f"userPassword: {SSHA}",  # no other's name is made of it
+    "{ARGON2}ann": f"userPassword: {SSHA}",  # from which no other user's name is built
     "a" * 1100: f"userPassword: {SSHA}",
 }
 OUT = {
@@ -61,7 +61,7 @@ OUT = {
     "lines": "userPassword:: " + base64.b64encode(f"{SSHA}\neve {SSHA}".encode()).decode(),
     "two words": f"userPassword: {SSHA}",
 }
-CODED = ("ann\neve", "eve\0", "eve ")  # names that stand in base64
+CODED = ("ann\neve", "eve\0", "eve ")  # names in base64
 
 
 def part(page: str, title: str) -> str:
@@ -73,8 +73,8 @@ def files(text: str) -> dict[str, str]:
 
 
 def check_logins(accounts: Accounts, names: list[str], shut: list[str]) -> None:
-    """The right password alone lets in, once a record is of Argon2 too; nothing lets in the others,
-    and a name that isn't there has no account."""
+    """Only the right password lets in, also once a record is of Argon2. Nothing lets the other
+    users in, and an unknown name has no account."""
     for name in names:
         for what, password in PASSWORDS.items():
             for typed in (password, text_of(password)):
@@ -89,7 +89,7 @@ def check_logins(accounts: Accounts, names: list[str], shut: list[str]) -> None:
 
 
 def strict(call: Callable[[bytes, bytes], Any]) -> Callable[[bytes, bytes], Any]:
-    """A call of bcrypt's, as bcrypt 5 has it."""
+    """A call of bcrypt, in the form of bcrypt 5."""
 
     def called(password: bytes, other: bytes) -> Any:
         if len(password) > 72:
@@ -100,7 +100,7 @@ def strict(call: Callable[[bytes, bytes], Any]) -> Callable[[bytes, bytes], Any]
 
 
 def check_table(page: str) -> None:
-    """bcrypt in a table of one's own, of which one user is no longer active."""
+    """bcrypt in a service's own table, with a user who is no longer active."""
     for name, code in files(part(page, "bcrypt in a table of your own")).items():
         pathlib.Path(name).write_text(code)
     import shop
@@ -153,7 +153,8 @@ def check_ldif(page: str) -> None:
 
 
 def check_bcrypt_5(accounts: Accounts) -> None:
-    """passlib 1.7 can't use it, which is an error of each login, and no wrong password."""
+    """passlib 1.7 can't use bcrypt 5: each login raises an error, and no password counts as
+    wrong."""
     with mock.patch.object(bcrypt, "hashpw", strict(bcrypt.hashpw)):
         try:
             reply = accounts.login("bcr", PASSWORD)

@@ -1,5 +1,5 @@
-"""The hooks and lines of docs/MIGRATING.md, with users who must stay out and hostile fields; what
-its commands write is a test of test_pages.py."""
+"""The hooks and lines of docs/MIGRATING.md, with users who must stay out and hostile fields.
+test_pages.py tests the output of its commands."""
 
 import contextlib
 import os
@@ -39,7 +39,7 @@ class MovingTest(Case):
         run(sys.executable, HERE / name, page, env=ENVIRONMENT, at=self.room())
 
     def test_hook_of_htpasswd(self):
-        """It lets in by the right password alone, whatever a visitor sends."""
+        """The page's hook accepts only the right password, whatever a visitor sends."""
         need_module("passlib", "bcrypt")
         form = r"^cat > from_htpasswd.py <<'END'\n(.*?)^END$"
         (code,) = re.findall(form, PAGE.read_text(), re.S | re.M)
@@ -48,7 +48,7 @@ class MovingTest(Case):
         self.run_sample("sample_of_a_hook.py", page)
 
     def test_a_table_with_bcrypt_and_an_ldif(self):
-        """Nobody comes in whom the old store keeps out."""
+        """No user gets in whom the old store keeps out."""
         need("perl")
         need_module("passlib", "bcrypt")
         self.run_sample("sample_of_moving.py", PAGE)
@@ -64,7 +64,7 @@ class MovingTest(Case):
         return (room / "records").read_text().splitlines()
 
     def test_lines_of_dovecot(self):
-        """A user who may come in from everywhere moves, with the record alone."""
+        """A user who may log in from everywhere moves, with the record alone."""
         rest = "1000:1000::/home/x::"
         moves = [f"a{it}:{{{it}}}$argon2x:{rest}" for it in ("ARGON2ID", "argon2i", "Argon2")]
         moves += [f"ann:{{ARGON2ID}}$argon2x:{rest}x=nologins", "bare:{ARGON2ID}$argon2x"]
@@ -100,7 +100,7 @@ class MovingTest(Case):
         self.assertEqual(moved[-2:], ["Ann.B+c@x.org", "b_c-d"])
 
     def test_names_that_are_one_to_a_database_of_django(self):
-        """Nobody gets the user of another name, where the database can't tell them apart."""
+        """No login gets the user of another name, even if the database takes both names for one."""
         need_module("django")
         form = r"^    # to_django.py\n((?:    .*\n)+)"
         (code,) = re.findall(form, PAGE.read_text(), re.M)

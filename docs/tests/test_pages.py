@@ -3,8 +3,8 @@ compiled or run.
 
     /usr/bin/python3 docs/tests/test_pages.py [-k NAME ..]
 
-They need `make -C c`, and credkeep for some. A test is skipped where this machine lacks what it
-needs: tools/debian-packages.txt has Debian's packages.
+The tests need `make -C c`, and some need credkeep. A test is skipped if this machine lacks a
+program or a package: tools/debian-packages.txt lists Debian's packages.
 """
 
 import functools
@@ -27,8 +27,8 @@ OVER_PACKAGE = {"PYTHONPATH": str(PYTHON)}
 BLOCK = re.compile(r"^```(c|python|rust)\n(.*?)^```$", re.MULTILINE | re.DOTALL)
 FROM_FILE = re.compile(r"^<!-- from \S+ -->\n```.*?^```$", re.MULTILINE | re.DOTALL)
 
-# The tests of each piece, page by page and in their order. What a page takes from a file is
-# compared with that file by tools/pages.py.
+# The tests of each piece, page by page and in their order. tools/pages.py compares code that a page
+# takes from a file with the file.
 TESTED = {
     "README.md": (
         ("python", "test_samples_of_hashing"),
@@ -89,14 +89,14 @@ AUTH_USER_MODEL = "people.User"
 del RIGZUMAL_USER_COMPARES
 """
 
-# Costs of a record, and what is typed at a login: the four cases of a sample that logs in.
+# Costs of a record, and the typed password: the four cases of a sample that logs in.
 OLD_COSTS, RIGHT, GUESS = "$argon2id$v=19$m=64,t=1,p=1", "correct horse", "a guess"
 # printf 'correct horse' | argon2 somesalt -id -t 1 -k 64 -p 1 -l 32 -e
 OLD_RECORD = f"{OLD_COSTS}$c29tZXNhbHQ$3j0+S6gGV20Zdm+eoztdkLUvOKbucBG7gA8asDqV4P8"
 LOGINS = [(is_old, typed) for is_old in (False, True) for typed in (RIGHT, GUESS)]
 
-# A program round a sample of C, whose dots stand for what it is told. It writes what the sample
-# does: its words are the costs of the record, and what is typed at the login.
+# A program around a sample of C, with code in place of its dots. The program prints what the sample
+# does; its words are the record's costs and the typed password.
 PROGRAM = """#include "rigzumal.h"
 #include <stdio.h>
 #include <string.h>
@@ -114,7 +114,7 @@ int main(int count, char **words) {
 """
 TYPED = "password = typed; size = password_size = strlen(typed);"
 
-# What the sample of the crate's head leaves to its caller.
+# The parts that the sample at the crate's head leaves to its caller.
 RUST_CALLER = """
 fn word(place: usize) -> String { std::env::args().nth(place).unwrap() }
 fn store(record: &Record) { println!("{record}"); }
@@ -167,7 +167,8 @@ assert hasher.check_needs_rehash(record) is {is_old}
         run(sys.executable, "-c", text, env=OVER_PACKAGE, at=self.folder)
 
     def test_samples_of_asyncio(self):
-        """By a right password and a wrong one, by names of nobody's, and as a hash alone."""
+        """The samples of asyncio with a right and a wrong password, with unknown names, and for a
+        hash alone."""
         need_module("aiosqlite", "fastapi", "httpx")
         code = "\n".join(sample_for("python/README.md", "test_samples_of_asyncio"))
         self.check_logins(code, services.ASYNCIO)
@@ -275,8 +276,8 @@ assert hasher.check_needs_rehash(record) is {is_old}
         run(sys.executable, program, page, env=OVER_PACKAGE, at=self.folder)
 
     def check_django(self, settings, warned="no issues (0 silenced)"):
-        """A project with these settings behind its own has nothing amiss but what is named, and its
-        tests pass."""
+        """Runs `check` and the tests of a project with these settings behind its own: only the
+        named messages may appear."""
         with open(self.folder / "service/settings.py", "a") as file:
             file.write(settings)
         env = {**OVER_PACKAGE, "DJANGO_SETTINGS_MODULE": "service.settings"}
@@ -310,7 +311,7 @@ assert hasher.check_needs_rehash(record) is {is_old}
         self.check_django(settings + OWN_MODEL)
 
     def test_sample_of_a_co_process(self):
-        """The page's co-process over a new book, where credkeep is built."""
+        """The page's co-process over a new book, if credkeep is built."""
         built = TOP / "crates/credkeep/out"
         env = {"PATH": os.pathsep.join((str(built), os.environ["PATH"]))}
         need_file(built / "credkeep")
@@ -319,9 +320,8 @@ assert hasher.check_needs_rehash(record) is {is_old}
         self.assertEqual(run(sys.executable, "-c", code, env=env, at=self.folder), "ok\nnone\n")
 
     def test_django_page(self):
-        """docs/DJANGO.md's settings and the tests to copy, in new projects: nothing is amiss with
-        either form of the admin's app, without the admin, and with a tuple of apps; then with a
-        cheap hasher."""
+        """docs/DJANGO.md's settings and the tests to copy pass in new projects: with either form of
+        the admin's app, without the admin, with a tuple of apps, and with a cheap hasher."""
         settings, _, _, _, _, cheap, *_ = self.begin_django()
         shutil.copy(HERE / "django_page.py", self.folder / "tests.py")
         own, urls = ((self.folder / "service" / it) for it in ("settings.py", "urls.py"))
@@ -352,12 +352,12 @@ assert hasher.check_needs_rehash(record) is {is_old}
             need_file(f"/usr/share/php/{page}")
 
     def test_php(self):
-        """The plain code, on SQLite."""
+        """The plain PHP code, on SQLite."""
         self.need_php()
         self.php(TOP / "examples/php/accounts.php", "php_accounts.php")
 
     def test_php_tokens(self):
-        """Each token of a reset is accepted, and no altered one."""
+        """PHP accepts each token of a reset, and no altered one."""
         self.need_php()
         self.php(TOP / "examples/php/accounts.php", "php_tokens.php")
 

@@ -38,7 +38,7 @@ class Site(Case):
         return (self.site / name).read_text()
 
     def test_site(self):
-        """One build is looked at for all, since it is long."""
+        """All checks look at one build, since it takes long."""
         self.check_pages()
         self.check_references()
         self.check_search()
@@ -54,7 +54,7 @@ class Site(Case):
                 self.assertRegex(self.text(name), "<h1>.+<")
 
     def check_references(self):
-        """Every call of the header, and every public name with its methods."""
+        """The references have every call of the header, and every public name with its methods."""
         found = self.text("c/include/rigzumal.html")
         calls = set(CALLS.findall(build.HEADER.read_text()))
         self.assertLess(25, len(calls))

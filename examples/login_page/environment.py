@@ -20,8 +20,8 @@ def number(name: str, default: int, least: int, most: int) -> int:
 
 
 def database() -> str:
-    """An address of PostgreSQL, or a file of SQLite, whose folder is there if it isn't our own. An
-    address may have a password in it, so no error shows one."""
+    """An address of PostgreSQL, or a file of SQLite, whose folder must exist unless it is our own.
+    An address may contain a password, so no error shows an address."""
     place = os.environ.get("DATABASE")
     if not place:
         return str(HERE / "data" / "login_page.db")
@@ -37,7 +37,8 @@ def database() -> str:
 
 def refused(name: str, fault: Exception) -> SystemExit:
     """A value with which the page can't start. A driver's text about an address may show its
-    password, for instance if that has a slash; the text about a failed connection doesn't."""
+    password, for instance if the password has a slash; the text about a failed connection
+    doesn't."""
     is_shown = isinstance(fault, (OSError, ImportError, sqlite3.Error))
     if is_shown or str(fault).startswith("connection failed"):
         return SystemExit(f"{name}: {fault}".strip())

@@ -25,7 +25,7 @@ from rigzumal import PasswordHasher
 from store import Store
 from werkzeug.exceptions import HTTPException
 
-FORM = 8192  # bytes of one
+FORM = 8192  # bytes of a form
 NOBODY = "?"  # a name that nobody can have
 NO = "The name or the password is wrong."
 HEADERS = {
@@ -55,7 +55,7 @@ def arrive() -> Any:
     g.cookie = "__Host-login" if request.is_secure else "login"
     g.token = request.cookies.get(g.cookie) or secrets.token_urlsafe()
     g.name = g.store.who(g.token)
-    # Of this browser's forms alone, since no other page can know it.
+    # The token of this browser's forms, since no other page can know it.
     g.csrf = hmac.new(current_app.config["SECRET"], g.token.encode(), hashlib.sha256).hexdigest()
     if request.method == "POST":
         if not hmac.compare_digest(request.form.get("csrf", "").encode(), g.csrf.encode()):
@@ -117,7 +117,7 @@ def sign_up() -> Any:
 @pages.post("/login")
 def login() -> Any:
     name = name_of(request.form)
-    # What is no name has its tries, and is looked up and hashed for, like any other.
+    # A text that is no name has its tries, its look-up and its hash, like any name.
     account = name or request.form.get("name", "")
     ticket = g.store.count(account=account, address=request.remote_addr)
     session = g.store.log_in(name or NOBODY, password_of(request.form, "password"), g.token)
@@ -129,7 +129,7 @@ def change() -> Any:
     errors = faults(request.form, g.name)
     if errors:
         return form(errors)
-    # Of this session alone: whoever guesses elsewhere doesn't shut its owner out.
+    # The tries of this session alone: guesses elsewhere don't shut its owner out.
     ticket = g.store.count(session=g.token)
     old, new = password_of(request.form, "old"), password_of(request.form, "new")
     session = g.store.change(g.name, old, new, g.token)
@@ -157,8 +157,8 @@ def entered(
 
 
 def server(store: Store, port: int) -> Any:
-    """A server of waitress that is ready; `run` runs it. It reads a request whole before a
-    thread works it, so slow clients hold none."""
+    """A server of waitress that is ready; `run` runs it. waitress reads a whole request before a
+    thread handles it, so slow clients hold no thread."""
     secret = os.environ.get("SECRET", "").encode() or secrets.token_bytes(32)
     proxy = os.environ.get("PROXY")
     return waitress.create_server(
@@ -193,7 +193,7 @@ def main() -> None:
     print(f"http://127.0.0.1:{serving.effective_port}/", flush=True)
     logging.getLogger("waitress.queue").setLevel(logging.ERROR)  # a busy moment is none
     for ends in (signal.SIGINT, signal.SIGTERM):
-        # waitress ends what it is working, for up to five seconds.
+        # waitress finishes its running requests, for up to five seconds.
         signal.signal(ends, lambda *_: sys.exit(0))
     serving.run()
 

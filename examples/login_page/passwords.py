@@ -8,9 +8,9 @@ from collections.abc import Mapping
 
 from django.contrib.auth.password_validation import CommonPasswordValidator
 
-SHORTEST, LONGEST = 8, 256  # of a password: characters, and bytes in UTF-8
+SHORTEST, LONGEST = 8, 256  # least characters, and most bytes in UTF-8
 NAME = re.compile("[A-Za-z0-9._-]{1,32}")
-COMMON = CommonPasswordValidator().passwords  # the 20,000 that are tried first
+COMMON = CommonPasswordValidator().passwords  # the 20,000 passwords that attackers try first
 
 
 def name_of(form: Mapping[str, str]) -> str:
@@ -26,8 +26,7 @@ def password_of(form: Mapping[str, str], field: str) -> str:
 
 
 def opaque(typed: str) -> str:
-    """RFC 8265's form of a password: a keyboard's way to write it, and which space it has,
-    doesn't matter."""
+    """RFC 8265's form of a password: the same from every keyboard, and with every kind of space."""
     spaced = "".join(" " if unicodedata.category(it) == "Zs" else it for it in typed)
     return unicodedata.normalize("NFC", spaced)
 

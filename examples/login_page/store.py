@@ -21,19 +21,18 @@ from werkzeug.exceptions import TooManyRequests
 
 TABLES = pathlib.Path(__file__).with_name("tables.sql")
 LASTS = 12 * 3600  # a session, in seconds
-WINDOW = 15 * 60  # in which tries are counted, in seconds
+WINDOW = 15 * 60  # the time for which a try counts, in seconds
 TRIES = {"account": 10, "session": 10, "address": 50, "signup": 50}
 
 
 class Store:
-    """The tables, and the operations on them.
-
-    `sign_up`, `log_in` and `change` answer with a new session's token, or None. Its row is
-    committed with the reply: both stand, or neither.
+    """The tables, and the operations on them. `sign_up`, `log_in` and `change` return a new
+    session's token, or None. The session's row is committed with the operation: both are stored, or
+    neither.
     """
 
     def __init__(self, database: str, hasher: PasswordHasher) -> None:
-        self._lost: Any = ()  # what says that the server has closed a connection
+        self._lost: Any = ()  # the error of a connection that the server has closed
         if database.startswith(POSTGRES):
             import psycopg
 
@@ -67,7 +66,7 @@ class Store:
         return self._enter(partial(self._accounts.login, name, password), name, old)
 
     def change(self, name: str, password: str, new: str, old: str) -> Optional[str]:
-        """Stores a new password and ends all sessions of the old one, if the old one is right."""
+        """If the old password is right, stores the new one and ends all other sessions."""
         return self._enter(partial(self._accounts.change, name, password, new), name, old)
 
     def _enter(self, act: Callable[..., Reply], name: str, old: str) -> Optional[str]:
@@ -85,14 +84,14 @@ class Store:
     def _begin_session(
         self, conn: Any, name: str, token: str, old: str, has_note: bool = False
     ) -> None:
-        """A new session in the place of the old one, within the transaction that is open."""
+        """Begins a session in the place of the old one, within the open transaction."""
         now = time.time()
         self._in(conn, "DELETE FROM session WHERE token = ? OR until <= ?", _hash(old), now)
         values = (_hash(token), name, now + LASTS, int(has_note))
         self._in(conn, "INSERT INTO session VALUES (?, ?, ?, ?)", *values)
 
     def who(self, token: str) -> Optional[str]:
-        """The name whose session this is."""
+        """The name of a session's user."""
         query = "SELECT name FROM session WHERE token = ? AND until > ?"
         found = self._do(query, _hash(token), time.time())
         return found[0][0] if found else None
@@ -107,10 +106,9 @@ class Store:
         self._do("DELETE FROM session WHERE token = ?", _hash(token))
 
     def count(self, **tried: str) -> str:
-        """Counts a try before its password is hashed, so that many at once count too.
-
-        A try that TooManyRequests refuses isn't counted. Returns a ticket, by which a right try is
-        forgiven.
+        """Counts a try before its password is hashed, so that many at once count too. A try that
+        TooManyRequests refuses doesn't count. Returns a ticket, by which `forgive` takes a right
+        try back.
         """
         ticket, now = secrets.token_urlsafe(), time.time()
         limits = {_hash(f"{kind} {what}"): TRIES[kind] for kind, what in tried.items()}
@@ -131,20 +129,20 @@ class Store:
         return ticket
 
     def forgive(self, ticket: str, account: Optional[str] = None) -> None:
-        """Forgets a try that was right, and all of its account."""
+        """Forgets a right try, and all tries of its account."""
         what = _hash(f"account {account}")
         self._do("DELETE FROM try WHERE ticket = ? OR what = ?", ticket, what)
 
     @contextlib.contextmanager
     def _transaction(self) -> Iterator[Any]:
-        # After an exception the pool closes the connection, which undoes what is open.
+        # After an exception the pool closes the connection, which undoes the open transaction.
         with self._pool() as conn:
             conn.execute(self._dialect.begin)
             yield conn
             conn.execute("COMMIT")
 
     def _do(self, query: str, *values: Any) -> list[Any]:
-        """A statement by itself; once more if the connection of this thread was closed."""
+        """Runs a statement by itself; runs it once more if this thread's connection was closed."""
         with contextlib.suppress(self._lost), self._pool() as conn:
             return self._in(conn, query, *values)
         with self._pool() as conn:
@@ -162,8 +160,8 @@ def _hash(text: str) -> str:
 
 
 def _sqlite(database: str) -> sqlite3.Connection:
-    """A connection. Only their owner may read the file, its folder, and the files that SQLite
-    adds."""
+    """A connection to SQLite. Only the owner can read the file, its folder, and the files that
+    SQLite adds."""
     file = pathlib.Path(database)
     file.parent.mkdir(mode=0o700, exist_ok=True)
     file.touch(mode=0o600)

@@ -1,6 +1,6 @@
 """The accounts of a service whose web servers share one PostgreSQL.
 
-Each web server makes one Store for all of its threads. `make_table` is run once.
+Each web server makes one Store for all of its threads. Run `make_table` once.
 """
 
 import psycopg
@@ -18,7 +18,8 @@ def make_table(dsn: str) -> None:
 
 
 class Store:
-    """Raises what Accounts raises, Unavailable above all if no server answers in time."""
+    """The accounts. Raises the exceptions of Accounts, above all Unavailable if no server answers
+    in time."""
 
     def __init__(self, dsn: str) -> None:
         given = {"autocommit": True, "connect_timeout": 5, "tcp_user_timeout": 10_000}
@@ -34,7 +35,7 @@ class Store:
 
         ValueError if no new account may have the address or the password.
         """
-        self.columns.check_key(email)  # a TypeError of None, say
+        self.columns.check_key(email)  # for example a TypeError for None
         if len(email) > 254 or not self.columns.can_stand(email):
             raise ValueError("an address has up to 254 letters, no NUL and no lone surrogate")
         self.columns.check_new_key(email)
@@ -43,7 +44,8 @@ class Store:
             return conn.execute(ADD, [email, record]).rowcount == 1
 
     def log_in(self, email: str, password: str) -> bool:
-        """A record of old costs is replaced by the same comparison."""
+        """Whether the password is right; also replaces a record of old costs, by the same
+        comparison."""
         return self.accounts.login(email, password) is Reply.YES
 
     def change(self, email: str, old: str, new: str) -> bool:

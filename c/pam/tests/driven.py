@@ -1,4 +1,4 @@
-"""The PAM module in a driver of its own, and a peer that answers it."""
+"""Runs the PAM module in a driver of its own, against a peer that answers it."""
 
 import base64
 import contextlib
@@ -46,7 +46,8 @@ class Case(helpers.Case):
     def check(
         self, answer: bytes, ought: Pam, *lines: bytes, task: str = "authenticate", **question: Any
     ) -> "Said":
-        """The result of a task if each line gets the same answer, and the lines that it sends."""
+        """Tests the result of a task and the lines that it sends, if each line gets the same
+        answer."""
         said, sent = said_at(answer, Question(tasks=task, **question))
         what = f"{task} {answer!r:.40} {question!r:.200}"
         self.assertEqual((said.codes, sent), ([ought], list(lines)), what)
@@ -63,7 +64,7 @@ def compiled(name: str, flags: Sequence[str], *sources: str) -> pathlib.Path:
 
 @dataclass(frozen=True)
 class Build:
-    """The module and the driver, built with some flags, and what runs the driver."""
+    """The module and the driver, built with some flags, and the command that runs the driver."""
 
     name: str
     flags: tuple[str, ...]
@@ -132,7 +133,7 @@ def asked(question: Question, path: pathlib.Path) -> Said:
     pipe, said, before = subprocess.PIPE, Said(), time.monotonic()
     with subprocess.Popen(words, stdin=pipe, stdout=pipe, stderr=pipe, env=environment) as run:
         assert run.stdin and run.stdout and run.stderr
-        with contextlib.suppress(BrokenPipeError):  # it has ended, and asked for nothing
+        with contextlib.suppress(BrokenPipeError):  # the driver has ended, and asked for nothing
             run.stdin.write("".join(f"{it.hex()}\n" for it in question.answers).encode())
             run.stdin.close()
         while os.WIFSTOPPED(status := os.waitpid(run.pid, os.WUNTRACED)[1]):
@@ -168,7 +169,7 @@ def sends(answer: bytes) -> Callable[[bytes, socket.socket], None]:
 
 
 def answers(**words: bytes) -> Callable[[bytes, socket.socket], None]:
-    """Answers each operation in its way; others with yes."""
+    """Answers each operation as `ways` say, and others with yes."""
     return lambda line, client: client.sendall(words.get(line.split()[1].decode(), b"1 yes\n"))
 
 
@@ -179,6 +180,6 @@ def said_at(answer: bytes, question: Question) -> tuple[Said, list[bytes]]:
 
 
 def line_of(word: str, name: str, *passwords: bytes) -> bytes:
-    """The line that ought to be sent."""
+    """The line that the module must send."""
     fields = [base64.b64encode(it).rstrip(b"=") or b"-" for it in passwords]
     return b" ".join([b"1", word.encode(), name.encode(), *fields]) + b"\n"

@@ -1,4 +1,4 @@
-"""Tests of the PAM module: what is sent, what each answer means, and what goes wrong on the way."""
+"""Tests of the PAM module: its lines, its results for each answer, and faults of the connection."""
 
 import importlib
 import pathlib
@@ -16,7 +16,8 @@ sys.path.insert(0, str(TOP / "python/rigzumal/server"))  # where the server's ta
 YES, NO_ROOM = b"1 yes\n", b"* unavailable\n"
 VERIFY, KNOWN = line_of("verify", "ada", b"secret"), line_of("known", "ada")
 
-# What is no answer: each edit of one byte, other words and lines, and what is too long for a line.
+# Texts that are no answer: each edit of one byte, other words and lines, and texts too long for a
+# line.
 EDITS = [(at, 0, new) for at in range(7) for new in (b" ", b"\0", b"1")]
 EDITS += [(at, 1, new) for at in range(6) for new in (b"", b"Y")]
 NO_ANSWERS = {YES[:at] + new + YES[at + cut :] for at, cut, new in EDITS} - {YES}
@@ -36,7 +37,7 @@ BAD_MAIL += ("x" * 241 + "@" + "y" * 13,)
 
 class Answers(Case):
     def test_answers(self) -> None:
-        """Each answer to each operation, and the line that is sent."""
+        """The result of each answer to each operation, and the line that the module sends."""
         for task, line, answer, ought in (
             ("authenticate", VERIFY, b"yes", Pam.SUCCESS),
             ("authenticate", VERIFY, b"no", Pam.AUTH_ERR),
@@ -53,7 +54,7 @@ class Answers(Case):
         self.assertEqual(said.prompts, [])
 
     def test_all_answers(self) -> None:
-        """The results of a password at each answer that the server has."""
+        """The results of a password at each of the server's answers."""
         for answer, meaning in importlib.import_module("daemon.protocol").ANSWERS.items():
             self.check(f"1 {answer}\n".encode(), Pam[meaning.pam], VERIFY)
 
@@ -68,7 +69,7 @@ class Answers(Case):
                 self.assertEqual(asked(question, it.path).codes, [Pam.AUTHINFO_UNAVAIL], answer)
 
     def test_passwords(self) -> None:
-        """Passwords of 1 to 256 bytes are sent as they are, and no other one."""
+        """The module sends passwords of 1 to 256 bytes as they are, and no others."""
         given = [b"a", b"ab", b"abc", b"p\xc3\xa4ss w\xc3\xb6rd ", b" ", b"="]
         given += [bytes(range(1, 256)).replace(b"\n", b"") + b"!!"]
         given += [b"x" * size for size in (63, 64, 65, 127, 128, 129, 254, 255, 256)]
@@ -78,8 +79,8 @@ class Answers(Case):
         self.check(YES, Pam.SUCCESS, b"1 verify ada -\n", answers=[b""], options="nullok")
 
     def test_passwords_of_no_record(self) -> None:
-        """An empty password, or a long one, is wrong if the book has the name, and otherwise the
-        next module's to judge."""
+        """An empty or a too long password is wrong if the book has the name; otherwise the next
+        module judges it."""
         for password, options, task in (
             (b"x" * 257, "", "authenticate"),
             (b"x" * 500, "nullok", "authenticate"),
@@ -99,8 +100,8 @@ class Answers(Case):
                 self.assertEqual(is_said, ought == Pam.AUTH_ERR, said.logs)
 
     def test_names(self) -> None:
-        """A name that a book may have is sent, and an address with `mail_names` alone; another one
-        is unknown, and the password is asked for."""
+        """The module sends each name that a book may have, and an address only with `mail_names`.
+        Another name is unknown, and the module still asks for the password."""
         for name in (*GOOD_NAMES, *MAIL, *BAD_MAIL):
             for options in ("", "mail_names"):
                 if name in GOOD_NAMES or (name in MAIL and options):
@@ -125,7 +126,8 @@ class Answers(Case):
                     self.check(YES, Pam.SUCCESS, VERIFY, options=options)
 
     def test_hostile_passwords(self) -> None:
-        """A hostile password is one field of the line; one that no record has is never sent."""
+        """A hostile password is one field of the line; a password that no record can have is never
+        sent."""
         for what, password in PASSWORDS.items():
             if b"\0" in password:
                 continue
@@ -164,7 +166,7 @@ class Answers(Case):
         self.assertTrue(0.9 < said.seconds < 40, f"{said.seconds} s")
 
     def test_deadlines(self) -> None:
-        """A peer that says nothing, drips, or doesn't take the connection costs the timeout,
+        """A peer that is silent, drips, or doesn't accept the connection costs the timeout,
         once."""
 
         def nothing(line: bytes, client: socket.socket) -> None:
@@ -191,7 +193,7 @@ class Answers(Case):
             it.close()
 
     def test_no_server(self) -> None:
-        """Without a server the result is that the information isn't available, and at once."""
+        """Without a server the module returns PAM_AUTHINFO_UNAVAIL at once."""
         plain = ROOM / "plain-file"
         plain.write_text("")
         gone = peer(sends(b""))
@@ -202,12 +204,12 @@ class Answers(Case):
             for task, ought in results.items():
                 said = asked(Question(tasks=task), path)
                 self.assertEqual(said.codes, [ought], f"{task} at {path}")
-        said = self.check(b"", unavailable, VERIFY, options="timeout=60")  # it closes
+        said = self.check(b"", unavailable, VERIFY, options="timeout=60")  # the server closes
         self.assertLess(said.seconds, 30)
 
     def test_no_room(self) -> None:
-        """A server that has no room is asked again, ever less often, until it has some or time is
-        up."""
+        """The module asks a server without room again, ever less often, until it has room or the
+        time is up."""
 
         def has_room(line: bytes, client: socket.socket) -> None:
             client.sendall(YES if len(it.lines) == 4 else NO_ROOM)
@@ -221,7 +223,8 @@ class Answers(Case):
             self.assertLess(len(it.lines), 9)
 
     def test_no_room_at_once(self) -> None:
-        """So too if it says so and closes before it has read the line, or amid it."""
+        """The module also asks again if the server reports no room, and closes before or amid the
+        line."""
         it = peer(sends(b""))
 
         def says_so() -> None:
@@ -233,7 +236,7 @@ class Answers(Case):
             client, _ = it.socket.accept()
             client.sendall(YES)
             with client, client.makefile("rb") as lines:
-                lines.readline()  # all of it, in however many pieces it comes
+                lines.readline()  # the whole line, in however many pieces it arrives
 
         for environment in ({}, {"PIECES": "1"}):
             threading.Thread(target=says_so, daemon=True).start()
@@ -242,7 +245,7 @@ class Answers(Case):
         it.server_close()
 
     def test_closes_amid(self) -> None:
-        """A server that closes while the line is being sent ends nothing but the call."""
+        """If a server closes while the module sends the line, only the call ends."""
 
         def reads_a_byte() -> None:
             client, _ = it.socket.accept()

@@ -15,7 +15,7 @@ LONGEST = (b"x" * 256, b"y" * 256, b"y" * 256)
 def changed(
     given: Sequence[bytes], verify: bytes = b"yes", change: bytes = b"replaced", **question: Any
 ) -> tuple[Said, list[bytes]]:
-    """The results of a change at a peer that answers each operation in its way."""
+    """The results of a change at a peer that answers each operation as `ways` say."""
     with peer(answers(verify=b"1 " + verify + b"\n", change=b"1 " + change + b"\n")) as it:
         said = asked(Question(tasks="change", answers=given, **question), it.path)
         return said, [line for line in it.lines if not line.startswith(b"1 known ")]
@@ -40,7 +40,7 @@ GOOD_OPTIONS = ("timeout=1", "timeout=600", "debug", "nullok", "mail_names", "tr
 
 class Changes(Case):
     def test_options(self) -> None:
-        """A word that isn't an option, or a value out of range, is refused and named."""
+        """The log names a word that is no option, or a value out of range, and the call fails."""
         for word in BAD_OPTIONS:
             said = self.check(YES, Pam.SERVICE_ERR, options=word)
             self.assertEqual((said.prompts, said.logs), ([], [f"bad option: {word}"]))
@@ -58,14 +58,14 @@ class Changes(Case):
         self.assertEqual(len(said.prompts), 1)
         for task, options, lines, prompts in (
             ("authenticate", "use_first_pass", [], 0),
-            ("change", "use_authtok", [KNOWN, VERIFY, KNOWN], 1),  # no new password was there
+            ("change", "use_authtok", [KNOWN, VERIFY, KNOWN], 1),  # there was no new password
         ):
             said, sent = said_at(YES, Question(tasks=task, options=options, answers=FRESH))
             self.assertNotIn(said.codes[0], (Pam.SUCCESS, Pam.AUTHINFO_UNAVAIL))
             self.assertEqual((sent, len(said.prompts)), (lines, prompts), options)
 
     def test_conversations(self) -> None:
-        """A conversation that fails, or isn't over, sends nothing."""
+        """After a conversation that fails, or isn't over, the module sends nothing."""
         for task in ("authenticate", "change"):
             said, lines = said_at(YES, Question(tasks=task, answers=()))
             self.assertNotIn(said.codes[0], (Pam.SUCCESS, Pam.AUTHINFO_UNAVAIL, Pam.TRY_AGAIN))
@@ -80,7 +80,7 @@ class Changes(Case):
             self.assertEqual(said.prompts, [prompt])
 
     def test_changes(self) -> None:
-        """The old password is verified first, then old and new are sent together."""
+        """The module first verifies the old password, and then sends old and new together."""
         first, both = [VERIFY], [VERIFY, line_of("change", "ada", b"secret", b"fresh")]
         for verify, change, ought, lines in (
             (b"yes", b"replaced", Pam.SUCCESS, both),
@@ -99,7 +99,8 @@ class Changes(Case):
             self.assertEqual(said.prompts[:1], ["Current password: "])
 
     def test_new_passwords(self) -> None:
-        """One that is empty, too long, or typed in two ways is not sent; the longest ones fit."""
+        """The module sends no new password that is empty, too long, or typed in two ways; the
+        longest ones fit."""
         for fresh in ((b"", b""), (b"x" * 257, b"x" * 257), (b"fresh", b"other")):
             said, sent = changed((b"secret", *fresh))
             self.assertNotEqual(said.codes[0], Pam.SUCCESS)
@@ -116,7 +117,7 @@ class Changes(Case):
             self.assertEqual((said.codes, sent[1:]), ([Pam.SUCCESS], [line]))
 
     def test_expired_passwords(self) -> None:
-        """If the book's password needn't be changed, the module asks for the new one, for the next
+        """If the book's password needn't change, the module asks for the new password for the next
         module."""
         service = "password [ignore={} default=die] {{module}}\npassword required pam_{}.so\n"
         prompts = ["New password: ", "Retype new password: "]
@@ -135,7 +136,7 @@ class Changes(Case):
             self.assertEqual((lines, said.prompts), (sent, []), options)
 
     def test_a_book_that_demands_a_change(self) -> None:
-        """A right password lets in, `account` says that another is due, and a change sets it."""
+        """A right password lets the user in, `account` demands a new one, and a change sets it."""
         self.check(b"1 expired\n", Pam.SUCCESS, VERIFY)
         self.check(b"1 expired\n", Pam.NEW_AUTHTOK_REQD, KNOWN, task="account")
         self.check(b"1 expired\n", Pam.AUTH_ERR, KNOWN, answers=[b"x" * 257])
@@ -149,7 +150,7 @@ class Changes(Case):
                 self.assertEqual(it.lines, [*known, VERIFY, *known, change])
 
     def test_refused_passwords(self) -> None:
-        """The user is told why the server refuses a new password."""
+        """The module tells the user why the server refuses a new password."""
         for answer, why in (
             (b"short", "The new password is too short."),
             (b"same", "The new password is the old one."),
@@ -160,8 +161,8 @@ class Changes(Case):
             self.assertIn(why, said.prompts)
 
     def test_names_of_another_module(self) -> None:
-        """At a name that the book lacks no old password is asked for; the new one is, for a module
-        behind with use_authtok."""
+        """At a name that the book lacks the module asks only for the new password, for a later
+        module with use_authtok."""
         service = (
             "password [success=done user_unknown=ignore try_again=ignore default=die] {module}\n"
         )

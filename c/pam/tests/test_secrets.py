@@ -1,5 +1,4 @@
-"""Tests of the PAM module: what it leaves in memory and in the log, threads, and how it is
-built."""
+"""Tests of the PAM module: passwords in memory and in the log, threads, and builds."""
 
 import base64
 import functools
@@ -19,8 +18,8 @@ ENCODED = base64.b64encode(PASSWORD).rstrip(b"=")
 
 class Secrets(Case):
     def test_cleared(self) -> None:
-        """As a call ends the line that it sent is cleared; after it no password is in memory, plain
-        or encoded."""
+        """At its end a call clears the line that it sent; afterwards no password is in memory,
+        plain or encoded."""
         needles = (ENCODED, ENCODED[:24], ENCODED[-24:], PASSWORD)
         for tasks, given, calls in (
             ("authenticate", [PASSWORD], 1),
@@ -36,15 +35,15 @@ class Secrets(Case):
                 self.assertEqual(found[-1], [0] * 4, tasks)
 
     def test_looking_finds(self) -> None:
-        """The search above finds bytes that are there: the socket's path."""
+        """The search above finds existing bytes: the socket's path."""
         with peer(sends(b"1 yes\n")) as it:
             question = Question(build=PLAIN, looked_for=[str(it.path).encode()])
             inside, after = asked(question, it.path).looks
             self.assertTrue(inside > [0] and after > [0], f"{inside}, {after}")
 
     def test_logs(self) -> None:
-        """Failed tries are logged in pam_unix's form: with the name only if the book has it, and no
-        password ever."""
+        """The log has failed tries in pam_unix's form: with the name only if the book has it, and
+        never with a password."""
         uid = os.getuid()
         failure = (
             f"authentication failure; logname= uid={uid} euid={uid} tty= ruser= rhost=192.0.2.1 "
@@ -68,12 +67,12 @@ class Secrets(Case):
         for answer in (b"unavailable", b"bad 13 password", b"denied"):
             said, _ = said_at(b"1 " + answer + b"\n", Question(answers=[PASSWORD]))
             self.assertEqual([it.partition(": ")[2] for it in said.logs], ["no answer to verify"])
-        for task in ("account", "change"):  # another module's user does nothing wrong
+        for task in ("account", "change"):  # a user of another module makes no failed try
             said, _ = said_at(b"1 noaccount\n", Question(tasks=task, answers=[PASSWORD] * 3))
             self.assertEqual((said.codes, said.logs), ([Pam.USER_UNKNOWN], []))
 
     def test_threads(self) -> None:
-        """Sixteen threads at once: each is answered at its own name and password."""
+        """Sixteen threads at once: each gets the answer for its own name and password."""
 
         def replies(line: bytes, client: socket.socket) -> None:
             _, _, name, password = line.split()
@@ -91,7 +90,7 @@ class Secrets(Case):
             self.assertEqual(sorted(it.lines), sorted(lines))
 
     def test_under_valgrind(self) -> None:
-        """A login, a wrong one, an account and a change, with all memory watched."""
+        """Valgrind watches the memory of a login, a wrong one, an account and a change."""
         helpers.need("valgrind")
         watched = {"build": VALGRIND, "options": "timeout=60 debug"}
         given = [b"secret", b"secret", b"fresh", b"fresh"]
@@ -104,7 +103,7 @@ class Secrets(Case):
         self.assertEqual(said.codes, [Pam.AUTHINFO_UNAVAIL])
 
     def test_builds(self) -> None:
-        """Both compilers take it without a warning, and four symbols are seen."""
+        """Both compilers build the module without a warning, and it exports four symbols."""
         every = "-std=c11 -O2 -Wall -Wextra -Wpedantic -Wshadow -Wconversion -Wno-sign-conversion"
         every += " -Wstrict-prototypes -Werror -fPIC -shared -I../src -o /dev/null"
         for compiler in ("gcc", "clang"):

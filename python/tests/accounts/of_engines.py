@@ -226,7 +226,7 @@ class OnServers:
         self.assert_replies("change ann one two replaced; verify ann two yes", accounts)
 
     def test_a_server_that_only_reads(self):
-        """The operation waits for a server that only reads, as in a failover, and then is
+        """A change waits for a server that only reads, as in a failover; if patience ends it is
         Unavailable."""
         self.give(None, "ben")
         connect, frees = self.reading()

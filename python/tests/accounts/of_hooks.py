@@ -106,8 +106,8 @@ class RowsOfOnesOwn:
             self.assertEqual(len(self.calls), 2)
 
     def test_a_hook_that_does_not_keep_to_its_transaction(self):
-        """A hook that ends the transaction gets a TypeError, is called once, and no record is
-        written."""
+        """A hook that breaks the rules of its transaction gets an error that says so. It is called
+        once, and no record is written."""
         accounts = self.accounts(patience=60.0)
 
         def rewrites(conn):

@@ -185,7 +185,8 @@ class Exports(Commands):
         self.assertEqual({it["name"]: it["record"] for it in found}, {**rows, **odd})
 
     def test_a_name_that_is_another_line(self):
-        """A name that reads as another line keeps its record out of an export's lines."""
+        """`disable --show` removes no record of a name that reads as another line, except with
+        --json."""
         self.insert({"a\nroot": RECORD})
         _, error = self.streams("disable", "--show", "a\nroot", status=6)
         self.assertIn("add --json", error)

@@ -109,7 +109,8 @@ class Arguments(Base):
         self.conn.execute("ROLLBACK")
 
     def test_columns_that_do_not_exist(self):
-        """SQLite would read a missing column "emial" as a text, and take that for the record."""
+        """SQLite reads a misspelt column such as "emial" as a text, so the operation refuses the
+        dialect."""
         self.give("one", "emial")
         for names in ({"key": "emial"}, {"record": "recrod"}):
             accounts = self.accounts(dialect=self.another_dialect(**names))

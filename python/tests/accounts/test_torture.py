@@ -135,8 +135,8 @@ class Tortures(Base):
             self.assertRaises(ValueError, command.main, [str(file)])
 
     def test_the_end_is_read_where_it_is_said(self):
-        """The torture reads the end where --end says: after a failover, at another server than the
-        first."""
+        """The torture reads the last records at `end_url`: after a failover that is another
+        server."""
         end = f"{self.server.path}.end"
         with contextlib.closing(sqlite3.connect(end)) as conn:
             conn.execute("CREATE TABLE ended (name TEXT PRIMARY KEY, record TEXT)")

@@ -28,7 +28,8 @@ class Places(unittest.TestCase):
         self.room = pathlib.Path(self.enterContext(tempfile.TemporaryDirectory()))
 
     def test_a_missing_library(self):
-        """A package without its library raises an error that says how to build it."""
+        """A package without its library says how to build it, and a build without the folder c why
+        it fails."""
         shutil.copytree(PYTHON / "rigzumal", self.room / "rigzumal")
         clean = {"PYTHONPATH": str(self.room), "LD_LIBRARY_PATH": "", "RIGZUMAL_LIBRARY": ""}
         script = "try:\n    import rigzumal\nexcept ImportError as fault:\n    print(fault)"
