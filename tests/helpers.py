@@ -41,7 +41,7 @@ from tests.needs import need_module, need_root  # noqa: F401 (for the tests)
 TOP = pathlib.Path(__file__).resolve().parent.parent
 PYTHON, LIBRARIES = TOP / "python", TOP / "c/out"
 TIMES = int(os.environ.get("RIGZUMAL_TIMES", "1"))
-# How many times as long everything may take, where much else runs on our processors.
+# The factor by which everything may take longer, while other work uses our processors.
 BUSY = max(1, int(os.getloadavg()[0] / len(os.sched_getaffinity(0))))
 TRIPLET = "x86_64-linux-gnu" if IS_NATIVE else "aarch64-linux-gnu"
 # Programs of another processor run under qemu-user, over Debian's cross libraries.
@@ -64,7 +64,7 @@ if sys.version_info < (3, 11):
 
 
 class Case(unittest.TestCase):
-    """A test that ends: after so many seconds it fails, wherever it waits."""
+    """A test with a limit: after this many seconds it fails, wherever it waits."""
 
     seconds = 300
 
@@ -84,7 +84,7 @@ class Case(unittest.TestCase):
 
 
 def each(*rows: Any) -> Callable[[Callable[..., None]], Callable[..., None]]:
-    """Has a test run for each of these rows, which is a subtest with its values by the names of the
+    """Runs a test for each of these rows, as a subtest with the row's values by the names of the
     parameters."""
 
     assert rows, "a test for no row tests nothing"
@@ -152,7 +152,7 @@ def run(
     status: int = 0,
     at: pathlib.Path = TOP,
 ) -> str:
-    """The output of a command on both streams, if it ends with this status. One that hangs is
+    """The output of a command on both streams, if it ends with this status. A command that hangs is
     killed with all that it started, after TEST_LIMIT seconds."""
     line = [str(word) for word in words]
     pipe, both = subprocess.PIPE, subprocess.STDOUT
@@ -172,7 +172,7 @@ def run(
 
 
 def until(fact: Callable[[], bool], said: str, seconds: float = LONGEST) -> None:
-    """Waits for something, as long as it may take on a slow and loaded machine."""
+    """Waits until a condition holds, for as long as a slow and loaded machine may need."""
     end, pause = time.monotonic() + seconds, 0.01
     while not fact():
         assert time.monotonic() < end, f"never: {said}"

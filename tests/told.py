@@ -21,7 +21,7 @@ from typing import Any
 
 
 def name_of(test: Any) -> str:
-    """A test's name; of a subtest that of its test, since a test is counted once."""
+    """A test's name; for a subtest its test's name, since a test is counted once."""
     return str(getattr(test, "test_case", test).id())
 
 
@@ -35,7 +35,7 @@ class Told(unittest.TextTestResult):
 
     def __init__(self, *given: Any, **named: Any) -> None:
         super().__init__(*given, **named)
-        self.others: set[str] = set()  # those that don't pass
+        self.others: set[str] = set()  # the subtests that don't pass
 
     def startTest(self, test: Any) -> None:
         super().startTest(test)

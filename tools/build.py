@@ -43,7 +43,7 @@ from tree import CRATES, RT, TOP, all_below, below, has_rt, listed, need_rt, sou
 AT_ONCE = 2
 # Seconds between two lines on standard error.
 EVERY = float(os.environ.get("BUILD_SAYS_EVERY", 25))
-# What each took at its first build; others count as 60.
+# The seconds of each crate's first build; others count as 60.
 NOTED = TOP / "tools/build_seconds.json"
 LEVELS = ("x86-64", "x86-64-v2", "x86-64-v3")
 LOADER = "/lib64/ld-linux-x86-64.so.2"

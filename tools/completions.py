@@ -71,7 +71,7 @@ class Program:
 
     def after(self, *values):
         """The pattern of words after a command whose first value is one of these."""
-        # add is for a name that no account has yet
+        # `add` needs a name that no account has yet
         below = [it for it in self.commands if it.word != "add"]
         shown = [(it.word, it.usage.partition(it.word)[2]) for it in below]
         words = [word for word, rest in shown if any(f"<{it}>" in rest for it in values)]

@@ -79,14 +79,14 @@ def get(*words: str) -> str:
 
 
 def known(names: list[str]) -> list[str]:
-    """Those that this Debian has, by the lists that were fetched."""
+    """The packages that this Debian has, by the fetched lists."""
     show = ["apt-cache", "show"]
     return [it for it in names if not subprocess.run([*show, it], capture_output=True).returncode]
 
 
 def install(names: list[str]) -> str:
-    """The reason why they can't be installed, or nothing. The lists are fetched if they are too old
-    for them."""
+    """Installs packages; returns the reason of a failure, or nothing. Fetches the lists if they are
+    too old for the packages."""
     with no_services():
         if known(names) == names and not get("install", *names):
             return ""

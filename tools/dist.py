@@ -4,9 +4,9 @@
     python3 tools/dist.py
 
 The tarball holds each committed file, the objects of the programs that tools/build.py --object kept
-(see tools/programs.py), and a list of what is compiled in it, with licences. It needs rt no more:
-a C compiler, make and Python build and install it. One commit and its objects give the same bytes,
-wherever, whenever and by whomever they are packed.
+(see tools/programs.py), and a list of what is compiled in it, with licences. The tarball doesn't
+need rt: a C compiler, make and Python build and install it. One commit and its objects give the
+same bytes, wherever, whenever and by whomever they are packed.
 """
 
 import hashlib

@@ -124,7 +124,7 @@ class Tokens:
         return at
 
     def parts(self, opening):
-        """First and last token of what commas part inside a bracket."""
+        """The first and last token of each part between commas inside a bracket."""
         closing = self.pair.get(opening, opening)
         commas = [
             it

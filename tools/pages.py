@@ -48,7 +48,7 @@ FOLDERS = (
     "crates|c|python|rust|tests|docs|tools|bench|examples|man|bin|units|packaging|completions"
     "|proofs|specs|src"
 )
-# What pages name where it is installed.
+# Names on pages that exist only where they are installed.
 INSTALLED = {"bin/credkeep"}
 # A variable by which a test speaks to its own programs.
 SET_BY_TESTS = {"FRAMEWORKS_ROOM"}
@@ -70,7 +70,7 @@ VERSIONED = {
 # The rows of BUILDING's table of times that README has, of its two commands: "7 and 34 minutes".
 TIMES = ("README's first command from nothing", "`.ci/run` from nothing")
 
-# What is wrong with the tree, or None for what is right.
+# The faults of the tree; None stands for a claim that is right.
 Facts = Iterable["str | None"]
 
 

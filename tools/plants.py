@@ -25,7 +25,7 @@ from typing import NamedTuple
 
 from tree import TOP
 
-# What is built, and the tests stand on.
+# The built files that the tests need.
 BUILT = ["c/out/*", "c/out/arm64/*", "c/pam/out/*.so", "crates/*/out/*_tests"]
 BUILT += [f"crates/{name}/out/{name}" for name in ("credbook", "credkeep")]
 

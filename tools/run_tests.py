@@ -38,11 +38,11 @@ from tree import TOP, has_rt, tell_each
 sys.path.insert(0, str(TOP))
 from tests import helpers, needs  # noqa: E402
 
-# A job that hasn't ended after so many seconds is ended.
+# A job that hasn't ended after this many seconds is ended.
 LIMIT = int(os.environ.get("JOB_LIMIT", 10 * helpers.LONGEST))
 EVERY = 30
-# What a process's environment has that a job started, so that it can be found whoever is its
-# parent.
+# A mark in the environment of each process that a job started, by which the run finds it whatever
+# its parent.
 MARK = "RIGZUMAL_JOB"
 # Of a whole run, and what ends one.
 RUN = f"run-{os.getpid()}"
@@ -95,7 +95,7 @@ class Done:
         self.judge()
 
     def run(self, told: pathlib.Path, printed: pathlib.Path) -> None:
-        """Runs it to its end, or ends it with all that it started."""
+        """Runs the job to its end, or ends it with all that it started."""
         mark, began = f"{os.getpid()}-{told}", time.monotonic()
         command = [sys.executable, *(it.format(told=told) for it in self.job.command)]
         with open(printed, "wb") as output:
@@ -149,7 +149,7 @@ def fault_of_build() -> str:
         pipes: dict[str, Any] = {"stdout": subprocess.PIPE, "stderr": subprocess.STDOUT}
         try:
             done = subprocess.run(command, cwd=TOP, stdin=subprocess.DEVNULL, text=True, **pipes)
-        except OSError as fault:  # make isn't there
+        except OSError as fault:  # make is missing
             return f"{' '.join(command)}: {fault}"
         if done.returncode:
             return f"{done.stdout}\n{' '.join(command)}: status {done.returncode}"
@@ -178,7 +178,7 @@ class Progress:
 
     def run_beside(self, chosen: list[Job]) -> None:
         """Runs jobs side by side, but those that write into the same folders one after another. If
-        one of them needs the library this is built first, beside those that don't."""
+        a job needs the library, the library is built first, beside jobs that don't need it."""
         packing = [it for it in chosen if it.is_packing]
         queues = [packing, *([it] for it in chosen if not it.is_packing)]
         queues.sort(key=lambda queue: any(it.needs_library for it in queue))

@@ -145,8 +145,7 @@ def imports_of(item: Item) -> list[tuple[str, Place]]:
 
 
 def stated(item: Item, owner: Item | None, is_run: bool) -> list[str]:
-    """The text that the line of an item is over: all that others see of the item but its
-    clauses."""
+    """The text whose sum an item's line has: all that others see of the item except its clauses."""
     words = [*item.attributes, *item.head]
     if item.kind == "fn" and owner is not None and owner.kind == "impl":
         words = [*owner.head, *words]

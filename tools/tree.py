@@ -36,7 +36,7 @@ def need_rt(what: str) -> None:
 
 
 def told_by_rt(*words: str) -> str:
-    """The output of rt."""
+    """The output of a command of rt."""
     return subprocess.run([RT, *words], capture_output=True, text=True, check=True).stdout
 
 
@@ -85,7 +85,7 @@ def has_edit(crate: str, name: str) -> bool:
 
 
 def tell_each(seconds: float, tell: Callable[[], None]) -> None:
-    """Prints a report every so many seconds, beside the program's work."""
+    """Prints a report at this interval, beside the program's work."""
 
     def work() -> None:
         while True:

@@ -54,8 +54,7 @@ class Edit:
         return found if found != texts else None
 
     def is_local(self, texts):
-        """Whether it changes its function alone, and so nothing of those that are planted beside
-        it."""
+        """Whether the edit changes its function alone, and so none that is planted beside it."""
         for change in self.changes:
             above = texts[change.place(texts)].partition(change.old)[0]
             heads = HEAD.findall(above)

@@ -153,7 +153,8 @@ class RunsTest(unittest.TestCase):
                     self.assertEqual(done, Ended(2, "", "credbook: write\n"))
 
     def test_stopped_streams(self) -> None:
-        """Streams that fail in mid-stream: what had come is answered, and a front is written."""
+        """Streams that fail in mid-stream: the lines before are answered, and a front of the
+        answers is written."""
         ours, theirs = socket.socketpair()
         with ours, theirs:
             ours.sendall(b"account a\naccou")
@@ -192,7 +193,7 @@ class RunsTest(unittest.TestCase):
 
     @each((1, (0,)), (2, (1, 2)), (4, (3, 4)), (64, (3, 4)))
     def test_threads(self, workers: int, wanted: Any) -> None:
-        """As many threads hash as were asked for: the caller's waits for them, or is one of
+        """As many threads hash as --threads sets: the caller's thread waits for them, or is one of
         them."""
         script = SCRIPT.replace("m=256,t=2,p=1", "m=1024,t=4,p=4").rpartition("show")[0]
         script += f"begin 2 verify a {PASSWORD}\ncommit 2\n"

@@ -87,7 +87,7 @@ def lines_of(accounts: Accounts) -> str:
 
 
 class Book:
-    """A file, and the program on it."""
+    """A book's file, and the program on it."""
 
     def __init__(self, path: pathlib.Path) -> None:
         self.path = path
@@ -137,12 +137,12 @@ class Book:
         return done.written.split()
 
     def remove(self) -> None:
-        """Removes the file, and all files beside it under its name."""
+        """Removes the file, and all files beside it with its name."""
         for file in self.path.parent.glob(f"{self.path.name}*"):
             file.unlink()
 
     def move_to(self, target: "Book") -> None:
-        """Copies the file and its log as `cp` does, over what is there."""
+        """Copies the file and its log as `cp` does, over existing files."""
         target.remove()
         for source, copy in ((self.path, target.path), (self.log, target.log)):
             if source.exists():
@@ -150,7 +150,7 @@ class Book:
 
 
 class Service(contextlib.AbstractContextManager["Service"]):
-    """A program that answers lines. It is killed if it is there for too long."""
+    """A program that answers lines. The test kills it if it runs for too long."""
 
     def __init__(self, command: list[str], **options: Any) -> None:
         pipe = subprocess.PIPE
@@ -195,7 +195,7 @@ class Service(contextlib.AbstractContextManager["Service"]):
         return feeder
 
     def end(self, given: str = "") -> Ended:
-        """Its end with this as its last input, and the output until then."""
+        """The service's end after this last input, with the output until then."""
         written, faults = self.process.communicate(given.encode(), LONGEST)
         return Ended(self.process.returncode, text_of(written), text_of(faults))
 
@@ -276,8 +276,8 @@ class BookTest(unittest.TestCase):
         self.assertGreater(book.log.stat().st_size, EMPTY_LOG)
 
     def once(self, folder: pathlib.Path, look: Callable[[Book], Found]) -> Found:
-        """The findings of a look that depends on a folder's files alone: the same are looked at
-        once."""
+        """The findings of a look that depends only on a folder's files: equal folders share one
+        look."""
         files = [(it.name, it.stat().st_mode, it.read_bytes()) for it in folder.iterdir()]
         key = tuple(sorted(files))
         if key not in self.seen:
@@ -309,7 +309,7 @@ class BookTest(unittest.TestCase):
         return ends
 
     def assertRows(self, ask: Callable[[str], Any], rows: Iterable[tuple[str, Any]]) -> None:
-        """Each of these lines or words has this answer or end."""
+        """Each of these lines or commands has this answer or end."""
         for words, wanted in rows:
             with self.subTest(words=words):
                 self.assertEqual(ask(words), wanted)
@@ -322,12 +322,12 @@ class BookTest(unittest.TestCase):
         self.assertTrue(found == change.after or not is_said, f"an answered change is gone: {done}")
 
     def assertKept(self, answered: int, names: list[str], found: Iterable[str]) -> None:
-        """Of new names those that were answered are there, and at most the next one."""
+        """The book has all answered new names, and at most the next one."""
         may = (set(names[:answered]), set(names[: answered + 1]))
         self.assertTrue({*found} in may, f"{answered} were answered, and not those are there")
 
     def assertFails(self, done: Ended, status: int, *texts: str) -> None:
-        """It wrote nothing, and its messages have each of these texts."""
+        """The run wrote nothing, and its messages have each of these texts."""
         self.assertEqual((done.status, done.written), (status, ""), done.faults)
         for text in texts or (" ",):
             self.assertIn(text, done.faults)

@@ -11,7 +11,7 @@ from typing import NamedTuple
 
 from tests.credkeep.books import CHEAP, Book, says
 
-# How many passwords an operation has, and whether the last of them makes a record.
+# The number of an operation's passwords, and whether the last of them gets a record.
 PASSWORDS = dict.fromkeys(("verify", "login", "enrol", "upgrade", "remove", "reset"), 1)
 PASSWORDS["change"] = 2
 MAKING = {"enrol", "change", "upgrade", "reset"}
@@ -82,6 +82,6 @@ DOORS: dict[str, Door] = {
 
 
 def perform(test: unittest.TestCase, book: Book, door: Door, rows: Iterable[Row]) -> None:
-    """Performs each operation at a door, or at the service if the door hasn't it."""
+    """Performs each operation at a door, or at the service if the door lacks it."""
     for is_there, group in itertools.groupby(rows, lambda it: it[0].split()[0] in door.verbs):
         (door if is_there else DOORS["serve --tagged"]).perform(test, book, [*group])

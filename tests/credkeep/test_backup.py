@@ -26,7 +26,7 @@ class CopyTest(BookTest):
         self.assertEqual(contents(self.room).keys(), {*names})
 
     def assertWhole(self, book: Book, accounts: Accounts) -> None:
-        """The file alone is this book, and has no log; so says SQLite, and so does the program."""
+        """The file alone is this book, without a log, both for SQLite and for the program."""
         self.assertFalse(book.log.exists(), "it has a log")
         self.assertEqual(stat.S_IMODE(book.path.stat().st_mode), 0o600)
         self.assertSound(book)
@@ -37,8 +37,8 @@ class CopyTest(BookTest):
 
 class BackupTest(CopyTest):
     def test_service(self) -> None:
-        """While a service adds accounts one by one, each copy has the first so many, and all that
-        were answered before."""
+        """While a service adds accounts one by one, each copy has the first few, and all that were
+        answered before."""
         answered = [0]
         copies: list[tuple[int, int, Ended, Book]] = []
 
@@ -65,7 +65,7 @@ class BackupTest(CopyTest):
         self.assertEqual(len(self.book.names()), 1500)
 
     def test_refused(self) -> None:
-        """A file that may not be overwritten stays, and nothing is left beside it."""
+        """A backup leaves a file that it may not overwrite, and no other file beside it."""
         book, other = self.begun({"ann": RECORD}), self.begun({"bob": ""}, "other.db")
         link, text = self.room / "link.db", self.room / "text"
         link.symlink_to(book.path)
@@ -91,8 +91,8 @@ class BackupTest(CopyTest):
         self.assertLeft("users.db", "other.db", "link.db", "text")
 
     def test_later(self) -> None:
-        """A copy that is there is replaced, also one that was looked at; so is that of a link's
-        file, which comes back through the link, and the link stays."""
+        """A backup replaces an existing copy, also one that was read. Through a link it replaces
+        the link's file, and a restore works through the link, which stays."""
         book, copy, link = self.begun(), self.file("copy.db"), self.file("link.db")
         link.path.symlink_to(book.path)
         for at, name in enumerate(("ann", "bob", "cid"), 1):
@@ -109,8 +109,8 @@ class BackupTest(CopyTest):
         self.assertEqual(book.names(), ["ann", "bob", "cid"])
 
     def test_parts_of_others(self) -> None:
-        """Links and foreign files at the names of what is written beside a copy are neither
-        followed nor taken."""
+        """A backup neither follows links nor uses foreign files at the names of its temporary
+        files."""
         book, copy, prey = self.begun({"ann": RECORD}), self.file("copy.db"), self.room / "prey"
         prey.write_text("prey\n")
         for end in ("-read", "-new"):
@@ -176,8 +176,8 @@ class RestoreTest(CopyTest):
         self.assertEqual(book.names(), ["ann", "k1", "k2", "k3"])
 
     def test_refused(self) -> None:
-        """A file in use, one that isn't a book's, and a copy that is none leave everything as it
-        is. A file in use is told of before the copy is read."""
+        """A restore changes nothing if the file is in use or no book, or the copy is none. It
+        reports a file in use before it reads the copy."""
         book, copy = self.begun({"ann": RECORD}), self.begun({"bob": ""}, "copy.db")
         text, other, bad = (self.file(name) for name in ("text", "other.db", "bad.db"))
         text.path.write_text("hello\n" * 100)
@@ -205,8 +205,8 @@ class RestoreTest(CopyTest):
         self.assertEqual(book.accounts(), {"ann": RECORD, "late": ""})
 
     def test_waits(self) -> None:
-        """With --wait it is put back once the service has ended; a service that waits meanwhile has
-        the restored book."""
+        """With --wait a restore runs once the service has ended; a service that waits meanwhile
+        gets the restored book."""
         copy = self.begun({"bob": ""}, "copy.db")
         restore = self.book.command("restore", str(copy.path), wait=30)
         with self.book.tagged() as service:

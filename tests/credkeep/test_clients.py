@@ -45,7 +45,7 @@ class Line:
         self.text = f"{tag} {Operation.of(' '.join(words)).line()}"
 
     def done(self, stored: Stored | None) -> tuple[str, Stored | None]:
-        """The reply that one thread has for it, and the record that is there afterwards."""
+        """The reply of one thread to the line, and the record afterwards."""
         if self.verb == "enrol":
             return ("exists", stored) if stored else ("enrolled", self.made)
         if self.verb == "reset":
@@ -96,7 +96,7 @@ class Clients:
         return True
 
     def go(self, most: int | None = None) -> None:
-        """Runs until so many operations are answered, or there is no answer any more."""
+        """Runs until this many operations are answered, or no answer comes any more."""
         self.send(*(f"c{at}" for at in range(CLIENTS)))
         while (most is None or self.number < most) and self.take():
             self.send(self.history[-1].tag)

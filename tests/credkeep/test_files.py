@@ -26,7 +26,7 @@ def database(text: str) -> Callable[[pathlib.Path], None]:
     return make
 
 
-# What holds no book, and what is told of it.
+# Files that hold no book, with the message for each.
 NO_BOOKS = [
     (lambda path: path.touch(), "it is empty; init begins a book in it"),
     (lambda path: path.write_text("ann:x\n" * 1000), "it is no database"),
@@ -72,7 +72,8 @@ class FormatTest(BookTest):
         self.assertEqual(self.book("check", "cat", given="password"), says("yes"))
 
     def test_analyzed(self) -> None:
-        """The statistics of ANALYZE are beside the table, and nothing is done to them."""
+        """A file with ANALYZE's statistics beside the table is a book, and they stay as they
+        are."""
         self.begun({"ann": RECORD, "bob": ""})
         rows(self.book.path, "ANALYZE")
         statistics = rows(self.book.path, "SELECT * FROM sqlite_stat1")
@@ -88,8 +89,8 @@ class FormatTest(BookTest):
         self.assertEqual(self.book.names(), ["cat", "dan", "eve"])
 
     def test_files_that_hold_no_book(self) -> None:
-        """Each has its text, and nothing is written into it or beside it. Where the text names
-        init, that begins a book."""
+        """Each file that holds no book has its message, and nothing is written into it or beside
+        it. If the message names init, init begins a book there."""
         for make, text in NO_BOOKS:
             for words in ORDERS[: -1 if "init" in text else None]:
                 shutil.rmtree(self.room)
@@ -152,8 +153,8 @@ class FormatTest(BookTest):
 
 class NamesTest(BookTest):
     def test_files_of_init(self) -> None:
-        """An existing file is used if it is this user's alone and empty; a book is said to be
-        one."""
+        """init uses an existing file if it is empty and only this user's; the message says if it is
+        a book."""
         book, owner = self.file("new.db"), os.getuid()
         book.path.touch()
         refused = [(mode, owner, "others can read or write it") for mode in (0o666, 0o644, 0o620)]
@@ -217,8 +218,8 @@ class NamesTest(BookTest):
 
 class LocksTest(BookTest):
     def test_two_processes(self) -> None:
-        """Beside a process that has the file it is busy for every other one, also if the process is
-        stopped for a while."""
+        """While one process has the file, it is busy for all others, even if that process is
+        stopped."""
         with self.book.tagged() as service:
             self.assertEqual(service.ask("t account ann"), "t ok")
             service.process.send_signal(signal.SIGSTOP)
@@ -231,7 +232,8 @@ class LocksTest(BookTest):
         self.assertEqual(self.book.names(), ["ann"])
 
     def test_waits(self) -> None:
-        """With --wait it is tried again until the seconds are over, or the other has ended."""
+        """With --wait the program tries again until the seconds are over, or the other process has
+        ended."""
         with self.book.tagged() as service:
             self.assertEqual(service.ask("t account ann"), "t ok")
             start = time.monotonic()

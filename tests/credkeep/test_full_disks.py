@@ -21,7 +21,7 @@ class LostTest(BookTest):
         return done, left
 
     def assertLost(self, done: Ended, book: Book, before: Accounts) -> None:
-        """The change that failed is named, and every one before it is there."""
+        """The message names the failed change, and the book has every change before it."""
         answered = done.written.count("ok\n")
         self.assertEqual((done.status, done.written), (5, "t ok\n" * answered), done.faults)
         self.assertTrue(0 < answered < COUNT, f"{answered} answered")
@@ -41,8 +41,8 @@ class DisksTest(LostTest):
         self.assertLost(*self.on_full_disk(256 * 1024), {})
 
     def test_imports(self) -> None:
-        """The import is named, and all or none of it is kept. The message has the system's refusal:
-        no clause says which error a lost import names."""
+        """The message names the import, and the book keeps all or none of it. The message has the
+        system's refusal: no clause says which error a lost import names."""
         self.book.add("ann")
         lines = lined(f"n{at}:{RECORD}" for at in range(COUNT))
         done = self.book("import", given=lines, **small_files(100_000))

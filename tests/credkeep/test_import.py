@@ -27,14 +27,14 @@ def other_texts(done: Ended) -> str:
 
 class ImportTest(BookTest):
     def assertNames(self, done: Ended, wanted: Ended, lines: dict[int, str]) -> None:
-        """It ends so, names these lines, and says nothing else but what is wanted."""
+        """The import ends so, names these lines, and prints nothing else but these texts."""
         found = (done[:2], named_lines(done), other_texts(done))
         self.assertEqual(found, (wanted[:2], lines, wanted.faults))
 
 
 class OthersTest(ImportTest):
     def test_files_of_htpasswd(self) -> None:
-        """Its own records are named, and ours are imported."""
+        """The import names htpasswd's own records, and imports ours."""
         need("htpasswd")
         path = self.room / "passwd"
         path.write_text(f"# the admins\n\nann:{RECORD}\n")
@@ -118,7 +118,7 @@ class OthersTest(ImportTest):
         return run("sh", "-c", command, at=self.room, env={"PATH": f"{self.room}:{path}"})
 
     def test_exports_beside_an_earlier_servers_locks(self) -> None:
-        """They are refused while that file has a line."""
+        """Exports are refused while the earlier server's file of locks has a line."""
         accounts = {"ann": RECORD, "dan": ""}
         self.begun(accounts)
         locks = self.room / "users.db-locks"

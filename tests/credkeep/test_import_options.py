@@ -178,8 +178,8 @@ class OptionsTest(ImportTest):
                     self.assertSound(book)
 
     def test_counts(self) -> None:
-        """In JSON they are numbers by name; --quiet hides them, and bad lines are named all the
-        same. An answer that can't be written is named, and its change is stored."""
+        """In JSON the counts are numbers by name. --quiet hides them, and bad lines are still
+        named. A message reports an answer that can't be written, and its change is stored."""
         lines = f"ann:{OTHER}\nx\nfay:\n"
         for option, counts in (
             ("--update", {"added": 1, "updated": 1, "there": 0, "bad": 1}),
@@ -203,8 +203,8 @@ class OptionsTest(ImportTest):
         self.assertEqual(done, Ended(6, "", f"credkeep: line 1: {why}\n"))
 
     def test_dry_runs(self) -> None:
-        """With every choice of options a dry run says what the import does then, and not a byte of
-        the file is changed."""
+        """With every choice of options a dry run reports what the import would do, and changes no
+        byte of the file."""
         before, good = {"ann": RECORD, "bob": ""}, f"ann:\nbob:{RECORD}\ncat:\n"
         bad = f"ann:{OTHER}\n\nbad\ncat:{RECORD}\ncat:\ndan:!x\n# end\n"
         choices = ("--skip-bad", "--disable-locked", "--keep-locked", "--update", "--skip-existing")

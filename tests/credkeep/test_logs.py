@@ -1,4 +1,4 @@
-"""The log beside a file: what is in it, what is damaged in it, and whose it is."""
+"""The log beside a file: its changes, its damages, and the file that it belongs to."""
 
 import json
 import random
@@ -24,7 +24,7 @@ os._exit(0)
 
 class LogsTest(CopyTest):
     def test_verify(self) -> None:
-        """It says how many accounts and changes there are, of a served file too, and writes
+        """`verify` prints the numbers of accounts and changes, also of a served file, and writes
         nothing."""
         book = self.begun({"ann": RECORD})
         self.assertEqual(book("verify"), counted(1, 0))
@@ -41,8 +41,8 @@ class LogsTest(CopyTest):
         self.assertEqual(contents(self.room), before)
 
     def test_damaged_changes(self) -> None:
-        """A bit that turned in a change is told with the changes before and behind, and the files
-        stay as they are."""
+        """`verify` reports a flipped bit in a change, with the changes before and behind, and
+        leaves the files as they are."""
         book, chance = self.begun({"ann": RECORD}), random.Random(3)
         self.killed_after(book, *(f"account k{at}" for at in range(12)))
         file, log = book.path.read_bytes(), book.log.read_bytes()
@@ -73,7 +73,7 @@ class LogsTest(CopyTest):
                 self.assertWhole(book, {"ann": RECORD, **kept})
 
     def test_damaged_heads(self) -> None:
-        """A log whose header is damaged is told of; one that is whole isn't."""
+        """`verify` reports a log with a damaged header, and no whole log."""
         book = self.begun({"ann": RECORD})
         self.killed_after(book, *(f"account k{at}" for at in range(5)))
         log = book.log.read_bytes()

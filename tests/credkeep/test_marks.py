@@ -10,12 +10,12 @@ MAKING = ("add", "change", "reset", "upgrade")
 
 
 def yes(answer: str) -> Ended:
-    """The end of an order that is done."""
+    """The end of an order that took effect."""
     return Ended(0, f"{answer}\n")
 
 
 def no(answer: str) -> Ended:
-    """The end of an order that is not done."""
+    """The end of an order that took no effect."""
     return Ended(4, f"{answer}\n")
 
 

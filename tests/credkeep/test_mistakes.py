@@ -1,5 +1,5 @@
-"""Mistakes as people type them at a shell, and the words that each message has: who reads it alone
-knows what to type."""
+"""Common mistakes at a shell, and the words that each message must have: the message alone shows
+its reader what to type."""
 
 import os
 import pathlib
@@ -21,7 +21,7 @@ MISSING = "the following required arguments were not provided:\n  "
 EMPTY = "it is empty; init begins a book in it"
 NO_FOLDER = "its folder doesn't exist; mkdir -p makes one"
 
-# What is typed in a folder with the book u.db, in which ada has "secret"; the status; what is said.
+# The line typed in a folder with the book u.db, in which ada has "secret"; the status; the message.
 TYPED = [
     ("credkeep u.db passwd ada", 1, COMMANDS),
     ("credkeep u.db login ada", 1, COMMANDS),

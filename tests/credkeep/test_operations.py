@@ -5,7 +5,7 @@ from tests.credkeep.doors import DOORS, Tagged, perform
 from tests.helpers import Ended
 from tests.operations import OPERATIONS
 
-# What a line may not be, and the fault that it is answered by.
+# Faulty lines, and the fault that answers each.
 FAULTS = [
     ("frob ann", "11 line"),
     ("show", "11 line"),
@@ -85,7 +85,7 @@ class OperationsTest(BookTest):
                 self.assertSound(book)
 
     def test_faults(self) -> None:
-        """A line that isn't one is answered by its fault, and has no effect."""
+        """The answer to a faulty line is its fault, and the line has no effect."""
         found = self.book.answers(*(f"t {line}" for line, _ in FAULTS))
         self.assertEqual([*zip(FAULTS, found)], [(it, f"t bad {it[1]}") for it in FAULTS])
         self.assertEqual(self.book.names(), [])

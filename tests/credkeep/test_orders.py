@@ -1,4 +1,4 @@
-"""Orders on an account: what they read, the records that they make, and what they show."""
+"""Orders on an account: their input, the records that they write, and their output."""
 
 import base64
 import json
@@ -94,7 +94,7 @@ class PasswordsTest(BookTest):
                 self.assertEqual(self.book(*words, given=given), wanted)
 
     def test_passwords_are_not_shown(self) -> None:
-        """Neither the words nor what is said on standard error holds a password."""
+        """Neither the words of a process nor its standard error has a password."""
         secret = "aVeryRareSecret"
         with self.book.start("add", "ann") as run:
             run.send(secret)
@@ -114,7 +114,7 @@ class PasswordsTest(BookTest):
 
 class RecordsTest(BookTest):
     def test_default_setting(self) -> None:
-        """Each order that makes a record has RFC 9106's second choice, and a salt of 16 bytes."""
+        """Each order that writes a record uses RFC 9106's second choice, and a salt of 16 bytes."""
         self.begun({"ann": RECORD})
         made = []
         for order, name, given, answer in (
@@ -139,8 +139,8 @@ class RecordsTest(BookTest):
         return found
 
     def test_fresh_salts(self) -> None:
-        """Each salt is another one, and each of its 16 bytes takes many values: those that an
-        order draws, and those that a service of tagged lines does."""
+        """The salts of orders, and of a service of tagged lines, all differ, and each of their 16
+        bytes takes many values."""
         for at in range(100):
             self.book.add(f"a{at}")
         for at in range(0, 100, 4):

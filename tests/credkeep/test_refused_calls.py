@@ -101,8 +101,8 @@ class RefusedCallsTest(BookTest):
         self.refuse_each(service, WRITES, "error=EIO", Book.names, judge)
 
     def test_init(self) -> None:
-        """It leaves an empty book, or no file, and the next one goes on from there; status 0 says
-        that the book is there."""
+        """An init that fails leaves an empty book or no file, and the next init goes on from there.
+        Status 0 means that the book exists."""
 
         def look(book: Book) -> bool:
             is_there = book.path.exists() and book("list") == DONE

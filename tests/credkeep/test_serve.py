@@ -1,4 +1,5 @@
-"""A service: how long it answers, what ends it, and what it does without memory."""
+"""A service: the time for which it answers, the causes of its end, and its answers without
+memory."""
 
 import resource
 import time
@@ -6,7 +7,7 @@ import time
 from tests.credkeep.books import DONE, SALT, SERVE, TAG, BookTest, lined
 from tests.helpers import Ended, need_native
 
-# What a service has where memory is short, in bytes, and a setting that asks for more.
+# The memory of a service where memory is short, in bytes, and a setting that needs more.
 SHORT_MEMORY = 700_000_000
 COSTLY = f"$argon2id$v=19$m=1000000,t=1,p=1${SALT}"
 MODEST = f"$argon2id$v=19$m=64,t=1,p=1${SALT}"
@@ -25,10 +26,10 @@ NO_MEMORY = [
     (f"enrol bob cHc {COSTLY}", "bad 4 memory"),
     (f"reset bob cHc {COSTLY}", "bad 4 memory"),
     ("show bob", "none"),
-    # What needs no such hash is answered.
+    # Lines that need no such hash are answered.
     ("verify bob cHc", "absent"),
     (f"enrol ann cHc {COSTLY}", "exists"),
-    # What hashes with less goes on.
+    # Lines that hash with less memory go on.
     (f"load ann {MODEST}${TAG}", "ok"),
     ("verify ann cHc", "no"),
     (f"enrol bob cHc {MODEST}", "enrolled"),
@@ -65,8 +66,8 @@ class LinesTest(BookTest):
         self.assertTrue(sorted(written) == sorted(f"t{it} bad 5 noaccount" for it in range(count)))
 
     def test_closed_output(self) -> None:
-        """If nobody reads the answers it ends with status 2, though its input is still open, and
-        the change of the line is kept."""
+        """If nobody reads the answers the service ends with status 2, though its input is still
+        open, and keeps the line's change."""
         with self.book.tagged() as service:
             self.assertEqual(service.ask("t account ann"), "t ok")
             service.stdout.close()

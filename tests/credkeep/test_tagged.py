@@ -1,5 +1,4 @@
-"""A service of tagged lines: what it answers, and what it does where memory, threads or the file
-fail."""
+"""A service of tagged lines: its answers, also when memory, threads or the file fail."""
 
 import os
 import pathlib

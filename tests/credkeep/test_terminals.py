@@ -58,7 +58,7 @@ class TerminalsTest(BookTest):
                 self.assertTrue(is_told or shown == ".", shown)
 
     def test_credkeep_ask(self) -> None:
-        """It shows nothing of what is typed, and its status is credkeep's."""
+        """credkeep-ask shows nothing of the typed text, and its status is credkeep's."""
         ask = [str(TOP / "bin" / "credkeep-ask"), "--wait", "5", str(self.book.path)]
         env = {**os.environ, "CREDKEEP": program("credkeep")}
         differ = "credkeep-ask: the two new passwords differ"

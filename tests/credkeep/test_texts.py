@@ -1,4 +1,4 @@
-"""Words and faults: what is told on which stream, with which status."""
+"""Words and faults: the message on each stream, and the status."""
 
 import os
 import re
@@ -183,7 +183,7 @@ class WordsTest(BookTest):
                     self.assertEqual([it for it in lines if len(it) > 80], [])
 
     def commands(self) -> list[str]:
-        """Those that the help names."""
+        """The commands that the help names."""
         helped = self.book("--help").written.split("Commands:\n")[1].split("\n\n")[0]
         return re.findall(r"^  (\w+)", helped, re.MULTILINE)
 
@@ -198,8 +198,7 @@ class WordsTest(BookTest):
                     self.assertNotIn("Secret", done.faults)
 
     def test_slips(self) -> None:
-        """Of a word that isn't taken what is safe to name is named: an option, and never the
-        word."""
+        """The message for a refused word names the option that was meant, and never the word."""
         command = program("credkeep")
         told = [(self.book.command(*words.split()), text) for words, text in SLIPS]
         early = [([command, *words, "u.db", "list"], text) for words, text in EARLY]
@@ -221,7 +220,7 @@ class WordsTest(BookTest):
         self.assertLessEqual(set(commands), set(headed))
 
     def test_refused_words(self) -> None:
-        """They are refused before the file is opened."""
+        """The program refuses these words before it opens the file."""
         book = self.file("none.db")
         for words, form in REFUSED:
             with self.subTest(words=words):

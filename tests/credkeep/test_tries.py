@@ -1,4 +1,5 @@
-"""A service that limits failed tries: what no clause says, and the whole way of an answer."""
+"""A service that limits failed tries, from the line to its answer: the part that no clause
+covers."""
 
 from collections import Counter
 
@@ -37,7 +38,7 @@ class TriesTest(BookTest):
         return found
 
     def test_later(self) -> None:
-        """Behind so many failures a right password is told nothing, and does nothing."""
+        """After this many failures a right password gets `later`, and has no effect."""
         for line in (f"verify ann {RIGHT}", f"change ann {RIGHT} {NEW}", f"remove ann {RIGHT}"):
             with self.subTest(line):
                 found = self.answers_in_turn(*FAIL, line, "show ann")
@@ -45,9 +46,9 @@ class TriesTest(BookTest):
                 self.assertTrue(found[-1].startswith(CHEAP))
 
     def test_waits(self) -> None:
-        """Each failure is waited behind twice as long as the one before, to a quarter of an hour,
-        also if the clock is set back meanwhile; each try is told the seconds that are left. A right
-        password ends that."""
+        """The wait doubles with each failure, up to a quarter of an hour, also if the clock is set
+        back meanwhile. Each early try gets the seconds that are left. A right password ends the
+        wait."""
         waits = [1, 2, 4, 8, 16, 32, 64, 128, 256, 512, 900, 900]
         with self.limited() as service:
 
@@ -77,7 +78,8 @@ class TriesTest(BookTest):
                 self.assertEqual(found, ["t no"] * LIMIT + ["t later 1"])
 
     def test_many_at_once(self) -> None:
-        """Of many at once so many fail, and the others are later; all right ones are told so."""
+        """Of many wrong tries at once the limit fails, and the others get `later`; right ones at
+        once all get yes."""
         few = {"no": LIMIT, "later 1": 40 - LIMIT}
         for password, wanted in ((WRONG, few), (RIGHT, {"yes": 40})):
             with self.subTest(wanted), self.limited() as service:
@@ -93,13 +95,15 @@ class TriesTest(BookTest):
                 self.assertEqual(found, [answer] * (LIMIT + 2))
 
     def test_forgive(self) -> None:
-        """It is told of each account, also of one without failures, and of no other name."""
+        """`forgive` answers for each account, also for one without failures, and for no other
+        name."""
         found = self.answers_in_turn("forgive ann", *FAIL, "forgive ann", "forgive dan")
         self.assertEqual(found, ["forgiven", *["no"] * LIMIT, "forgiven", "noaccount"])
         self.assertEqual(self.book.answers("t forgive ann"), ["t forgiven"])
 
     def test_what_forgives(self) -> None:
-        """A reset and `forgive` do. A deletion, a lock or a load doesn't, nor does another's."""
+        """A reset and `forgive` end a wait. A deletion, a lock or a load doesn't, nor does a change
+        of another account."""
         rows = [
             ([f"reset ann {NEW}"], "no"),
             (["forgive ann"], "no"),

@@ -54,7 +54,7 @@ PACKERS = (
 
 
 class Packer:
-    """One who packs, in a folder of its own."""
+    """A packer, in a folder of its own."""
 
     def __init__(self, room, umask, before, env):
         self.room, self.umask, self.before = room, umask, before
@@ -73,7 +73,7 @@ def sum_of(data):
 
 
 class Packing(helpers.Case):
-    """A test of what is packed of a clone, by each of the packers."""
+    """A test of the packages that each packer builds from a clone."""
 
     def setUp(self):
         super().setUp()
@@ -105,7 +105,7 @@ class Packing(helpers.Case):
         return top
 
     def packed(self, packer):
-        """The tarball that one makes."""
+        """The tarball that a packer builds."""
         top = self.clone(packer)
         packer.run(top, "/usr/bin/python3 tools/dist.py")
         packer.run(top / "out", f"sha256sum -c --status {NAME}.tar.xz.sha256")

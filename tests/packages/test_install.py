@@ -118,8 +118,7 @@ class Install(helpers.Case):
     seconds = 1800
 
     def test_install_and_uninstall(self):
-        """All that is installed below /usr/local is found and works, and uninstall leaves
-        nothing."""
+        """All files installed below /usr/local are found and work, and uninstall leaves nothing."""
         need_root()
         need_file(*BUILT)
         if not all(map(levels, PROGRAMS)):  # the gate's own aren't known to be for a level
@@ -195,7 +194,7 @@ class Folders(helpers.Case):
         self.assertEqual(self.left(), [])
 
     def test_folders_of_others_stay(self):
-        """Those that were there before, and those in which others have put something since."""
+        """Uninstall leaves folders that existed before, and folders with files of others."""
         (self.prefix / "share/zsh").mkdir(parents=True)
         for part in self.parts:
             self.make(part, "install")
@@ -301,7 +300,7 @@ class Debs(helpers.Case):
         self.check(self.debs("python"), [("python3-rigzumal", "all")])
 
     def test_programs(self):
-        """Each unit, page and module of the server is in one."""
+        """Each unit, page and module of the server is in a package."""
         need_file(*BUILT, "/usr/include/security/pam_modules.h")
         debs = self.debs("c/pam", "CPU=")
         self.check(debs, [("rigzumal-tools", "amd64"), ("libpam-rigzumal", "amd64")])

@@ -177,7 +177,7 @@ class WithoutRt(helpers.Case):
 
     @each(("proved", "."), ("check-proved", "c"), ("dist", "."))
     def test_what_needs_rt(self, target, folder):
-        """It says so in one line."""
+        """A command that needs rt says so in one line."""
         said = self.make("-s", target, folder=folder, status=2)
         lines = [it for it in said.splitlines() if not it.startswith("make")]
         self.assertEqual(len(lines), 1, said)

@@ -91,13 +91,13 @@ class Tries:
         self.failed = dict[str, tuple[int, float]]()
 
     def rest(self, name: str) -> int:
-        """For how many seconds more the next has to wait."""
+        """The seconds that the next try still has to wait."""
         count, last = self.failed.get(name, (0, 0.0))
         wait = min(2 ** (count - self.limit), LONGEST_WAIT) if count >= self.limit > 0 else 0
         return max(0, math.ceil(last + wait - seconds()))
 
     def count(self, name: str, said: str) -> str:
-        """Counts what is answered to a try, and returns it."""
+        """Counts the answer to a try, and returns it."""
         if said not in ("no", "wrong"):
             self.forgive(name)
         elif self.limit:
@@ -128,7 +128,7 @@ class Accounts:
             del self.rows[name]
 
     def put(self, name: str, row: str, said: str) -> str:
-        """Keeps a row, or "gone", and returns what is said."""
+        """Stores a row, or "gone", and returns the answer."""
         self.set(name, row)
         return said
 
@@ -276,7 +276,7 @@ WRITTEN = itertools.count()
 
 
 def write(operation: str, tag: str, said: str) -> None:
-    """Writes an answer, or what comes in its place."""
+    """Writes an answer, or the fault in its place."""
     written = next(WRITTEN)
     for word in FAULTS.keys() & {"dies", "killed"}:
         if written >= int(FAULTS[word]):

@@ -49,7 +49,7 @@ def shell(line: str, status: int = 0) -> str:
 
 
 def private(room: pathlib.Path, *paths: str) -> None:
-    """Has changes to folders go into the room, and not to the machine."""
+    """Redirects changes of folders into the room, away from the machine."""
     over = room / "over"
     over.mkdir()
     shell(f"mount -t tmpfs none {over}")

@@ -67,7 +67,7 @@ class Case(helpers.Case):
 
 
 class BesideCase(Case):
-    """Lines that come at once, over credkeep itself where it is built."""
+    """Tests of lines sent at once, over credkeep itself if it is built."""
 
     def over(self, **passwords: str) -> "Service":
         program = chosen_book()
@@ -102,7 +102,7 @@ def chosen_book() -> pathlib.Path:
 
 
 def cpu(pid: int) -> float:
-    """Seconds of processor time that a process took so far."""
+    """The seconds of processor time that a process has used."""
     fields = pathlib.Path(f"/proc/{pid}/stat").read_text().rpartition(")")[2].split()
     return (int(fields[11]) + int(fields[12])) / os.sysconf("SC_CLK_TCK")
 
@@ -152,7 +152,7 @@ class Client(contextlib.AbstractContextManager["Client"]):
         self.socket.sendall(data.encode() if isinstance(data, str) else data)
 
     def wait_until_read(self) -> None:
-        """Until the server has read all that was sent."""
+        """Waits until the server has read all sent bytes."""
         none = bytes(4)
         until(lambda: fcntl.ioctl(self.socket, termios.TIOCOUTQ, none) == none, "it is read")
 
@@ -265,7 +265,7 @@ class Service:
         return self.client(), self.client("admin")
 
     def talk(self, table: str) -> None:
-        """As a client's, with the socket in front of each line."""
+        """Asks the lines of a table as Client.talk, with the socket before each line."""
         with Client(self.path("login")) as login, Client(self.path("admin")) as admin:
             for row in table.strip().splitlines():
                 door, _, rest = row.lstrip().partition(" ")
@@ -295,7 +295,7 @@ class Service:
         return self
 
     def guess(self, name: str, count: int) -> None:
-        """Has so many tries at a name fail, each once it isn't too early any more."""
+        """Makes this many tries at a name fail, each once it isn't too early any more."""
         with Client(self.path()) as client:
             for _ in range(count):
                 until(lambda: client.ask(f"verify {name} {WRONG}") == "no", "a failed try")
@@ -306,7 +306,7 @@ class Service:
         (self.folder / "clock.new").rename(self.folder / "clock")
 
     def stop(self) -> None:
-        """Ends it in order."""
+        """Ends the server in order."""
         self.process.terminate()
         same(self.process.wait(timeout=LONGEST), 0, self.log())
 
@@ -315,7 +315,7 @@ class Service:
         return self.process.wait(timeout=LONGEST), self.log()
 
     def end(self) -> None:
-        """Ends it, and its clients, whatever they are at."""
+        """Ends the server and its clients, whatever they do."""
         for client in self.clients:
             client.close()
         self.process.terminate()

@@ -70,7 +70,7 @@ class CredkeepAsk(Case):
         return {name: str(it) for name, it in named.items()}
 
     def command(self, words: str) -> list[str]:
-        """Its command; what the stand-in noted before is forgotten."""
+        """The command of credkeep-ask; removes the stand-in's earlier notes."""
         for name in ("words", "given", "environment"):
             (self.folder / name).unlink(missing_ok=True)
         return [str(ASK), *words.split("|")]
@@ -88,7 +88,7 @@ class CredkeepAsk(Case):
         return path.read_text() if path.exists() else ""
 
     def nothing_was_given(self, shown: Shown, status: int, said: str = "") -> None:
-        """It ended before credkeep got more than a look at the account."""
+        """credkeep-ask ended before credkeep got more than a look at the account."""
         self.assertEqual((shown.status, shown.echoes[-1]), (status, True), f"{shown.text!r}")
         self.assertIn(said.encode(), shown.text)
         self.assertEqual((self.noted("words"), self.noted("given")), (f"{SHOW}\n", ""))
@@ -146,8 +146,8 @@ class CredkeepAsk(Case):
         ("a.db|check|--setting=$scrypt$..|ada", "0|a.db|show|ada"),
     )
     def test_words(self, given: str, shown: str) -> None:
-        """Its words come as they are to credkeep, which is first asked for the account with the
-        same wait."""
+        """credkeep-ask passes its words to credkeep as they are, after a look at the account with
+        the same wait."""
         self.assertEqual(self.asked(given, ONE).status, 7)
         self.assertEqual(self.noted("words"), f"--wait|{shown}|\n{given}|\n")
 
@@ -170,13 +170,14 @@ class CredkeepAsk(Case):
         self.assertEqual(self.noted("given"), "as it is")
 
     def test_show(self) -> None:
-        """It is credkeep's alone, too, and reads nothing."""
+        """`show` is credkeep's alone too, and reads nothing."""
         done = self.without_a_terminal("a.db|show|ada", "as it is")
         self.assertEqual((done.status, done.faults), (0, ""))
         self.assertEqual((self.noted("words"), self.noted("given")), ("a.db|show|ada|\n", ""))
 
     def test_a_backup(self) -> None:
-        """It says what it leaves out: locks that an earlier server kept beside the book."""
+        """A backup reports what it leaves out: locks that an earlier server kept beside the
+        book."""
         said = "credkeep-ask: users.db-locks has locks of an earlier credkeep-server"
         for has_locks in (False, True):
             if has_locks:
@@ -188,7 +189,7 @@ class CredkeepAsk(Case):
 
     @each(" a b ", "a\\n\\", "-n", "-e", "%s%n", "*", "$HOME `id` $(id)", "", "'\"", "passé")
     def test_any_bytes(self, line: str) -> None:
-        """A password is what was typed, whatever the shell makes of such letters elsewhere."""
+        """A password is the typed text, whatever a shell makes of such letters elsewhere."""
         shown = self.asked("a.db|change|ada", [f"{line}\n".encode()] * 3)
         self.assertEqual(shown.status, 7)
         self.assertEqual(self.noted("given"), f"{line}\n" * 2)

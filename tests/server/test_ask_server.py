@@ -176,7 +176,7 @@ class AskServer(Case):
                         self.assertEqual(self.check(path, b"ada", b"secret"), ("yes", 0))
 
     def test_hostile_names_of_an_administrator(self) -> None:
-        """No command takes them."""
+        """No command accepts a hostile name."""
         service = self.serving().enrol(ada="secret")
         admin, record = str(service.path("admin")), service.client("admin").ask("show ada")
         names = {what: text_of(it) for what, it in NAMES.items() if b"\0" not in it}
@@ -198,7 +198,7 @@ class AskServer(Case):
         self.assertEqual(status, 5 if "No such file" in said else 1)
 
     def test_help(self) -> None:
-        """It has a line for each command, and its page has each."""
+        """The help has a line for each command, and the manual has each command."""
         page = (TOP / "man/credkeep-ask.1").read_text()
         for words in ([], ["--help"], ["-h"], ["--server", "--help"], ["--server", "add", "-h"]):
             status, said, faults = ended([str(ASK), *words])
@@ -217,7 +217,7 @@ class AskServer(Case):
     def test_refused_passwords(
         self, password: bytes, options: tuple[str, ...], faults: str, status: int, said: str
     ) -> None:
-        """A password that isn't taken makes no account."""
+        """An `add` with a refused password adds no account."""
         admin = str(self.serving(*options, faults=faults).path("admin"))
         shown, ended_by = self.asked([admin, "add", "ada"], [password + b"\n"] * 2)
         self.assertEqual((ended_by, said in shown), (status, True), shown)
@@ -235,7 +235,7 @@ class AskServer(Case):
 
     @each(b"", b"1 del", b"2 deleted\n", b"* unavailable\n", b"1 unavailable\n")
     def test_a_server_that_ends(self, said: bytes) -> None:
-        """A lost answer is an error that says what is to be done."""
+        """After a lost answer the error says what the administrator has to do."""
         path = self.room() / "odd"
         with Peer(path, lambda _, it: it.sendall(said)):
             shown, status = self.asked([str(path), "delete", "ada"])

@@ -67,7 +67,7 @@ class HostileFields(ClientCase):
             self.run_with(path, used)
 
     def test_hostile_names_of_an_administrator(self) -> None:
-        """No call takes a name that no book can have."""
+        """No call accepts a name that no book can have."""
         service = self.serving().enrol(ada="secret")
         rows = [(call,) for call in ("account", "disable", "delete", "lock", "expire")]
         rows += [(call, "hacked") for call in ("enrol", "reset")]
@@ -180,7 +180,7 @@ class OtherLanguages(Case):
         return run("php", "-d", "error_reporting=E_ALL", script, given=given).split()
 
     def test_php_client(self) -> None:
-        """It is true, false, or null where nobody can say."""
+        """The PHP function returns true, false, or null if the server gives no answer."""
         service = self.serving("--tries", "2").enrol(ada="secret", bob="")
         logins = [(b"ada", b"secret"), (b"bob", b""), (b"ada", b""), (b"zoe", b"secret")]
         said = self.php_answers(service.path(), *logins, *[(b"ada", b"guess")] * 2, logins[0])

@@ -20,7 +20,7 @@ from served import LONGEST, SECRET, until
 
 class Clients(ClientCase):
     def test_all_calls(self) -> None:
-        """Each call, sync and asyncio, says what the book does."""
+        """Each call, for threads and for asyncio, returns the book's answer."""
         R, odd = self.server.Reply, "p\u00e4ss w\u00f6rd"
         rows: list[tuple[Any, ...]] = [
             (R.OK, "account", "ada"),
@@ -148,7 +148,8 @@ class Clients(ClientCase):
         later.join()
 
     def test_pauses_of_a_full_backlog(self) -> None:
-        """They are short: the server lets the next one in within milliseconds."""
+        """Pauses at a full backlog are short: the server lets the next client in within
+        milliseconds."""
         full = mock.Mock(connect=mock.Mock(side_effect=[BlockingIOError] * 5 + [None]))
         with mock.patch("time.sleep") as slept:
             self.server.Client("s")._connect(full, time.monotonic() + 60)
@@ -170,7 +171,7 @@ class Clients(ClientCase):
         asyncio.run(closes(self.peer(b"", "waits")))
 
     def test_late_answers(self) -> None:
-        """An answer that came too late is nobody's."""
+        """No call gets an answer that came too late."""
         path = str(self.room() / "s")
 
         async def late(reader: asyncio.StreamReader, writer: asyncio.StreamWriter) -> None:

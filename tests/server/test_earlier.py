@@ -67,7 +67,7 @@ class Earlier(Case):
         return folder / "users.db-locks"
 
     def check(self, folder: pathlib.Path, **fields: Any) -> str:
-        """The next start takes all; returns its log."""
+        """Tests that the next start takes all marks; returns its log."""
         service = self.serving("--tries", "0", folder=folder, **fields)
         self.assertFalse(self.marks(folder).exists())
         service.talk(f"admin marks - 10 -> {TAKEN}")
@@ -150,7 +150,7 @@ class Earlier(Case):
             yield disk, {"folder": folder, "file": disk / "users.db"}
 
     def test_a_full_disk(self) -> None:
-        """The same, until there is room."""
+        """On a full disk the server doesn't start, until there is room."""
         with self.on_disk() as (disk, given):
             fill(disk, 0)
             status, log = self.serving(waits=False, **dict(given)).ended()
@@ -174,7 +174,8 @@ class Earlier(Case):
             self.check(**given)
 
     def test_links_and_pipes(self) -> None:
-        """It is a regular file: of a link, or of a pipe, nothing is read."""
+        """The file of marks must be a regular one: the server reads nothing from a link or a
+        pipe."""
         folder = self.begun()
         elsewhere = folder / "elsewhere"
         self.marks(folder).rename(elsewhere)

@@ -114,7 +114,8 @@ class EarlierFiles(Case):
         return self.serving("--setting", CHEAP, program=program, folder=folder)
 
     def test_without_marks(self) -> None:
-        """It opens, nobody is locked, and it takes marks, which an export of it has."""
+        """A file without marks opens, nobody is locked, and it stores marks, which an export
+        has."""
         maker = self.serving("--setting", CHEAP, program=real_book()).enrol(ada="secret")
         record = maker.client("admin").ask("show ada")
         service = self.served({"ada": record, "bob": None, "cid": record}, "")

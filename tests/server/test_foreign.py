@@ -263,7 +263,7 @@ class Foreign(ForeignCase):
         service.talk("login verify ada b2xk -> noaccount\nlogin verify bob b2xk -> yes")
 
     def test_two_lines_of_a_name(self) -> None:
-        """The first one decides, as for nginx and Apache."""
+        """Of two lines with one name the first decides, as for nginx and Apache."""
         self.add("ada", "-s")
         first = self.file.read_text()
         self.add("ada", "-s", "old")
@@ -328,7 +328,7 @@ class Foreign(ForeignCase):
         self.assertEqual(self.over(waits=False).ended(), (1, log))
 
     def test_a_file_that_goes(self) -> None:
-        """Without it the book decides alone; it has to be there at the start."""
+        """Without the file the book decides alone; at the start the file has to exist."""
         self.add("bob", "-s")
         service = self.over()
         self.file.rename(self.folder / "away")

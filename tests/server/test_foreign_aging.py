@@ -68,7 +68,8 @@ class ForeignAging(ForeignCase):
             service.talk(f"login verify {name} {{secret}} -> yes")
 
     def test_barred_names_of_no_book(self) -> None:
-        """`marks` lists none, since the words of its answer have names of a book."""
+        """`marks` lists no barred name that no book can have, since its answer has names of a
+        book."""
         names = ("more=5", "a b", "caf\u00e9", "ada", "b" * 33)
         self.file.write_text("".join(f"{it}:x:::::x=y nologin=1\n" for it in names))
         service = self.over()

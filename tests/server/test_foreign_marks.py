@@ -101,7 +101,7 @@ class ForeignMarks(ForeignCase):
         self.assertEqual({*self.gone()}, {"ada", "bob"})
 
     def test_a_reset_of_a_locked_name(self) -> None:
-        """It moves the user, and leaves the lock."""
+        """A reset of a locked name moves the user, and leaves the lock."""
         self.over("--tries", "0").talk(
             """
             admin lock ada -> locked

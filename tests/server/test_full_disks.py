@@ -77,8 +77,8 @@ class FullDisks(Case):
         service.stop()
 
     def test_imports(self) -> None:
-        """One that may find no room isn't begun. One that finds none adds nobody, and the book is
-        open again on the full disk: logins go on."""
+        """An import that may find no room doesn't begin. One that finds none adds nobody, and the
+        book opens again on the full disk: logins go on."""
         folder = self.disk()
         service = self.over(folder, program=real_book()).enrol(ada="secret")
         admin, text = service.client("admin"), text_of(20_000)
@@ -154,7 +154,7 @@ class FullDisks(Case):
         self.assertTrue(service.client("admin").ask("show ada").startswith(costs))
 
     def test_users_of_an_old_file(self) -> None:
-        """They log in by their old records, and move once there is room."""
+        """Users of an old file log in by their old records, and move once there is room."""
         need_module("passlib.hash")
         digest = base64.b64encode(hashlib.sha1(b"secret").digest()).decode()
         old = self.room() / "htpasswd"

@@ -86,7 +86,7 @@ class HungDisks(Case):
         self.assertIn(f"{audit} lacks {lacking} lines", service.log())
 
     def test_an_end(self) -> None:
-        """It ends while the disk still hangs, and says how many lines aren't written."""
+        """The server ends while the disk still hangs, and logs the number of lost lines."""
         disk = Disk(self)
         audit = disk.folder / "audit"
         service = self.serving("--audit", str(audit)).enrol(ada="secret")
@@ -96,7 +96,8 @@ class HungDisks(Case):
         self.assertIn(f"{audit} lacks 1 lines", service.log())
 
     def test_an_end_of_a_book(self) -> None:
-        """It ends though its book can't: no signal ends a process that such a write holds up."""
+        """The server ends though its book can't: no signal ends a process that such a write holds
+        up."""
         disk = Disk(self)
         service = self.serving(file=disk.folder / "users.db").enrol(ada="secret")
         disk.hang()

@@ -124,7 +124,7 @@ class Seen(Case):
         self.assertEqual(service.log().count("no memory for a hash"), 1)
 
     def test_last(self) -> None:
-        """When a name's password was right last."""
+        """`last` answers the time of a name's last right password."""
         service = self.serving().enrol(ada="secret")
         service.talk("login verify ada {wrong} -> no\nadmin last ada -> none\nadmin last z -> none")
         before = datetime.datetime.utcnow().replace(microsecond=0)
@@ -280,7 +280,8 @@ class Audited(Case):
             self.assertNotIn(secret, path.read_text())
 
     def test_tries(self) -> None:
-        """With --audit-tries it has wrong passwords too, without the names that the book lacks."""
+        """With --audit-tries the log has wrong passwords too, without the names that the book
+        lacks."""
         path = self.room() / "audit"
         service = self.serving("--audit", str(path), "--audit-tries", "--tries", "2", clocked=True)
         service.enrol(ada="secret")

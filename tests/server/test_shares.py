@@ -29,7 +29,7 @@ IDLE_LINES = {
 }
 
 
-# Has so many connections.
+# Opens this many connections.
 CONNECTED = """import socket, sys, time
 clients = [socket.socket(socket.AF_UNIX) for _ in range(int(sys.argv[2]))]
 for it in clients:
@@ -95,12 +95,13 @@ class Floods(Case):
         self.assertFalse(door.counts)
 
     async def all_let_in(self, door: Door) -> None:
-        """Until nobody waits to be let in."""
+        """Waits until no client waits to be let in."""
         while select.select([door.listener], [], [], 0)[0]:
             await asyncio.sleep(0)
 
     def test_connections_that_have_gone(self) -> None:
-        """Each is closed as it is let in. While they have gone, few wait to be let in."""
+        """Ended connections are closed as they are let in; meanwhile the queue at the socket is
+        short."""
 
         async def waiting(is_flooded: bool) -> int:
             """A hundred come, and are let in; how many more can wait then."""
@@ -163,7 +164,7 @@ class Floods(Case):
             self.assertEqual(asyncio.run(let_in()), 49)
 
     def test_a_fault(self) -> None:
-        """It costs the client that is just let in, and the next one comes in."""
+        """A fault costs the client that is being let in, and the next client gets in."""
         share_of = mock.Mock(side_effect=[ValueError("secret"), "other"])
 
         async def let_in() -> int:
@@ -236,7 +237,7 @@ class Shares(Case):
         self.assertEqual(looked_up.mock_calls, [mock.call("root")])
 
     def test_a_peer_with_a_subordinate_uid(self) -> None:
-        """Its connections are its owner's."""
+        """A peer with a subordinate uid shares the connections of the uid's owner."""
         need_root()
         file = self.room() / "subuid"
         file.write_text("1000:100000:65536\n")

@@ -42,7 +42,7 @@ def run_nginx(room: pathlib.Path, site: str, port: int) -> Service:
 
 
 def run_apache(room: pathlib.Path, configuration: str, modules: str) -> Service:
-    """The same of Apache."""
+    """The book's server, and Apache with one of the page's sites."""
     need("apache2", "curl")
     need_file("/usr/lib/apache2/modules/mod_authnz_pam.so")
     server = started(room)

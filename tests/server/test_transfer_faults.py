@@ -31,7 +31,7 @@ class Faults(TransferCase):
         wait.unlink(missing_ok=True)
 
     def test_lines_that_wait(self) -> None:
-        """They are answered behind the import, which they see."""
+        """Waiting lines are answered after the import, and see its accounts."""
         with self.held() as (service, admin, client):
             time.sleep(0.3)
             client.socket.setblocking(False)
@@ -43,7 +43,7 @@ class Faults(TransferCase):
 
     @each(("killed", 128 + signal.SIGKILL), ("full", 5))
     def test_an_import_that_fails(self, fault: str, status: int) -> None:
-        """Nothing has changed, the status is credkeep's, and the service goes on."""
+        """A failed import changes nothing, its status is credkeep's, and the service goes on."""
         service = self.over(program=FAST_BOOK, faults=f"import={fault}")
         done = self.ask(service, "import", given=LINE.encode())
         self.assertEqual((done.status, done.written), (status, ""))
@@ -83,7 +83,8 @@ class Faults(TransferCase):
         self.assertEqual(service.ended()[0], 0)
 
     def test_a_stop_amid_one_that_hangs(self) -> None:
-        """It is killed after 18 s, as a book that hangs is, and nothing of it is done."""
+        """A stop kills a hanging import after 18 s, as it does a hanging book, and nothing is
+        imported."""
         with self.held() as (service, _, client):
             begun = time.monotonic()
             service.process.terminate()
@@ -94,7 +95,7 @@ class Faults(TransferCase):
         self.assertEqual(self.names(again), ["ada"])
 
     def test_a_stop_amid_a_text(self) -> None:
-        """Nothing of it is done."""
+        """A stop amid the text of an import imports nothing."""
         service = self.over()
         admin = service.client("admin")
         admin.ask("import 1000")

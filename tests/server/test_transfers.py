@@ -71,8 +71,7 @@ class Imports(TransferCase):
         service.talk("login verify ada {wrong} -> no\n" * 2)
 
     def test_ten_thousand(self) -> None:
-        """They come in by one import, beside users who log in; and are there after the next
-        start."""
+        """One import adds ten thousand accounts while users log in; the next start has them too."""
         folder = self.room()
         service = self.over("--tries", "0", folder=folder)
         stopping, said = threading.Event(), list[str]()
@@ -227,7 +226,8 @@ class Imports(TransferCase):
         self.serves(service)
 
     def test_the_audit_log(self) -> None:
-        """It has what was done, and by whom; not what was refused or tried."""
+        """The audit log has each import or export that took effect, with its user, and no refused
+        or dry ones."""
         audit = self.room() / "audit"
         service = self.over("--audit", str(audit))
         before = len(audit.read_text().splitlines())
@@ -254,7 +254,8 @@ class Imports(TransferCase):
 
 class Copies(TransferCase):
     def test_export(self) -> None:
-        """It has each account with its marks, and an import of it makes the same book."""
+        """An export has each account with its marks, and an import of the export builds the same
+        book."""
         service = self.over()
         service.talk("admin account bob -> ok\nadmin account cid -> ok\nadmin lock cid -> locked")
         service.talk("admin expire ada -> expired\nadmin lock ada -> locked")
@@ -296,7 +297,8 @@ class Copies(TransferCase):
             self.assertEqual(done.status, 5, done)
 
     def test_backup(self) -> None:
-        """It is a book for its owner alone, in which all is; nothing else stays beside either."""
+        """A backup is the whole book, readable by its owner alone; no other file stays beside
+        either."""
         service, room = self.over(), self.room()
         copy = room / "a copy.db"
         done = self.ask(service, "backup", str(copy))
@@ -310,7 +312,7 @@ class Copies(TransferCase):
         self.assertEqual(self.ask(service, "backup", str(room / "none/copy.db")).status, 5)
 
     def test_a_file_that_is_no_copy(self) -> None:
-        """A backup replaces a database alone."""
+        """A backup replaces only a database, and no other file."""
         real_book()
         service, file = self.over(), self.room() / "passwd"
         file.write_text("root:x:0:0:root:/root:/bin/bash\n")
@@ -318,7 +320,7 @@ class Copies(TransferCase):
         self.assertEqual(file.read_text(), "root:x:0:0:root:/root:/bin/bash\n")
 
     def test_a_copy_that_a_kill_left(self) -> None:
-        """The next start removes it."""
+        """The next start removes a copy that a kill left."""
         folder = self.room()
         service = self.over(folder=folder)
         service.stop()
@@ -328,7 +330,7 @@ class Copies(TransferCase):
         self.assertEqual([it.name for it in folder.glob("*-transfer*")], [])
 
     def test_users_whom_an_old_file_bars(self) -> None:
-        """They are locked in an export, as in each answer of the server."""
+        """Users whom an old file bars are locked in an export, as in each answer of the server."""
         need_module("passlib")
         folder = self.room()
         (folder / "htpasswd").write_text("ada:{SHA}x:::nologin\nbob:{SHA}x:::\n")

@@ -101,7 +101,7 @@ class Tries(Case):
                 self.assertEqual(said.count(b"a later"), 128 - ought, operation)
 
     def test_right_passwords_at_once(self) -> None:
-        """However many are sent together, none of them is too early."""
+        """However many right passwords are sent together, none of them is too early."""
         service = self.serving("--tries", "3", "--at-once", "20", faults="slow=0.01", clocked=True)
         service.enrol(ada="secret")
         client = service.client()
@@ -213,7 +213,7 @@ class Tries(Case):
 
 
 class OverABook(Case):
-    """Over credkeep itself where it is built, by its own clock."""
+    """Failed tries over credkeep itself, if it is built, by its own clock."""
 
     def test_a_wait(self) -> None:
         """A right password is too early too, at this name alone, and an administrator ends the
@@ -233,7 +233,7 @@ class OverABook(Case):
         )
 
     def test_a_wait_that_ends(self) -> None:
-        """Behind it the right password is right, and ends all of it."""
+        """After the wait the right password is right, and ends the count."""
         service = self.serving("--setting", CHEAP, "--tries", "2", program=chosen_book())
         service.enrol(ada="secret")
         service.guess("ada", 3)
@@ -243,7 +243,7 @@ class OverABook(Case):
         client.talk("verify ada {wrong} -> no\nverify ada {secret} -> yes")
 
     def test_no_limit(self) -> None:
-        """By --tries 0 nobody has to wait."""
+        """With --tries 0 nobody has to wait."""
         service = self.serving("--setting", CHEAP, "--tries", "0", program=chosen_book())
         service.enrol(ada="secret")
         service.talk("login verify ada {wrong} -> no\n" * 30 + "login verify ada {secret} -> yes")
@@ -283,7 +283,7 @@ class OfAnOldFile(Case):
             self.assertEqual(tries.rest(b"x"), ought)
 
     def test_forgiven(self) -> None:
-        """At one name alone."""
+        """`forgive` ends the wait at one name alone."""
         tries = OldTries(1)
         for name in (b"x", b"y"):
             tries.fail(name)

@@ -22,7 +22,7 @@ class Waiting(IsolatedAsyncioTestCase):
         self.users, self.waiting = dict[str, int](), dict[str, asyncio.Future[None]]()
 
     def take(self, places: Places, user: int, letters: str) -> str:
-        """The places that a user gets who wants so many."""
+        """The places that a user gets who wants this many."""
         for letter in letters:
             self.users[letter], self.waiting[letter] = user, places.take(user)
         return self.released(places, "")
@@ -151,15 +151,16 @@ class Changes(Case):
         asyncio.run(run())
 
     def test_nobody_logs_in(self) -> None:
-        """Each goes at once."""
+        """If nobody logs in, each change starts at once."""
         self.played(("-ABcd", 0, 0, "ABcd"), ("e", 0, 0, "e"))
 
     def test_rounds(self) -> None:
-        """Those that come meanwhile go together, behind a rest that is longer than the round."""
+        """Changes that arrive in a round run together in the next, after a rest longer than the
+        round."""
         self.played(("ABCD", 1, 30, "ABCD"), ("E", 0, 0, ""), ("F", 3, 60, "EF"))
 
     def test_alone(self) -> None:
-        """Of those that are a sync each, one goes in a round."""
+        """Of changes that need a sync each, one runs in a round."""
         self.played(("abc", 1, 30, "ab"), ("XYdZ", 1, 30, "cXYZ"), ("", 4, 30, "d"))
 
     def test_a_rest_for_nobody(self) -> None:

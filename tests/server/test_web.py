@@ -162,8 +162,8 @@ class Web(Case):
                     self.assertEqual((status, headers.get("Remote-User")), (401, None))
 
     def test_too_many_tries(self) -> None:
-        """It is 429 for right passwords too, with the seconds until the next try may come; and
-        those of others go on."""
+        """After too many tries right passwords get 429 too, with the seconds until the next try may
+        come, and other users' logins go on."""
         service = self.serving_web("--tries", "4", clocked=True).enrol(ada="secret", bob="secret")
         client = Connection(service.path("http"))
         self.addCleanup(client.close)

@@ -13,7 +13,7 @@ LINE = f"bob:{RECORD}\n"
 
 
 def text_of(count: int) -> bytes:
-    """Lines of so many accounts."""
+    """The lines of this many accounts."""
     return "".join(f"user{number:07}:{RECORD}\n" for number in range(count)).encode()
 
 

@@ -1,4 +1,4 @@
-"""tools/affected.py: what a change costs, by the files that it touches."""
+"""tools/affected.py: the costs of a change, by the files that it touches."""
 
 import subprocess
 import sys
@@ -56,7 +56,7 @@ class Affected(Case):
         ("c/src/step.c", []),
     )
     def test_proofs(self, file: str, crates: list[str]) -> None:
-        """Those of the crate and of the crates above it, lowest first."""
+        """A change costs the proofs of its crate and of the crates above, lowest first."""
         found = affected.changed_crates([file], "src|specs|proofs")
         self.assertEqual(affected.proved_again(found), crates)
 
@@ -102,7 +102,8 @@ class Affected(Case):
             self.assertEqual(affected.elapsed({"a": sum_ / 2, "b": sum_ / 2}, longest), said)
 
     def test_changed_files(self) -> None:
-        """Those of later commits, those that aren't committed, and both names of a moved one."""
+        """Changed files: those of later commits, those not committed yet, and both names of a moved
+        file."""
         top = self.room()
         write_files(top, {"same": "1", "moved": "moved as it is", "changed": "1", "gone": "1"})
         for words in (("init", "-q"), ("add", "-A"), ("commit", "-q", "-m", "first")):

@@ -1,4 +1,4 @@
-"""tools/build.py: what it builds, in which order, and what it says meanwhile."""
+"""tools/build.py: its builds, their order, and its messages meanwhile."""
 
 import json
 import os
@@ -21,7 +21,7 @@ other:
 high: low
 program: low other high
 """
-# A toolchain that notes what it is asked, and leaves what the real one leaves.
+# A toolchain that notes its calls, and leaves the files of the real one.
 RT = """#!/bin/sh
 name=$(basename "$PWD")
 echo "$name $*" >> "$ASKED"
@@ -41,7 +41,7 @@ run*)
 esac
 """
 PROVED = "logic=proved functions=1 axioms=2 target=aarch64-unknown-linux-gnu sum=0"
-# It joins the files that it is given.
+# A linker that joins its input files.
 LINKER = """#!/bin/sh
 for it; do
     case $it in *.o | *.c) cat "$it" ;; esac
@@ -141,7 +141,7 @@ class Build(Case):
         return lines
 
     def test_progress(self):
-        """It counts what is done, says what is at work, and guesses the time that is left."""
+        """The progress counts built crates, names the running ones, and estimates the rest."""
         lines = self.told("--cpu", "x86-64", "program")
         self.assertEqual(lines[0], "program: for x86-64")
         done = [it for it in lines if ": proved" in it]

@@ -1,4 +1,4 @@
-"""tools/definitions_page.py: what it prints of two crates, and what of it is found changed."""
+"""tools/definitions_page.py: the page of two crates, and the changes that the check finds."""
 
 from __future__ import annotations
 
@@ -121,7 +121,7 @@ class DefinitionsPage(Case):
         return (self.top / "docs/DEFINITIONS.md").read_text()
 
     def write_and_change(self, file: str, old: str, new: str) -> None:
-        """Has the page printed, and then replaces a text that a specification has once."""
+        """Prints the page, and then replaces a text that a specification has once."""
         self.told("--write")
         path = self.top / "crates" / file
         self.assertEqual(path.read_text().count(old), 1)
@@ -162,7 +162,7 @@ class DefinitionsPage(Case):
         self.assertEqual(self.told(), (0, AS_THEY_ARE))
 
     def test_in_a_page_that_was_edited(self) -> None:
-        """So is a block that somebody changed."""
+        """The check finds a block that somebody changed."""
         self.told("--write")
         write_files(self.top, {"docs/DEFINITIONS.md": self.page().replace("= 64", "= 63")})
         block = "high.Boxes.IsItem, low.Sizes.limit"

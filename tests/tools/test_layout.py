@@ -56,7 +56,7 @@ class Others(unittest.TestCase):
                 run("sh", "-n", path)
 
     def test_manuals(self) -> None:
-        """groff warns of nothing."""
+        """groff warns of nothing in the manuals."""
         need("groff")
         for path in sorted((TOP / "man").iterdir()):
             with self.subTest(path.name):

@@ -41,7 +41,7 @@ class Pictures(Case):
         self.assertIn("prefers-color-scheme: dark", drawn)
 
     def test_a_picture_of_another_text(self):
-        """It is named, with the command that draws it."""
+        """The check names a picture of another text, with the command that draws it."""
         with mock.patch.object(pictures, "DRAWN", {"speed.svg": pictures.bars}):
             write_files(self.top, {"speed.svg": pictures.drawn("speed.svg")})
             self.assertEqual([*pictures.check()], [None])

@@ -1,4 +1,4 @@
-"""tools/run_tests.py: what it counts, what it takes for a failure, and what it ends."""
+"""tools/run_tests.py: its counts, its failures, and the processes that it ends."""
 
 import os
 import pathlib
@@ -155,7 +155,7 @@ class RunTests(Case):
         self.assertEqual((self.top / "order").read_text(), "turned\nquiet\n")
 
     def test_what_hangs(self) -> None:
-        """It is ended with all that it started, and what it printed is printed."""
+        """A hanging job is ended with all that it started, and its output is printed."""
         done = self.run_tests("hangs", JOB_LIMIT="30")
         self.assertEqual(done.written.splitlines()[-1], "tests: 0 passed, 1 failed, 0 skipped")
         self.assertRegex(done.written, r"the sleeper is \d+\n")
@@ -229,7 +229,7 @@ class RunTests(Case):
         self.assertEqual(done.status, 1)
 
     def test_without_rt(self) -> None:
-        """Nothing is compared with what it compiles, and all else runs."""
+        """Without rt nothing is compared with its code, and all else runs."""
         text = "all:\ncheck-proved:\n\t@echo only rt does this; exit 1\n"
         write_files(self.top, {"c/Makefile": text})
         for name, status in (("no-such-rt", 0), ("true", 1)):
