@@ -16,8 +16,8 @@
  *         let_in();
  *     }
  *
- * Every call answers RIGZUMAL_OK or the number of a fault, and writes no output with a fault. All
- * sizes are in bytes but those of a memory cost. Strings end with a zero byte.
+ * Every call returns RIGZUMAL_OK or the number of a fault, and writes no output with a fault. All
+ * sizes are in bytes, except those of a memory cost. Strings end with a zero byte.
  *
  * Any number of threads may call at the same time. Each call works on its own thread alone, but for
  * the calls at the end: with those several threads may work the lanes of one tag. After a call only
@@ -44,7 +44,7 @@
  *   call. The memory of a hash is not on the stack, whatever its costs.
  * - No call is made in a signal handler, nor in the child of a process of several threads that
  *   forked and has not called exec. A child that is forked in a handler and goes on with its
- *   parent's call answers right, or ends by abort.
+ * parent's call returns a right answer, or ends by abort.
  * - No call is left by longjmp or by asynchronous cancellation: its memory, with what is in it,
  *   would stay mapped for ever.
  *
@@ -61,7 +61,7 @@
 extern "C" {
 #endif
 
-/* For a call whose answer a program must use: compilers warn where it is ignored. */
+/* For a call whose answer a program must use: compilers warn if the program ignores the answer. */
 #ifdef __GNUC__
 #define RIGZUMAL_CHECK_ANSWER __attribute__((__warn_unused_result__))
 #else
@@ -130,7 +130,7 @@ enum rigzumal_fault {
     RIGZUMAL_NO_OPERATION = 23,  /* the number names no operation */
     RIGZUMAL_COPY = 24,          /* the copy is not a record */
     RIGZUMAL_LONG_PASSWORD = 25, /* a password has over 256 bytes */
-    /* Of a salt that is drawn. */
+    /* Of a generated salt. */
     RIGZUMAL_NO_RANDOM = 26, /* the system returned no random bytes: see getrandom(2) */
     /* Of rigzumal_needs_rehash. */
     RIGZUMAL_OTHER_COSTS = 27, /* the record has other costs, or another salt or tag size */
@@ -144,15 +144,15 @@ enum rigzumal_fault {
 /* The version of the library in use, such as "0.2.0". */
 const char *rigzumal_version(void);
 
-/* Returns the memory that is kept between calls to the system, and answers its size. Running calls
+/* Releases the memory that is kept between calls to the system, and returns its size. Running calls
  * keep theirs. Use it in a program that hashes seldom: the system maps and clears the memory of the
  * next call again, which takes longer. */
 size_t rigzumal_trim(void);
 
-/* Bounds the bytes that are kept from now on, in whole huge pages of 2 MiB: 0 keeps none, and
- * 134217728 keeps the table of RIGZUMAL_SCRYPT_COSTS, or the memory of two callers at once with
- * RIGZUMAL_ARGON2_COSTS. The memory that is kept now goes back to the system; the call returns the
- * old bound: at the start RIGZUMAL_KEEP of the environment, or 64 MiB. */
+/* Bounds the bytes that the library keeps from now on, in whole huge pages of 2 MiB: 0 keeps none,
+ * and 134217728 keeps the table of RIGZUMAL_SCRYPT_COSTS, or the memory of two callers at once with
+ * RIGZUMAL_ARGON2_COSTS. The call releases the memory that is kept now, and returns the old bound.
+ * The first bound is RIGZUMAL_KEEP of the environment, or 64 MiB. */
 size_t rigzumal_keep(size_t most);
 
 /* The same for libargon2.so.1, the drop-in library, which has its own memory and no other call of
@@ -164,9 +164,9 @@ size_t rigzumal_libargon2_keep(size_t most);
 const char *rigzumal_strerror(int fault);
 const char *rigzumal_word(int fault);
 
-/* Answers the fault of a record, a setting or costs: OK, or SHAPE to TOO_LONG. Writes its meaning
- * into text, which has room for text_size bytes, and cuts it off there. A number that is out of its
- * range is shown with the range: "m=7 is under 8 p (8 KiB)". */
+/* Returns the fault of a record, a setting or costs: OK, or SHAPE to TOO_LONG. Writes its meaning
+ * into text, which has room for text_size bytes, and cuts it off there. The text shows a number
+ * that is out of its range with the range: "m=7 is under 8 p (8 KiB)". */
 int rigzumal_explain(char *text, size_t text_size, const char *record);
 
 /* Writes a new record of the password into text, which has room for text_size bytes. The tag gets

@@ -5,7 +5,7 @@
 #include <stddef.h>
 #include <stdint.h>
 
-/* The number of letters for so many bytes. */
+/* The number of letters for this many bytes. */
 size_t base64_size(size_t size);
 
 /* Writes the letters of the bytes. */

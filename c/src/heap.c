@@ -2,10 +2,10 @@
  * that of lanes.c.
  *
  * The heap clears every block that a call frees. Small blocks come from the C library. Large ones
- * are cut one behind another from areas of huge pages, so that many lanes get huge pages too; what
- * is larger than such an area has one of its own. The heap keeps cleared areas, of 64 MiB in all or
- * the program's bound, for the next call of any thread: that call maps nothing, and the system
- * clears no page for it.
+ * are cut one behind another from areas of huge pages, so that many lanes get huge pages too; a
+ * block larger than such an area gets an area of its own. The heap keeps cleared areas, of 64 MiB
+ * in all or the program's bound, for the next call of any thread: that call maps nothing, and the
+ * system clears no page for it.
  *
  * A block is freed on the thread that allocated it, in the same call: the table of blocks is the
  * thread's own, and ends with the call. That table has the sizes: in front of the blocks they would
@@ -70,15 +70,15 @@ static void unmap_area(area it) {
     munmap(start_of(it), size_of(it));
 }
 
-/* The areas that are kept, and how many bytes they have: never more than the most, but for a moment
- * after it is lowered. The sum counts an area's bytes before the area gets its place, and until it
- * has left. */
+/* The areas that are kept, and the number of their bytes: never more than the most, except for a
+ * moment after a call lowers that. The sum counts an area's bytes before the area gets its place,
+ * and until it has left. */
 
 enum { PLACES = 128 }; /* for 2 GiB in areas that blocks are cut from */
 static _Atomic(area) kept_areas[PLACES];
 static atomic_size_t kept, most_kept = 64 * MIB;
 
-/* Removes the smallest of the kept areas that have so many bytes; 0 if there is none. */
+/* Removes the smallest of the kept areas that have this many bytes; 0 if there is none. */
 static area take_kept(size_t size) {
     for (;;) {
         area least = 0;
@@ -132,8 +132,8 @@ size_t heap_trim(void) {
     return unmapped;
 }
 
-/* Keeps a cleared area, or as much of it as may be kept, in the place of smaller ones if need be.
- * The system may take its pages back: they read as zero either way. */
+/* Keeps a cleared area, or as much of it as the bound allows, in the place of smaller ones if
+ * necessary. The system may take its pages back: they read as zero either way. */
 static void give_area(area it) {
     size_t most = atomic_load(&most_kept);
     if (size_of(it) > most) {
@@ -153,7 +153,7 @@ static void give_area(area it) {
         heap_trim();
 }
 
-/* Has the pages of a kept area be the first of a new one, which is larger. If that fails, the
+/* Moves the pages of a kept area to the beginning of a new, larger one. If that fails, the
  * system may have unmapped the pages that they were to replace, and another thread may have mapped
  * there since: the heap leaves that range as it is, and maps another area. */
 static area grown_area(area it, area kept_one) {
@@ -179,7 +179,7 @@ static area new_area(size_t size) {
     return kept_one;
 }
 
-/* A kept area, or a new one; if need be one in the place of all that are kept. */
+/* A kept area, or a new one; if necessary, one in the place of all kept ones. */
 static area take_area(size_t size) {
     area it = take_kept(size);
     if (it == 0)
@@ -325,8 +325,8 @@ static struct block struck_out(const void *start) {
     return block;
 }
 
-/* Frees a block that is cleared, and no longer in the table. One of an area was zero all along
- * in a child, whose call would end with a wrong answer. */
+/* Frees a cleared block, which is no longer in the table. In a child a block of an area was zero
+ * all along, and the child's call would return a wrong answer. */
 static void give_back(struct block block) {
     if (block.area == 0) {
         free(block.start);

@@ -5,7 +5,7 @@
 #include <stdbool.h>
 #include <stddef.h>
 
-/* The calls of the proved code. An answer that isn't ok has a pointer that isn't null all the same.
+/* The calls of the proved code. Even an answer that isn't ok has a pointer that isn't null.
  */
 struct tried {
     bool ok;
@@ -16,16 +16,16 @@ struct tried rattle_alloc(size_t size, size_t align);
 struct tried rattle_realloc(void *old, size_t kept, size_t size, size_t align);
 void rattle_dealloc(void *start);
 
-/* So many bytes that are zero, or null if there is too little memory: large ones in huge pages, in
- * no core dump, and zero in a forked child. */
+/* This many bytes that are zero, or null if there is too little memory: large ones in huge pages,
+ * in no core dump, and zero in a forked child. */
 void *heap_take_zeros(size_t size);
 
 /* Frees such bytes, on the thread that allocated them, once all are zero again. */
 void heap_give_zeros(void *start);
 
-/* Returns the kept areas to the system, and answers the number of their bytes. */
+/* Releases the kept areas to the system, and returns the number of their bytes. */
 size_t heap_trim(void);
 
-/* Bounds the bytes that are kept from now on, returns all kept areas to the system, and answers the
- * old bound. */
+/* Bounds the bytes that are kept from now on, releases all kept areas to the system, and returns
+ * the old bound. */
 size_t heap_keep(size_t size);

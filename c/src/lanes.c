@@ -1,4 +1,4 @@
-/* The order in which tag_parts.h has the parts called, and the threads that call them.
+/* Calls the parts in the order that tag_parts.h requires, on several threads.
  *
  * The segments of a slice are worked in groups: each alone, or by twos of neighbouring lanes if
  * there are fewer threads than lanes, since two at once take less time than one after the other.
@@ -50,9 +50,9 @@ struct run {
     pthread_cond_t more_done;
 };
 
-/* Blocks all signals, and answers which were blocked. A thread that waits for others handles no
- * signal: a handler may fork, and in the child no thread would end the wait. A child of before ends
- * here. */
+/* Blocks all signals, and returns the set of those that were blocked before. A thread that waits
+ * for others handles no signal: a handler may fork, and in the child no thread would end the wait.
+ * A child of before ends here. */
 static sigset_t block_signals(const struct run *run) {
     sigset_t all, before;
     sigfillset(&all);
@@ -61,7 +61,7 @@ static sigset_t block_signals(const struct run *run) {
     return before;
 }
 
-/* Waits until so many are done. */
+/* Waits until this many groups are done. */
 static void await(struct run *run, uint64_t done) {
     if (atomic_load(&run->done) >= done)
         return;
@@ -106,7 +106,7 @@ static uint8_t work_group(const struct run *run, uint64_t number) {
                 run->slice_size, newest, run->slice_size, own, run->segment_size);
 }
 
-/* Works groups until all are drawn. After a fault none is worked, and all are counted. */
+/* Works groups until all are drawn. After a fault it only counts the groups. */
 static void work_groups(struct run *run) {
     for (;;) {
         uint64_t number = atomic_fetch_add(&run->next_group, 1);
@@ -182,7 +182,7 @@ static bool start_helper(struct run *run, pthread_t *helper, pthread_attr_t *att
            pthread_create(helper, attributes, help, run) == 0;
 }
 
-/* Starts a helper on each stack or on as many as there can be: no signal is handled there. */
+/* Starts a helper on each stack, or on as many as the system allows. Helpers handle no signal. */
 static uint32_t start_helpers(struct run *run, pthread_t *helpers, struct stacks *stacks) {
     pthread_attr_t attributes;
     uint32_t started = 0;
@@ -200,7 +200,7 @@ static uint32_t start_helpers(struct run *run, pthread_t *helpers, struct stacks
     return started;
 }
 
-/* Works all that comes after the beginning. */
+/* Works all parts after the beginning. */
 static void work_with_helpers(struct run *run, uint32_t wanted) {
     pthread_t helpers[MOST_HELPERS];
     struct stacks stacks = {.count = wanted};

@@ -5,7 +5,7 @@
 
 /* A task: a tag's numbers, the function that begins its memory, and the one that computes the
  * result at the end. Both are called on the caller's thread, once, with all blocks of the first
- * slice and of the last. Each answers 0 or a fault, and with a fault it has written nothing. */
+ * slice and of the last. Each returns 0 or a fault, and with a fault it has written nothing. */
 struct task {
     struct tag_numbers numbers;
     uint8_t (*begin)(const void *inputs, struct argon2_block *first, size_t count);
@@ -22,7 +22,7 @@ uint8_t lanes_size(const struct tag_numbers *numbers, size_t *size);
  * would take longer. */
 uint32_t lanes_useful_threads(const struct tag_numbers *numbers, uint32_t allowed);
 
-/* Works a task with so many threads, 1 to 255, the caller's among them. If a thread can't be
- * started, the others work its lanes. All have ended when the call is over, and memory of the
- * caller's, which was zero, is zero again. */
+/* Works a task with this many threads, 1 to 255, the caller's among them. If a thread can't be
+ * started, the others work its lanes. When the call returns, all threads have ended, and the
+ * caller's memory, which was zero, is zero again. */
 uint8_t lanes_work(const struct task *task, uint32_t threads);

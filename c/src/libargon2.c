@@ -20,10 +20,10 @@
 #include <stdlib.h>
 #include <string.h>
 
-/* In argon2_verify there is a thread for each lane. */
+/* argon2_verify uses a thread for each lane. */
 enum { MOST_LANES = 255 };
 
-/* The number of the original that is nearest to a refusal of the proved code. */
+/* The number in the original that is nearest to a refusal of the proved code. */
 static int number_of(int fault) {
     switch (fault) {
     case RIGZUMAL_OK:
@@ -173,7 +173,7 @@ PUBLIC int argon2_verify_ctx(argon2_context *context, const char *hash, argon2_t
     return is_right ? ARGON2_OK : ARGON2_VERIFY_MISMATCH;
 }
 
-/* Writes the encoded string, or zeros all of its room where it doesn't fit. The proved code writes
+/* Writes the encoded string, or zeros its whole buffer if it doesn't fit. The proved code writes
  * strings that are records. */
 static int encode(char *encoded, size_t size, const argon2_context *context, argon2_type type) {
     struct rigzumal_argon2 numbers = numbers_of(context, type);

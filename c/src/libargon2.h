@@ -75,5 +75,5 @@ int fault_of_context(const argon2_context *context);
  * where none stands there. Answers where the reading ended, or null if a field isn't there. */
 const char *read_string(argon2_context *read, const char *text);
 
-/* Writes the string of a context and its tag, or answers false if it doesn't fit. */
+/* Writes the string of a context and its tag, or returns false if it doesn't fit. */
 bool write_string(char *text, size_t size, const argon2_context *context, argon2_type type);

@@ -9,7 +9,7 @@
 #include <stdlib.h>
 #include <string.h>
 
-/* Each of these reads from *text on, and moves it, or answers false. */
+/* Each of these reads from *text on, and advances *text, or returns false. */
 
 static bool read_word(const char **text, const char *word) {
     size_t size = strlen(word);

@@ -6,7 +6,7 @@
 /* The number of this process, which no child of it has, nor a child of a child. */
 uint64_t process_number(void);
 
-/* Ends this process with a word on standard error if another number was its own as the call began:
- * it is a child, forked in a signal handler, that went on with its parent's call, and has neither
- * the call's memory nor its threads. */
+/* Ends this process, with a message on standard error, if it had another number when the call
+ * began. Then it is a child, forked in a signal handler, that went on with its parent's call, and
+ * has neither the call's memory nor its threads. */
 void process_end_child_of(uint64_t number);

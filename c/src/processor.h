@@ -8,8 +8,8 @@
 void processor_clear_bytes(void *start, size_t size);
 
 /* Clears the general registers that a call need not preserve, and every vector and mask register
- * that the processor has and the system keeps. The rest in a register reaches the stack as soon as
- * the program binds a function lazily. */
+ * that the processor has and the system keeps. A value left in a register would reach the stack as
+ * soon as the program binds a function lazily. */
 void processor_clear_registers(void);
 
 /* Each of some registers: of(0) to of(7), and so on. */

@@ -1,4 +1,4 @@
-/* Secrets compared, and the traces of a call cleared. */
+/* Compares secrets, and clears the traces of a call. */
 #pragma once
 
 #include <stdbool.h>
@@ -8,8 +8,8 @@
  * binding too, which tests/stacks.c measures. It fits into RIGZUMAL_STACK_SIZE. */
 enum { CLEARED_STACK = 22 * 1024 };
 
-/* Clears the stack below the caller's frame, and the registers: to be called after all that a call
- * did with secrets. */
+/* Clears the stack below the caller's frame, and the registers: call it after all work on secrets.
+ * */
 void secrets_clear_traces(void);
 
 /* Clears the traces of a call, and returns its answer. */
@@ -18,7 +18,8 @@ static inline int cleared(int answer) {
     return answer;
 }
 
-/* The same of a text that an export wrote, which left room for the zero byte at its end. */
+/* Clears the traces of a call and ends the text that an export wrote, which left room for the zero
+ * byte. */
 static inline int ended(int answer, char *text, size_t written) {
     if (answer == 0)
         text[written] = '\0';

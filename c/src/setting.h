@@ -14,7 +14,7 @@ struct setting {
     size_t size;                    /* without it */
 };
 
-/* Puts the salt behind the costs, if its size isn't 0; it is drawn if it is null.
+/* Puts the salt behind the costs, if its size isn't 0; generates the salt if it is null.
  * Faults: TOO_LONG, NO_RANDOM. */
 int setting_make(struct setting *setting, const char *costs, const void *salt, size_t salt_size);
 

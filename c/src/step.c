@@ -64,7 +64,7 @@ static int make(char *text, size_t text_size, uint32_t *reply, uint32_t replied,
     return fault;
 }
 
-/* Replies with nothing written. */
+/* Sets the reply, and writes no record. */
 static int answer(char *text, size_t text_size, uint32_t *reply, uint32_t replied) {
     if (text_size > 0)
         text[0] = '\0';

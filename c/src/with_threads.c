@@ -14,7 +14,7 @@ struct tag_inputs {
     uint8_t *tag;
 };
 
-/* As the exports take them. */
+/* The inputs in the form of the exports. */
 #define PROVED(it)                                                                                 \
     BYTES(it->password, it->password_size), BYTES(it->salt, it->salt_size),                        \
         BYTES(it->secret, it->secret_size), BYTES(it->associated, it->associated_size)

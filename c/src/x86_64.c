@@ -42,7 +42,7 @@ static const struct features of_avx512 = {bit_OSXSAVE, bit_AVX512F, 0, WIDEST_ST
 static const struct features of_narrow_forms = {bit_OSXSAVE, bit_AVX512F | bit_AVX512VL, 0,
                                                 WIDEST_STATES};
 
-/* A test has a system that keeps fewer registers. */
+/* A test simulates a system that keeps fewer registers. */
 #ifndef READ_KEPT_REGISTERS
 #define READ_KEPT_REGISTERS "xgetbv"
 #endif
@@ -86,7 +86,7 @@ static int asked_once(_Atomic(int) *known, int (*ask)(const struct features *fou
     return answer;
 }
 
-/* A level is left out whose build the toolchain couldn't make. */
+/* Levels whose build the toolchain couldn't make are left out. */
 static int level_of(const struct features *found) {
     int level = 1, count = sizeof levels / sizeof levels[0];
     while (level < count && has(found, &levels[level].added) &&

@@ -1,4 +1,4 @@
-/* Asks a PAM service whose file lies in a folder, and prints what it said.
+/* Asks a PAM service whose file is in a folder, and prints the answers.
  *
  *     driver FOLDER SERVICE USER TASK.. < ANSWERS
  *
@@ -9,11 +9,11 @@
  * for each task, and `open N`: how many more files are open at the end than before, or were handed
  * on to a child's program.
  *
- * In the environment: PIECES=1 has send and recv move one byte at a time, and every other call of
- * each kind interrupted. STOPS=1 has it stop as the module closes its socket, after the answer
- * came, and at the end, so that its memory may be looked at. THREADS=N does the tasks in N threads
- * at once, each for the user USER0, USER1 .. with its own name as every answer. JUMPS=1 sets the
- * clock on the wall an hour forward at each look. */
+ * In the environment: PIECES=1 makes send and recv move one byte at a time, and interrupts every
+ * other call of each kind. STOPS=1 stops the driver as the module closes its socket, after the
+ * answer, and at the end, so that a test can search its memory. THREADS=N runs the tasks in N
+ * threads at once, each for the user USER0, USER1 .. with its own name as every answer. JUMPS=1
+ * sets the clock on the wall an hour forward at each look. */
 #define _GNU_SOURCE
 #include <dirent.h>
 #include <errno.h>
