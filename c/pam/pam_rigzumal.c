@@ -1,5 +1,5 @@
-/* A PAM module that asks a kept book over a socket of credkeep-server: auth, account, password.
- * It keeps nothing between two calls and has no static state, so threads may be in it at once. A
+/* A PAM module that asks a kept book over a socket of credkeep-server: auth, account, password. The
+ * module keeps nothing between two calls and has no static state, so threads may call it at once. A
  * call sends one line and reads one line, on a connection of its own, all before its deadline. */
 #define _GNU_SOURCE
 #include "answers.h"
@@ -125,7 +125,8 @@ static long milliseconds(void) {
     return now.tv_sec * 1000 + now.tv_nsec / 1000000;
 }
 
-/* A connection, or -1. If too many others wait for the server, it waits behind them. */
+/* A connection, or -1. If too many other clients wait for the server, the call waits behind them.
+ * */
 static int connection(const char *path, long deadline) {
     struct sockaddr_un at = {.sun_family = AF_UNIX};
     memcpy(at.sun_path, path, strlen(path));
@@ -181,7 +182,8 @@ static bool read_answer(int fd, char answer[MOST_ANSWER], long deadline) {
     return false;
 }
 
-/* The meaning of the server's line, by its answer. A word that no operation gets is no answer. */
+/* The meaning of the server's line, by its answer. A word that answers no operation is no answer.
+ * */
 static int result_of(pam_handle_t *pamh, const struct operation *operation, const char *line) {
     if (strncmp(line, "1 ", 2) != 0)
         return PAM_AUTHINFO_UNAVAIL;
@@ -207,8 +209,8 @@ static const char *text_item(const pam_handle_t *pamh, int item) {
     return text == NULL ? "" : text;
 }
 
-/* Logs a failed try in the form of pam_unix. A name is in it only if the book has it: another one
- * may be a password that was typed too early. */
+/* Logs a failed try in the form of pam_unix. The line has the name only if the book has it: another
+ * name may be a password that was typed too early. */
 static void log_failure(const pam_handle_t *pamh, const char *name) {
     pam_syslog(pamh, LOG_NOTICE,
                "authentication failure; logname= uid=%u euid=%u tty=%s ruser=%s rhost=%s %s%s",
@@ -266,8 +268,8 @@ static int ask(pam_handle_t *pamh, const struct question *question,
     return result;
 }
 
-/* Asks whether the password is right. One that no record of the book can have is wrong if the book
- * has the name, and otherwise another module's to judge. */
+/* Asks whether the password is right. A password that no record of the book can have is wrong if
+ * the book has the name; otherwise another module judges it. */
 static int verify(pam_handle_t *pamh, struct question *question, int flags) {
     if (is_password(question, question->password, flags))
         return ask(pamh, question, &VERIFY);
@@ -318,8 +320,8 @@ static int begin_change(pam_handle_t *pamh, struct question *question) {
     return result == PAM_AUTHINFO_UNAVAIL ? PAM_TRY_AGAIN : result;
 }
 
-/* The second call changes the password. It asks for the new one also if the book lacks the name or
- * doesn't answer: a module behind this one that has use_authtok needs it. */
+/* The second call changes the password. It asks for the new one even if the book lacks the name or
+ * doesn't answer: a later module with use_authtok needs the new password. */
 static int finish_change(pam_handle_t *pamh, struct question *question) {
     int found = known(pamh, question), result = PAM_SUCCESS;
     if (found == PAM_SUCCESS)
@@ -334,8 +336,8 @@ static int finish_change(pam_handle_t *pamh, struct question *question) {
     return result == PAM_AUTH_ERR ? PAM_AUTHTOK_ERR : result;
 }
 
-/* Another module's password must be changed. The second call asks for the new one: a module behind
- * this one that has use_authtok needs it, and can't ask itself. */
+/* Another module's password must be changed. The second call asks for the new one: a later module
+ * with use_authtok needs it, and can't ask itself. */
 static int pass_expired(pam_handle_t *pamh, int flags) {
     const char *fresh;
     if (flags & PAM_PRELIM_CHECK)

@@ -19,14 +19,14 @@ static inline int null_fault(const struct rigzumal_inputs *inputs) {
     return RIGZUMAL_OK;
 }
 
-/* The same of a record: the salt of a new one may be null, and a check reads none. */
+/* The fault of a record's inputs: the salt of a new record may be null, and a check reads none. */
 static inline int null_fault_of_record(const struct rigzumal_inputs *inputs) {
     struct rigzumal_inputs others = *inputs;
     others.salt_size = 0;
     return null_fault(&others);
 }
 
-/* The same of a call that has the password alone. */
+/* The fault of the input of a call that has the password alone. */
 static inline int null_password_fault(const void *password, size_t size) {
     return null_fault(&(struct rigzumal_inputs){.password = password, .password_size = size});
 }

@@ -1,6 +1,6 @@
 /* The number of a process has two halves. The lower one is the system's. Alone it isn't enough: a
  * child has its parent's number if each is the first of a PID namespace. The upper one stands in a
- * page that the system gives to a child as zeros; where it does no such thing the half is 0. */
+ * page that the system gives to a child as zeros; on a system without such pages the half is 0. */
 #define _GNU_SOURCE
 #include "process.h"
 
@@ -40,7 +40,7 @@ void process_end_child_of(uint64_t number) {
     if (process_number() == number)
         return;
     if (write(STDERR_FILENO, said, sizeof said - 1) < 0) {
-        /* it ends all the same */
+        /* the process ends all the same */
     }
     abort();
 }

@@ -50,7 +50,7 @@ int rigzumal_record(char *text, size_t text_size, size_t tag_size, const char *c
                                    password_size, 1);
 }
 
-/* The same for a text that may be null. */
+/* A text as the exports take it; the text may be null. */
 #define TEXT_OR_NONE(text)                                                                         \
     (text) == NULL ? NOTHING : (bytes)(text), (text) == NULL ? 0 : strlen(text)
 
@@ -63,7 +63,7 @@ int rigzumal_step(char *text, size_t text_size, uint32_t *reply, uint32_t operat
     if (fault != RIGZUMAL_OK)
         return fault;
     size_t written = 0;
-    /* To the export an empty copy is none, and here it is a text that is no record. */
+    /* The export takes an empty copy for none; here it is a text that is no record. */
     if (copy != NULL && copy[0] == '\0')
         copy = "$";
     struct step_inputs inputs = {operation, TEXT_OR_NONE(copy), BYTES(password, password_size),

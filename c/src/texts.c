@@ -14,7 +14,7 @@ int rigzumal_setting_fault(const char *setting) {
 /* A salt of 8 bytes and a tag of 4, to make a record of costs and of a setting. */
 static const char any_salt[] = "$AAAAAAAAAAA", any_tag[] = "$AAAAAA";
 
-/* Reads a text with others behind it as a record, if all but the tag is a setting. */
+/* Reads a text, with these texts after it, as a record, if all but the tag is a setting. */
 static uint8_t read_longer(struct rigzumal_parts *parts, const char *text, const char *salt) {
     uint8_t longer[LONGEST_TEXT + sizeof any_salt + sizeof any_tag];
     size_t size = strlen(text), salt_size = strlen(salt);
@@ -30,8 +30,7 @@ static uint8_t read_longer(struct rigzumal_parts *parts, const char *text, const
     return CALL(cred_record_parts, longer, size + strlen(any_tag), parts);
 }
 
-/* In a setting that is read as a record a field is missing, and in costs that are read as a
- * setting. */
+/* A setting that is read as a record lacks a field, and so do costs that are read as a setting. */
 int rigzumal_parts(struct rigzumal_parts *parts, const char *text) {
     struct rigzumal_parts read;
     uint8_t fault = CALL(cred_record_parts, TEXT(text), &read);

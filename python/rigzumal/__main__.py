@@ -58,7 +58,7 @@ def _words() -> argparse.ArgumentParser:
     calibrate.set_defaults(act=_calibrate)
     add = calibrate.add_argument
     add("--target-ms", type=_target, default=250, help="milliseconds of a hash")
-    most = "at most, as 64M; KiB without a unit"
+    most = "at most, such as 64M; KiB without a unit"
     add("--memory", type=memory, default=65536, help=most)
     add("--lanes", type=int, default=4)
     threads = "that work the lanes of a hash; 1 for a service with many logins"

@@ -162,7 +162,7 @@ _OF_SCRYPT = {"log2_n": 17}
 def add_costs(words: argparse.ArgumentParser) -> None:
     """Adds the options for the costs of a new record."""
     words.add_argument("--scrypt", action="store_true", help="by scrypt, not Argon2id")
-    words.add_argument("--memory", type=memory, help="of Argon2, as 64M (by default)")
+    words.add_argument("--memory", type=memory, help="of Argon2, such as 64M (by default)")
     words.add_argument("--passes", type=int, help="of Argon2; by default 3")
     words.add_argument("--lanes", type=int, help="of Argon2; by default 4")
     words.add_argument("--log2-n", type=int, help="of scrypt; by default 17")

@@ -97,7 +97,7 @@ class Mistakes(Case):
             (room / f"{module}.py").write_text(f"raise ImportError(name={module!r})")
             given = {"environment": {"PYTHONPATH": str(room)}, "waits": False, "folder": room}
             (room / "old").touch()
-            said = f"credkeep-server: python3-{module} is missing, which an option needs\n"
+            said = f"credkeep-server: an option needs python3-{module}, which is missing\n"
             self.assertEqual(self.serving(option, f"{room}/old", **given).ended(), (1, said))
 
     def test_a_second_server(self) -> None:

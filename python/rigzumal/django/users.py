@@ -216,7 +216,7 @@ def has_own_methods(user: Any) -> bool:
     unreached = unreached_methods(user.__class__)
     if unreached:
         raise ImproperlyConfigured(
-            f"{unreached[0]} would be passed over: give {user._meta.label} the"
+            f"our calls would skip {unreached[0]}: give {user._meta.label} the"
             " CompareAndSetMixin, behind the class that has it"
         )
     return bool(own_methods(user.__class__.__mro__, "check_password", "set_password"))

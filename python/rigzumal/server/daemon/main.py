@@ -46,7 +46,7 @@ def main() -> int:
     except Problem as problem:
         log.error("%s", problem)
     except ImportError as fault:
-        log.error("python3-%s is missing, which an option needs", fault.name)
+        log.error("an option needs python3-%s, which is missing", fault.name)
     except OSError as fault:
         log.error("%s: %s", fault.filename or "the system", fault.strerror)
     return 1

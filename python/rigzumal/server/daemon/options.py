@@ -56,7 +56,7 @@ class Options:
     least_length: int = option("the least length of a new password", "N", 0)
     setting: str = option("for credkeep: the costs of new records", "TEXT")
     at_once: int = option("a user's hashes at once; 0: one a processor", "N", 0, MOST_AT_ONCE)
-    memory: str = option("for credkeep: memory for hashes, as 512M", "SIZE")
+    memory: str = option("for credkeep: memory for hashes, such as 512M", "SIZE")
     most_memory: str = option(f"memory that {LINE}", "SIZE")
     most_work: str = option(f"work that {LINE}", "SIZE")
     wait: int = option("for credkeep: the wait for FILE", "SECONDS", 30, 3600)
@@ -117,9 +117,9 @@ def web_door(path: str, mode: str, group: str) -> Door:
 
 
 def parser() -> Parser:
-    text = "Lets many clients ask the kept book FILE. credkeep-server(8) tells more."
+    text = "Lets many clients ask the kept book FILE. See credkeep-server(8)."
     made = Parser(usage="credkeep-server [OPTION].. FILE", description=text)
-    text = "the book, which `credkeep FILE init` makes"
+    text = "the book, which `credkeep FILE init` creates"
     made.add_argument("file", metavar="FILE", nargs="?", default="", help=text)
     made.add_argument("--version", action="version", version=f"credkeep-server {VERSION}")
     words = ("NAME", "PATH", "MODE", "GROUP", "OPERATIONS")

@@ -14,7 +14,7 @@ from .file import ask_credkeep
 from .server import Server
 from .terminal import end
 
-HEAD = """usage: credkeep-ask FILE COMMAND .., as credkeep(1) has them
+HEAD = """usage: credkeep-ask FILE COMMAND .., as in credkeep(1)
        credkeep-ask --server [SOCKET] COMMAND [NAME]
 
 SOCKET is that of an administrator, the path or the name of the book (users). COMMAND is one of
