@@ -22,7 +22,7 @@ static struct tried tried(void *block) {
     return (struct tried){block != NULL, block != NULL ? block : &nothing};
 }
 
-/* No alignment is above malloc's 16. A block of no bytes is one all the same. */
+/* No alignment is above malloc's 16. A block of no bytes has an address too. */
 struct tried rattle_alloc(size_t size, size_t alignment) {
     return tried(malloc(size != 0 ? size : alignment));
 }

@@ -1,6 +1,6 @@
-/* Kept areas go to one thread at a time, none is lost, and none is kept over the bound. src/heap.c
- * stands here with a rest before each atomic step, so that what isn't one step is met by another
- * thread. */
+/* Kept areas go to one thread at a time, none is lost, and none is kept over the bound. This test
+ * includes src/heap.c with a rest before each atomic step, so that another thread meets work that
+ * isn't one step. */
 #define _GNU_SOURCE
 #include "check.h"
 
@@ -48,7 +48,7 @@ WRAP(void *, mmap, void *at, size_t size, int protection, int flags, int file, o
     return __real_mmap(at, size, protection, flags, file, offset);
 }
 
-/* Whether an area stays as it was cleared while this thread rests: nobody else has it. */
+/* Whether an area stays cleared while this thread rests: no other thread has it. */
 static bool is_nobodys(const unsigned char *area) {
     bool is_cleared = is_all(area, 0, SIZE);
     usleep(200);
@@ -66,7 +66,7 @@ WRAP(int, madvise, void *start, size_t size, int advice) {
     return __real_madvise(start, size, advice);
 }
 
-/* Returns areas while others take them: each once. */
+/* Returns areas while other threads take them: each once. */
 static void *give_kept(void *unused) {
     for (int turn = 0; turn < TURNS; turn++) {
         size_t size = heap_trim();

@@ -7,13 +7,13 @@
 
 enum { LANES = 4 };
 
-/* By the argon2 program: printf password | argon2 somesalt -id -t 2 -k 256 -p 1 -l 32 -e. */
+/* From the argon2 program: printf password | argon2 somesalt -id -t 2 -k 256 -p 1 -l 32 -e. */
 static const char record[] =
     "$argon2id$v=19$m=256,t=2,p=1$c29tZXNhbHQ$nf65EOgLrQMR/uIPnA4rEsF5h7TKyQwu9U1bMCHGi/4";
 
 extern int started; /* threads, in given_system.c */
 
-/* Whether the bytes are those that a text has in hexadecimal. */
+/* Whether the bytes equal those of a hexadecimal text. */
 static int are_hex(const unsigned char *bytes, size_t size, const char *wanted) {
     for (size_t i = 0; i < size; i++) {
         char two[3];
@@ -68,7 +68,7 @@ static void test_scrypt_vectors(void) {
 }
 
 /* The costs by the header's names: RFC 9106's second recommendation, and scrypt with 128 MiB. A
- * record by them is one that says so. */
+ * record of these costs shows them. */
 static void test_usual_values(void) {
     static const struct {
         const char *costs, *front;
@@ -93,8 +93,8 @@ static void test_usual_values(void) {
     CHECK(strcmp(rigzumal_version(), RIGZUMAL_LIBRARY_VERSION) == 0);
 }
 
-/* Kept memory is returned once, and the next call is as before; a new bound answers the old one,
- * and returns the kept memory. */
+/* Kept memory is returned once, and the next call is as before; a call with a new bound returns the
+ * old one, and releases the kept memory. */
 static void test_trim_and_keep(void) {
     enum { MIB = 1024 * 1024, AREA = 16 * MIB };
     static const size_t bounds[] = {64 * MIB, 0, 64 * MIB};

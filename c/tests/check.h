@@ -32,8 +32,8 @@
 /* The number of elements of an array. */
 #define COUNT(array) (sizeof(array) / sizeof(array)[0])
 
-/* Begins the definition of a function that the linker puts before one of the C library, or of this
- * one. */
+/* Begins the definition of a function that the linker puts before one of the C library, or of our
+ * library. */
 #define WRAP(result, name, ...)                                                                    \
     result __real_##name(__VA_ARGS__);                                                             \
     result __wrap_##name(__VA_ARGS__);                                                             \

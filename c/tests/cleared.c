@@ -97,7 +97,7 @@ static int found_after(const struct job *tried) {
     return found;
 }
 
-/* The scan itself is tried on a call that leaves a copy of the tag. */
+/* The scan itself is tested on a call that leaves a copy of the tag. */
 extern unsigned char left_behind[WINDOW];
 unsigned char left_behind[WINDOW];
 
@@ -106,7 +106,7 @@ static int leaves_a_copy(struct vault *from) {
     return RIGZUMAL_OK;
 }
 
-/* So many bytes, and none beside them. */
+/* This many bytes, in pages without others. */
 static void try_clearing(void) {
     unsigned char bytes[64];
     memset(bytes, 0x5a, sizeof bytes);

@@ -24,7 +24,7 @@ static inline bool has_flag(const void *address, const char *flag) {
     return has;
 }
 
-/* Whether the system is told what madvise asks for: by qemu-user it isn't. */
+/* Whether the system gets the requests of madvise: qemu-user passes none on. */
 #ifndef HAS_ADVICE
 #define HAS_ADVICE true
 #endif

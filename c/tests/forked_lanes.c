@@ -1,4 +1,4 @@
-/* A child that is forked while lanes are worked in threads finds nothing of it: neither in the
+/* A child that is forked while threads work lanes finds nothing of their work: neither in the
  * memory nor on the helpers' stacks, and its own threads can fork. After the call the helpers'
  * stacks are unmapped. src/lanes.c and src/heap.c are over a stand-in for a segment's export that
  * leaves marks in both, on helpers alone, and waits for the fork. */

@@ -1,5 +1,5 @@
-/* Before the C library: getrandom is what a test has it be, so many of four threads are refused,
- * the others are counted, and there are sixteen processors. */
+/* Calls before the C library's: getrandom acts as a test sets it, this many of four threads are
+ * refused, the others are counted, and there are sixteen processors. */
 #define _GNU_SOURCE
 #include "check.h"
 

@@ -1,6 +1,6 @@
 /* The memory by itself. Blocks of all sizes taken, changed in size and given back in any order keep
  * what was written in them and nobody else's; areas are mapped, advised, kept between calls and
- * given back. What can't be had is refused, and harms nothing. */
+ * given back. A request that can't be granted is refused, and harms nothing. */
 #define _GNU_SOURCE
 #include "flags.h"
 #include "watched_memory.h"
@@ -28,7 +28,7 @@ static size_t drawn_size(void) {
     return size < 64 * KIB ? size : size + (size_t)(rand() % 3) - 1;
 }
 
-/* Looks at the ends of a block alone where it is large. */
+/* Looks only at the ends of a large block. */
 static void check_block(const struct block *block) {
     size_t end = block->size < PAGE ? block->size : PAGE;
     CHECK(is_all(block->start, block->byte, end));
@@ -87,7 +87,7 @@ static void test_used_again(void) {
     }
 }
 
-/* Memory for those who clear it themselves is zero wherever it is from. */
+/* Memory for callers that clear it themselves is zero, wherever it comes from. */
 static void test_zeros(void) {
     static const size_t sizes[] = {1024, 48 * KIB, 64 * KIB, 5 * MIB, AREA, AREA, 1024, 40 * MIB};
     unsigned char *taken[COUNT(sizes)];
@@ -108,7 +108,7 @@ static void test_zeros(void) {
 }
 
 /* More blocks at one time than the table begins with, and than it has after it has grown once.
- * Where it can't grow a block is refused, and those that are there stay. */
+ * If the table can't grow, a block is refused, and the existing ones stay. */
 static void test_many_blocks(void) {
     enum { MANY = 200 };
     struct block many[MANY];
@@ -132,7 +132,7 @@ static void test_many_blocks(void) {
 }
 
 /* A block that can't have another size stays as it is. None is promised that begins at more than 64
- * bytes. What is refused leaves a thread nothing. */
+ * bytes. A refused request leaves a thread no block. */
 static void *be_refused(void *unused) {
     static const struct {
         size_t size, align;
@@ -164,8 +164,9 @@ static bool is_advised(int advice, const unsigned char *start, size_t size) {
     return it->times == 1 && it->start <= start && start + size <= it->start + it->size;
 }
 
-/* A child reads zeros where a block of its parent's is, and changes nothing of it. It ends with a
- * word where it gives that back, whatever it has taken itself: its call would answer wrong. */
+/* A child reads zeros where a block of its parent's is, and changes nothing of it. The child ends
+ * with a message if it frees such a block, whatever it has allocated itself: its call would return
+ * a wrong answer. */
 static void check_child(unsigned char *start, size_t size) {
     int streams[2], status;
     char said[80] = "";
@@ -210,7 +211,7 @@ static void test_mappings(void) {
     }
 }
 
-/* The same of a child that is the first process of a namespace, as its parent is. */
+/* A child of a namespace's first process, which is the first of its own namespace. */
 static void test_first_processes(void) {
     are_all_first = HAS_ADVICE;
     unsigned char *start = take_block(AREA);
@@ -220,7 +221,7 @@ static void test_first_processes(void) {
     are_all_first = false;
 }
 
-/* Allocates so many blocks of a size, writes to them and frees them: so many are kept then. */
+/* Allocates this many blocks of a size, writes to them and frees them; then this many are kept. */
 static void keep_blocks(int count, size_t size, int kept) {
     unsigned char *taken[160];
     heap_trim();
@@ -236,7 +237,7 @@ static void keep_blocks(int count, size_t size, int kept) {
     CHECK(mapped == (size_t)kept * size);
 }
 
-/* Uses so many of the kept blocks, with no mapping: the others are freed, each once. */
+/* Uses this many of the kept blocks, with no mapping: the others are freed, each once. */
 static void take_kept_blocks(int count, size_t size, int kept) {
     unsigned char *taken[160];
     most_mapped = mapped;
@@ -278,8 +279,8 @@ static void test_kept_areas(void) {
     heap_keep(KEPT);
 }
 
-/* The smallest area that is large enough is taken. What is given back last is kept, in the place of
- * the smallest where there is no room for all. */
+/* The smallest area that is large enough is taken. The block freed last is kept, in the place of
+ * the smallest if there is no room for all. */
 static void test_replaced_areas(void) {
     unsigned char *first[3], *last = take_block(30 * MIB);
     for (int i = 0; i < 3; i++)
@@ -316,7 +317,8 @@ static void test_grown_areas(void) {
     mapped -= KEPT;
 }
 
-/* A program may keep more, less, or nothing. What is kept is given back as it says so. */
+/* A program may keep more, less, or nothing. The call that changes the bound frees the kept memory.
+ * */
 static void test_bounds(void) {
     static const struct {
         size_t bound, kept;

@@ -48,7 +48,7 @@ static void *nothing(void *unused) {
     return unused;
 }
 
-/* One that was joined may be listed for a moment more. */
+/* A joined thread may be listed for a moment more. */
 static void check_threads(void) {
     for (int turn = 0; turn < 200000 && threads_now() > threads_before; turn++)
         usleep(500);
@@ -135,8 +135,8 @@ static void fork_in_handler(int number) {
         forked = _Fork(); /* fork waits for malloc's lock, which the call may hold */
 }
 
-/* A child that is forked by a handler in the midst of a call, and goes on with it, answers right or
- * ends by abort: it neither answers wrong nor waits for ever. */
+/* A child that a handler forks in the midst of a call, and that goes on with the call, returns a
+ * right answer or ends by abort. It neither returns a wrong answer nor waits for ever. */
 static void test_forks_in_calls(void) {
     struct sigaction action = {.sa_handler = fork_in_handler};
     CHECK(sigaction(SIGALRM, &action, NULL) == 0);
@@ -162,8 +162,8 @@ static void test_forks_in_calls(void) {
     CHECK(aborted > 0);
 }
 
-/* In a child that may start no thread, while its parent calls too: neither reaches what the other
- * has. */
+/* Calls in a child that may start no thread, while its parent calls too: neither reaches the
+ * other's memory. */
 static void test_no_threads(void) {
     pid_t child = fork();
     if (child == 0) {

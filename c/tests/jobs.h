@@ -10,7 +10,7 @@ enum { TAG = 40, KEY = 48, ENCODED = 200, LONG_TAG = 80, TEXT_ROOM = RIGZUMAL_TE
 /* The fault of a call's inputs. */
 enum trouble { NO_TROUBLE, OTHER_PASSWORD, OTHER_SECRET, BAD_RECORD, LITTLE_ROOM };
 
-/* All secrets, and all that is written: nothing of it may stand elsewhere after a call. */
+/* All secrets, and all output: after a call no other memory may hold any of it. */
 struct vault {
     unsigned char password[48], secret[40];
     unsigned char given_password[48], given_secret[40]; /* those that a call clears */
@@ -36,7 +36,7 @@ struct job {
 extern const struct job jobs[];
 extern const int job_count;
 
-/* Of which kind and version their tags are: Argon2id's of 0x13, unless a test wants others. */
+/* The kind and the version of their tags: Argon2id's of 0x13, unless a test sets others. */
 extern uint32_t job_kind, job_version;
 
 /* The function of a test that sees an answer before a job does; or null. */

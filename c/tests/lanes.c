@@ -62,7 +62,7 @@ static void test_order(int turns) {
     }
 }
 
-/* As many threads as there can be, and more passes than eight bits count. */
+/* The most possible threads, and more passes than eight bits count. */
 static void test_large_numbers(void) {
     static const struct { uint32_t lanes, passes; } large[] = {{MOST_LANES, 1}, {2, MANY_PASSES}};
     for (size_t i = 0; i < COUNT(large); i++) {

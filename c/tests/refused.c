@@ -1,7 +1,7 @@
 /* Each request for memory refused in turn, at each call of tests/jobs.c: the answer is MEMORY and
  * nothing is written, until one more request is granted and the answer is right. The linker puts
- * the functions below before those of the C library. What leaks is found by the compiler's
- * sanitizer and by valgrind. */
+ * the functions below before those of the C library. The compiler's sanitizer and valgrind find
+ * leaks. */
 #define _GNU_SOURCE
 #include "check.h"
 #include "jobs.h"
@@ -42,8 +42,8 @@ WRAP(void *, mmap, void *at, size_t size, int protection, int flags, int file, o
 /* The inputs of each call, and the bytes that it leaves if nothing is refused. */
 static struct vault given, wanted;
 
-/* The call with all requests granted but the one after so many, and those after it if that is so:
- * it is right, or writes nothing. Answers whether one was refused. */
+/* Runs the call with all requests granted except the one after this many, and later ones if so set:
+ * the call is right, or writes nothing. Returns whether one was refused. */
 static bool try_refusal(const struct job *job, long before) {
     static struct vault left;
     left = given;
@@ -60,7 +60,7 @@ static bool try_refusal(const struct job *job, long before) {
     return refused;
 }
 
-/* Refuses each request of the call in turn, and answers how many there are. A request for an area
+/* Refuses each request of the call in turn, and returns their number. A request for an area
  * may be refused without harm, as a smaller block can stand for it. */
 static long try_refusals(const struct job *job) {
     wanted = given;

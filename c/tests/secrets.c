@@ -35,7 +35,7 @@ static struct job job_of(const char *name) {
     return (struct job){name, leaking_check, RIGZUMAL_OK, NO_TROUBLE, 0};
 }
 
-/* Which byte of the text's tag is wrong. */
+/* The index of the wrong byte in the text's tag. */
 enum damage { NO_BYTE, FIRST_BYTE, LAST_BYTE, DAMAGES };
 
 /* Another letter in its place. The last has bits that stand for nothing, and are 0. */

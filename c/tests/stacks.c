@@ -21,7 +21,7 @@ static const struct job *job;
 static ucontext_t here, there;
 static int answer;
 static bool is_painted;
-static unsigned char *frame; /* below which a thread's call stands */
+static unsigned char *frame; /* below which a thread's call runs */
 
 WRAP(void, secrets_clear_traces, void) {
     if (!is_painted)

@@ -20,7 +20,7 @@ static void make_tag(unsigned char *tag, int which, uint32_t threads) {
                  RIGZUMAL_OK);
 }
 
-/* A record with a salt that is drawn, and what is read of texts: each thread has its own. */
+/* A record with a generated salt, and the parts of texts: each thread gets its own. */
 static void try_texts(void) {
     char record[RIGZUMAL_TEXT_SIZE], said[32];
     struct rigzumal_parts parts;

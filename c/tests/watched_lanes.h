@@ -215,8 +215,8 @@ static uint8_t end(const void *inputs, const struct argon2_block *last, size_t b
     return (uint8_t)now.end_answer;
 }
 
-/* After a fault others go on while a thread rests that has told them to: what it does later comes
- * too late. */
+/* After a fault the other threads go on while the thread that signalled them rests: its later work
+ * comes too late. */
 WRAP(int, pthread_mutex_unlock, pthread_mutex_t *lock) {
     int answer = __real_pthread_mutex_unlock(lock);
     if (seen(&now.has_fault))

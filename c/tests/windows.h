@@ -1,4 +1,4 @@
-/* Windows: eight bytes that may stand nowhere in the process but in a mapping apart. */
+/* Windows: eight bytes that may be nowhere in the process but in a separate mapping. */
 #pragma once
 
 #include "check.h"

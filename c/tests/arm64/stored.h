@@ -31,7 +31,8 @@ static inline struct vectors vectors_here(void) {
 #define STORE_LONG(n) "str z" #n ", [%0, #" #n ", mul vl]\n\t"
 #define STORE_MASK(n) "str p" #n ", [%1, #" #n ", mul vl]\n\t"
 
-/* No call stands between this and what it looks at: it is expanded where it is used. */
+/* Expanded where it is used, so that no call comes between this and the registers that it stores.
+ * */
 static inline __attribute__((always_inline)) void store_registers(struct vectors here,
                                                                   struct stored *to) {
     if (here.has_masks)

@@ -49,7 +49,8 @@ static inline struct vectors vectors_here(void) {
         SIXTEEN(done)                                                                              \
     }
 
-/* No call stands between these and what they look at: they are expanded where they are used. */
+/* Expanded where they are used, so that no call comes between these and the registers that they
+ * store. */
 #define HERE static inline __attribute__((always_inline))
 
 HERE void fill_registers(struct vectors here, const unsigned char mark[VECTOR_SIZE]) {

@@ -1,4 +1,4 @@
-/* The compiler's, but that the test says of each leaf which features there are. */
+/* The compiler's cpuid.h, except that the test sets the features in each leaf. */
 #pragma once
 #pragma GCC system_header
 
