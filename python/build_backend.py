@@ -76,7 +76,7 @@ Tag: {tag()}
 
 
 def need_library() -> None:
-    """Builds the library if c/out lacks it. If it can't, the last line says why."""
+    """Builds the library if c/out lacks it. If the build fails, its last line gives the reason."""
     if LIBRARY.exists():
         return
     c = HERE.parent / "c"

@@ -22,7 +22,7 @@ from collections.abc import Collection, Iterable, Mapping
 from jobs import FOLDERS, Job, jobs, seconds
 from tree import CRATES, TOP, all_below, below, listed, source
 
-# Who uses the library for C, and each of the programs and crates of tests: words of jobs.
+# The users of the library for C, and of each program and crate of tests: words of jobs.
 OF_LIBRARY = ("c/tests", "c/pam/tests", "python/tests", "rust/tests", "docs/tests")
 OF_CREDKEEP = ("tests/credkeep", "tests/server", "docs/tests", "tools/readme")
 OF_CRATES = {
@@ -126,7 +126,7 @@ def jobs_to_run(files: Iterable[str], proved: Iterable[str]) -> list[Job]:
 
 
 def words_for(chosen: Iterable[Job]) -> str:
-    """The words that choose these jobs: a folder's where all of its jobs are among them."""
+    """The words that choose these jobs: a folder's word if all of its jobs are among them."""
     names = {it.name for it in chosen}
     every = jobs()
     in_part = {it.folder for it in every if it.name not in names}
@@ -139,7 +139,7 @@ def words_for(chosen: Iterable[Job]) -> str:
 
 
 def elapsed(parts: Mapping[str, float], longest: float) -> str:
-    """About how long these seconds take side by side, and no less than the longest part."""
+    """The approximate time of these seconds side by side, and no less than the longest part."""
     minutes = max(sum(parts.values()) / len(os.sched_getaffinity(0)), longest) / 60
     return f"about {minutes:.0f} min" if minutes >= 1 else "under a minute"
 

@@ -28,7 +28,7 @@ import tempfile
 from tree import CRATES, all_below, below, need_rt
 
 CRATE = "cred_c"
-# For each level what rattle is told, and the processor of the proof.
+# For each level the options for rattle, and the processor of the proof.
 LEVELS = {
     "x86-64": ("--cpu=x86-64", "x86_64"),
     "x86-64-v2": ("--cpu=x86-64-v2", "x86_64"),
@@ -48,7 +48,7 @@ EMPTY_BODY = re.compile(
 # waits for, and G's own reads would wait for one.
 OFFSETS = range(0, 512, 64)
 DECLARED = "declare void @llvm.prefetch.p0(ptr, i32, i32, i32)\n"
-# Functions of which rattle drops `#[inline(always)]`. Some have several instances.
+# Functions that lose `#[inline(always)]` in rattle. Some have several instances.
 INLINED = (
     "cred_argon::block::add_half",
     "cred_argon::block::compress_over",

@@ -5,7 +5,7 @@ from __future__ import annotations
 import dataclasses
 import re
 
-# A text, a letter, a lifetime, a name (of antt too), or a mark.
+# A string, a character, a lifetime, a name (of antt too), or a sign.
 TOKEN = re.compile(
     r"""//[^\n]* | /\*.*?\*/ | b?"(?:\\.|[^"\\])*" | b?'(?:\\[^']*|[^'\\])' | '\w+
     | «[^»]*» | \w[\w']* | :: | -> | => | \S""",
@@ -16,9 +16,9 @@ CLOSES = {"(": ")", "[": "]", "{": "}"}
 KINDS = {"fn", "struct", "enum", "trait", "impl", "mod", "use", "ghost", "const", "static", "type"}
 CLAUSES = {"requires", "ensures", "ghost"}
 WITHOUT_BODY = {"use", "const", "static", "type"}
-# What ends the words before an item's contract and braces.
+# The words that end an item's head, before its contract and braces.
 ENDS_HEAD = {it: {"{", ";", *(CLAUSES if it == "fn" else ())} for it in KINDS}
-# What an attribute says to the prover, to the compiler or to a reader alone.
+# Attributes that only concern the prover, the compiler or a reader.
 UNSEEN = {"tactic", "cycle", "inline", "allow", "doc"}
 # The attributes that are known to hide nothing, and the one that leaves out of all but tests.
 KNOWN = {"derive", "error", "repr", "test", "unsafe"} | UNSEEN
@@ -152,7 +152,7 @@ class File:
         return item, stop + 1
 
     def is_public(self, at: int) -> bool:
-        """Whether an item or a field is everybody's."""
+        """Whether an item or a field is public."""
         return self.tokens[at].text == "pub" and self.tokens[at + 1].text != "("
 
     def with_body(self, item: Item, at: int, end: int) -> int:

@@ -23,9 +23,9 @@ class Folder:
     is_package: bool = False
     # Whether its modules stand on the library for C: they wait until it is built.
     needs_library: bool = True
-    # What Python is told, such as that a warning is an error.
+    # Options for Python, such as the one that makes a warning an error.
     options: tuple[str, ...] = ()
-    # Modules that are long: among how many processes their tests are shared.
+    # Long modules, with the number of processes that share their tests.
     parts: Mapping[str, int] = dataclasses.field(default_factory=dict)
     # Modules that bound a time from above, and wait more than they compute: they run when all else
     # is done.

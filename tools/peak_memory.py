@@ -9,7 +9,7 @@ library's allocator adds up what was asked for and not yet given back. The most 
 the memory of the parameters of the largest hash among them and at most SOME_KIB more. In tests of
 hashes that are made one after another in memory that is kept, all that was ever asked for is to be
 no more than that of one hash and SOME_KIB. A line for each test; the last line is `N passed, M
-failed`. It needs the toolchain alone, whose compiler builds the shim.
+failed`. The tool needs only the toolchain, whose compiler builds the shim.
 """
 
 import sys

@@ -1,14 +1,14 @@
 #!/usr/bin/env python3
-"""Plants a mistake in each folder that ships, one at a time, and looks that the tests refuse it.
+"""Plants a mistake in each folder that ships, one at a time, and checks that the tests refuse it.
 
     python3 tools/plants.py [WORD..]
 
-A maintainer runs it before a release, once the gate has built all. Each plant of the table below
-goes into a copy of the tree with what is built, and tools/run_tests.py runs there the jobs that the
-plant names. A test that fails there with nothing planted refuses nothing: all jobs run once so
-first. If no other test fails, or the file lacks the text that is replaced, the plant is NOT
-REFUSED. With words only plants with one of them in their file's name are tried. The last line is `N
-refused, M not`, and the status is 1 if one wasn't.
+A maintainer runs it before a release, once the gate has built all. The tool makes each change of
+the table below in a copy of the tree with its built files, and there tools/run_tests.py runs the
+jobs that the plant names. A test that fails there with nothing planted refuses nothing: all jobs
+run once so first. If no other test fails, or the file lacks the text that is replaced, the plant is
+NOT REFUSED. With words only plants with one of them in their file's name are tried. The last line
+is `N refused, M not`, and the status is 1 if one wasn't.
 """
 
 from __future__ import annotations

@@ -162,8 +162,8 @@ def reached(libraries):
 
 
 def trusted(text, crates):
-    """The faults of the list of what is trusted: a line that begins with names of crates, or
-    `NAME_*` for several, trusts these."""
+    """The faults of the list of trusted code: a line that begins with names of crates, or `NAME_*`
+    for several, trusts these."""
     heads = re.findall(
         r"^- ((?:`[^`]+`(?:, )?)+):", text.partition("\n## What is trusted\n")[2], re.M
     )
@@ -192,7 +192,7 @@ def check():
 
 
 def check_trusted():
-    """The faults of the list of what is trusted, by the toolchain."""
+    """The faults of the list of trusted code, compared with the toolchain."""
     return [
         it and f"docs/PROMISES.md: {it}"
         for it in trusted(PAGE.read_text(), reached(kit() / "rlibs"))

@@ -9,7 +9,7 @@ The tests are those with the word in their names, `::refused` if none is given, 
 tests. Each is run with its Nth request for memory refused, for N from 1 to the first N that refuses
 nothing. A line for each test has how many requests were refused, and the numbers at which the test
 failed; the last line is `N passed, M failed`. `rt try --test --fail-alloc N` does the same for one
-N, and builds each time. It needs the toolchain alone, whose compiler builds the shim that refuses.
+N, and builds each time. The tool needs only the toolchain, whose compiler builds the refusing shim.
 """
 
 import pathlib

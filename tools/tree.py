@@ -96,8 +96,8 @@ def tell_each(seconds: float, tell: Callable[[], None]) -> None:
 
 
 def report(found: Sequence[str | None], left_out: Sequence[str] = ()) -> int:
-    """Prints what is wrong and what isn't looked at, and how much of each there is: the status of a
-    program that found this, with None for what is right."""
+    """Prints the faults and the omissions, and the count of each; returns the program's status.
+    None stands for a claim that is right."""
     failures = [it for it in found if it]
     counts = f"{len(found) - len(failures)} passed, {len(failures)} failed"
     counts += f", {len(left_out)} left out" if left_out else ""

@@ -79,8 +79,8 @@ class Bench:
         self.sum = sum_of(self.files())
 
     def files(self):
-        """All that a verdict depends on: the crate's files and wrong bodies, and what can be cited
-        of the crates below, their functions without bodies, and their definitions."""
+        """The inputs of a verdict: the crate's files and wrong bodies, and the citable items of the
+        crates below, their functions without bodies, and their definitions."""
         at = CRATES / self.crate
         names = [*self.texts, *(f"wrong-bodies/{it.name}.edit" for it in self.edits)]
         files = {name: at / name for name in names}
@@ -263,7 +263,7 @@ class Trial:
         link(seed, kept)
 
     def beside(self, command):
-        """Runs a command that proves the crates, passes on what it says, and returns its status."""
+        """Runs a command that proves the crates, passes on its output, and returns its status."""
         pipes = {"stdout": subprocess.PIPE, "stderr": subprocess.STDOUT, "text": True}
         with subprocess.Popen(command, cwd=TOP, **pipes) as process:
             for line in process.stdout:

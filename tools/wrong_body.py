@@ -13,8 +13,8 @@ LOST_NAME = "a name that the edit removed, which is weaker evidence"
 
 
 class Change(NamedTuple):
-    """A text, the file that has it once, and its replacement. An empty file is the only one of
-    the crate that has the text."""
+    """A text, the file that has it once, and its replacement. An empty file name means the only
+    file of the crate with the text."""
 
     file: str
     old: str

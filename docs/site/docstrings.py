@@ -5,7 +5,8 @@ from docutils import nodes
 
 
 def samples(_, kind, name, thing, options, lines):
-    """Writes `::` before each sample; the parts of `Args:` begin without an empty line."""
+    """Writes `::` before each sample; samples follow an empty line, and the parts of `Args:`
+    don't."""
     found, is_before = [], True
     for line, last in zip(lines, ["", *lines]):
         is_set_in = line.startswith("    ")

@@ -20,7 +20,7 @@ def name_of(form: Mapping[str, str]) -> str:
 
 
 def password_of(form: Mapping[str, str], field: str) -> str:
-    """A password that was typed; an impossible one is as wrong as none."""
+    """The typed password; an impossible one counts as empty, and is wrong."""
     password = opaque(form.get(field, ""))
     return password if len(password.encode()) <= LONGEST else ""
 

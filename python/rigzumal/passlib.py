@@ -118,7 +118,7 @@ class scrypt(_OneBackend, _scrypt.scrypt):
 def register() -> None:
     """Puts both handlers in the place of passlib's own, for contexts that are created afterwards.
 
-    `passlib.hash.argon2` is the new one too, wherever it is imported from then on. If
+    Later imports of `passlib.hash.argon2` get the new handler too. If
     passlib's own were loaded before, passlib's log says that they are overridden.
     """
     handler: Any

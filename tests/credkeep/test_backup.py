@@ -1,4 +1,4 @@
-"""Copies of a book, also while it is served, and how a copy comes back."""
+"""Copies of a book, also while it is served, and their restores."""
 
 import os
 import pathlib

@@ -134,7 +134,8 @@ class FormatTest(BookTest):
         return False
 
     def test_damaged(self) -> None:
-        """A file that is cut is refused. One with a bit turned is refused, or hardly differs."""
+        """A truncated file is refused. A file with a flipped bit is refused, or differs in one
+        account at most."""
         chance = random.Random(17)
         self.begun({**{f"a{at}": "" for at in range(2000)}, "ann": RECORD})
         whole, accounts = self.book.path.read_bytes(), self.book.accounts()

@@ -29,7 +29,7 @@ TAGS = [
 
 class LinesTest(BookTest):
     def test_tags(self) -> None:
-        """A line without a tag, and one that is too long, are refused without one."""
+        """The refusals of a line without a tag, and of a line that is too long, have no tag."""
         found = self.book.answers(*(line for line, _ in TAGS))
         self.assertEqual([*zip((line for line, _ in TAGS), found)], TAGS)
         given = b"\x00\xff\n" * 3 + b"x" * 5_000_000 + b"\nt show ann\n"

@@ -120,8 +120,8 @@ class OverCredkeep(Case):
         return names
 
     def test_operations(self) -> None:
-        """Each operation that goes through the sockets, with the answers of docs/SERVING.md, which
-        the book of the other tests gives too."""
+        """Each operation of the sockets, with the answers of docs/SERVING.md, which the other
+        tests' book gives too."""
         books = {FAST_BOOK: ("$fast$c=1", "$fast$c=2"), real_book(): (CHEAP, DEARER)}
         for program, (costs, dearer) in books.items():
             service = self.serving("--setting", costs, program=program)
@@ -248,7 +248,7 @@ class OverCredkeep(Case):
         login.talk("verify ada {secret} -> yes")
 
     def test_dearer_records(self) -> None:
-        """A record of a time with other costs is judged and replaced, though no line may bring it
+        """A record of earlier, higher costs is judged and replaced, though no line may bring it
         now."""
         room = self.room()
         self.over(folder=room).enrol(ada="secret", bob="secret").stop()

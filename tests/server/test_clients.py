@@ -127,7 +127,8 @@ class Clients(ClientCase):
                 self.assertTrue(least <= seconds < most, f"{answer[:20]!r}, {then}: {seconds} s")
 
     def test_full_backlog(self) -> None:
-        """While too many wait to be let in a call waits too, for its time and no longer."""
+        """While too many clients wait to be let in, a call waits too, for its timeout and no
+        longer."""
         path = str(self.room() / "s")
         listener, first = (self.enterContext(socket.socket(socket.AF_UNIX)) for _ in range(2))
         listener.bind(path)

@@ -83,7 +83,7 @@ class ForeignMarks(ForeignCase):
         self.over("--tries", "0", folder=folder).talk(EXPIRED)
 
     def test_what_ends_it(self) -> None:
-        """A new password of an administrator's; the next account of the name has no mark."""
+        """An administrator's new password ends a mark; the next account of the name has none."""
         self.add("bob", "-s")
         service = self.over()
         service.talk(

@@ -17,7 +17,8 @@ STALL = "15"
 
 class Limits(Case):
     def test_half_lines(self) -> None:
-        """A line without its end is never asked, whatever its client does next; others go on."""
+        """The book never gets a line without its end, whatever its client does next; other clients
+        go on."""
         service = self.serving().enrol(ada="secret")
         asked = len(service.asked())
         halves = [service.client() for _ in range(20)]
@@ -50,7 +51,7 @@ class Limits(Case):
         self.assertTrue(client.is_ended(), "it goes on")
 
     def test_a_byte_out_of_band(self) -> None:
-        """A byte that wakes the server, and isn't there to be read, ends no connection."""
+        """A byte that wakes the server, but can't be read, ends no connection."""
         client = self.serving().client()
         try:
             client.socket.send(b"!", socket.MSG_OOB)
@@ -60,8 +61,8 @@ class Limits(Case):
         client.talk("known ada -> noaccount")
 
     def test_in_flight(self) -> None:
-        """A client has at most 32 lines running, and a user so many that are hashed; another user
-        has a place."""
+        """A client has at most 32 running lines, and a user a limited number of hashes; another
+        user still gets a place."""
         for at_once, ought in (("100", 32), ("4", 4)):
             service = self.serving("--at-once", at_once, "--tries", "0", faults="mute=verify")
             client = service.client()
@@ -82,7 +83,7 @@ class Limits(Case):
             service.process.kill()
 
     def test_read_ahead(self) -> None:
-        """Of lines that wait for others little is read, however much has come."""
+        """The server reads little of waiting lines, however much has arrived."""
         service = self.serving("--tries", "0", faults="mute=verify")
         client, sent = service.client(), []
         client.talk("known ada -> noaccount")
@@ -98,8 +99,7 @@ class Limits(Case):
         service.process.kill()
 
     def test_lines_of_who_has_gone(self) -> None:
-        """A line that a client left behind is never asked if it changes nothing; changes are
-        done."""
+        """The book never gets a line of an ended client that changes nothing; changes still run."""
         service = self.serving("--at-once", "1", "--tries", "0", faults="slow=0.2")
         service.enrol(ada="secret")
         with service.client("admin") as client:
@@ -125,8 +125,8 @@ class Limits(Case):
         self.assertLess(service.asked().count("verify left -"), 5)
 
     def test_changes_together(self) -> None:
-        """If a change mostly waits for the disk, many are at the book at once, and leave room for
-        others."""
+        """If changes mostly wait for the disk, many run at the book at once, and leave room for
+        other lines."""
         service = self.serving("--at-once", "4", "--tries", "0", faults="mute=change")
         service.enrol(ada="secret")
         client = service.client()
@@ -140,7 +140,7 @@ class Limits(Case):
         service.process.kill()
 
     def test_lines_without_a_hash(self) -> None:
-        """Beside hashes that never end, lines that take none are answered, at both sockets."""
+        """Beside hashes that never end, lines without a hash are answered, at both sockets."""
         service = self.serving("--at-once", "2", faults="mute=verify")
         service.enrol(ada="secret", bob="secret")
         for client, count in zip(service.both(), (6, 7)):
@@ -170,8 +170,8 @@ class Limits(Case):
         service.process.kill()
 
     def test_shares_of_users(self) -> None:
-        """A uid has half of the connections that others leave; who comes then is told, and it is
-        logged once."""
+        """A uid gets half of the connections that others leave; the next client gets an answer, and
+        the log one line."""
         need_root()
         room = self.room()
         sockets = f"--socket a {room}/s 0666 - known --socket b {room}/t 0600 - all"

@@ -99,7 +99,7 @@ class Locks(Case):
         return self.serving("--tries", "0", *options, **fields).enrol(ada="secret", bob="other")
 
     def test_locked(self) -> None:
-        """Each try at a locked name is answered as a wrong one, and its record stays."""
+        """Each try at a locked name gets the answer to a wrong password, and the record stays."""
         service = self.over()
         record = service.client("admin").ask("show ada")
         service.talk(LOCKED)
@@ -139,8 +139,7 @@ class Locks(Case):
         )
 
     def test_kept(self) -> None:
-        """A server that is killed and started again knows all, and there is no file but the
-        book."""
+        """After a kill and a restart the server has all marks, and no file but the book exists."""
         folder = self.room()
         service = self.over(folder=folder)
         service.talk(
@@ -160,7 +159,7 @@ class Locks(Case):
         self.over().talk(RENAMED)
 
     def test_a_rename_that_fails(self) -> None:
-        """The old name keeps its marks, and the new one has none."""
+        """After a failed rename the old name keeps its marks, and the new one has none."""
         service = self.over(faults="refuses=rename")
         service.talk("admin lock ada -> locked\nadmin rename ada cid -> bad 4 memory")
         service.talk("admin marks - 10 -> marks ada:!\nlogin verify ada {secret} -> no")

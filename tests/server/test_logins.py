@@ -111,7 +111,7 @@ class Logins(Case):
 
     @in_namespaces
     def test_empty_and_long_passwords(self, room: pathlib.Path) -> None:
-        """A local user may have a password that no book takes."""
+        """A local user may have a password that no book accepts."""
         need("pamtester")
         started(room)
         install_stack()

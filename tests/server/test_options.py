@@ -1,5 +1,5 @@
-"""Tests of bin/credkeep-server: what its own mistakes say, and what the book gets of its
-options."""
+"""Tests of bin/credkeep-server: the messages of its mistakes, and the options that the book
+gets."""
 
 import contextlib
 import os
@@ -19,7 +19,7 @@ printf "%s\\n" "$@" > "$NOTED"
 exit 3
 """
 OLDER = NOTES.replace("--tries", "--at-once")
-# A socket's words but its operations, and what is said of words that can't be meant.
+# A socket's words except its operations, and the messages for impossible words.
 SOCKET = "--socket a /tmp/never-made 0660 -"
 MISTAKES = {
     "": "FILE is missing",
@@ -152,7 +152,7 @@ class Mistakes(Case):
             noted.unlink()
 
     def test_an_older_credkeep(self) -> None:
-        """One that knows no failed tries is refused before it has the file, by a line."""
+        """A credkeep without --tries is refused, with a message, before it opens the file."""
         room = self.room()
         book, noted = room / "credkeep", room / "noted"
         book.write_text(OLDER)

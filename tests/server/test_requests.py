@@ -1,4 +1,4 @@
-"""Tests of bin/credkeep-server: who may ask for what, and how answers find their lines."""
+"""Tests of bin/credkeep-server: the rights of sockets, and the tags of answers."""
 
 import grp
 import pathlib
@@ -13,7 +13,7 @@ def mode_of(path: pathlib.Path) -> int:
     return stat.S_IMODE(path.stat().st_mode)
 
 
-# What the login socket denies.
+# Lines that the login socket denies.
 DENIED = (
     "enrol account load show rename list reset disable delete login upgrade remove serve backup"
 )
@@ -48,7 +48,8 @@ stat -c '%n %a %g' /run/rigzumal/*/*.sock /run/rigzumal/tmp*; kill %1 %2; wait""
 
 class Asking(Case):
     def test_operations_by_socket(self) -> None:
-        """The login socket takes three operations, the admin's all; what is denied isn't asked."""
+        """The login socket allows three operations, the admin's all; the book never gets a denied
+        line."""
         service = self.serving().enrol(ada="secret")
         login, admin = service.both()
         login.talk("verify zoe {secret} -> noaccount")
@@ -62,8 +63,7 @@ class Asking(Case):
         self.assertTrue(admin.ask("show").startswith("bad "), "show without a name")
 
     def test_settings(self) -> None:
-        """A line that hashes brings no costs, dear or cheap, but through a socket that may load
-        records."""
+        """A line may set costs, high or low, only through a socket that may load records."""
         room = self.room()
         hashing = "verify,login,change,upgrade,remove,enrol,reset"
         more = f"--socket hashing {room}/hashing 0600 - {hashing},account,show"
@@ -169,8 +169,8 @@ class Asking(Case):
         self.assertEqual(path.read_text(), "precious")
 
     def test_tags(self) -> None:
-        """Tags are a client's own; one that isn't a tag is answered under *; one used twice
-        twice."""
+        """Tags are a client's own. A line with a faulty tag is answered under *, and a tag used
+        twice gets two answers."""
         service = self.serving(faults="late").enrol(ada="secret")
         one, two = service.client(), service.client()
         one.send(f"a verify ada {SECRET}\n" * 2)
@@ -189,8 +189,8 @@ class Asking(Case):
             self.assertEqual(one.line(), said, repr(line))
 
     def test_answers_that_are_none(self) -> None:
-        """A book's answer that isn't printable text, or names no wait of 1 to 900 s, is handed on
-        as unavailable, and logged."""
+        """The server passes on a book's answer that isn't printable text, or whose wait isn't 1 to
+        900 s, as unavailable, and logs it."""
         waits = ("later", "later 0", "later 901", "later 1000", "later 07", "later -1", "later 1 x")
         for answer in ("y\u00e9s", "yes\x07", "\x1b[1myes", *waits, "later ", "later 1.5"):
             service = self.serving(faults=f"answers={answer}").enrol(ada="secret")

@@ -1,4 +1,5 @@
-"""Tests of bin/credkeep-server: what an administrator sees of it, and what its own mistakes say."""
+"""Tests of bin/credkeep-server: its counts, logs and audit log, and the messages of its own
+mistakes."""
 
 import datetime
 import json
@@ -85,7 +86,8 @@ class Seen(Case):
         self.assertEqual(len(samples), len(service.stats()), "each count is a sample")
 
     def test_metrics_of_no_server(self) -> None:
-        """Whatever answers at the socket: a login socket, nobody, words that are no counts."""
+        """--metrics at a login socket, at a socket without a server, and at one that answers no
+        counts."""
         odd = self.room() / "odd"
         said = [b"1 stats\n", b"1 stats yes\n", b"1 stats yes=1 yes=\xff\n", b"\n", b""]
         with Peer(odd, lambda _, it: it.sendall(said.pop())):
@@ -117,7 +119,7 @@ class Seen(Case):
         self.assertIn("node_textfile_scrape_error 0", text)
 
     def test_want_of_memory(self) -> None:
-        """Lines that find no memory are counted, and logged once an hour."""
+        """The server counts lines that find no memory, and logs them once an hour."""
         service = self.serving(faults="refuses=verify")
         service.client().talk("verify ada {secret} -> bad 4 memory\n" * 3)
         self.assertEqual(service.stats()["memory"], 3)
@@ -189,7 +191,7 @@ class Logs(Case):
                 self.assertIn("end: status 0", service.log())
 
     def test_upgrades_are_behind(self) -> None:
-        """An upgrade that takes its time keeps nobody waiting: its own client, or another."""
+        """A slow upgrade holds up neither its own client nor another."""
         folder = self.room()
         self.serving(folder=folder).enrol(ada="secret", bob="secret").stop()
         service = self.serving("--upgrade", "$fast$c=2", faults="mute=upgrade", folder=folder)
@@ -211,7 +213,7 @@ class Logs(Case):
         run(*words, "daemon", at=TOP / "python/rigzumal/server")
 
 
-# Lines, and whether the audit log has them, with the names and answers that it has.
+# Lines, and whether the audit log has them, with their names and answers there.
 AUDITED = """
 admin account ada -> ok | ada ok
 admin enrol ada {secret} -> enrolled | ada enrolled

@@ -1,4 +1,4 @@
-"""Tests of bin/credkeep-server: what one user asks for, or leaves, keeps no other one waiting."""
+"""Tests of bin/credkeep-server: one user's requests and connections hold up no other user."""
 
 import asyncio
 import builtins
@@ -20,7 +20,7 @@ from daemon.doors import MOST_WAITING, Door, owner_of, share_of
 from daemon.options import Options
 from daemon.service import TURNS, Service
 
-# What a client may send that costs the book nothing, and the end of each answer.
+# Lines that cost the book nothing, and the end of each answer.
 IDLE_LINES = {
     "empty": (b"\n", b"* bad 11 line"),
     "denied": (b"1 list\n", b"1 denied"),
@@ -41,8 +41,8 @@ time.sleep(200)
 
 class Floods(Case):
     def test_lines_that_need_no_book(self) -> None:
-        """Beside a hundred connections that send such lines without end, another's is answered
-        soon."""
+        """Beside a hundred connections that send such lines without end, another user soon gets an
+        answer."""
         service = self.serving()
         for kind, (line, answer) in IDLE_LINES.items():
             with self.subTest(kind), contextlib.ExitStack() as stack:
@@ -68,8 +68,8 @@ class Floods(Case):
         return count
 
     def test_all_of_a_users_lines(self) -> None:
-        """A thousand a second that cost the book nothing are answered, on however many
-        connections."""
+        """A user gets a thousand answers a second to lines that cost the book nothing, on however
+        many connections."""
         service = self.serving()
         for count in (1, 10, 100):
             clients = [service.client() for _ in range(count)]
@@ -83,7 +83,7 @@ class Floods(Case):
 
     @contextlib.asynccontextmanager
     async def door(self, service: Service) -> AsyncIterator[tuple[Door, contextlib.ExitStack]]:
-        """A door of a service in this process, and what closes its clients in the end."""
+        """A door of a service in this process, and a stack that closes its clients in the end."""
         door = Door("a", str(self.room() / "s"), 0o600, "-", frozenset())
         door.listener = door.listen()
         accepting = asyncio.ensure_future(door.accept(service, door.listener))
@@ -181,7 +181,7 @@ class Floods(Case):
         self.assertNotIn("secret", str(log_seldom.call_args_list))
 
     def test_many_users(self) -> None:
-        """However many connections many users have between them, one who has none comes in."""
+        """However many connections other users have, a user without one gets in."""
         many = [f"user {number}" for number in range(20) for _ in range(16)]
 
         async def are_let_in(*others: str) -> list[int]:
@@ -201,7 +201,8 @@ class Floods(Case):
 
 class Shares(Case):
     def test_subordinate_uids(self) -> None:
-        """They are those of the person who has them, by subuid(5), and count as one user."""
+        """Subordinate uids belong to a person, by subuid(5), and count as one user with the
+        person's own."""
         file = self.room() / "subuid"
         no_names = "nobody.here:300000:10\na\0b:300000:10\nodd\n:::\n"
         file.write_text(f"1000:100000:65536\nroot:200000:10\n{no_names}1002:300009:1\n")
@@ -227,7 +228,8 @@ class Shares(Case):
             self.assertEqual(owner_of(100000), 100000)
 
     def test_names_that_are_looked_up(self) -> None:
-        """Of a long file one: the owner's, since a directory may take its time for each."""
+        """Of a long file the server looks up one name, the owner's, since a directory may be
+        slow."""
         file = self.room() / "subuid"
         lines = (f"nobody.{number}:{number}00000:65536\n" for number in range(1, 1000))
         file.write_text("".join(lines) + "root:100000000:65536\n")
@@ -260,7 +262,8 @@ class Shares(Case):
             self.assertEqual(asyncio.run(users()), ought)
 
     def test_shares(self) -> None:
-        """A uid's, and of root's processes the service's, or the user's who logged in."""
+        """The share is the uid's; for root's processes the service's, or that of the user who
+        logged in."""
         sshd, person = "/system.slice/ssh.service", "/user.slice/user-1000.slice"
         for text, ought in {
             f"0::{sshd}\n": f"uid 0 in {sshd}",

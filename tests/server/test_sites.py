@@ -248,7 +248,7 @@ class Mail(Case):
 
     @in_namespaces
     def test_dovecot_folded_names(self, room: pathlib.Path) -> None:
-        """The same where the part before the @ is folded too."""
+        """An imap login with a folded part before the @."""
         server = started(room, "--mail-names", "--fold-local-part")
         server.enrol(**{"ann@example.org": "mail word"})
         (word,) = re.findall("With `--fold-local-part` write `(%\\w+)`", PAGE.read_text())

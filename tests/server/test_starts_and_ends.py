@@ -1,5 +1,5 @@
-"""Tests of bin/credkeep-server: how it starts, what the book gets, how it ends, and systemd's
-words."""
+"""Tests of bin/credkeep-server: its start, the lines of the book, its end, and systemd's
+notices."""
 
 import contextlib
 import itertools
@@ -88,8 +88,9 @@ class Endings(Case):
                 self.assertIn("end: status 0", service.log())
 
     def test_book_ends(self) -> None:
-        """If the book ends so does the server, with its status; whoever waits is told. After a line
-        without end the book is killed, and nothing that it wrote then is an answer."""
+        """If the book ends, the server ends with the same status, and waiting clients get an
+        answer. After a line without end the book is killed, and nothing that it wrote then is an
+        answer."""
         for faults, ought in (("dies=4", 5), ("killed=4", 128 + 9), ("endless", 128 + 9)):
             service = self.serving("--at-once", "3", faults=faults + ";slow=0.4")
             clients, idle = [service.client("admin") for _ in range(8)], service.client()
@@ -220,7 +221,7 @@ class Systemd(Case):
         self.assertEqual(came().count(b"STOPPING=1"), 1)
 
     def test_a_book_that_never_answers(self) -> None:
-        """Nothing is told, and nobody is let in."""
+        """If the book never answers, systemd gets no notice, and no client is let in."""
         environment, came = self.notices()
         service = self.serving(environment=environment, faults="mute=show", waits=False)
         time.sleep(1)

@@ -101,7 +101,7 @@ class Asking:
         self.log.note(name, operation, said)
 
     def answer(self, door: str, line: str) -> Optional[str]:
-        """The answer, or none if the connection ends first."""
+        """The answer, or None if the connection ends first."""
         while door not in self.clients:
             try:
                 self.clients[door] = Client(self.folder / f"{door}.sock")
@@ -124,7 +124,7 @@ def kill(service: Service, kind: str) -> None:
 
 
 def stands(service: Service, log: Log, name: str) -> Optional[str]:
-    """The last record, or none."""
+    """The last record, or None."""
     with Client(service.path("admin")) as admin:
         if admin.ask(f"known {name}") == "absent":
             return None

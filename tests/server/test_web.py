@@ -1,4 +1,4 @@
-"""Tests of credkeep-server --http: Basic comes in, and a status goes out."""
+"""Tests of credkeep-server --http, which reads Basic credentials and sends a status."""
 
 import base64
 import contextlib

@@ -248,7 +248,7 @@ class Build(Case):
         self.assertEqual(self.asked(), ["program"])
 
     def packed(self):
-        """A tarball's object of the program, as `make dist` packs what was kept."""
+        """A tarball's object of the program, packed as by `make dist` from the kept one."""
         self.build("--cpu", "x86-64", "program")
         shutil.move(self.top / "crates/program/out/objects", self.top / "c/proved/programs")
         shutil.rmtree(self.top / "crates/program/out")

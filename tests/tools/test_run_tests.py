@@ -212,7 +212,7 @@ class RunTests(Case):
         self.assertEqual(done.status, 1)
 
     def test_what_is_not_built(self) -> None:
-        """Without the library none of the jobs runs that need it, and the others do."""
+        """Without the library the jobs that need it don't run, and the others do."""
         (self.top / "c/broken").touch()
         done = self.run_tests("c/tests", "tests/tools")
         self.assertIn("this is broken\n", done.written)

@@ -168,8 +168,8 @@ class WrongBodies(Case):
         self.assertEqual((status, [it for it in lines if "refused" in it]), (1, []))
 
     def test_beside_a_command(self):
-        """A crate's turn comes once the command has proved the crate; the command's status is
-        handed on."""
+        """A crate's turn comes once the command has proved the crate; the tool returns the
+        command's status."""
         prove = 'for it in low high; do (cd crates/$it && "$RT" lib); done; exit '
         self.assertEqual(self.tried("--", "sh", "-c", prove + "0")[:2], (0, self.refused(*EDITS)))
         self.assertEqual(self.tried("--", "sh", "-c", prove + "3")[0], 3)

@@ -74,7 +74,7 @@ class Passwords:
         return made
 
     def of(self, request: Request) -> Request:
-        """The request with its passwords as they are hashed; raises as `new` does."""
+        """The request with its passwords in the hashed form; raises as `new` does."""
         new = _NEW.get(request.kind)
         if new is None and self.prepare is None:
             return request

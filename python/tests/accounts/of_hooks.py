@@ -208,7 +208,7 @@ class RowsOfOnesOwn:
 
     @contextlib.contextmanager
     def of_several(self):
-        """A connection that doesn't wait for a row for long."""
+        """A pool of several connections, which don't wait long for a row."""
         conn = self.setting(self.lock_timeout)()
         try:
             yield conn

@@ -54,8 +54,8 @@ class OldFile:
             log.warning(text, self.path, len(stuck), len(lines), users, dots)
 
     async def refresh(self) -> None:
-        """Reads the file again if it has changed. If it is gone, the book decides about everything
-        but its bars."""
+        """Reads the file again if it has changed. If the file is gone, the book decides, and the
+        file's last bars still count."""
         async with self.reading:
             try:
                 if version_of(self.path) != self.version:

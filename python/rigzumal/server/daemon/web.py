@@ -49,7 +49,7 @@ def status_of_framing(request: Any) -> int:
 
 
 class WebClient(Client):
-    """A client that sends requests. It gets each answer before the server reads the next
+    """A client that sends requests, and gets each answer before the server reads the next
     request."""
 
     no_room = b"HTTP/1.1 503 Service Unavailable\r\nContent-Length: 0\r\nConnection: close\r\n\r\n"

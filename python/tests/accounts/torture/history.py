@@ -43,7 +43,7 @@ class Attempt(NamedTuple):
 
 @dataclass(eq=False)
 class Operation:
-    """An operation with the times of its call and its answer, in any unit; and the first and the
+    """An operation with the times of its call and its answer, in any unit; also the first and the
     last record, of the kinds "seed" and "end"."""
 
     id: str
